@@ -1,0 +1,4 @@
+//! The first language's trees, what they mean and the code that they get.
+#![tactic(auto)]
+
+pub mod tree;
