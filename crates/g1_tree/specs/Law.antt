@@ -1,10 +1,9 @@
 -- The law between a command's meaning and the run of its code.
-use Rattle.std.specs.Prelude.{◌≡◌, ℕ, suc, ◌+◌, ◌≤◌, List, [], ◌++◌, length, map, ℤ, pos, Bool, true, Some, slice_get}
-use Rattle.ob_tree.specs.declared.pos.Pos.{Pos}
+use Rattle.std.specs.Prelude.{◌≡◌, ℕ, suc, ◌+◌, ◌≤◌, List, [], ◌++◌, length, map, ℤ, pos, true, Some, slice_get}
 use Rattle.ob_machine.specs.Table as table
 use Rattle.ob_machine.specs.Table.{Image, ModuleImage, World, End, Point, Go, Over, run}
 use Rattle.g1_tree.specs.Syntax.{Stmts}
-use Rattle.g1_tree.specs.Meaning.{Variables, State, Why, Trapped, Spent, Res, Gives, Stops, command, last}
+use Rattle.g1_tree.specs.Meaning.{Variables, State, Trapped, Spent, Res, Gives, Stops, command, last}
 use Rattle.g1_tree.specs.Scheme.{command_code, instrs_of, positions_of}
 use Rattle.g1_tree.specs.Rules.{are_different, stmts_are_known}
 
@@ -49,5 +48,5 @@ pub record Follows (img : Image) (m : ℕ) (names : List (List ℕ)) (before beh
 -- The law: where a module of the image is a command's, the machine does what the command means.
 abbrev pub Simulation : Type 0
 Simulation = (img : Image) (m : ℕ) (u : ModuleImage) (body : Stmts) (vars : Variables) (turns : ℕ) (before behind : List ℤ) →
-  slice_get img m ≡ Some u → IsCommand u (names_of vars) body before →
-  Follows img m (names_of vars) before behind (record { vars = vars; turns = turns; out = [] }) (command body vars turns)
+    slice_get img m ≡ Some u → IsCommand u (names_of vars) body before →
+    Follows img m (names_of vars) before behind (record { vars = vars; turns = turns; out = [] }) (command body vars turns)

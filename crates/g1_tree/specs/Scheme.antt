@@ -5,6 +5,7 @@ use Rattle.ob_tree.specs.declared.pos.Pos.{Pos}
 use Rattle.ob_machine.specs.declared.instr.Opcode.{Opcode}
 use Rattle.ob_machine.specs.declared.instr.Opcode.TheVariants as op
 use Rattle.ob_machine.specs.declared.instr.Instr.{Instr}
+use Rattle.g1_tree.specs.declared.line.Line.{Line}
 use Rattle.g1_tree.specs.declared.tree.Operand.{Operand}
 use Rattle.g1_tree.specs.declared.tree.Operand.TheVariants as operand
 use Rattle.g1_tree.specs.declared.tree.Sign.{Sign}
@@ -15,11 +16,6 @@ use Rattle.g1_tree.specs.declared.tree.Relation.{Relation}
 use Rattle.g1_tree.specs.declared.tree.Relation.TheVariants as relation
 use Rattle.g1_tree.specs.declared.tree.Condition.{Condition}
 use Rattle.g1_tree.specs.Syntax.{Stmt, Assign, While, OutInt, OutLn, Stmts, Nothing, Then}
-
--- an instruction, with its position where it can trap or spend a turn
-pub record Line : Type 0 where
-  pub instr : Instr
-  pub at : Option Pos
 
 abbrev pub plain : Opcode → ℤ → Line
 plain o a = record { instr = record { op = o; a = a; b = pos 0 }; at = None }
