@@ -1,0 +1,3 @@
+pub mod CodeViews
+pub mod CodeEnds
+pub mod CodePuts
