@@ -1,0 +1,8 @@
+pub mod LawSteps
+pub mod LawVariables
+pub mod LawInstrs
+pub mod LawStand
+pub mod LawEnds
+pub mod LawSums
+pub mod LawStmts
+pub mod LawWhole

@@ -1,0 +1,14 @@
+//! The law of simulation of the first language: the machine does what a command means.
+#![tactic(auto)]
+
+ghost use Rattle.g1_tree.specs.Law.{Simulation};
+
+/// The law of simulation. Where a module of an image has a command's code, positions and variables, the
+/// machine's run from the module's first instruction ends as the command's meaning ends: with the same
+/// values of the variables, the same turns left and the same text written, and by the same trap, at the
+/// same position, where the meaning traps or has no turn left. The words before and behind the module's
+/// variables stay.
+pub fn simulation()
+    ensures { Simulation }
+{
+}
