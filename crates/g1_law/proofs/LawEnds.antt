@@ -8,7 +8,8 @@ use Rattle.g1_tree.specs.declared.tree.Term.{Term}
 use Rattle.g1_tree.specs.declared.tree.Sum.{Sum}
 use Rattle.g1_tree.specs.declared.tree.Condition.{Condition}
 use Rattle.g1_tree.specs.Syntax.{Stmt, Assign, While, OutInt, OutLn, Stmts, Nothing, Then}
-use Rattle.g1_tree.specs.Scheme.{Line, plain, placed, slot, end_operand, end_terms, end_sum, end_condition, end_stmt, end_stmts, operand_code, sign_code, terms_code, sum_code, relation_code, condition_code, stmt_code, stmts_code}
+use Rattle.g1_tree.specs.declared.line.Line.{Line}
+use Rattle.g1_tree.specs.Scheme.{plain, placed, slot, end_operand, end_terms, end_sum, end_condition, end_stmt, end_stmts, operand_code, sign_code, terms_code, sum_code, relation_code, condition_code, stmt_code, stmts_code}
 
 module _ (names : List (List ℕ)) where
   pub operand_ends : (o : Operand) (pc : ℕ) → end_operand o pc ≡ pc + length (operand_code names o)

@@ -5,7 +5,8 @@ use Rattle.std.specs.Prelude.{slice_get, nat_eq, Bool, true, false, if◌then◌
 use Rattle.ob_tree.specs.declared.pos.Pos.{Pos}
 use Rattle.ob_machine.specs.declared.instr.Instr.{Instr}
 use Rattle.ob_machine.specs.Table.{position_at}
-use Rattle.g1_tree.specs.Scheme.{Line, instrs_of, with_position, positions_of}
+use Rattle.g1_tree.specs.declared.line.Line.{Line}
+use Rattle.g1_tree.specs.Scheme.{instrs_of, with_position, positions_of}
 use Rattle.g1_law.proofs.LawSteps.{Setting, Has, HasAt}
 
 -- a line's instruction and its position, where it has one

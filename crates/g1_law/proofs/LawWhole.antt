@@ -6,7 +6,8 @@ use Rattle.ob_machine.specs.Table as table
 use Rattle.ob_machine.specs.Table.{Image, ModuleImage, Point, Over}
 use Rattle.g1_tree.specs.Syntax.{Stmts}
 use Rattle.g1_tree.specs.Meaning.{Variables, State, Trapped, Spent, Res, Gives, Stops, command}
-use Rattle.g1_tree.specs.Scheme.{Line, plain, instrs_of, end_stmts, stmts_code, command_code}
+use Rattle.g1_tree.specs.declared.line.Line.{Line}
+use Rattle.g1_tree.specs.Scheme.{plain, instrs_of, end_stmts, stmts_code, command_code}
 use Rattle.g1_tree.specs.Law.{names_of, IsCommand, Follows, Simulation}
 use Rattle.g1_law.proofs.LawSteps.{Setting, go, over, here, Within, Keeps, keeps_further}
 use Rattle.g1_law.proofs.LawInstrs.{return_ends}

@@ -6,3 +6,5 @@ pub mod LawEnds
 pub mod LawSums
 pub mod LawStmts
 pub mod LawWhole
+pub mod LawPlaces
+mod LawTry

@@ -1,6 +1,7 @@
 //! The law of simulation of the first language: the machine does what a command means.
 #![tactic(auto)]
 
+ghost use Rattle.g1_law.specs.Placing.{Placing};
 ghost use Rattle.g1_tree.specs.Law.{Simulation};
 
 /// The law of simulation. Where a module of an image has a command's code, positions and variables, the
@@ -10,5 +11,12 @@ ghost use Rattle.g1_tree.specs.Law.{Simulation};
 /// variables stay.
 pub fn simulation()
     ensures { Simulation }
+{
+}
+
+/// A command's positions are as its code needs them: their indices ascend and lie in the code, and each
+/// addition, subtraction and output has one, and so has each jump that does not lead forward.
+pub fn placing()
+    ensures { Placing }
 {
 }
