@@ -1,6 +1,6 @@
 -- Where the code ends: as many instructions behind its start as it has.
-use Rattle.std.proofs.Common.{◌≡◌, ℕ, zero, suc, ◌+◌, ◌≤◌, List, [], ◌∷◌, ◌++◌, length, arith, length-append}
-use Rattle.std.specs.Prelude.{ℤ, pos}
+use Rattle.std.proofs.Common.{◌≡◌, ℕ, suc, ◌+◌, List, [], ◌∷◌, ◌++◌, length, arith, length-append}
+use Rattle.std.specs.Prelude.{pos}
 use Rattle.ob_machine.specs.declared.instr.Opcode.TheVariants as op
 use Rattle.g1_tree.specs.declared.tree.Operand.{Operand}
 use Rattle.g1_tree.specs.declared.tree.Operand.TheVariants as operand
@@ -8,8 +8,7 @@ use Rattle.g1_tree.specs.declared.tree.Term.{Term}
 use Rattle.g1_tree.specs.declared.tree.Sum.{Sum}
 use Rattle.g1_tree.specs.declared.tree.Condition.{Condition}
 use Rattle.g1_tree.specs.Syntax.{Stmt, Assign, While, OutInt, OutLn, Stmts, Nothing, Then}
-use Rattle.g1_tree.specs.declared.line.Line.{Line}
-use Rattle.g1_tree.specs.Scheme.{plain, placed, slot, end_operand, end_terms, end_sum, end_condition, end_stmt, end_stmts, operand_code, sign_code, terms_code, sum_code, relation_code, condition_code, stmt_code, stmts_code}
+use Rattle.g1_tree.specs.Scheme.{plain, placed, end_operand, end_terms, end_sum, end_condition, end_stmt, end_stmts, operand_code, sign_code, terms_code, sum_code, relation_code, condition_code, stmt_code, stmts_code}
 
 module _ (names : List (List ℕ)) where
   pub operand_ends : (o : Operand) (pc : ℕ) → end_operand o pc ≡ pc + length (operand_code names o)

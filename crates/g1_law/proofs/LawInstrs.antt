@@ -1,7 +1,7 @@
 -- What each instruction comes to.
 use Rattle.std.proofs.lemmas.Bool.Decides.{nat_tests}
-use Rattle.std.proofs.Common.{◌≡◌, ℕ, zero, suc, ◌+◌, ◌≤◌, ◌<◌, List, [], ◌∷◌, ◌++◌, length, Option, Some, None, refl, sym, ap, ◌∙◌, subst, arith, length-append}
-use Rattle.std.specs.Prelude.{slice_get, slice_set, ℤ, pos, negsuc, ◌+ℤ◌, ◌-ℤ◌, int_lt, Bool, true, false, not, nat_le, nat_lt, if◌then◌else◌}
+use Rattle.std.proofs.Common.{◌≡◌, ℕ, suc, ◌+◌, ◌≤◌, ◌<◌, List, [], ◌∷◌, ◌++◌, length, Some, refl, sym, ap, ◌∙◌, subst, arith, length-append}
+use Rattle.std.specs.Prelude.{slice_get, slice_set, ℤ, pos, negsuc, ◌+ℤ◌, ◌-ℤ◌, Bool, true, false, nat_le, nat_lt, if◌then◌else◌}
 use Rattle.std.specs.Str.{bytes_eq}
 use Rattle.ob_tree.specs.declared.pos.Pos.{Pos}
 use Rattle.ob_machine.specs.declared.instr.Opcode.{Opcode}
@@ -63,9 +63,9 @@ module _ (c : Setting) where
   load_goes x pc b ops s code known k room =
       let among : is_among (names_of s.vars) x ≡ true = ap (λ l. is_among l x) k.named ∙ known in
       let e : slice_get (c.before ++ (words_of s.vars ++ c.behind)) (length c.before + slot c.names x) ≡ Some (value_of s.vars x) =
-          get_behind c.before (words_of s.vars ++ c.behind) (slot c.names x)
-          ∙ ap (λ l. slice_get (words_of s.vars ++ c.behind) (slot l x)) (sym k.named)
-          ∙ value_at s.vars x c.behind among in
+      get_behind c.before (words_of s.vars ++ c.behind) (slot c.names x)
+      ∙ ap (λ l. slice_get (words_of s.vars ++ c.behind) (slot l x)) (sym k.named)
+      ∙ value_at s.vars x c.behind among in
       has_step c code _ (ap (λ o. fetched c.m pc o ops (world_with c.before c.behind s)) e ∙ pushes (value_of s.vars x) pc ops _ room) (here c _)
 
   pub store_goes : (x : List ℕ) (z : ℤ) (pc b : ℕ) (ops : List ℤ) (s : State) → Has c pc (instr op.Store (pos 0)) → is_among c.names x ≡ true → Within c b s → Reach c (go c pc (z ∷ address c x ∷ ops) s) (go c (suc pc) ops (record s { vars = assigned s.vars x z }))
@@ -78,9 +78,9 @@ module _ (c : Setting) where
       let own = length-append words c.behind in
       let inside : nat_lt (length c.before + slot c.names x) (length (c.before ++ (words ++ c.behind))) ≡ true = grind (arith, nat_tests) in
       let e : slice_set (c.before ++ (words ++ c.behind)) (length c.before + slot c.names x) z ≡ c.before ++ (words_of (assigned s.vars x z) ++ c.behind) =
-          set_behind c.before (words ++ c.behind) (slot c.names x) z
-          ∙ ap (λ l. c.before ++ slice_set (words ++ c.behind) (slot l x) z) (sym k.named)
-          ∙ ap (λ l. c.before ++ l) (assigned_at s.vars x z c.behind among) in
+      set_behind c.before (words ++ c.behind) (slot c.names x) z
+      ∙ ap (λ l. c.before ++ slice_set (words ++ c.behind) (slot l x) z) (sym k.named)
+      ∙ ap (λ l. c.before ++ l) (assigned_at s.vars x z c.behind among) in
       let new : with_word (c.before ++ (words ++ c.behind)) (address c x) z ≡ Some (c.before ++ (words_of (assigned s.vars x z) ++ c.behind)) = rw inside (ap Some e) in
       has_step c code _ (ap (λ o. stored c.m pc o ops (world_with c.before c.behind s)) new) (here c _)
 

@@ -1,11 +1,10 @@
 -- Each instruction that can trap or spend a turn has its position.
 use Rattle.std.proofs.lemmas.Bool.Decides.{nat_tests}
-use Rattle.std.proofs.Common.{◌≡◌, ℕ, zero, suc, ◌+◌, ◌≤◌, ◌<◌, List, [], ◌∷◌, ◌++◌, length, Option, Some, None, refl, sym, ap, ◌∙◌, subst, arith, length-append}
-use Rattle.std.specs.Prelude.{slice_get, ℤ, pos, int_lt, nat_eq, nat_lt, nat_le, Bool, true, false, not, ◌||◌}
+use Rattle.std.proofs.Common.{◌≡◌, ℕ, zero, suc, ◌+◌, ◌≤◌, ◌<◌, List, [], ◌∷◌, ◌++◌, length, Option, Some, None, refl, sym, ap, ◌∙◌, subst, arith}
+use Rattle.std.specs.Prelude.{slice_get, pos, int_lt, nat_eq, nat_lt, true, false, not, ◌||◌}
 use Rattle.ob_tree.specs.declared.pos.Pos.{Pos}
-use Rattle.ob_machine.specs.declared.instr.Opcode.TheVariants as op
 use Rattle.ob_machine.specs.declared.instr.Instr.{Instr}
-use Rattle.ob_machine.specs.Machine.{needs_position, has_index, Ascend, HasPositions}
+use Rattle.ob_machine.specs.Machine.{needs_position, has_index, Ascend}
 use Rattle.g1_tree.specs.declared.tree.Operand.{Operand}
 use Rattle.g1_tree.specs.declared.tree.Operand.TheVariants as operand
 use Rattle.g1_tree.specs.declared.tree.Term.{Term}
@@ -15,7 +14,7 @@ use Rattle.g1_tree.specs.declared.tree.Relation.TheVariants as relation
 use Rattle.g1_tree.specs.declared.tree.Condition.{Condition}
 use Rattle.g1_tree.specs.Syntax.{Stmt, Assign, While, OutInt, OutLn, Stmts, Nothing, Then}
 use Rattle.g1_tree.specs.declared.line.Line.{Line}
-use Rattle.g1_tree.specs.Scheme.{plain, placed, slot, end_operand, end_terms, end_sum, end_condition, end_stmt, end_stmts, operand_code, sign_code, terms_code, sum_code, relation_code, condition_code, stmt_code, stmts_code, command_code, instrs_of, with_position, positions_of}
+use Rattle.g1_tree.specs.Scheme.{plain, end_operand, end_sum, end_condition, end_stmt, end_stmts, operand_code, terms_code, sum_code, relation_code, condition_code, stmt_code, stmts_code, command_code, instrs_of, with_position, positions_of}
 use Rattle.g1_law.specs.Placing.{Placing}
 use Rattle.g1_law.proofs.LawEnds.{operand_ends, sum_ends, condition_ends, stmt_ends, stmts_end}
 use Rattle.g1_law.proofs.LawWhole.{instrs_length}

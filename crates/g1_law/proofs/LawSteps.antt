@@ -1,5 +1,5 @@
 -- Runs of the machine, and what it means that they follow a result.
-use Rattle.std.proofs.Common.{◌≡◌, ℕ, zero, suc, ◌+◌, ◌≤◌, ◌<◌, List, length, Option, Some, None, refl, sym, ap, ◌∙◌, subst, arith}
+use Rattle.std.proofs.Common.{◌≡◌, ℕ, zero, suc, ◌+◌, ◌≤◌, List, length, Some, refl, sym, ap, ◌∙◌, subst, arith}
 use Rattle.std.specs.Prelude.{slice_get, ℤ, pos}
 use Rattle.ob_tree.specs.declared.pos.Pos.{Pos}
 use Rattle.ob_machine.specs.declared.instr.Instr.{Instr}

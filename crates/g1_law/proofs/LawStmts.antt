@@ -1,12 +1,12 @@
 -- The code of statements keeps to their meaning.
-use Rattle.std.proofs.Common.{◌≡◌, ℕ, zero, suc, ◌+◌, ◌≤◌, ◌<◌, List, [], ◌∷◌, ◌++◌, length, refl, sym, ap, ◌∙◌, subst, arith}
-use Rattle.std.specs.Prelude.{ℤ, pos, Bool, true, false, ◌&&◌}
+use Rattle.std.proofs.Common.{◌≡◌, ℕ, zero, suc, ◌≤◌, ◌<◌, [], ◌∷◌, length, refl, ◌∙◌, arith}
+use Rattle.std.specs.Prelude.{ℤ, pos, Bool, true, false}
 use Rattle.ob_tree.specs.declared.pos.Pos.{Pos}
 use Rattle.ob_machine.specs.declared.instr.Opcode.TheVariants as op
 use Rattle.ob_machine.specs.Table.{Point, truth}
 use Rattle.g1_tree.specs.Syntax.{Stmt, Assign, While, OutInt, OutLn, Stmts, Nothing, Then}
-use Rattle.g1_tree.specs.Meaning.{State, Spent, M, bind, ◌>>=◌, give, stop, spend, spend_from, write, padded, assigned, condition_value, go_back, loop, body_if, exec, execs}
-use Rattle.g1_tree.specs.Scheme.{slot, end_sum, end_condition, end_stmt, end_stmts, sum_code, condition_code, stmt_code, stmts_code}
+use Rattle.g1_tree.specs.Meaning.{State, Spent, M, ◌>>=◌, stop, spend, spend_from, write, padded, condition_value, go_back, loop, body_if, exec, execs}
+use Rattle.g1_tree.specs.Scheme.{end_sum, end_condition, end_stmt, end_stmts, sum_code, condition_code, stmt_code, stmts_code}
 use Rattle.g1_tree.specs.Rules.{is_among, sum_is_known, condition_is_known, stmt_is_known, stmts_are_known}
 use Rattle.g1_law.proofs.LawSteps.{Setting, go, Has, HasAt, here, Within, Keeps, keeps_bind, keeps_after, keeps_value, keeps_stop, keeps_more}
 use Rattle.g1_law.proofs.LawVariables.{assigned_names}

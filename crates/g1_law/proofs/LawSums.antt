@@ -1,5 +1,5 @@
 -- The code of sums and of conditions keeps to their meaning.
-use Rattle.std.proofs.Common.{◌≡◌, ℕ, zero, suc, ◌+◌, ◌≤◌, ◌<◌, List, [], ◌∷◌, ◌++◌, length, refl, sym, ap, ◌∙◌, subst, arith}
+use Rattle.std.proofs.Common.{◌≡◌, ℕ, suc, ◌+◌, ◌≤◌, ◌<◌, List, [], ◌∷◌, length, refl, arith}
 use Rattle.std.specs.Prelude.{ℤ, pos, Bool, true, false, ◌&&◌}
 use Rattle.ob_tree.specs.declared.pos.Pos.{Pos}
 use Rattle.ob_machine.specs.Table.{truth}
@@ -9,7 +9,7 @@ use Rattle.g1_tree.specs.declared.tree.Sign.{Sign}
 use Rattle.g1_tree.specs.declared.tree.Term.{Term}
 use Rattle.g1_tree.specs.declared.tree.Sum.{Sum}
 use Rattle.g1_tree.specs.declared.tree.Condition.{Condition}
-use Rattle.g1_tree.specs.Meaning.{State, Trapped, in_longint, in_range_or_trap, operand_value, signed, with_terms, sum_value, holds, condition_value}
+use Rattle.g1_tree.specs.Meaning.{State, in_longint, in_range_or_trap, operand_value, signed, with_terms, sum_value, condition_value}
 use Rattle.g1_tree.specs.Scheme.{end_operand, end_terms, end_sum, end_condition, operand_code, sign_code, terms_code, sum_code, condition_code}
 use Rattle.g1_tree.specs.Rules.{operand_is_known, terms_are_known, sum_is_known, condition_is_known}
 use Rattle.g1_law.proofs.LawSteps.{Setting, go, HasAt, here, then_reach, Within, Keeps, keeps_bind, keeps_value, keeps_stop}

@@ -1,6 +1,7 @@
 -- Programs that are run by their meaning and by their code, inside the checker.
-use Rattle.std.proofs.Common.{◌≡◌, ℕ, List, [], ◌∷◌, ◌++◌, refl}
-use Rattle.std.specs.Prelude.{ℤ, pos, negsuc}
+use Rattle.std.proofs.Common.{◌≡◌, ℕ, List, [], ◌∷◌, refl, arith}
+use Rattle.std.specs.Prelude.{ℤ, pos}
+use Rattle.std.specs.Fmt.{digits}
 use Rattle.ob_tree.specs.declared.pos.Pos.{Pos}
 use Rattle.ob_machine.specs.Table as table
 use Rattle.ob_machine.specs.Table.{Image, World, Point, Go, Over, run}
@@ -10,9 +11,10 @@ use Rattle.g1_tree.specs.declared.tree.Sign.TheVariants as sign
 use Rattle.g1_tree.specs.declared.tree.Operand.{Operand}
 use Rattle.g1_tree.specs.declared.tree.Sum.{Sum}
 use Rattle.g1_tree.specs.declared.tree.Relation.TheVariants as relation
-use Rattle.g1_tree.specs.Syntax.{Stmt, Assign, While, OutInt, OutLn, Stmts, Nothing, Then}
+use Rattle.g1_tree.specs.Syntax.{Assign, While, OutInt, OutLn, Stmts, Nothing, Then}
 use Rattle.g1_tree.specs.Meaning.{State, Trapped, Spent, Res, Gives, Stops, first_values, command}
 use Rattle.g1_tree.specs.Scheme.{command_code, instrs_of, positions_of}
+use Rattle.g1_tree.specs.Law.{IsCommand}
 
 abbrev at : ℕ → Pos
 at n = record { line = n; col = 1 }
@@ -65,28 +67,40 @@ abbrev state : ℤ → ℤ → ℕ → List ℕ → State
 state x y turns out = record { vars = (i, x) ∷ (s, y) ∷ []; turns = turns; out = out }
 
 means_sums : means sums 20 ≡ Gives tt (state (pos 10) (pos 55) 8 (53 ∷ 53 ∷ 10 ∷ []))
+unfolding digits
 means_sums = refl
 
 does_sums : run (image sums) 300 (start 20) ≡ Over table.Done (world (pos 10) (pos 55) 8 (53 ∷ 53 ∷ 10 ∷ []))
+unfolding digits
 does_sums = refl
 
 -- ten turns of the loop leave one for the number, and none for the line's end
 means_few : means sums 11 ≡ Stops (Spent (at 7)) (state (pos 10) (pos 55) 0 (53 ∷ 53 ∷ []))
+unfolding digits
 means_few = refl
 
 does_few : run (image sums) 300 (start 11) ≡ Over (table.Spent 1 (at 7)) (world (pos 10) (pos 55) 0 (53 ∷ 53 ∷ []))
+unfolding digits
 does_few = refl
 
 -- the loop's fourth turn is not there
 means_none : means sums 3 ≡ Stops (Spent (at 3)) (state (pos 4) (pos 10) 0 [])
+unfolding digits
 means_none = refl
 
 does_none : run (image sums) 300 (start 3) ≡ Over (table.Spent 1 (at 3)) (world (pos 4) (pos 10) 0 [])
+unfolding digits
 does_none = refl
 
 -- "  2147483646", and then a trap at the sign
 means_leaves : means leaves 5 ≡ Stops (Trapped 8 (at 4)) (state (pos 2147483647) (pos 2147483646) 4 (32 ∷ 32 ∷ 50 ∷ 49 ∷ 52 ∷ 55 ∷ 52 ∷ 56 ∷ 51 ∷ 54 ∷ 52 ∷ 54 ∷ []))
+unfolding digits
 means_leaves = refl
 
 does_leaves : run (image leaves) 300 (start 5) ≡ Over (table.Trapped 8 (pos 0) 1 (at 4)) (world (pos 2147483647) (pos 2147483646) 4 (32 ∷ 32 ∷ 50 ∷ 49 ∷ 52 ∷ 55 ∷ 52 ∷ 56 ∷ 51 ∷ 54 ∷ 52 ∷ 54 ∷ []))
+unfolding digits
 does_leaves = refl
+
+-- the law speaks of this image
+fits : IsCommand (record { name = []; code = instrs_of (command_code names sums); positions = positions_of 0 (command_code names sums); first = 2; words = 2 }) names sums (pos 7 ∷ [])
+fits = record { code = refl; positions = refl; first = refl; small = omega arith; different = refl; known = refl }

@@ -1,12 +1,11 @@
 -- A variable's value is the word in its slot.
-use Rattle.std.proofs.Common.{◌≡◌, ℕ, zero, suc, ◌+◌, ◌≤◌, ◌<◌, List, [], ◌∷◌, ◌++◌, length, map, Option, Some, None, refl, sym, ap, ◌∙◌, subst, arith, length-append}
-use Rattle.std.specs.Prelude.{slice_get, slice_set, ℤ, pos, Bool, true, false, ◌||◌, if◌then◌else◌}
-use Rattle.std.specs.List.{list_any}
+use Rattle.std.proofs.Common.{◌≡◌, ℕ, suc, ◌+◌, ◌<◌, List, [], ◌∷◌, ◌++◌, length, Some, refl, ap, ◌∙◌, arith}
+use Rattle.std.specs.Prelude.{slice_get, slice_set, ℤ, Bool, true, false, ◌||◌, if◌then◌else◌}
 use Rattle.std.specs.Str.{bytes_eq}
 use Rattle.g1_tree.specs.Meaning.{Variables, value_of, assigned}
 use Rattle.g1_tree.specs.Scheme.{slot}
 use Rattle.g1_tree.specs.Rules.{is_among}
-use Rattle.g1_tree.specs.Law.{name_of, word_of, names_of, words_of}
+use Rattle.g1_tree.specs.Law.{names_of, words_of}
 
 -- a slot lies within the variables
 pub slot_within : (names : List (List ℕ)) (x : List ℕ) → is_among names x ≡ true → slot names x < length names

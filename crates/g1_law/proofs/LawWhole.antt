@@ -1,15 +1,14 @@
 -- A command's code keeps to the command's meaning, from the start to the end.
-use Rattle.std.proofs.Common.{◌≡◌, ℕ, zero, suc, ◌+◌, ◌≤◌, ◌<◌, List, [], ◌∷◌, ◌++◌, length, Some, refl, sym, ap, ◌∙◌, subst, arith, length-append}
-use Rattle.std.specs.Prelude.{slice_get, ℤ, pos, map}
+use Rattle.std.proofs.Common.{◌≡◌, ℕ, suc, ◌<◌, List, [], ◌∷◌, length, refl, ap, ◌∙◌, arith, length-append}
+use Rattle.std.specs.Prelude.{pos}
 use Rattle.ob_machine.specs.declared.instr.Opcode.TheVariants as op
 use Rattle.ob_machine.specs.Table as table
 use Rattle.ob_machine.specs.Table.{Image, ModuleImage, Point, Over}
-use Rattle.g1_tree.specs.Syntax.{Stmts}
-use Rattle.g1_tree.specs.Meaning.{Variables, State, Trapped, Spent, Res, Gives, Stops, command}
+use Rattle.g1_tree.specs.Meaning.{State, Trapped, Spent, Res, Gives, Stops, command}
 use Rattle.g1_tree.specs.declared.line.Line.{Line}
 use Rattle.g1_tree.specs.Scheme.{plain, instrs_of, end_stmts, stmts_code, command_code}
-use Rattle.g1_tree.specs.Law.{names_of, IsCommand, Follows, Simulation}
-use Rattle.g1_law.proofs.LawSteps.{Setting, go, over, here, Within, Keeps, keeps_further}
+use Rattle.g1_tree.specs.Law.{names_of, Follows, Simulation}
+use Rattle.g1_law.proofs.LawSteps.{Setting, go, over, Within, Keeps, keeps_further}
 use Rattle.g1_law.proofs.LawInstrs.{return_ends}
 use Rattle.g1_law.proofs.LawStand.{front, back, all_lines}
 use Rattle.g1_law.proofs.LawEnds.{stmts_end}

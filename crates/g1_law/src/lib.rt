@@ -11,12 +11,10 @@ ghost use Rattle.g1_tree.specs.Law.{Simulation};
 /// variables stay.
 pub fn simulation()
     ensures { Simulation }
-{
-}
+{}
 
 /// A command's positions are as its code needs them: their indices ascend and lie in the code, and each
 /// addition, subtraction and output has one, and so has each jump that does not lead forward.
 pub fn placing()
     ensures { Placing }
-{
-}
+{}
