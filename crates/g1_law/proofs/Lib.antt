@@ -7,4 +7,5 @@ pub mod LawSums
 pub mod LawStmts
 pub mod LawWhole
 pub mod LawPlaces
+pub mod LawRuns
 mod LawTry
