@@ -1,0 +1,5 @@
+pub mod Vocabulary
+pub mod Phrases
+pub mod Grammar
+pub mod Reading
+pub mod Scanning
