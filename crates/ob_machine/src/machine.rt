@@ -18,7 +18,9 @@ const WORDS: usize = 262144;
 // How many modules there may be.
 const MODULES: usize = 255;
 
-/// A machine: the modules that are in it, and the 262,144 words of their variables.
+/// A machine: at most 255 modules, by their numbers from 0 on, and the 262,144 words of the globals.
+/// The first word has the address 1, and the variables of each module lie behind those of the
+/// modules before it.
 #[derive(Drop)]
 pub struct Machine {
     modules: Vec<Module>,
@@ -76,7 +78,8 @@ fn begin(frame: &mut Frame, turns: u32)
 }
 
 impl Machine {
-    /// A machine without modules, whose words are all 0. The heap's size has no effect yet.
+    /// A machine without modules, whose words are all 0. `heap` is from 1 to 4,194,304 words, and has
+    /// no effect yet. An `Err` is a want of memory.
     pub fn new(alloc: Global, heap: u32) -> Result<Machine, AllocError>
         requires some { 1 ≤ heap }
         requires limit { heap ≤ 4194304 }
@@ -96,8 +99,13 @@ impl Machine {
         })
     }
 
-    /// Puts a module behind those that are there, and clears the words of its variables, which lie
-    /// behind theirs. An `Err` is a want of memory, and leaves the machine as it was.
+    /// Puts a module behind those that are there, with 0 in the words of its variables, and tells its
+    /// number. The other words stay.
+    ///
+    /// The machine has at most 254 modules, the variables of all then take at most 262,144 words, and
+    /// the code has at most 262,144 instructions. The indices of the positions ascend strictly and lie
+    /// in the code, and each instruction that can trap or spend a turn has one. An `Err` is a want of
+    /// memory, and leaves the machine as it was.
     pub fn enter(
         &mut self,
         module: Name,
@@ -125,7 +133,8 @@ impl Machine {
         Ok(Entered { first: number })
     }
 
-    /// Takes all but the first so many modules out. All words stay as they are.
+    /// Keeps the first so many modules, of which there are at least that many, and takes the others
+    /// out. All words stay as they are.
     pub fn cut(&mut self, modules: u32)
         requires { modules ≤ length self.old.modules }
         ensures cut { self.new ≡ record { modules = take modules self.old.modules; globals = self.old.globals } }
@@ -134,9 +143,12 @@ impl Machine {
         self.modules.truncate(modules as usize);
     }
 
-    /// Runs a module's procedure 0 to its end, by the table of the instructions. The turns that are
-    /// left are in `turns` then, and the machine holds the globals that the run left. At a
-    /// `SinkFault` a front of the run's text was written.
+    /// Runs a procedure to its end, by the table of the instructions: procedure 0 of a module, whose
+    /// code begins at instruction 0. It takes no memory, and the modules stay.
+    ///
+    /// The globals and `turns` are then as the run left them, and the run's text was written. Only
+    /// where the sink failed the answer is `SinkFault`: then a front of the text was written, and nothing
+    /// is promised of the globals and `turns`.
     pub fn run<S: Sink>(&mut self, entry: ProcRef, turns: &mut u32, out: &mut S) -> Outcome
         requires there { entry.module < length self.old.modules }
         requires body { entry.proc ≡ 0 }

@@ -3,25 +3,26 @@ use ob_tree::{Name, Pos};
 /// How a run ended.
 #[derive(Clone, Copy, Debug, PartialEq, Drop)]
 pub enum Outcome {
-    /// A return was executed in the procedure that the run began in.
+    /// The procedure that the run began in returned.
     Done,
-    /// A computation trapped: kind 8 is a result outside the range of its type, and its number is 0.
+    /// An instruction of the module trapped, with this position. Kind 8 is a result outside the range
+    /// of its type, with the number 0.
     Trap {
         kind: u8,
         number: i32,
         module: Name,
         pos: Pos,
     },
-    /// A turn was to be spent and none was left.
+    /// An instruction of the module, with this position, was to spend a turn, and none was left.
     TurnsSpent {
         module: Name,
         pos: Pos,
     },
-    /// The instruction there cannot be executed.
+    /// The instruction at this index of the module's code cannot be executed, or there is none.
     Illegal {
         module: Name,
         at: u32,
     },
-    /// The sink failed, so that not all of the text was written.
+    /// The sink failed: a front of the text was written.
     SinkFault,
 }

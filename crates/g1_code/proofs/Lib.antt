@@ -1,3 +1,0 @@
-pub mod CodeViews
-pub mod CodeEnds
-pub mod CodePuts

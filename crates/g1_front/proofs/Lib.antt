@@ -1,9 +1,0 @@
-pub mod Sets
-pub mod Exact
-pub mod Fine
-pub mod Levels
-pub mod Loops
-pub mod Texts
-pub mod Turns
-pub mod Laws
-pub mod Short
