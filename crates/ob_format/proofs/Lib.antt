@@ -1,0 +1,4 @@
+pub mod Loop
+pub mod Whole
+pub mod Splits
+pub mod Ends
