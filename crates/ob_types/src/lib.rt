@@ -1,0 +1,15 @@
+//! Types and descriptions: what an object of a module is, what it is described by, and how the
+//! types of a map of descriptions stand to each other.
+#![tactic(auto)]
+
+mod desc;
+mod face;
+mod spelled;
+mod types;
+mod value;
+
+pub use desc::{Desc, Field, Method, Receiver, RecordDesc};
+pub use face::{Aspect, Interface, Object, Use};
+pub use spelled::{read_print, write_print};
+pub use types::{Basic, Mark, Mode, Signature, TypeRef, Types};
+pub use value::Value;

@@ -1,0 +1,16 @@
+use ob_tree::Text;
+
+/// The value of a constant.
+#[derive(Debug, Drop, Clone)]
+pub enum Value {
+    Bool(bool),
+    /// A character, 0X to 0FFX.
+    Char(u8),
+    /// An integer. Its type is the smallest that has it.
+    Int(i32),
+    /// A set: bit i stands for the element i.
+    Set(u32),
+    /// A string's characters, without an end mark. A string of one character is a `Char`.
+    Str(Text),
+    Nil,
+}
