@@ -1,1 +1,4 @@
-pub mod Loop
+pub mod Read
+pub mod Runs
+pub mod Digits
+pub mod Short

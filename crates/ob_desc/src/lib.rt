@@ -5,7 +5,9 @@
 #![tactic(auto)]
 
 mod kind;
+mod reading;
 mod writing;
 
 pub use kind::{ConstKind, Kind};
+pub use reading::{described, read_desc};
 pub use writing::write_desc;

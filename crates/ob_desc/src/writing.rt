@@ -119,7 +119,7 @@ fn put_last_signature(out: &mut Vec<u8>, s: &Signature) -> Result<(), AllocError
     put_signature(out, s)
 }
 
-fn const_kind_of(value: i32) -> ConstKind
+pub fn int_kind_of(value: i32) -> ConstKind
     ensures { result ≡ int_kind value }
 {
     if -128 <= value && value < 128 {
@@ -131,7 +131,7 @@ fn const_kind_of(value: i32) -> ConstKind
     }
 }
 
-fn const_name_of(kind: ConstKind) -> &'static [u8]
+pub fn const_name_of(kind: ConstKind) -> &'static [u8]
     ensures { result.now ≡ const_name kind }
 {
     match kind {
@@ -184,7 +184,7 @@ fn put_value(out: &mut Vec<u8>, value: &Value) -> Result<(), AllocError>
             put_number(out, *code as u32)
         }
         Value::Int(number) => {
-            put_bytes(out, const_name_of(const_kind_of(*number)))?;
+            put_bytes(out, const_name_of(int_kind_of(*number)))?;
             put_signed(out, *number)
         }
         Value::Set(word) => {
