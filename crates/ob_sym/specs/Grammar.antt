@@ -1,5 +1,5 @@
 -- The grammar of a symbol file.
-use Rattle.std.specs.Prelude.{◌≡◌, ℕ, ◌≤◌, Bool, cond, not, ◌&&◌, nat_le, List, [], ◌∷◌, ◌++◌, length, Option, Some, None, codes, bytes_eq, ◌≢◌}
+use Rattle.std.specs.Prelude.{◌≡◌, ℕ, ◌≤◌, Bool, true, false, cond, not, ◌&&◌, nat_le, List, [], ◌∷◌, ◌++◌, length, Option, Some, None, codes, bytes_eq, ◌≢◌}
 use Rattle.std.specs.Option.{option_map}
 use Rattle.std.specs.List.{list_all, AllByRecursion}
 use Rattle.std.specs.Ordering.{nat_cmp}
@@ -8,6 +8,8 @@ use Rattle.std.specs.declared.cmp.Ordering.{Ordering}
 use Rattle.ob_format.specs.Format.{Format, ◌>>=◌, text32, optional, few, rising, such_that, parsed, made, lead, ◌⊗◌}
 use Rattle.ob_format.specs.Names.{name, object_name}
 use Rattle.ob_tree.specs.declared.names.QName.{QName}
+use Rattle.ob_types.specs.declared.desc.Desc.{Desc}
+use Rattle.ob_types.specs.declared.desc.Desc.TheVariants as desc
 use Rattle.ob_types.specs.declared.face.Object.{Object}
 use Rattle.ob_types.specs.declared.face.Use.{Use}
 use Rattle.ob_types.specs.declared.face.Interface.{Interface}
@@ -33,6 +35,11 @@ described_as m e = do
 
 abbrev pub texts_of : List ℕ → Object → Entry
 texts_of m o = (o.name, (shape_text (object_of m o.name) o.desc, layout_text (object_of m o.name) o.desc))
+
+-- a record has a layout
+abbrev pub has_layout : Desc → Bool
+has_layout (desc.Record r) = true
+has_layout d = false
 
 -- The object has texts, and carries their prints.
 pub record IsObjectOf (m : List ℕ) (o : Object) : Type 0 where

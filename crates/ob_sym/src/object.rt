@@ -3,7 +3,7 @@ ghost use Rattle.std.specs.Option.{option_copied};
 ghost use Rattle.ob_format.specs.Format.{Adds, Finds, Gives, optional, text32, items_at, list_of, rising};
 ghost use Rattle.ob_format.specs.Order.{rises};
 ghost use Rattle.ob_desc.specs.Grammar.{same_object, layout_text};
-ghost use Rattle.ob_sym.specs.Grammar.{object_of, described_as, IsObjectOf, object_in, by_name};
+ghost use Rattle.ob_sym.specs.Grammar.{object_of, described_as, object_in, by_name, has_layout};
 
 use ob_desc::{described, write_desc};
 use ob_format::{Fault, Wire, put_bytes, text_at, u32_at, write_text};
@@ -128,39 +128,55 @@ pub fn read_objects<'a>(
     Ok((items, rest))
 }
 
+fn is_record(desc: &Desc) -> bool
+    ensures { result ≡ has_layout desc.now }
+{
+    match desc {
+        Desc::Record(_) => true,
+        Desc::Const(_) => false,
+        Desc::Var(_, _) => false,
+        Desc::Proc(_) => false,
+        Desc::Alias(_, _) => false,
+        Desc::Array(_, _, _) => false,
+        Desc::OpenArray(_, _) => false,
+        Desc::Pointer(_, _) => false,
+        Desc::ProcType(_, _) => false,
+    }
+}
+
 fn write_layout(
     alloc: Global,
     module: &Name,
     object: &Object,
     out: &mut Vec<u8>,
 ) -> Result<(), AllocError>
-    requires { IsObjectOf «module».now object.now }
+    requires { (object_in «module».now).fits object.now }
     ensures { OnOk result (Adds out.old.items out.new.items ((optional text32).spell (layout_text (object_of «module».now object.now.name) object.now.desc))) }
 {
-    match &object.desc {
-        Desc::Record(_) => {
-            let text = write_desc(alloc, module, &object.name, &object.desc, Aspect::Layout)?;
-            put_bytes(out, &[1])?;
-            write_text(text.as_slice(), out)
-        }
-        _ => put_bytes(out, &[0]),
+    if !is_record(&object.desc) {
+        put_bytes(out, &[0])?;
+        return Ok(());
     }
+    let text = write_desc(alloc, module, &object.name, &object.desc, Aspect::Layout)?;
+    put_bytes(out, &[1])?;
+    write_text(text.as_slice(), out)?;
+    Ok(())
 }
 
-#[tactic(auto, unfolding(crate::specs::Grammar::object_in), using(ob_format::specs::Exact::then_adds))]
 fn write_object(
     alloc: Global,
     module: &Name,
     object: &Object,
     out: &mut Vec<u8>,
 ) -> Result<(), AllocError>
-    requires { IsObjectOf «module».now object.now }
+    requires { (object_in «module».now).fits object.now }
     ensures { OnOk result (Adds out.old.items out.new.items ((object_in «module».now).spell object.now)) }
 {
     let shape = write_desc(alloc, module, &object.name, &object.desc, Aspect::Shape)?;
     object.name.write(out)?;
     write_text(shape.as_slice(), out)?;
-    write_layout(alloc, module, object, out)
+    write_layout(alloc, module, object, out)?;
+    Ok(())
 }
 
 /// Adds the objects of the module, behind their count of four bytes.
