@@ -31,7 +31,6 @@ pub high_fails : (before : List ℕ) (h l : ℕ) (more : List ℕ) (total : Opti
 unfolding hex_at
 high_fails before h l more total high so_far = sym so_far ∙ rw high refl
 
-
 pub low_fails : (before : List ℕ) (h l : ℕ) (more : List ℕ) (a : ℕ) (total : Option (List ℕ)) → hex_value h ≡ Some a → hex_value l ≡ None → with_more before (hex_at (h ∷ l ∷ more)) ≡ total → total ≡ None
 unfolding hex_at
 low_fails before h l more a total high low so_far = sym so_far ∙ rw (high, low) refl

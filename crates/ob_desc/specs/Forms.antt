@@ -1,6 +1,5 @@
 -- Forms of words: tables, tests, keywords.
-use Rattle.std.specs.Prelude.{◌≡◌, ℕ, zero, suc, Bool, false, cond, ◌==◌, List, [], ◌∷◌, ◌++◌, Option, Some, None, bytes_eq}
-use Rattle.std.specs.List.{flat_map, AllByRecursion}
+use Rattle.std.specs.Prelude.{ℕ, zero, suc, Bool, cond, ◌==◌, List, [], ◌∷◌, ◌++◌, Option, Some, None, bytes_eq}
 use Rattle.ob_format.specs.Format.{Format, ◌>>=◌, made_at, skip_at}
 use Rattle.ob_format.specs.Words.{front, back, Word}
 

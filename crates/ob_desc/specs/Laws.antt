@@ -8,9 +8,8 @@ use Rattle.std.specs.Bool.{Decides}
 use Rattle.std.specs.Int.{w32, cast_signed, cast_unsigned}
 use Rattle.std.specs.Fmt.{signed_decimal}
 use Rattle.std.proofs.lemmas.Int.{ints, to_z-of_z, of_z-to_z}
-use Rattle.std.specs.List.{list_all, list_any, flat_map, AllByRecursion}
+use Rattle.std.specs.List.{list_all, flat_map, AllByRecursion}
 use Rattle.std.specs.List.Sorted.{IsStrictlySortedBy}
-use Rattle.std.specs.Cmp.{IsTotalOrder}
 use Rattle.std.proofs.lemmas.Cmp.{nat_list_cmp_total, nat_cmp_total, on_total, then_total}
 use Rattle.std.specs.Char.{is_ascii_alphabetic, is_ascii_alphanumeric}
 use Rattle.std.specs.Cmp.Lexicographic.{bytes_decides}
@@ -19,11 +18,11 @@ use Rattle.std.proofs.lemmas.Bool.Decides.{Decides-and, Decides-ltb, Decides-eqb
 use Rattle.std.proofs.lemmas.Option.{cond_some}
 use Rattle.std.proofs.lemmas.List.{append-nil}
 use Rattle.std.proofs.lemmas.List.Concat.{flat_map-cons}
-use Rattle.ob_format.specs.Format.{Format, ◌>>=◌, ◌⊗◌, made, lead}
+use Rattle.ob_format.specs.Format.{◌>>=◌}
 use Rattle.ob_format.specs.Exact.{bind_some, some_is, cond_then, rises_decides}
 use Rattle.ob_format.specs.Order.{rises}
 use Rattle.ob_format.specs.Names.{is_letters, is_identifier, is_object, is_object_byte}
-use Rattle.ob_format.specs.Words.{front, back, Word, IsWord, IsFree, IsClear, after, after_at, IsEnd, IsText, all_at, all_of, signed, numeral, identifier, ◌▹◌}
+use Rattle.ob_format.specs.Words.{front, back, IsWord, IsFree, IsClear, after, after_at, IsEnd, IsText, all_at, signed, identifier}
 use Rattle.ob_format.specs.WordLaws.{signed_word, numeral_word, identifier_word, then_word, Opens, all_opens, front-back, front_whole, back_whole, after_text, pair_text, made_text, IsLong, lead_text, all_found, all_again}
 use Rattle.ob_tree.specs.declared.names.QName.{QName}
 use Rattle.ob_types.specs.declared.types.Basic.{Basic}
@@ -39,18 +38,17 @@ use Rattle.ob_types.specs.declared.value.Value.{Value}
 use Rattle.ob_types.specs.declared.value.Value.TheVariants as value
 use Rattle.ob_types.specs.declared.desc.Desc.{Desc}
 use Rattle.ob_types.specs.declared.desc.Desc.TheVariants as desc
-use Rattle.ob_types.specs.declared.desc.RecordDesc.{RecordDesc}
 use Rattle.ob_types.specs.declared.desc.Field.{Field}
 use Rattle.ob_types.specs.declared.desc.Method.{Method}
 use Rattle.ob_types.specs.declared.desc.Receiver.{Receiver}
 use Rattle.ob_types.specs.declared.desc.Receiver.TheVariants as receiver
-use Rattle.ob_desc.specs.Forms.{lookup, last, led, kept, made_where, chosen_at, run_at}
+use Rattle.ob_desc.specs.Forms.{lookup, last, run_at}
 use Rattle.ob_desc.specs.FormLaws.{found_in, last_word, led_word, kept_word, where_text, chosen_found, keyed, run_found, run_opens, run_again}
 use Rattle.ob_desc.specs.declared.kind.Kind.{Kind}
 use Rattle.ob_desc.specs.declared.kind.Kind.TheVariants as kind
 use Rattle.ob_desc.specs.declared.kind.ConstKind.{ConstKind}
 use Rattle.ob_desc.specs.declared.kind.ConstKind.TheVariants as const
-use Rattle.ob_desc.specs.Grammar.{small, count, object_at, dotted_at, dotted, dotted_identifier, basics, basic_name, type_at, type_print, type_fits, type_name, base_at, base_print, base, marks, mark_name, mark, is_shown, shown_mark, mode_at, mode_byte, param_at, param, params_at, params_print, result_at, signature_at, signature, truths, truth_name, truth, character, size_kind, int_kind, set_word, hex_value, hex_digit, hex_at, hex_print, IsByte, quoted_at, quoted, string, const_kinds, const_name, int_at, const_by, value_print, value_fits, constant, field, receivers, receiver_name, receiver_word, method, begins_field, by_place, by_number, members_at, all_members, members, const_text, var_text, proc_text, marked_text, array_text, proctype_text, record_text, kinds, bare_record, shape_by, shape_text, shape_fits, shape_at, layout, layout_text, layout_fits, same_object, joined, description_at, IsSpelled}
+use Rattle.ob_desc.specs.Grammar.{small, count, object_at, dotted_at, dotted, dotted_identifier, basics, basic_name, type_at, type_print, type_fits, type_name, base_at, base_print, base, marks, mark_name, mark, is_shown, shown_mark, mode_at, mode_byte, param_at, param, params_at, params_print, result_at, signature_at, signature, truths, truth_name, truth, character, size_kind, int_kind, set_word, hex_value, hex_digit, hex_at, hex_print, IsByte, quoted_at, quoted, string, const_kinds, const_name, int_at, const_by, value_print, value_fits, constant, field, receivers, receiver_name, receiver_word, method, begins_field, by_place, by_number, members_at, members, const_text, var_text, proc_text, marked_text, array_text, proctype_text, record_text, kinds, bare_record, shape_by, shape_text, shape_fits, shape_at, layout, layout_text, layout_fits, same_object, joined, description_at, IsSpelled}
 
 -- ---- numbers
 

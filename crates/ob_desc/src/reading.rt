@@ -11,9 +11,7 @@ ghost use Rattle.ob_types.specs.declared.desc.Desc.{Desc as Described};
 
 use crate::kind::{ConstKind, Kind};
 use crate::writing::{const_name_of, int_kind_of};
-use ob_format::{
-    Fault, is_name, is_object_name, number_of, signed_of, skip, split_at_byte, word,
-};
+use ob_format::{Fault, is_name, is_object_name, number_of, signed_of, skip, split_at_byte, word};
 use ob_tree::{List, Name, ObjName, QName, Text};
 use ob_types::{
     Basic, Desc, Field, Mark, Method, Mode, Receiver, RecordDesc, Signature, TypeRef, Value,
@@ -37,7 +35,11 @@ fn small_of(word: &[u8]) -> Option<u32>
     ensures { result ≡ small.parse word.now }
 {
     let number = number_of(word)?;
-    if number < 2147483648 { Some(number) } else { None }
+    if number < 2147483648 {
+        Some(number)
+    } else {
+        None
+    }
 }
 
 #[tactic(auto, unfolding(crate::specs::Forms::kept_at))]
@@ -203,7 +205,11 @@ fn params_of(alloc: Global, inner: &[u8]) -> Result<List<(Mode, TypeRef)>, Fault
 }
 
 #[tactic(auto, unfolding(crate::specs::Grammar::result_at))]
-fn signature_after(alloc: Global, params: List<(Mode, TypeRef)>, text: &[u8]) -> Result<Signature, Fault>
+fn signature_after(
+    alloc: Global,
+    params: List<(Mode, TypeRef)>,
+    text: &[u8],
+) -> Result<Signature, Fault>
     ensures { Gives (λ x. x) result (result_at params text.now) }
 {
     match text {
@@ -852,11 +858,7 @@ fn join(
 /// The object and the description that the two texts spell: the shape text, and the layout text,
 /// which a record has and nothing else. `Damaged` exactly where they spell none.
 #[tactic(auto, unfolding(crate::specs::Grammar::description_at))]
-pub fn described(
-    alloc: Global,
-    shape: &[u8],
-    layout: Option<&[u8]>,
-) -> Result<(QName, Desc), Fault>
+pub fn described(alloc: Global, shape: &[u8], layout: Option<&[u8]>) -> Result<(QName, Desc), Fault>
     ensures { Gives (λ x. x) result (description_at shape.now (option_copied layout.entry)) }
 {
     let (name, desc) = shape_of(alloc, shape)?;

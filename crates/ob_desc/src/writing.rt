@@ -344,7 +344,12 @@ fn put_proctype(
 }
 
 #[tactic(auto, using(ob_format::specs::Exact::then_adds))]
-fn put_const(out: &mut Vec<u8>, module: &Name, name: &ObjName, value: &Value) -> Result<(), AllocError>
+fn put_const(
+    out: &mut Vec<u8>,
+    module: &Name,
+    name: &ObjName,
+    value: &Value,
+) -> Result<(), AllocError>
     ensures { OnOk result (Adds out.old.items out.new.items (const_text.print (record { «module» = «module».now; object = name.now }, value.now))) }
 {
     put_spaced(out, module, name)?;
@@ -360,7 +365,12 @@ fn put_last_base(out: &mut Vec<u8>, base: &Option<TypeRef>) -> Result<(), AllocE
 
 // A record as other modules see it.
 #[tactic(auto, using(ob_format::specs::Exact::then_adds))]
-fn put_record(out: &mut Vec<u8>, module: &Name, name: &ObjName, r: &RecordDesc) -> Result<(), AllocError>
+fn put_record(
+    out: &mut Vec<u8>,
+    module: &Name,
+    name: &ObjName,
+    r: &RecordDesc,
+) -> Result<(), AllocError>
     ensures { OnOk result (Adds out.old.items out.new.items (record_text.print ((record { «module» = «module».now; object = name.now }, (r.now.mark, r.now.base)), (filter (λ f. is_shown f.mark) r.now.fields, filter (λ m. is_shown m.mark) r.now.methods)))) }
 {
     put_spaced(out, module, name)?;
@@ -371,7 +381,12 @@ fn put_record(out: &mut Vec<u8>, module: &Name, name: &ObjName, r: &RecordDesc) 
 }
 
 #[tactic(auto, using(ob_format::specs::Exact::then_adds))]
-fn put_shape(out: &mut Vec<u8>, module: &Name, name: &ObjName, desc: &Desc) -> Result<(), AllocError>
+fn put_shape(
+    out: &mut Vec<u8>,
+    module: &Name,
+    name: &ObjName,
+    desc: &Desc,
+) -> Result<(), AllocError>
     ensures { OnOk result (Adds out.old.items out.new.items (shape_text (record { «module» = «module».now; object = name.now }) (seen desc.now))) }
 {
     match desc {

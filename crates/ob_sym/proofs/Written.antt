@@ -1,12 +1,11 @@
 -- What is written of an object is its spelling.
-use Rattle.std.proofs.Common.{◌≡◌, ℕ, ◌^◌, ◌<◌, Bool, true, false, List, [], ◌∷◌, ◌++◌, length, Option, Some, None, refl, sym, ap, subst, ◌∙◌}
+use Rattle.std.proofs.Common.{◌≡◌, ℕ, ◌^◌, ◌<◌, true, false, List, [], ◌∷◌, length, Option, Some, None, refl, sym, ap, subst, ◌∙◌}
 use Rattle.std.specs.Prelude.{IsSome}
-use Rattle.ob_format.specs.Format.{Format, Adds, text32, optional}
+use Rattle.ob_format.specs.Format.{Adds, text32, optional}
 use Rattle.ob_format.specs.Exact.{then_adds}
 use Rattle.ob_tree.specs.declared.names.QName.{QName}
 use Rattle.ob_types.specs.declared.desc.Desc.{Desc}
 use Rattle.ob_types.specs.declared.desc.Desc.TheVariants as desc
-use Rattle.ob_types.specs.declared.face.Aspect.{Aspect}
 use Rattle.ob_types.specs.declared.face.Aspect.TheVariants.{Shape, Layout}
 use Rattle.ob_desc.specs.Grammar.{shape_text, shape_fits, layout_text, seen, text_of}
 use Rattle.ob_sym.specs.Grammar.{has_layout}

@@ -1,27 +1,25 @@
 -- The grammar of a symbol file is exact.
-use Rattle.std.proofs.Common.{◌≡◌, ◌≢◌, ℕ, ◌≤◌, Bool, true, false, cond, not, ◌&&◌, leb, List, [], ◌∷◌, ◌++◌, length, Option, Some, None, refl, sym, ap, subst, ◌∙◌, append_assoc, arith}
+use Rattle.std.proofs.Common.{◌≡◌, ◌≢◌, ℕ, cond, not, leb, List, ◌++◌, length, Option, Some, None, refl, sym, ap, subst, ◌∙◌, append_assoc}
 use Rattle.std.specs.Prelude.{codes, bytes_eq}
 use Rattle.std.specs.Option.{option_map}
 use Rattle.std.specs.Bool.{Decides}
-use Rattle.std.specs.List.{list_all, AllByRecursion}
+use Rattle.std.specs.List.{list_all}
 use Rattle.std.specs.Ordering.{nat_cmp}
-use Rattle.std.specs.Cmp.{IsTotalOrder}
 use Rattle.std.specs.Cmp.Lexicographic.{slice_cmp, bytes_decides}
 use Rattle.std.proofs.lemmas.Cmp.{nat_list_cmp_total, on_total}
 use Rattle.std.proofs.lemmas.Bool.Decides.{Decides-and, Decides-not}
 use Rattle.std.proofs.lemmas.Option.{cond_some}
-use Rattle.ob_format.specs.Format.{Format, IsBytes, IsExact, ◌>>=◌, text32, optional, ◌⊗◌, IsParsed}
+use Rattle.ob_format.specs.Format.{Format, IsBytes, IsExact, ◌>>=◌}
 use Rattle.ob_format.specs.Exact.{bind_some, some_is, text32_exact, optional_exact, few_exact, rising_exact, such_that_exact, parsed_exact, made_exact, lead_exact, pair_exact, each_decides, le_decides}
 use Rattle.ob_format.specs.NameLaws.{name_exact, object_name_exact}
 use Rattle.ob_tree.specs.declared.names.QName.{QName}
 use Rattle.ob_types.specs.declared.face.Object.{Object}
 use Rattle.ob_types.specs.declared.face.Interface.{Interface}
-use Rattle.ob_types.specs.declared.desc.Desc.{Desc}
 use Rattle.ob_types.specs.SpelledLaws.{use_exact, objects_total}
 use Rattle.ob_desc.specs.Grammar.{description_at, same_object, shape_text, layout_text, IsSpelled}
 use Rattle.ob_desc.specs.Laws.{object_decides, description_found, description_again}
 use Rattle.ob_fprint.specs.Print.{print_from}
-use Rattle.ob_sym.specs.Grammar.{Entry, entry, object_of, described_as, texts_of, IsObjectOf, object_in, by_name, depending_at, depending, Head, Body, head, body, magic, is_import, is_sound, IsSound, to_face, from_face, face}
+use Rattle.ob_sym.specs.Grammar.{Entry, entry, object_of, described_as, texts_of, IsObjectOf, object_in, depending_at, depending, Head, head, body, magic, is_import, is_sound, IsSound, to_face, from_face, face}
 
 -- ---- a format that depends on a value
 
@@ -60,13 +58,15 @@ object_found m e o fits is =
     let shape : shape_text (object_of m e.0) x.0.1 ≡ e.1.0 = ap (λ (q : QName). shape_text q x.0.1) (sym same) ∙ sym t.shape_is in
     let layout : layout_text (object_of m e.0) x.0.1 ≡ e.1.1 = ap (λ (q : QName). layout_text q x.0.1) (sym same) ∙ sym t.layout_is in
     let whole : texts_of m made ≡ e = ap (λ (s : List ℕ). (e.0, (s, layout_text (object_of m e.0) x.0.1))) shape ∙ ap (λ (l : Option (List ℕ)). (e.0, (e.1.0, l))) layout in
-    subst (λ (z : Object). (texts_of m z ≡ e) × IsObjectOf m z) g.1
-    (whole, record {
-      spelled = subst (λ (q : QName). IsSpelled q x.0.1) same t.spelled;
-      within = subst (λ (z : Entry). entry.fits z) (sym whole) fits;
-      shape = ap print_from (sym shape);
-      layout = ap (option_map print_from) (sym layout);
-    })
+    subst (λ (z : Object). (texts_of m z ≡ e) × IsObjectOf m z) g.1 (
+      whole,
+      record {
+        spelled = subst (λ (q : QName). IsSpelled q x.0.1) same t.spelled;
+        within = subst (λ (z : Entry). entry.fits z) (sym whole) fits;
+        shape = ap print_from (sym shape);
+        layout = ap (option_map print_from) (sym layout);
+      },
+    )
 
 object_again : (m : List ℕ) (o : Object) → IsObjectOf m o → described_as m (texts_of m o) ≡ Some o
 unfolding described_as

@@ -64,7 +64,11 @@ fn made_of(
 
 // The object of the module at the front, and what follows it.
 #[tactic(auto, unfolding(crate::specs::Grammar::object_in, ob_format::specs::Format::parsed_at, ob_format::specs::Format::pair_at))]
-fn read_object<'a>(alloc: Global, module: &Name, bytes: &'a [u8]) -> Result<(Object, &'a [u8]), Fault>
+fn read_object<'a>(
+    alloc: Global,
+    module: &Name,
+    bytes: &'a [u8],
+) -> Result<(Object, &'a [u8]), Fault>
     ensures { Gives (λ x. (x.0, x.1.now)) result ((object_in «module».now).take bytes.now) }
 {
     let (name, rest) = ObjName::read(alloc, bytes)?;

@@ -1,4 +1,4 @@
-use Rattle.std.proofs.Common.{◌≡◌, sym, ◌∙◌}
+use Rattle.std.proofs.Common.{sym}
 use Rattle.ob_desc.proofs.Digits.{goes_on_list}
 use Rattle.ob_desc.proofs.reading.hex_of.Goals as goal
 

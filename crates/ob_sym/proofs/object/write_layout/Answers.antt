@@ -1,5 +1,4 @@
-use Rattle.std.proofs.Common.{◌≡◌, true, false, [], ◌∷◌, Some, sym, ap, ◌∙◌, List, ℕ}
-use Rattle.ob_format.specs.Format.{Adds, text32}
+use Rattle.std.proofs.Common.{◌≡◌, true, false, Some, sym, ap, ◌∙◌, List, ℕ}
 use Rattle.ob_sym.specs.Grammar.{object_of, object_in, has_layout}
 use Rattle.ob_sym.proofs.Written.{layout_some, layout_small, none_adds, some_adds}
 use Rattle.ob_sym.proofs.object.write_layout.Goals as goal
