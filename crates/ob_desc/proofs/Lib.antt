@@ -1,0 +1,4 @@
+pub mod Read
+pub mod Runs
+pub mod Digits
+pub mod Short

@@ -1,0 +1,10 @@
+use Rattle.std.proofs.Common.{◌≡◌, ◌++◌, length}
+use Rattle.std.specs.List.{flat_map, filter}
+use Rattle.ob_desc.specs.Grammar.{method, is_shown}
+use Rattle.ob_desc.proofs.writing.put_methods.Given as goal
+
+abbrev pub invariant-loop-rest : goal.invariant-loop-rest
+invariant-loop-rest l = l.out.items ++ flat_map method.spell (filter (λ x. is_shown x.mark) l.rest) ≡ l.fn.out.items ++ flat_map method.spell (filter (λ x. is_shown x.mark) l.methods)
+
+abbrev pub decreases-loop-rest : goal.decreases-loop-rest
+decreases-loop-rest l = length l.rest
