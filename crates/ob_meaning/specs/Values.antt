@@ -75,20 +75,12 @@ joined NoField gs = gs
 joined (AField owner name t fs) gs = AField owner name t (joined fs gs)
 
 abbrev pub line_of : Form → List QName
-line_of (BasicForm b) = []
-line_of PointerForm = []
-line_of ProcedureForm = []
-line_of (ArrayForm n t) = []
-line_of (OpenForm t) = []
 line_of (RecordForm line fs) = line
+line_of t = []
 
 abbrev pub fields_of : Form → Fields
-fields_of (BasicForm b) = NoField
-fields_of PointerForm = NoField
-fields_of ProcedureForm = NoField
-fields_of (ArrayForm n t) = NoField
-fields_of (OpenForm t) = NoField
 fields_of (RecordForm line fs) = fs
+fields_of t = NoField
 
 abbrev pub own_fields : (TypeRef → Form) → QName → List Field → Fields
 own_fields form q [] = NoField
@@ -102,18 +94,14 @@ abbrev pub base_fields : (TypeRef → Form) → Option TypeRef → Fields
 base_fields form None = NoField
 base_fields form (Some t) = fields_of (form t)
 
--- what its declaration says, the types in it being known; a name that is no type's comes in no checked program
+-- what its declaration says, the types in it being known: a pointer where it says nothing else
 abbrev pub described : (TypeRef → Form) → QName → Option Desc → Form
-described form q None = PointerForm
-described form q (Some (desc.Const v)) = PointerForm
-described form q (Some (desc.Var m t)) = PointerForm
-described form q (Some (desc.Proc s)) = PointerForm
 described form q (Some (desc.Alias m t)) = form t
 described form q (Some (desc.Array m n t)) = ArrayForm n (form t)
 described form q (Some (desc.OpenArray m t)) = OpenForm (form t)
-described form q (Some (desc.Pointer m t)) = PointerForm
 described form q (Some (desc.ProcType m s)) = ProcedureForm
 described form q (Some (desc.Record r)) = RecordForm (q ∷ base_line form r.base) (joined (base_fields form r.base) (own_fields form q r.fields))
+described form q d = PointerForm
 
 -- a type that stands on at most n others, one on the next, pointers standing on none
 abbrev pub form_within : (QName → Option Desc) → ℕ → TypeRef → Form
@@ -197,93 +185,38 @@ abbrev mutual
 -- parts of values; what has no such part comes in no checked program
 abbrev pub truth_of : Value → Bool
 truth_of (Truth b) = b
-truth_of (Character c) = false
-truth_of (Integer z) = false
-truth_of (SetOf has) = false
-truth_of Nil = false
-truth_of (Object n) = false
-truth_of (ProcedureAt q) = false
-truth_of (Elements n element) = false
-truth_of (Record t fields) = false
+truth_of v = false
 
 abbrev pub character_of : Value → ℕ
-character_of (Truth b) = 0
 character_of (Character c) = c
-character_of (Integer z) = 0
-character_of (SetOf has) = 0
-character_of Nil = 0
-character_of (Object n) = 0
-character_of (ProcedureAt q) = 0
-character_of (Elements n element) = 0
-character_of (Record t fields) = 0
+character_of v = 0
 
 -- the number of an integer or of a character
 abbrev pub integer_of : Value → ℤ
-integer_of (Truth b) = pos 0
-integer_of (Character c) = pos c
 integer_of (Integer z) = z
-integer_of (SetOf has) = pos 0
-integer_of Nil = pos 0
-integer_of (Object n) = pos 0
-integer_of (ProcedureAt q) = pos 0
-integer_of (Elements n element) = pos 0
-integer_of (Record t fields) = pos 0
+integer_of (Character c) = pos c
+integer_of v = pos 0
 
 abbrev pub set_of : Value → ℕ → Bool
-set_of (Truth b) = λ i. false
-set_of (Character c) = λ i. false
-set_of (Integer z) = λ i. false
 set_of (SetOf has) = has
-set_of Nil = λ i. false
-set_of (Object n) = λ i. false
-set_of (ProcedureAt q) = λ i. false
-set_of (Elements n element) = λ i. false
-set_of (Record t fields) = λ i. false
+set_of v = λ i. false
 
 abbrev pub length_of : Value → ℕ
-length_of (Truth b) = 0
-length_of (Character c) = 0
-length_of (Integer z) = 0
-length_of (SetOf has) = 0
-length_of Nil = 0
-length_of (Object n) = 0
-length_of (ProcedureAt q) = 0
 length_of (Elements n element) = n
-length_of (Record t fields) = 0
+length_of v = 0
 
 abbrev pub element_of : Value → ℕ → Value
-element_of (Truth b) = λ i. Nil
-element_of (Character c) = λ i. Nil
-element_of (Integer z) = λ i. Nil
-element_of (SetOf has) = λ i. Nil
-element_of Nil = λ i. Nil
-element_of (Object n) = λ i. Nil
-element_of (ProcedureAt q) = λ i. Nil
 element_of (Elements n element) = element
-element_of (Record t fields) = λ i. Nil
+element_of v = λ i. Nil
 
 abbrev pub field_of : Value → QName → List ℕ → Value
-field_of (Truth b) = λ o x. Nil
-field_of (Character c) = λ o x. Nil
-field_of (Integer z) = λ o x. Nil
-field_of (SetOf has) = λ o x. Nil
-field_of Nil = λ o x. Nil
-field_of (Object n) = λ o x. Nil
-field_of (ProcedureAt q) = λ o x. Nil
-field_of (Elements n element) = λ o x. Nil
 field_of (Record t fields) = fields
+field_of v = λ o x. Nil
 
 -- the dynamic type of a record
 abbrev pub type_of : Value → Option QName
-type_of (Truth b) = None
-type_of (Character c) = None
-type_of (Integer z) = None
-type_of (SetOf has) = None
-type_of Nil = None
-type_of (Object n) = None
-type_of (ProcedureAt q) = None
-type_of (Elements n element) = None
 type_of (Record t fields) = Some t
+type_of v = None
 
 -- a value with one part changed
 abbrev pub with_element : Value → ℕ → Value → Value
@@ -300,7 +233,7 @@ with_field v owner name w = typed_record (type_of v) (λ o x. if bytes_eq x name
 
 -- a variable of a module, a variable of the k-th active call, counted from the oldest, or the n-th object
 pub data Root : Type 0 where
-  OfModule : (module : List ℕ) → (name : List ℕ) → Root
+  OfModule : (m : List ℕ) → (name : List ℕ) → Root
   OfCall : (k : ℕ) → (name : List ℕ) → Root
   OfObject : (n : ℕ) → Root
 

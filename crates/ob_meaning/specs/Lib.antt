@@ -1,0 +1,6 @@
+pub mod Values
+pub mod Results
+pub mod Operators
+pub mod Meaning
+pub mod Calls
+pub mod Commands
