@@ -1,5 +1,5 @@
 -- The view of each alternative of the checked tree.
-use Rattle.std.proofs.Common.{◌≡◌, List, ℕ, map, sym, ap, ◌∙◌, refl, Option, Some, None}
+use Rattle.std.proofs.Common.{◌≡◌, List, ℕ, sym, ap, ◌∙◌, Option, Some, None}
 use Rattle.std.specs.Prelude.{ℤ}
 use Rattle.std.specs.Option.{option_map}
 use Rattle.ob_tree.specs.declared.pos.Pos.{Pos}
@@ -31,8 +31,8 @@ use Rattle.ob_types.specs.declared.typed.TypedStmt.TheOpen.{TypedStmt-F}
 use Rattle.ob_types.specs.declared.typed.TypedStmt.TheFolds.{fold-roll-TypedStmt}
 use Rattle.ob_types.specs.declared.typed.TypedBranch.{TypedBranch}
 use Rattle.ob_types.specs.declared.typed.TypedCase.{TypedCase}
-use Rattle.ob_types.specs.TypedSyntax.{Desig, OfVariable, Field, Index, Deref, Guard, Expr, Constant, ValueOf, ProcedureValue, Monadic, Dyadic, Logical, CompareTexts, IsPointer, IsRecord, Length, Call, CallVariable, Stmt, Assign, CallProper, Updated, Copy, New, NewOpenArray, Assert, Halt, If, Case, While, Repeat, For, Loop, Exit, Return, With, Stmts, Otherwise, NoElse, Else}
-use Rattle.ob_types.specs.TypedView.{OneActual, designator_layer, expr_layer, actual_layer, designator_view, expr_view, actuals_view, OneBranch, LabelledBody, stmts_of, stmt_layer, branch_layer, case_layer, stmt_view, stmts_view, branches_view, cases_view, otherwise_view}
+use Rattle.ob_types.specs.TypedSyntax.{Desig, OfVariable, Field, Index, Deref, Guard, Expr, Constant, ValueOf, ProcedureValue, Monadic, Dyadic, Logical, CompareTexts, IsPointer, IsRecord, Length, Call, CallVariable, Stmt, Assign, CallProper, Updated, Copy, New, NewOpenArray, Assert, Halt, If, Case, While, Repeat, For, Loop, Exit, Return, With, NoElse, Else}
+use Rattle.ob_types.specs.TypedView.{OneActual, designator_layer, expr_layer, actual_layer, designator_view, expr_view, actuals_view, OneBranch, LabelledBody, stmt_layer, branch_layer, case_layer, stmt_view, stmts_view, branches_view, cases_view}
 
 pub view_variable : (v : Variable) (t : TypeRef) → designator_view (d.Variable v t) ≡ OfVariable v t
 view_variable v t = ap designator_view (sym (d.rolls-Variable v t)) ∙ fold-roll-Designator Desig Expr OneActual designator_layer expr_layer actual_layer (Designator-F.Variable v t)

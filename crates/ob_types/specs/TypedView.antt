@@ -138,12 +138,24 @@ otherwise_view (Some body) = Else (stmts_view body)
 
 abbrev pub procedure_view : TypedProcedure → Procedure
 procedure_view p = record {
-  name = p.name; mark = p.mark; at = p.pos; binding = p.binding; parameters = p.parameters; result = p.result; locals = p.locals;
+  name = p.name;
+  mark = p.mark;
+  at = p.pos;
+  binding = p.binding;
+  parameters = p.parameters;
+  result = p.result;
+  locals = p.locals;
   body = stmts_view p.body;
 }
 
 abbrev pub module_view : TypedModule → Module
 module_view m = record {
-  name = m.name; imports = m.imports; constants = m.constants; types = m.types; variables = m.variables;
-  procedures = map procedure_view m.procedures; body = stmts_view m.body; mentioned = m.mentioned;
+  name = m.name;
+  imports = m.imports;
+  constants = m.constants;
+  types = m.types;
+  variables = m.variables;
+  procedures = map procedure_view m.procedures;
+  body = stmts_view m.body;
+  mentioned = m.mentioned;
 }
