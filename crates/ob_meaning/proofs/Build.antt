@@ -214,3 +214,10 @@ traps kind m p s = (Some (Trapped kind (pos 0) m p), s)
 
 abbrev pub spent : List ℕ → Pos → List ℕ → Option Why × List ℕ
 spent m p s = (Some (Spent m p), s)
+
+abbrev pub traps_with : ℕ → ℤ → List ℕ → Pos → List ℕ → Option Why × List ℕ
+traps_with kind number m p s = (Some (Trapped kind number m p), s)
+
+-- several modules are loaded, and a command of the last is run
+abbrev pub run_all : List Module → QName → ℕ → Ended
+run_all ms q turns = command nothing_loaded ms 1048576 turns q

@@ -1,2 +1,4 @@
 pub mod Build
 pub mod WorkedRows
+pub mod WorkedTraps
+pub mod WorkedOrder
