@@ -2,3 +2,5 @@ pub mod Build
 pub mod WorkedRows
 pub mod WorkedTraps
 pub mod WorkedOrder
+pub mod WorkedLoops
+pub mod WorkedCalls

@@ -231,8 +231,8 @@ t_of = parameter_of (codes "t") passing.VariableRecord (ref.Named (level (codes 
 abbrev me : List ℕ → Option Binding
 me x = bound_to (level x) receiver.Record (family_of (level (codes "A")) (codes "Me"))
 
-abbrev use : List ℕ → Stmt
-use x = call (level (codes "Use")) (passed passing.VariableRecord (ValueOf (global k x (ref.Named (level (codes "A"))))) NoActual) nowhere
+abbrev uses : List ℕ → Stmt
+uses x = call (level (codes "Use")) (passed passing.VariableRecord (ValueOf (global k x (ref.Named (level (codes "A"))))) NoActual) nowhere
 
 abbrev levels : Module
 levels = unit_of k
@@ -244,7 +244,7 @@ levels = unit_of k
   ∷ procedure (codes "Use") None t_of None [] nowhere
       (call_bound (level (codes "A")) (codes "Me") receiver.Record (passed passing.VariableRecord (ValueOf t) NoActual) nowhere
       ∷ when (IsRecord t (level (codes "B"))) (says (codes "+") ∷ []) [] ∷ shows (ValueOf (Field t (level (codes "A")) (codes "x") long)) ∷ [])
-  ∷ proper (codes "Go") (use (codes "a") ∷ use (codes "b") ∷ use (codes "c") ∷ use (codes "c") ∷ []) ∷ []) []
+  ∷ proper (codes "Go") (uses (codes "a") ∷ uses (codes "b") ∷ uses (codes "c") ∷ uses (codes "c") ∷ []) ∷ []) []
 
 three_levels : outcome (run levels 100 (codes "Go")) ≡ ends (codes "a1a+1ca+1ca+2")
 unfolding digits
