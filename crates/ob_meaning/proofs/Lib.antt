@@ -4,3 +4,5 @@ pub mod WorkedTraps
 pub mod WorkedOrder
 pub mod WorkedLoops
 pub mod WorkedCalls
+pub mod Onward
+pub mod Spending

@@ -4,3 +4,4 @@ pub mod Operators
 pub mod Meaning
 pub mod Calls
 pub mod Commands
+pub mod Laws
