@@ -4,5 +4,6 @@ pub mod WorkedTraps
 pub mod WorkedOrder
 pub mod WorkedLoops
 pub mod WorkedCalls
+pub mod WorkedValues
 pub mod Onward
 pub mod Spending

@@ -4,4 +4,5 @@ pub mod Operators
 pub mod Meaning
 pub mod Calls
 pub mod Commands
+pub mod Globals
 pub mod Laws
