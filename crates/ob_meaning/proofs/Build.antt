@@ -1,23 +1,20 @@
 -- Short words for small programs, for the worked programs beside this.
-use Rattle.std.specs.Prelude.{ℕ, List, [], ◌∷◌, ℤ, pos, Option, Some, None, codes}
+use Rattle.std.specs.Prelude.{ℕ, List, [], ◌∷◌, ℤ, pos, Option, Some, None}
 use Rattle.ob_tree.specs.declared.pos.Pos.{Pos}
 use Rattle.ob_tree.specs.declared.names.QName.{QName}
 use Rattle.ob_types.specs.declared.types.Mark.TheVariants as mark
 use Rattle.ob_types.specs.declared.types.Basic.TheVariants as basic
 use Rattle.ob_types.specs.declared.types.TypeRef.{TypeRef}
 use Rattle.ob_types.specs.declared.types.TypeRef.TheVariants as ref
-use Rattle.ob_types.specs.declared.types.Signature.{Signature}
 use Rattle.ob_types.specs.declared.desc.Desc.{Desc}
 use Rattle.ob_types.specs.declared.desc.Desc.TheVariants as desc
 use Rattle.ob_types.specs.declared.desc.Field.{Field as RecordField}
 use Rattle.ob_types.specs.declared.desc.Receiver.{Receiver}
 use Rattle.ob_types.specs.declared.value.Value.TheVariants as literal
-use Rattle.ob_types.specs.declared.typed.Width.{Width}
 use Rattle.ob_types.specs.declared.typed.Width.TheVariants as width
 use Rattle.ob_types.specs.declared.typed.Passing.{Passing}
 use Rattle.ob_types.specs.declared.typed.Passing.TheVariants as passing
 use Rattle.ob_types.specs.declared.typed.Variable.TheVariants as variable
-use Rattle.ob_types.specs.declared.typed.Guarded.{Guarded}
 use Rattle.ob_types.specs.declared.typed.Comparison.{Comparison}
 use Rattle.ob_types.specs.declared.typed.Compared.TheVariants as compared
 use Rattle.ob_types.specs.declared.typed.Binary.TheVariants as binary
@@ -31,9 +28,9 @@ use Rattle.ob_types.specs.declared.typed.TypedType.{TypedType}
 use Rattle.ob_types.specs.declared.typed.TypedVariable.{TypedVariable}
 use Rattle.ob_types.specs.declared.typed.TypedParameter.{TypedParameter}
 use Rattle.ob_types.specs.declared.typed.Binding.{Binding}
-use Rattle.ob_types.specs.TypedSyntax.{Desig, OfVariable, Field, Index, Deref, Guard, Expr, Constant, ValueOf, Dyadic, Call, Actuals, NoActual, AnActual, Stmt, Assign, CallProper, Updated, Stmts, Nothing, Then, Branches, NoBranch, Branch, If, Procedure, Module}
+use Rattle.ob_types.specs.TypedSyntax.{Desig, OfVariable, Expr, Constant, Dyadic, Call, Actuals, NoActual, AnActual, Stmt, Assign, CallProper, Updated, Stmts, Nothing, Then, NoBranch, Branch, If, Procedure, Module}
 use Rattle.ob_meaning.specs.Results.{Why, Trapped, Spent}
-use Rattle.ob_meaning.specs.Commands.{System, nothing_loaded, Ended, command}
+use Rattle.ob_meaning.specs.Commands.{nothing_loaded, Ended, command}
 
 abbrev pub at : ℕ → ℕ → Pos
 at l c = record { line = l; col = c }
@@ -177,7 +174,14 @@ parameter_of x how t = record { name = x; passing = how; of = t }
 
 abbrev pub procedure : List ℕ → Option Binding → List TypedParameter → Option TypeRef → List TypedVariable → Pos → List Stmt → Procedure
 procedure x binding params result locals p body = record {
-  name = x; mark = mark.Full; at = p; binding = binding; parameters = params; result = result; locals = locals; body = block body;
+  name = x;
+  mark = mark.Full;
+  at = p;
+  binding = binding;
+  parameters = params;
+  result = result;
+  locals = locals;
+  body = block body;
 }
 
 -- a command, or another proper procedure without parameters and variables
@@ -189,7 +193,13 @@ bound_to q r f = Some (record { owner = q; receiver = r; family = f })
 
 abbrev pub unit_of : List ℕ → List TypedType → List TypedVariable → List Procedure → List Stmt → Module
 unit_of m types vars procs body = record {
-  name = m; imports = []; constants = []; types = types; variables = vars; procedures = procs; body = block body;
+  name = m;
+  imports = [];
+  constants = [];
+  types = types;
+  variables = vars;
+  procedures = procs;
+  body = block body;
   mentioned = record { objects = []; types = [] };
 }
 

@@ -1,6 +1,6 @@
 -- Every part of a program goes on: turns never rise, output only grows, and calls end.
-use Rattle.std.proofs.Common.{◌≡◌, ℕ, zero, suc, ◌+◌, ◌≤◌, List, [], ◌∷◌, ◌++◌, refl, sym, ◌∙◌, ap, append_assoc, append-nil, Bool, true, false, Option, Some, None, arith}
-use Rattle.std.specs.Prelude.{ℤ, pos, negsuc, nat_lt, nat_le, nat_eq, if◌then◌else◌, length, unsigned_abs}
+use Rattle.std.proofs.Common.{◌≡◌, ℕ, zero, suc, List, [], ◌∷◌, ◌++◌, refl, sym, ◌∙◌, ap, append_assoc, append-nil, Bool, true, false, Option, Some, None, arith}
+use Rattle.std.specs.Prelude.{ℤ, pos, negsuc, nat_lt, nat_le, unsigned_abs}
 use Rattle.ob_tree.specs.declared.pos.Pos.{Pos}
 use Rattle.ob_tree.specs.declared.names.QName.{QName}
 use Rattle.ob_types.specs.declared.types.TypeRef.{TypeRef}
@@ -21,10 +21,10 @@ use Rattle.ob_types.specs.declared.typed.Assigned.{Assigned}
 use Rattle.ob_types.specs.declared.typed.Assigned.TheVariants as assigned
 use Rattle.ob_types.specs.declared.typed.Update.{Update}
 use Rattle.ob_types.specs.declared.typed.Update.TheVariants as update
-use Rattle.ob_types.specs.TypedSyntax.{Desig, OfVariable, Field, Index, Deref, Guard, Expr, Constant, ValueOf, ProcedureValue, Monadic, Dyadic, Logical, CompareTexts, IsPointer, IsRecord, Length, Call, CallVariable, Actuals, NoActual, AnActual, Stmt, Assign, CallProper, Updated, Copy, New, NewOpenArray, Assert, Halt, If, Case, While, Repeat, For, Loop, Exit, Return, With, Stmts, Nothing, Then, Branches, NoBranch, Branch, Cases, NoCase, OneCase, Otherwise, NoElse, Else, Procedure, Module}
+use Rattle.ob_types.specs.TypedSyntax.{Desig, OfVariable, Field, Index, Deref, Guard, Expr, Constant, ValueOf, ProcedureValue, Monadic, Dyadic, Logical, CompareTexts, IsPointer, IsRecord, Length, Call, CallVariable, Actuals, NoActual, AnActual, Stmt, Assign, CallProper, Updated, Copy, New, NewOpenArray, Assert, Halt, If, Case, While, Repeat, For, Loop, Exit, Return, With, Stmts, Nothing, Then, Branches, NoBranch, Branch, Cases, NoCase, OneCase, Otherwise, NoElse, Else, Procedure}
 use Rattle.ob_meaning.specs.Values as values
 use Rattle.ob_meaning.specs.Values.{Program, procedure_of, Value, Truth, Character, Integer, SetOf, Nil, Object, ProcedureAt, Elements, Record, Place, Store, Active, State, AnObject}
-use Rattle.ob_meaning.specs.Results.{M, Res, Gives, Stops, Why, Trapped, Spent, bind, ◌>>=◌, give, stop, spend_of, spend, read, assign, write, Passed, ByValue, ByPlace, ByText, Caller, Around, trap}
+use Rattle.ob_meaning.specs.Results.{M, Res, Gives, Stops, Why, Trapped, bind, ◌>>=◌, give, stop, spend_of, spend, read, assign, write, Passed, ByValue, ByPlace, Around}
 use Rattle.ob_meaning.specs.Operators as operators
 use Rattle.ob_meaning.specs.Operators.{Computed, Is, Traps}
 use Rattle.ob_meaning.specs.Meaning as meaning
@@ -319,8 +319,10 @@ keep_room true unit at h = h
 keep_room false unit at h = keep_stop _
 
 pub keep_invoke : (program : Program) (q : QName) (p : Procedure) {body : M Flow} (xs : List Passed) (unit : List ℕ) (at : Pos) → Keeps body → Keeps (invoke program q p body xs unit at)
-keep_invoke program q p {body} xs unit at h = record { at = λ s. (keep_room (calls.has_room (begun program q p xs s).calls) unit at
-    (record { at = λ t. end_result (begun program q p xs t) t _ (same_out t (begun program q p xs t) refl refl) refl p q (body (begun program q p xs t)) (h.at (begun program q p xs t)) })).at s }
+keep_invoke program q p {body} xs unit at h = record {
+  at = λ s. (keep_room (calls.has_room (begun program q p xs s).calls) unit at
+      (record { at = λ t. end_result (begun program q p xs t) t _ (same_out t (begun program q p xs t) refl refl) refl p q (body (begun program q p xs t)) (h.at (begun program q p xs t)) })).at s;
+}
 
 pub keep_calling : (program : Program) (heap n : ℕ) (q : QName) (xs : List Passed) (unit : List ℕ) (at : Pos) → Keeps (calling program heap n q xs unit at)
 keep_calling program heap zero q xs unit at = keep_stop _

@@ -1,13 +1,13 @@
 -- A command spends of the turns that it was given.
-use Rattle.std.proofs.Common.{◌≡◌, ℕ, ◌≤◌, List, [], ◌∷◌, ◌++◌, refl, Option, Some, None, arith}
+use Rattle.std.proofs.Common.{ℕ, ◌≤◌, List, [], ◌∷◌, ◌++◌, Option, Some, None, arith}
 use Rattle.ob_tree.specs.declared.names.QName.{QName}
 use Rattle.ob_types.specs.TypedSyntax.{Procedure, Module}
 use Rattle.ob_meaning.specs.Values.{Program, procedure_of, State}
 use Rattle.ob_meaning.specs.Results.{Res, Gives, Stops}
-use Rattle.ob_meaning.specs.Meaning.{Flow, execs}
+use Rattle.ob_meaning.specs.Meaning.{Flow}
 use Rattle.ob_meaning.specs.Calls.{begun}
-use Rattle.ob_meaning.specs.Commands.{System, Ended, end_of, run_found, run_first, run_command, and_then, at_rest, run_bodies, body_procedure, with_module, command}
-use Rattle.ob_meaning.specs.Laws.{Later, Onward, in_program}
+use Rattle.ob_meaning.specs.Commands.{System, Ended, end_of, run_found, run_first, and_then, at_rest, run_bodies, body_procedure, with_module, command}
+use Rattle.ob_meaning.specs.Laws.{Onward, in_program}
 use Rattle.ob_meaning.proofs.Onward.{calls_keep, keep_execs}
 
 -- a first call goes on from the state in which its variables are there
@@ -30,9 +30,9 @@ bodies_spend : (program : Program) (plan : List Module) (heap : ℕ) (q : QName)
 bodies_spend program [] heap q s = found_spends (procedure_of program q) program heap q s
 bodies_spend program (m ∷ ms) heap q s =
     and_spends (program ++ m ∷ []) (begun (program ++ m ∷ []) (record { «module» = m.name; object = [] }) (body_procedure m) [] (with_module (program ++ m ∷ []) m s)) _
-      (first_goes_on (program ++ m ∷ []) heap (record { «module» = m.name; object = [] }) (body_procedure m) (with_module (program ++ m ∷ []) m s))
-      (run_bodies (program ++ m ∷ []) ms heap q)
-      (λ t. bodies_spend (program ++ m ∷ []) ms heap q t)
+    (first_goes_on (program ++ m ∷ []) heap (record { «module» = m.name; object = [] }) (body_procedure m) (with_module (program ++ m ∷ []) m s))
+    (run_bodies (program ++ m ∷ []) ms heap q)
+    (λ t. bodies_spend (program ++ m ∷ []) ms heap q t)
 
 pub spends : (system : System) (plan : List Module) (heap turns : ℕ) (q : QName) → (command system plan heap turns q).turns ≤ turns
 spends system plan heap turns q =

@@ -1,8 +1,7 @@
 -- Calls: recursion, room, bound procedures, open arrays and strings.
 use Rattle.std.proofs.Common.{◌≡◌, refl}
-use Rattle.std.specs.Prelude.{ℕ, List, [], ◌∷◌, ◌++◌, ℤ, pos, negsuc, Option, Some, None, true, false, codes, replicate, length}
+use Rattle.std.specs.Prelude.{ℕ, List, [], ◌∷◌, ◌++◌, Option, Some, None, true, false, codes, replicate, length}
 use Rattle.std.specs.Fmt.{digits}
-use Rattle.ob_tree.specs.declared.pos.Pos.{Pos}
 use Rattle.ob_tree.specs.declared.names.QName.{QName}
 use Rattle.ob_types.specs.declared.types.TypeRef.{TypeRef}
 use Rattle.ob_types.specs.declared.types.TypeRef.TheVariants as ref
@@ -10,23 +9,18 @@ use Rattle.ob_types.specs.declared.types.Basic.TheVariants as basic
 use Rattle.ob_types.specs.declared.desc.Receiver.TheVariants as receiver
 use Rattle.ob_types.specs.declared.typed.Width.TheVariants as width
 use Rattle.ob_types.specs.declared.typed.Passing.TheVariants as passing
-use Rattle.ob_types.specs.declared.typed.Variable.TheVariants as variable
-use Rattle.ob_types.specs.declared.typed.Guarded.TheVariants as guarded
 use Rattle.ob_types.specs.declared.typed.Comparison.TheVariants as comparison
 use Rattle.ob_types.specs.declared.typed.Compared.TheVariants as compared
-use Rattle.ob_types.specs.declared.typed.Connective.TheVariants as connective
-use Rattle.ob_types.specs.declared.typed.Unary.TheVariants as unary
 use Rattle.ob_types.specs.declared.typed.Binary.TheVariants as binary
-use Rattle.ob_types.specs.declared.typed.Update.TheVariants as update
 use Rattle.ob_types.specs.declared.typed.Callee.TheVariants as callee
 use Rattle.ob_types.specs.declared.typed.Assigned.TheVariants as assigned
 use Rattle.ob_types.specs.declared.typed.Made.TheVariants as made
 use Rattle.ob_types.specs.declared.typed.TypedParameter.{TypedParameter}
 use Rattle.ob_types.specs.declared.typed.Binding.{Binding}
-use Rattle.ob_types.specs.TypedSyntax.{Desig, OfVariable, Field, Index, Deref, Guard, Expr, Constant, ValueOf, ProcedureValue, Monadic, Dyadic, Logical, CompareTexts, IsPointer, IsRecord, Length, Call, CallVariable, Actuals, NoActual, AnActual, Stmt, Assign, CallProper, Updated, Copy, New, NewOpenArray, Assert, Halt, If, Case, While, Repeat, For, Loop, Exit, Return, With, Branch, NoBranch, NoCase, OneCase, NoElse, Else, Nothing, Module}
+use Rattle.ob_types.specs.TypedSyntax.{Desig, Field, Index, Expr, Constant, ValueOf, Dyadic, IsRecord, Length, Call, NoActual, Stmt, Assign, CallProper, New, Return, Module}
 use Rattle.ob_meaning.specs.Results.{Why}
 use Rattle.ob_meaning.specs.Commands.{Ended, nothing_loaded, command}
-use Rattle.ob_meaning.proofs.Build.{at, nowhere, named, long, char, truth, short, sets, type_of, a_field, record_type, pointer_type, array_type, open_type, procedure_type, global, own, parameter, num, int, letter, text, nil, plus, compare, scalar, passed, function, block, set_to, call, family_of, call_bound, out_int, out_char, out_text, out_line, when, increase, label, variable_of, parameter_of, procedure, proper, bound_to, unit_of, run, run_all, next, outcome, ends, traps, traps_with, spent}
+use Rattle.ob_meaning.proofs.Build.{at, nowhere, named, long, char, type_of, a_field, record_type, pointer_type, array_type, open_type, global, own, parameter, num, letter, text, compare, scalar, passed, function, set_to, call, family_of, call_bound, out_int, out_char, out_text, out_line, when, increase, variable_of, parameter_of, procedure, proper, bound_to, unit_of, run, run_all, outcome, ends, traps, spent}
 use Rattle.ob_types.specs.declared.value.Value.TheVariants as literal
 use Rattle.ob_meaning.specs.Values.{Own, BasicForm, ArrayForm, At, OfModule, Active}
 use Rattle.ob_meaning.specs.Calls.{has_room}
@@ -62,28 +56,28 @@ c = global m (codes "c") (ref_to (codes "W"))
 
 abbrev rc : Module
 rc = unit_of m
-  (type_of (codes "B") (array_type 300000 long) ∷ type_of (codes "W") (array_type 4 char) ∷ type_of (codes "Say(1") (open_type char) ∷ [])
-  (variable_of (codes "i") long ∷ variable_of (codes "c") (ref_to (codes "W")) ∷ [])
-  (procedure (codes "Fac") None (parameter_of (codes "n") passing.Scalar long ∷ []) (Some long) [] nowhere
+    (type_of (codes "B") (array_type 300000 long) ∷ type_of (codes "W") (array_type 4 char) ∷ type_of (codes "Say(1") (open_type char) ∷ [])
+    (variable_of (codes "i") long ∷ variable_of (codes "c") (ref_to (codes "W")) ∷ [])
+    (procedure (codes "Fac") None (parameter_of (codes "n") passing.Scalar long ∷ []) (Some long) [] nowhere
     (when (compare comparison.Equal n (num 0)) (Return (Some (num 1)) ∷ []) []
     ∷ Return (Some (Dyadic (binary.Multiply width.LongInt) n (function (named m (codes "Fac")) (scalar (Dyadic (binary.Subtract width.LongInt) n (num 1) nowhere) NoActual) nowhere) (at 2 2))) ∷ [])
-  ∷ procedure (codes "Deep") None [] None (variable_of (codes "b") (ref_to (codes "B")) ∷ []) nowhere
-      (says (codes "d") ∷ call (named m (codes "Deep")) NoActual (at 4 4) ∷ [])
-  ∷ procedure (codes "Out/In") None (parameter_of (codes "n") passing.Scalar long ∷ []) None [] nowhere (when (compare comparison.Greater n (num 0)) (shows n ∷ call (named m (codes "Out/In")) (scalar (Dyadic (binary.Subtract width.LongInt) n (num 1) nowhere) NoActual) nowhere ∷ []) [] ∷ [])
-  ∷ procedure (codes "Out") None [] None (variable_of (codes "k") long ∷ []) nowhere
-      (set_to (own (codes "k") long) (num 3) nowhere ∷ call (named m (codes "Out/In")) (scalar (ValueOf (own (codes "k") long)) NoActual) nowhere ∷ shows (ValueOf (own (codes "k") long)) ∷ [])
-  ∷ procedure (codes "Say") None (parameter_of (codes "s") passing.OpenArray (ref_to (codes "Say(1")) ∷ []) None [] nowhere
-      (shows (Length s) ∷ set_to (Index s None (num 0) (at 5 5) char) (letter (codes "*")) nowhere ∷ out_text (ValueOf s) (at 5 6) ∷ [])
-  ∷ procedure (codes "Word") None (parameter_of (codes "w") passing.Structure (ref_to (codes "W")) ∷ []) None [] nowhere
-      (out_text (ValueOf w) nowhere ∷ when (Dyadic (binary.Compare comparison.Equal compared.Char) (ValueOf (Index w (Some 4) (num 3) nowhere char)) (Constant (literal.Char 0)) nowhere) (says (codes "0") ∷ []) [] ∷ [])
-  ∷ proper (codes "Fac5") (shows (function (named m (codes "Fac")) (scalar (num 5) NoActual) nowhere) ∷ [])
-  ∷ proper (codes "Fac13") (shows (function (named m (codes "Fac")) (scalar (num 13) NoActual) nowhere) ∷ [])
-  ∷ proper (codes "Strings") (call (named m (codes "Say")) (passed passing.OpenArray (text (codes "abc")) NoActual) nowhere
-      ∷ call (named m (codes "Say")) (passed passing.OpenArray (text (codes "x")) NoActual) nowhere
-      ∷ call (named m (codes "Word")) (passed passing.Structure (text (codes "ab")) NoActual) nowhere ∷ [])
-  ∷ proper (codes "Arrays") (Assign c assigned.Text (text (codes "uvw")) nowhere ∷ call (named m (codes "Say")) (passed passing.OpenArray (ValueOf c) NoActual) nowhere
-      ∷ Assign c assigned.Text (text (codes "q")) nowhere ∷ out_text (ValueOf c) nowhere ∷ out_char (ValueOf (Index c (Some 4) (num 2) nowhere char)) nowhere ∷ [])
-  ∷ []) []
+    ∷ procedure (codes "Deep") None [] None (variable_of (codes "b") (ref_to (codes "B")) ∷ []) nowhere
+    (says (codes "d") ∷ call (named m (codes "Deep")) NoActual (at 4 4) ∷ [])
+    ∷ procedure (codes "Out/In") None (parameter_of (codes "n") passing.Scalar long ∷ []) None [] nowhere (when (compare comparison.Greater n (num 0)) (shows n ∷ call (named m (codes "Out/In")) (scalar (Dyadic (binary.Subtract width.LongInt) n (num 1) nowhere) NoActual) nowhere ∷ []) [] ∷ [])
+    ∷ procedure (codes "Out") None [] None (variable_of (codes "k") long ∷ []) nowhere
+    (set_to (own (codes "k") long) (num 3) nowhere ∷ call (named m (codes "Out/In")) (scalar (ValueOf (own (codes "k") long)) NoActual) nowhere ∷ shows (ValueOf (own (codes "k") long)) ∷ [])
+    ∷ procedure (codes "Say") None (parameter_of (codes "s") passing.OpenArray (ref_to (codes "Say(1")) ∷ []) None [] nowhere
+    (shows (Length s) ∷ set_to (Index s None (num 0) (at 5 5) char) (letter (codes "*")) nowhere ∷ out_text (ValueOf s) (at 5 6) ∷ [])
+    ∷ procedure (codes "Word") None (parameter_of (codes "w") passing.Structure (ref_to (codes "W")) ∷ []) None [] nowhere
+    (out_text (ValueOf w) nowhere ∷ when (Dyadic (binary.Compare comparison.Equal compared.Char) (ValueOf (Index w (Some 4) (num 3) nowhere char)) (Constant (literal.Char 0)) nowhere) (says (codes "0") ∷ []) [] ∷ [])
+    ∷ proper (codes "Fac5") (shows (function (named m (codes "Fac")) (scalar (num 5) NoActual) nowhere) ∷ [])
+    ∷ proper (codes "Fac13") (shows (function (named m (codes "Fac")) (scalar (num 13) NoActual) nowhere) ∷ [])
+    ∷ proper (codes "Strings") (call (named m (codes "Say")) (passed passing.OpenArray (text (codes "abc")) NoActual) nowhere
+    ∷ call (named m (codes "Say")) (passed passing.OpenArray (text (codes "x")) NoActual) nowhere
+    ∷ call (named m (codes "Word")) (passed passing.Structure (text (codes "ab")) NoActual) nowhere ∷ [])
+    ∷ proper (codes "Arrays") (Assign c assigned.Text (text (codes "uvw")) nowhere ∷ call (named m (codes "Say")) (passed passing.OpenArray (ValueOf c) NoActual) nowhere
+    ∷ Assign c assigned.Text (text (codes "q")) nowhere ∷ out_text (ValueOf c) nowhere ∷ out_char (ValueOf (Index c (Some 4) (num 2) nowhere char)) nowhere ∷ [])
+    ∷ []) []
 
 abbrev go : List ℕ → Option Why × List ℕ
 go x = outcome (run rc 100 x)
@@ -140,9 +134,9 @@ h = codes "H"
 
 abbrev heap : Module
 heap = unit_of h
-  (type_of (codes "p:") (pointer_type (ref.Named (named h (codes "p:^")))) ∷ type_of (codes "p:^") (record_type None (a_field (codes "a") long ∷ a_field (codes "b") long ∷ [])) ∷ [])
-  (variable_of (codes "p") (ref.Named (named h (codes "p:"))) ∷ [])
-  (proper (codes "Go") (New (global h (codes "p") (ref.Named (named h (codes "p:")))) (made.Record (named h (codes "p:^"))) (at 3 22) ∷ []) ∷ []) []
+    (type_of (codes "p:") (pointer_type (ref.Named (named h (codes "p:^")))) ∷ type_of (codes "p:^") (record_type None (a_field (codes "a") long ∷ a_field (codes "b") long ∷ [])) ∷ [])
+    (variable_of (codes "p") (ref.Named (named h (codes "p:"))) ∷ [])
+    (proper (codes "Go") (New (global h (codes "p") (ref.Named (named h (codes "p:")))) (made.Record (named h (codes "p:^"))) (at 3 22) ∷ []) ∷ []) []
 
 abbrev again : Ended → Ended
 again e = command e.system [] 9 10 (named h (codes "Go"))
@@ -178,30 +172,30 @@ send q x = call_bound q x receiver.Pointer (scalar f NoActual) (at 8 8)
 
 abbrev base : Module
 base = unit_of (codes "Base")
-  (type_of (codes "F") (pointer_type (ref.Named b_r)) ∷ type_of (codes "R") (record_type None []) ∷ []) []
-  (procedure (codes "R.Draw") (bound_to b_r receiver.Pointer (family_of b_r (codes "Draw"))) (receiver_of b_f) None [] nowhere (says (codes "b") ∷ [])
-  ∷ procedure (codes "R.hid") (bound_to b_r receiver.Pointer (family_of b_r (codes "hid"))) (receiver_of b_f) None [] nowhere (send b_r (codes "Draw") ∷ out_line nowhere ∷ [])
-  ∷ procedure (codes "Show") None (receiver_of b_f) None [] nowhere (send b_r (codes "hid") ∷ []) ∷ []) []
+    (type_of (codes "F") (pointer_type (ref.Named b_r)) ∷ type_of (codes "R") (record_type None []) ∷ []) []
+    (procedure (codes "R.Draw") (bound_to b_r receiver.Pointer (family_of b_r (codes "Draw"))) (receiver_of b_f) None [] nowhere (says (codes "b") ∷ [])
+    ∷ procedure (codes "R.hid") (bound_to b_r receiver.Pointer (family_of b_r (codes "hid"))) (receiver_of b_f) None [] nowhere (send b_r (codes "Draw") ∷ out_line nowhere ∷ [])
+    ∷ procedure (codes "Show") None (receiver_of b_f) None [] nowhere (send b_r (codes "hid") ∷ []) ∷ []) []
 
 abbrev v_f : Desig
 v_f = own (codes "f") b_f
 
 abbrev viewer : Module
 viewer = unit_of (codes "V") [] []
-  (procedure (codes "See") None (receiver_of b_f) None [] nowhere (send b_r (codes "Draw") ∷ out_line nowhere ∷ [])
-  ∷ procedure (codes "Go") None [] None (variable_of (codes "f") b_f ∷ []) nowhere (New v_f (made.Record b_r) nowhere ∷ call (named (codes "V") (codes "See")) (scalar (ValueOf v_f) NoActual) nowhere ∷ [])
-  ∷ procedure (codes "Nil") None [] None (variable_of (codes "f") b_f ∷ []) nowhere (call (named (codes "V") (codes "See")) (scalar (ValueOf v_f) NoActual) nowhere ∷ []) ∷ []) []
+    (procedure (codes "See") None (receiver_of b_f) None [] nowhere (send b_r (codes "Draw") ∷ out_line nowhere ∷ [])
+    ∷ procedure (codes "Go") None [] None (variable_of (codes "f") b_f ∷ []) nowhere (New v_f (made.Record b_r) nowhere ∷ call (named (codes "V") (codes "See")) (scalar (ValueOf v_f) NoActual) nowhere ∷ [])
+    ∷ procedure (codes "Nil") None [] None (variable_of (codes "f") b_f ∷ []) nowhere (call (named (codes "V") (codes "See")) (scalar (ValueOf v_f) NoActual) nowhere ∷ []) ∷ []) []
 
 abbrev n_f : Desig
 n_f = own (codes "f") (ref.Named (named (codes "N") (codes "F")))
 
 abbrev newer : Module
 newer = unit_of (codes "N")
-  (type_of (codes "F") (pointer_type (ref.Named n_r)) ∷ type_of (codes "R") (record_type (Some (ref.Named b_r)) []) ∷ []) []
-  (procedure (codes "R.Draw") (bound_to n_r receiver.Pointer (family_of b_r (codes "Draw"))) (receiver_of b_f) None [] nowhere (says (codes "n") ∷ [])
-  ∷ procedure (codes "R.hid") (bound_to n_r receiver.Pointer (family_of n_r (codes "hid"))) (receiver_of b_f) None [] nowhere (says (codes "x") ∷ [])
-  ∷ procedure (codes "Go") None [] None (variable_of (codes "f") (ref.Named (named (codes "N") (codes "F"))) ∷ []) nowhere
-      (New n_f (made.Record n_r) nowhere ∷ call (named (codes "V") (codes "See")) (scalar (ValueOf n_f) NoActual) nowhere ∷ call (named (codes "Base") (codes "Show")) (scalar (ValueOf n_f) NoActual) nowhere ∷ []) ∷ []) []
+    (type_of (codes "F") (pointer_type (ref.Named n_r)) ∷ type_of (codes "R") (record_type (Some (ref.Named b_r)) []) ∷ []) []
+    (procedure (codes "R.Draw") (bound_to n_r receiver.Pointer (family_of b_r (codes "Draw"))) (receiver_of b_f) None [] nowhere (says (codes "n") ∷ [])
+    ∷ procedure (codes "R.hid") (bound_to n_r receiver.Pointer (family_of n_r (codes "hid"))) (receiver_of b_f) None [] nowhere (says (codes "x") ∷ [])
+    ∷ procedure (codes "Go") None [] None (variable_of (codes "f") (ref.Named (named (codes "N") (codes "F"))) ∷ []) nowhere
+    (New n_f (made.Record n_r) nowhere ∷ call (named (codes "V") (codes "See")) (scalar (ValueOf n_f) NoActual) nowhere ∷ call (named (codes "Base") (codes "Show")) (scalar (ValueOf n_f) NoActual) nowhere ∷ []) ∷ []) []
 
 base_draws : outcome (run_all (base ∷ viewer ∷ []) (named (codes "V") (codes "Go")) 100) ≡ ends (codes "b" ++ 10 ∷ [])
 base_draws = refl
@@ -236,15 +230,15 @@ uses x = call (level (codes "Use")) (passed passing.VariableRecord (ValueOf (glo
 
 abbrev levels : Module
 levels = unit_of k
-  (type_of (codes "A") (record_type None (a_field (codes "x") long ∷ [])) ∷ type_of (codes "B") (record_type (Some (ref.Named (level (codes "A")))) [])
-  ∷ type_of (codes "C") (record_type (Some (ref.Named (level (codes "B")))) (a_field (codes "y") long ∷ [])) ∷ [])
-  (variable_of (codes "a") (ref.Named (level (codes "A"))) ∷ variable_of (codes "b") (ref.Named (level (codes "B"))) ∷ variable_of (codes "c") (ref.Named (level (codes "C"))) ∷ [])
-  (procedure (codes "A.Me") (me (codes "A")) t_of None [] nowhere (says (codes "a") ∷ increase (Field t (level (codes "A")) (codes "x") long) (num 1) nowhere ∷ [])
-  ∷ procedure (codes "C.Me") (me (codes "C")) t_of None [] nowhere (says (codes "c") ∷ CallProper (Call (callee.Super (level (codes "B")) (family_of (level (codes "A")) (codes "Me")) receiver.Record) (passed passing.VariableRecord (ValueOf t) NoActual) nowhere None) ∷ [])
-  ∷ procedure (codes "Use") None t_of None [] nowhere
-      (call_bound (level (codes "A")) (codes "Me") receiver.Record (passed passing.VariableRecord (ValueOf t) NoActual) nowhere
-      ∷ when (IsRecord t (level (codes "B"))) (says (codes "+") ∷ []) [] ∷ shows (ValueOf (Field t (level (codes "A")) (codes "x") long)) ∷ [])
-  ∷ proper (codes "Go") (uses (codes "a") ∷ uses (codes "b") ∷ uses (codes "c") ∷ uses (codes "c") ∷ []) ∷ []) []
+    (type_of (codes "A") (record_type None (a_field (codes "x") long ∷ [])) ∷ type_of (codes "B") (record_type (Some (ref.Named (level (codes "A")))) [])
+    ∷ type_of (codes "C") (record_type (Some (ref.Named (level (codes "B")))) (a_field (codes "y") long ∷ [])) ∷ [])
+    (variable_of (codes "a") (ref.Named (level (codes "A"))) ∷ variable_of (codes "b") (ref.Named (level (codes "B"))) ∷ variable_of (codes "c") (ref.Named (level (codes "C"))) ∷ [])
+    (procedure (codes "A.Me") (me (codes "A")) t_of None [] nowhere (says (codes "a") ∷ increase (Field t (level (codes "A")) (codes "x") long) (num 1) nowhere ∷ [])
+    ∷ procedure (codes "C.Me") (me (codes "C")) t_of None [] nowhere (says (codes "c") ∷ CallProper (Call (callee.Super (level (codes "B")) (family_of (level (codes "A")) (codes "Me")) receiver.Record) (passed passing.VariableRecord (ValueOf t) NoActual) nowhere None) ∷ [])
+    ∷ procedure (codes "Use") None t_of None [] nowhere
+    (call_bound (level (codes "A")) (codes "Me") receiver.Record (passed passing.VariableRecord (ValueOf t) NoActual) nowhere
+    ∷ when (IsRecord t (level (codes "B"))) (says (codes "+") ∷ []) [] ∷ shows (ValueOf (Field t (level (codes "A")) (codes "x") long)) ∷ [])
+    ∷ proper (codes "Go") (uses (codes "a") ∷ uses (codes "b") ∷ uses (codes "c") ∷ uses (codes "c") ∷ []) ∷ []) []
 
 three_levels : outcome (run levels 100 (codes "Go")) ≡ ends (codes "a1a+1ca+1ca+2")
 unfolding digits

@@ -1,31 +1,13 @@
 -- Loops, and turns that are spent.
 use Rattle.std.proofs.Common.{◌≡◌, refl}
-use Rattle.std.specs.Prelude.{ℕ, List, [], ◌∷◌, ◌++◌, ℤ, pos, negsuc, Option, Some, None, true, false, codes, replicate}
+use Rattle.std.specs.Prelude.{ℕ, List, [], ◌∷◌, ℤ, pos, negsuc, Option, Some, None, codes}
 use Rattle.std.specs.Fmt.{digits}
-use Rattle.ob_tree.specs.declared.pos.Pos.{Pos}
-use Rattle.ob_tree.specs.declared.names.QName.{QName}
-use Rattle.ob_types.specs.declared.types.TypeRef.{TypeRef}
-use Rattle.ob_types.specs.declared.types.TypeRef.TheVariants as ref
-use Rattle.ob_types.specs.declared.types.Basic.TheVariants as basic
-use Rattle.ob_types.specs.declared.desc.Receiver.TheVariants as receiver
 use Rattle.ob_types.specs.declared.typed.Width.TheVariants as width
-use Rattle.ob_types.specs.declared.typed.Passing.TheVariants as passing
 use Rattle.ob_types.specs.declared.typed.Variable.TheVariants as variable
-use Rattle.ob_types.specs.declared.typed.Guarded.TheVariants as guarded
 use Rattle.ob_types.specs.declared.typed.Comparison.TheVariants as comparison
-use Rattle.ob_types.specs.declared.typed.Compared.TheVariants as compared
-use Rattle.ob_types.specs.declared.typed.Connective.TheVariants as connective
-use Rattle.ob_types.specs.declared.typed.Unary.TheVariants as unary
-use Rattle.ob_types.specs.declared.typed.Binary.TheVariants as binary
-use Rattle.ob_types.specs.declared.typed.Update.TheVariants as update
-use Rattle.ob_types.specs.declared.typed.Callee.TheVariants as callee
-use Rattle.ob_types.specs.declared.typed.Assigned.TheVariants as assigned
-use Rattle.ob_types.specs.declared.typed.Made.TheVariants as made
-use Rattle.ob_types.specs.TypedSyntax.{Desig, OfVariable, Field, Index, Deref, Guard, Expr, Constant, ValueOf, ProcedureValue, Monadic, Dyadic, Logical, CompareTexts, IsPointer, IsRecord, Length, Call, CallVariable, Actuals, NoActual, AnActual, Stmt, Assign, CallProper, Updated, Copy, New, NewOpenArray, Assert, Halt, If, Case, While, Repeat, For, Loop, Exit, Return, With, Branch, NoBranch, NoCase, OneCase, NoElse, Else, Nothing, Module}
+use Rattle.ob_types.specs.TypedSyntax.{Desig, Expr, ValueOf, NoActual, Stmt, While, Repeat, For, Loop, Exit, Return, Module}
 use Rattle.ob_meaning.specs.Results.{Why}
-use Rattle.ob_meaning.specs.Commands.{Ended, nothing_loaded, command}
-use Rattle.ob_meaning.proofs.Build.{at, nowhere, named, long, char, truth, short, sets, type_of, a_field, record_type, pointer_type, array_type, open_type, procedure_type, global, own, parameter, num, int, letter, text, nil, plus, compare, scalar, passed, function, block, set_to, call, family_of, call_bound, out_int, out_char, out_text, out_line, when, increase, label, variable_of, parameter_of, procedure, proper, bound_to, unit_of, run, run_all, next, outcome, ends, traps, traps_with, spent}
-use Rattle.ob_types.specs.declared.value.Value.TheVariants as literal
+use Rattle.ob_meaning.proofs.Build.{at, nowhere, named, long, global, num, compare, function, block, set_to, call, out_int, when, increase, variable_of, procedure, proper, unit_of, run, outcome, ends, spent}
 
 abbrev m : List ℕ
 m = codes "Lp"
@@ -47,18 +29,18 @@ for_i start end step body = For (variable.Module m (codes "i")) width.LongInt st
 
 abbrev lp : Module
 lp = unit_of m [] (variable_of (codes "i") long ∷ variable_of (codes "n") long ∷ [])
-  (proper (codes "Changed") (for_i (num 1) (num 5) (pos 1) (shows (ValueOf i) ∷ increase i (num 1) nowhere ∷ []) ∷ shows (ValueOf i) ∷ [])
-  ∷ proper (codes "Down") (for_i (num 5) (num 1) (negsuc 1) (shows (ValueOf i) ∷ []) ∷ shows (ValueOf i) ∷ [])
-  ∷ proper (codes "Kept") (set_to n (num 3) nowhere ∷ for_i (num 1) (ValueOf n) (pos 1) (set_to n (num 10) nowhere ∷ shows (ValueOf i) ∷ []) ∷ [])
-  ∷ proper (codes "End") (set_i 3 ∷ for_i (num 5) (ValueOf i) (pos 1) (shows (ValueOf i) ∷ []) ∷ shows (ValueOf i) ∷ [])
-  ∷ proper (codes "Exit") (Loop (block (While (compare comparison.Less (ValueOf i) (num 10)) (block (increase i (num 1) nowhere ∷ when (compare comparison.Equal (ValueOf i) (num 4)) (Exit ∷ []) [] ∷ [])) nowhere ∷ [])) nowhere ∷ shows (ValueOf i) ∷ [])
-  ∷ proper (codes "Inner") (Loop (block (Loop (block (increase i (num 1) nowhere ∷ Exit ∷ [])) nowhere ∷ when (compare comparison.Equal (ValueOf i) (num 3)) (Exit ∷ []) [] ∷ [])) nowhere ∷ shows (ValueOf i) ∷ [])
-  ∷ proper (codes "Repeat") (Repeat (block (increase i (num 1) nowhere ∷ [])) (compare comparison.GreaterEqual (ValueOf i) (num 1)) nowhere ∷ shows (ValueOf i) ∷ [])
-  ∷ procedure (codes "Find") None [] (Some long) [] nowhere (for_i (num 1) (num 9) (pos 1) (when (compare comparison.Equal (ValueOf i) (num 6)) (Return (Some (ValueOf i)) ∷ []) [] ∷ []) ∷ [])
-  ∷ proper (codes "Return") (shows (function (named m (codes "Find")) NoActual nowhere) ∷ Return None ∷ shows (num 1) ∷ [])
-  ∷ proper (codes "Rounds") (for_i (num 1) (num 3) (pos 1) [] ∷ [])
-  ∷ proper (codes "Call") (shows (num 1) ∷ call (named m (codes "Rounds")) NoActual (at 7 7) ∷ [])
-  ∷ []) []
+    (proper (codes "Changed") (for_i (num 1) (num 5) (pos 1) (shows (ValueOf i) ∷ increase i (num 1) nowhere ∷ []) ∷ shows (ValueOf i) ∷ [])
+    ∷ proper (codes "Down") (for_i (num 5) (num 1) (negsuc 1) (shows (ValueOf i) ∷ []) ∷ shows (ValueOf i) ∷ [])
+    ∷ proper (codes "Kept") (set_to n (num 3) nowhere ∷ for_i (num 1) (ValueOf n) (pos 1) (set_to n (num 10) nowhere ∷ shows (ValueOf i) ∷ []) ∷ [])
+    ∷ proper (codes "End") (set_i 3 ∷ for_i (num 5) (ValueOf i) (pos 1) (shows (ValueOf i) ∷ []) ∷ shows (ValueOf i) ∷ [])
+    ∷ proper (codes "Exit") (Loop (block (While (compare comparison.Less (ValueOf i) (num 10)) (block (increase i (num 1) nowhere ∷ when (compare comparison.Equal (ValueOf i) (num 4)) (Exit ∷ []) [] ∷ [])) nowhere ∷ [])) nowhere ∷ shows (ValueOf i) ∷ [])
+    ∷ proper (codes "Inner") (Loop (block (Loop (block (increase i (num 1) nowhere ∷ Exit ∷ [])) nowhere ∷ when (compare comparison.Equal (ValueOf i) (num 3)) (Exit ∷ []) [] ∷ [])) nowhere ∷ shows (ValueOf i) ∷ [])
+    ∷ proper (codes "Repeat") (Repeat (block (increase i (num 1) nowhere ∷ [])) (compare comparison.GreaterEqual (ValueOf i) (num 1)) nowhere ∷ shows (ValueOf i) ∷ [])
+    ∷ procedure (codes "Find") None [] (Some long) [] nowhere (for_i (num 1) (num 9) (pos 1) (when (compare comparison.Equal (ValueOf i) (num 6)) (Return (Some (ValueOf i)) ∷ []) [] ∷ []) ∷ [])
+    ∷ proper (codes "Return") (shows (function (named m (codes "Find")) NoActual nowhere) ∷ Return None ∷ shows (num 1) ∷ [])
+    ∷ proper (codes "Rounds") (for_i (num 1) (num 3) (pos 1) [] ∷ [])
+    ∷ proper (codes "Call") (shows (num 1) ∷ call (named m (codes "Rounds")) NoActual (at 7 7) ∷ [])
+    ∷ []) []
 
 abbrev go : List ℕ → Option Why × List ℕ
 go x = outcome (run lp 100 x)

@@ -1,31 +1,18 @@
 -- Each kind of trap, where it stands, and what was written before.
 use Rattle.std.proofs.Common.{◌≡◌, refl}
-use Rattle.std.specs.Prelude.{ℕ, List, [], ◌∷◌, ◌++◌, ℤ, pos, negsuc, Option, Some, None, true, false, codes, replicate}
+use Rattle.std.specs.Prelude.{ℕ, List, [], ◌∷◌, ℤ, pos, negsuc, Option, Some, None, codes}
 use Rattle.std.specs.Fmt.{digits}
 use Rattle.ob_tree.specs.declared.pos.Pos.{Pos}
-use Rattle.ob_tree.specs.declared.names.QName.{QName}
 use Rattle.ob_types.specs.declared.types.TypeRef.{TypeRef}
 use Rattle.ob_types.specs.declared.types.TypeRef.TheVariants as ref
-use Rattle.ob_types.specs.declared.types.Basic.TheVariants as basic
-use Rattle.ob_types.specs.declared.desc.Receiver.TheVariants as receiver
-use Rattle.ob_types.specs.declared.value.Value.TheVariants as literal
 use Rattle.ob_types.specs.declared.typed.Width.TheVariants as width
-use Rattle.ob_types.specs.declared.typed.Passing.TheVariants as passing
-use Rattle.ob_types.specs.declared.typed.Variable.TheVariants as variable
-use Rattle.ob_types.specs.declared.typed.Guarded.TheVariants as guarded
 use Rattle.ob_types.specs.declared.typed.Comparison.TheVariants as comparison
-use Rattle.ob_types.specs.declared.typed.Compared.TheVariants as compared
-use Rattle.ob_types.specs.declared.typed.Connective.TheVariants as connective
 use Rattle.ob_types.specs.declared.typed.Unary.TheVariants as unary
 use Rattle.ob_types.specs.declared.typed.Binary.TheVariants as binary
 use Rattle.ob_types.specs.declared.typed.Update.TheVariants as update
-use Rattle.ob_types.specs.declared.typed.Callee.TheVariants as callee
-use Rattle.ob_types.specs.declared.typed.Assigned.TheVariants as assigned
-use Rattle.ob_types.specs.declared.typed.Made.TheVariants as made
-use Rattle.ob_types.specs.TypedSyntax.{Desig, OfVariable, Field, Index, Deref, Guard, Expr, Constant, ValueOf, ProcedureValue, Monadic, Dyadic, Logical, CompareTexts, IsPointer, IsRecord, Length, Call, CallVariable, Actuals, NoActual, AnActual, Stmt, Assign, CallProper, Updated, Copy, New, NewOpenArray, Assert, Halt, If, Case, While, Repeat, For, Loop, Exit, Return, With, Branch, NoBranch, NoCase, OneCase, NoElse, Else, Nothing, Module}
+use Rattle.ob_types.specs.TypedSyntax.{Desig, Field, Index, Deref, Expr, ValueOf, Monadic, Dyadic, CompareTexts, IsPointer, Length, CallVariable, NoActual, Stmt, CallProper, Updated, Copy, NewOpenArray, Assert, Halt, Case, With, Branch, NoBranch, NoCase, OneCase, NoElse, Else, Nothing, Module}
 use Rattle.ob_meaning.specs.Results.{Why}
-use Rattle.ob_meaning.specs.Commands.{Ended, nothing_loaded, command}
-use Rattle.ob_meaning.proofs.Build.{at, nowhere, named, long, char, truth, short, sets, type_of, a_field, record_type, pointer_type, array_type, open_type, procedure_type, global, own, parameter, num, int, letter, text, nil, plus, compare, scalar, passed, function, block, set_to, call, family_of, call_bound, out_int, out_char, out_text, out_line, when, increase, label, variable_of, parameter_of, procedure, proper, bound_to, unit_of, run, run_all, next, outcome, ends, traps, traps_with, spent}
+use Rattle.ob_meaning.proofs.Build.{at, nowhere, named, long, char, sets, type_of, a_field, record_type, pointer_type, array_type, open_type, procedure_type, global, num, int, letter, text, plus, compare, function, block, set_to, out_int, out_char, out_text, when, label, variable_of, procedure, proper, unit_of, run, outcome, ends, traps, traps_with}
 
 abbrev m : List ℕ
 m = codes "Tr"
@@ -65,40 +52,40 @@ shows e = out_int e 0 nowhere
 
 abbrev tr : Module
 tr = unit_of m
-  (type_of (codes "A") (array_type 4 long) ∷ type_of (codes "R") (record_type None (a_field (codes "x") long ∷ []))
-  ∷ type_of (codes "P") (pointer_type (ref_to (codes "R"))) ∷ type_of (codes "F") procedure_type ∷ type_of (codes "C") (array_type 3 char)
-  ∷ type_of (codes "O^") (open_type long) ∷ type_of (codes "O") (pointer_type (ref_to (codes "O^"))) ∷ [])
-  (variable_of (codes "a") (ref_to (codes "A")) ∷ variable_of (codes "i") long ∷ variable_of (codes "p") (ref_to (codes "P"))
-  ∷ variable_of (codes "f") (ref_to (codes "F")) ∷ variable_of (codes "s") sets ∷ variable_of (codes "c") (ref_to (codes "C"))
-  ∷ variable_of (codes "o") (ref_to (codes "O")) ∷ [])
-  (proper (codes "Index") (out_char (letter (codes "b")) nowhere ∷ set_i (pos 3) ∷ set_to (element a 4 (ValueOf i) (at 2 5)) (num 1) nowhere ∷ set_i (pos 4) ∷ set_to (element a 4 (ValueOf i) (at 2 7)) (num 1) nowhere ∷ [])
-  ∷ proper (codes "Below") (set_i (negsuc 0) ∷ set_to (element a 4 (ValueOf i) (at 2 8)) (num 1) nowhere ∷ [])
-  ∷ proper (codes "Nil") (set_to (Field (Deref p (at 3 4) (ref_to (codes "R"))) (named m (codes "R")) (codes "x") long) (num 1) nowhere ∷ [])
-  ∷ proper (codes "NilCall") (CallProper (CallVariable f NoActual (at 3 9) None) ∷ [])
-  ∷ proper (codes "Case") (Case (ValueOf i) (OneCase (label 1 3 ∷ label 7 7 ∷ []) (block (shows (num 1) ∷ [])) (OneCase (label 4 4 ∷ []) Nothing NoCase)) NoElse (at 4 1) ∷ [])
-  ∷ proper (codes "CaseHit") (set_i (pos 7) ∷ Case (ValueOf i) (OneCase (label 1 3 ∷ label 7 7 ∷ []) (block (shows (num 1) ∷ [])) NoCase) NoElse (at 4 1) ∷ set_i (pos 4) ∷ Case (ValueOf i) (OneCase (label 4 4 ∷ []) Nothing NoCase) NoElse (at 4 2) ∷ [])
-  ∷ proper (codes "CaseElse") (Case (ValueOf i) (OneCase (label 1 3 ∷ []) Nothing NoCase) (Else (block (shows (num 2) ∷ []))) (at 4 3) ∷ [])
-  ∷ proper (codes "With") (With (Branch (IsPointer (ValueOf p) (named m (codes "R"))) Nothing NoBranch) NoElse (at 5 2) ∷ [])
-  ∷ procedure (codes "Empty") None [] (Some long) [] (at 6 11) (out_char (letter (codes "e")) nowhere ∷ [])
-  ∷ proper (codes "NoReturn") (shows (function (named m (codes "Empty")) NoActual (at 6 40)) ∷ [])
-  ∷ proper (codes "Div") (shows (Dyadic (binary.Quotient width.LongInt) (num 1) (ValueOf i) (at 7 3)) ∷ [])
-  ∷ proper (codes "Mod") (set_i (negsuc 0) ∷ shows (Dyadic (binary.Remainder width.LongInt) (num 1) (ValueOf i) (at 7 4)) ∷ [])
-  ∷ proper (codes "Floor") (set_i (negsuc 6) ∷ shows (Dyadic (binary.Quotient width.LongInt) (ValueOf i) (num 2) nowhere) ∷ shows (Dyadic (binary.Remainder width.LongInt) (ValueOf i) (num 2) nowhere) ∷ [])
-  ∷ proper (codes "Sum") (set_i (pos 2147483647) ∷ set_to i (plus (ValueOf i) (num 1) (at 8 1)) nowhere ∷ [])
-  ∷ proper (codes "Low") (set_i (negsuc 2147483647) ∷ shows (ValueOf i) ∷ set_to i (Monadic (unary.Negate width.LongInt) (ValueOf i) (at 8 2)) nowhere ∷ [])
-  ∷ proper (codes "Short") (set_i (pos 127) ∷ shows (Monadic (unary.Short width.ShortInt) (ValueOf i) (at 8 3)) ∷ set_i (pos 128) ∷ shows (Monadic (unary.Short width.ShortInt) (ValueOf i) (at 8 4)) ∷ [])
-  ∷ proper (codes "Chr") (set_i (pos 256) ∷ out_char (Monadic unary.Chr (ValueOf i) (at 8 5)) nowhere ∷ [])
-  ∷ proper (codes "Ash") (set_i (negsuc 4) ∷ shows (Dyadic binary.Ash (ValueOf i) (int (negsuc 0)) (at 8 6)) ∷ set_i (pos 1) ∷ shows (Dyadic binary.Ash (ValueOf i) (num 30) (at 8 7)) ∷ shows (Dyadic binary.Ash (ValueOf i) (num 31) (at 8 8)) ∷ [])
-  ∷ proper (codes "In") (set_i (pos 32) ∷ when (Dyadic binary.In (ValueOf i) (ValueOf s) (at 9 1)) [] [] ∷ [])
-  ∷ proper (codes "Incl") (set_i (pos 31) ∷ Updated update.Incl s (ValueOf i) (at 9 2) ∷ when (Dyadic binary.In (num 31) (ValueOf s) nowhere) (shows (num 31) ∷ []) [] ∷ set_i (negsuc 0) ∷ Updated update.Incl s (ValueOf i) (at 9 3) ∷ [])
-  ∷ proper (codes "Range") (set_i (pos 40) ∷ set_to s (Dyadic binary.Range (ValueOf i) (num 5) (at 9 4)) nowhere ∷ [])
-  ∷ proper (codes "Assert") (Assert (compare comparison.Equal (ValueOf i) (num 0)) (pos 6) (at 10 1) ∷ Assert (compare comparison.NotEqual (ValueOf i) (num 0)) (pos 7) (at 10 2) ∷ [])
-  ∷ proper (codes "Halt") (out_char (letter (codes "h")) nowhere ∷ Halt (pos 3) (at 11 1) ∷ [])
-  ∷ proper (codes "Copy") (Copy (text (codes "abcde")) c (at 15 1) ∷ out_text (ValueOf c) (at 15 2) ∷ set_to (Index c (Some 3) (num 2) nowhere char) (letter (codes "x")) nowhere ∷ out_char (letter (codes "+")) nowhere ∷ out_text (ValueOf c) (at 15 3) ∷ [])
-  ∷ proper (codes "Relation") (set_to (Index c (Some 3) (num 0) nowhere char) (letter (codes "x")) nowhere ∷ when (CompareTexts comparison.Less (text (codes "a")) (ValueOf c) (at 15 4)) (out_char (letter (codes "<")) nowhere ∷ []) [] ∷ set_to (Index c (Some 3) (num 1) nowhere char) (letter (codes "x")) nowhere ∷ set_to (Index c (Some 3) (num 2) nowhere char) (letter (codes "x")) nowhere ∷ when (CompareTexts comparison.Less (text (codes "a")) (ValueOf c) (at 15 5)) [] [] ∷ [])
-  ∷ proper (codes "Length") (NewOpenArray o long (num 2) (at 16 1) ∷ shows (Length (Deref o nowhere (ref_to (codes "O^")))) ∷ NewOpenArray o long (ValueOf i) (at 16 2) ∷ [])
-  ∷ proper (codes "Open") (NewOpenArray o long (num 2) (at 16 1) ∷ set_to (Index (Deref o nowhere (ref_to (codes "O^"))) None (num 2) (at 1 9) long) (num 1) nowhere ∷ [])
-  ∷ []) []
+    (type_of (codes "A") (array_type 4 long) ∷ type_of (codes "R") (record_type None (a_field (codes "x") long ∷ []))
+    ∷ type_of (codes "P") (pointer_type (ref_to (codes "R"))) ∷ type_of (codes "F") procedure_type ∷ type_of (codes "C") (array_type 3 char)
+    ∷ type_of (codes "O^") (open_type long) ∷ type_of (codes "O") (pointer_type (ref_to (codes "O^"))) ∷ [])
+    (variable_of (codes "a") (ref_to (codes "A")) ∷ variable_of (codes "i") long ∷ variable_of (codes "p") (ref_to (codes "P"))
+    ∷ variable_of (codes "f") (ref_to (codes "F")) ∷ variable_of (codes "s") sets ∷ variable_of (codes "c") (ref_to (codes "C"))
+    ∷ variable_of (codes "o") (ref_to (codes "O")) ∷ [])
+    (proper (codes "Index") (out_char (letter (codes "b")) nowhere ∷ set_i (pos 3) ∷ set_to (element a 4 (ValueOf i) (at 2 5)) (num 1) nowhere ∷ set_i (pos 4) ∷ set_to (element a 4 (ValueOf i) (at 2 7)) (num 1) nowhere ∷ [])
+    ∷ proper (codes "Below") (set_i (negsuc 0) ∷ set_to (element a 4 (ValueOf i) (at 2 8)) (num 1) nowhere ∷ [])
+    ∷ proper (codes "Nil") (set_to (Field (Deref p (at 3 4) (ref_to (codes "R"))) (named m (codes "R")) (codes "x") long) (num 1) nowhere ∷ [])
+    ∷ proper (codes "NilCall") (CallProper (CallVariable f NoActual (at 3 9) None) ∷ [])
+    ∷ proper (codes "Case") (Case (ValueOf i) (OneCase (label 1 3 ∷ label 7 7 ∷ []) (block (shows (num 1) ∷ [])) (OneCase (label 4 4 ∷ []) Nothing NoCase)) NoElse (at 4 1) ∷ [])
+    ∷ proper (codes "CaseHit") (set_i (pos 7) ∷ Case (ValueOf i) (OneCase (label 1 3 ∷ label 7 7 ∷ []) (block (shows (num 1) ∷ [])) NoCase) NoElse (at 4 1) ∷ set_i (pos 4) ∷ Case (ValueOf i) (OneCase (label 4 4 ∷ []) Nothing NoCase) NoElse (at 4 2) ∷ [])
+    ∷ proper (codes "CaseElse") (Case (ValueOf i) (OneCase (label 1 3 ∷ []) Nothing NoCase) (Else (block (shows (num 2) ∷ []))) (at 4 3) ∷ [])
+    ∷ proper (codes "With") (With (Branch (IsPointer (ValueOf p) (named m (codes "R"))) Nothing NoBranch) NoElse (at 5 2) ∷ [])
+    ∷ procedure (codes "Empty") None [] (Some long) [] (at 6 11) (out_char (letter (codes "e")) nowhere ∷ [])
+    ∷ proper (codes "NoReturn") (shows (function (named m (codes "Empty")) NoActual (at 6 40)) ∷ [])
+    ∷ proper (codes "Div") (shows (Dyadic (binary.Quotient width.LongInt) (num 1) (ValueOf i) (at 7 3)) ∷ [])
+    ∷ proper (codes "Mod") (set_i (negsuc 0) ∷ shows (Dyadic (binary.Remainder width.LongInt) (num 1) (ValueOf i) (at 7 4)) ∷ [])
+    ∷ proper (codes "Floor") (set_i (negsuc 6) ∷ shows (Dyadic (binary.Quotient width.LongInt) (ValueOf i) (num 2) nowhere) ∷ shows (Dyadic (binary.Remainder width.LongInt) (ValueOf i) (num 2) nowhere) ∷ [])
+    ∷ proper (codes "Sum") (set_i (pos 2147483647) ∷ set_to i (plus (ValueOf i) (num 1) (at 8 1)) nowhere ∷ [])
+    ∷ proper (codes "Low") (set_i (negsuc 2147483647) ∷ shows (ValueOf i) ∷ set_to i (Monadic (unary.Negate width.LongInt) (ValueOf i) (at 8 2)) nowhere ∷ [])
+    ∷ proper (codes "Short") (set_i (pos 127) ∷ shows (Monadic (unary.Short width.ShortInt) (ValueOf i) (at 8 3)) ∷ set_i (pos 128) ∷ shows (Monadic (unary.Short width.ShortInt) (ValueOf i) (at 8 4)) ∷ [])
+    ∷ proper (codes "Chr") (set_i (pos 256) ∷ out_char (Monadic unary.Chr (ValueOf i) (at 8 5)) nowhere ∷ [])
+    ∷ proper (codes "Ash") (set_i (negsuc 4) ∷ shows (Dyadic binary.Ash (ValueOf i) (int (negsuc 0)) (at 8 6)) ∷ set_i (pos 1) ∷ shows (Dyadic binary.Ash (ValueOf i) (num 30) (at 8 7)) ∷ shows (Dyadic binary.Ash (ValueOf i) (num 31) (at 8 8)) ∷ [])
+    ∷ proper (codes "In") (set_i (pos 32) ∷ when (Dyadic binary.In (ValueOf i) (ValueOf s) (at 9 1)) [] [] ∷ [])
+    ∷ proper (codes "Incl") (set_i (pos 31) ∷ Updated update.Incl s (ValueOf i) (at 9 2) ∷ when (Dyadic binary.In (num 31) (ValueOf s) nowhere) (shows (num 31) ∷ []) [] ∷ set_i (negsuc 0) ∷ Updated update.Incl s (ValueOf i) (at 9 3) ∷ [])
+    ∷ proper (codes "Range") (set_i (pos 40) ∷ set_to s (Dyadic binary.Range (ValueOf i) (num 5) (at 9 4)) nowhere ∷ [])
+    ∷ proper (codes "Assert") (Assert (compare comparison.Equal (ValueOf i) (num 0)) (pos 6) (at 10 1) ∷ Assert (compare comparison.NotEqual (ValueOf i) (num 0)) (pos 7) (at 10 2) ∷ [])
+    ∷ proper (codes "Halt") (out_char (letter (codes "h")) nowhere ∷ Halt (pos 3) (at 11 1) ∷ [])
+    ∷ proper (codes "Copy") (Copy (text (codes "abcde")) c (at 15 1) ∷ out_text (ValueOf c) (at 15 2) ∷ set_to (Index c (Some 3) (num 2) nowhere char) (letter (codes "x")) nowhere ∷ out_char (letter (codes "+")) nowhere ∷ out_text (ValueOf c) (at 15 3) ∷ [])
+    ∷ proper (codes "Relation") (set_to (Index c (Some 3) (num 0) nowhere char) (letter (codes "x")) nowhere ∷ when (CompareTexts comparison.Less (text (codes "a")) (ValueOf c) (at 15 4)) (out_char (letter (codes "<")) nowhere ∷ []) [] ∷ set_to (Index c (Some 3) (num 1) nowhere char) (letter (codes "x")) nowhere ∷ set_to (Index c (Some 3) (num 2) nowhere char) (letter (codes "x")) nowhere ∷ when (CompareTexts comparison.Less (text (codes "a")) (ValueOf c) (at 15 5)) [] [] ∷ [])
+    ∷ proper (codes "Length") (NewOpenArray o long (num 2) (at 16 1) ∷ shows (Length (Deref o nowhere (ref_to (codes "O^")))) ∷ NewOpenArray o long (ValueOf i) (at 16 2) ∷ [])
+    ∷ proper (codes "Open") (NewOpenArray o long (num 2) (at 16 1) ∷ set_to (Index (Deref o nowhere (ref_to (codes "O^"))) None (num 2) (at 1 9) long) (num 1) nowhere ∷ [])
+    ∷ []) []
 
 abbrev go : List ℕ → Option Why × List ℕ
 go x = outcome (run tr 100 x)

@@ -1,5 +1,5 @@
 -- What a call does: its room, its variables, its body and its result.
-use Rattle.std.specs.Prelude.{ℕ, zero, suc, ◌+◌, ◌*◌, List, [], ◌∷◌, ◌++◌, map, length, pos, nat_le, Option, Some, None, Bool, true, false, ◌&&◌, if◌then◌else◌}
+use Rattle.std.specs.Prelude.{ℕ, zero, suc, ◌+◌, List, [], ◌∷◌, ◌++◌, map, length, pos, nat_le, Option, Some, None, Bool, true, false, ◌&&◌}
 use Rattle.ob_tree.specs.declared.pos.Pos.{Pos}
 use Rattle.ob_tree.specs.declared.names.QName.{QName}
 use Rattle.ob_types.specs.declared.types.Basic.TheVariants as basic
@@ -8,9 +8,9 @@ use Rattle.ob_types.specs.declared.typed.Passing.{Passing}
 use Rattle.ob_types.specs.declared.typed.Passing.TheVariants as passing
 use Rattle.ob_types.specs.declared.typed.TypedParameter.{TypedParameter}
 use Rattle.ob_types.specs.declared.typed.TypedVariable.{TypedVariable}
-use Rattle.ob_types.specs.TypedSyntax.{Stmt, Assign, CallProper, Updated, Copy, New, NewOpenArray, Assert, Halt, If, Case, While, Repeat, For, Loop, Exit, Return, With, Stmts, Nothing, Then, Branches, NoBranch, Branch, Cases, NoCase, OneCase, Otherwise, NoElse, Else, Procedure, Module}
-use Rattle.ob_meaning.specs.Values.{changed, changed_at, Program, procedure_of, Form, BasicForm, ArrayForm, OpenForm, RecordForm, Fields, form_in, words, Value, Nil, first, length_of, OfModule, OfCall, Place, At, value_at, Store, Held, Own, Referred, Copied, Active, State}
-use Rattle.ob_meaning.specs.Results.{M, Res, Gives, Stops, Trapped, Spent, bind, ◌>>=◌, give, stop, spend, Passed, ByValue, ByPlace, ByText, Caller, Around}
+use Rattle.ob_types.specs.TypedSyntax.{Stmt, If, Case, While, Repeat, For, Loop, With, Stmts, Nothing, Then, Branches, NoBranch, Branch, Cases, NoCase, OneCase, Otherwise, NoElse, Else, Procedure}
+use Rattle.ob_meaning.specs.Values.{changed, changed_at, Program, procedure_of, Form, BasicForm, ArrayForm, OpenForm, RecordForm, form_in, words, Value, Nil, first, length_of, OfModule, Place, At, value_at, Store, Held, Own, Referred, Copied, Active, State}
+use Rattle.ob_meaning.specs.Results.{M, Gives, Trapped, Spent, bind, give, stop, spend, Passed, ByValue, ByPlace, ByText, Caller, Around}
 use Rattle.ob_meaning.specs.Operators.{text_value}
 use Rattle.ob_meaning.specs.Meaning.{Flow, Done, Leaves, Back, hidden, as_record, execs}
 

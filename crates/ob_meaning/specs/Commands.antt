@@ -1,14 +1,13 @@
 -- What a command does, over the modules that are loaded and those that it brings in.
-use Rattle.std.specs.Prelude.{ℕ, zero, suc, ◌+◌, List, [], ◌∷◌, ◌++◌, map, Option, Some, None, length, nat_le, Bool, true, false}
-use Rattle.ob_tree.specs.declared.pos.Pos.{Pos}
+use Rattle.std.specs.Prelude.{ℕ, List, [], ◌∷◌, ◌++◌, Option, Some, None}
 use Rattle.ob_tree.specs.declared.names.QName.{QName}
 use Rattle.ob_types.specs.declared.types.Mark.TheVariants as mark
 use Rattle.ob_types.specs.declared.typed.TypedVariable.{TypedVariable}
-use Rattle.ob_types.specs.TypedSyntax.{Stmts, Procedure, Module}
-use Rattle.ob_meaning.specs.Values.{changed, Program, procedure_of, form_in, Value, Nil, first, OfModule, Place, At, Store, Active, State, AnObject}
-use Rattle.ob_meaning.specs.Results.{M, Res, Gives, Stops, Why, bind, give, Caller, Around}
+use Rattle.ob_types.specs.TypedSyntax.{Procedure, Module}
+use Rattle.ob_meaning.specs.Values.{changed, Program, procedure_of, form_in, Value, Nil, first, Store, State, AnObject}
+use Rattle.ob_meaning.specs.Results.{M, Res, Gives, Stops, Why}
 use Rattle.ob_meaning.specs.Meaning.{Flow, execs}
-use Rattle.ob_meaning.specs.Calls.{hidden_of_all, hidden_held, first_values, begun, ended, around, calling}
+use Rattle.ob_meaning.specs.Calls.{begun, around, calling}
 
 -- what is loaded: the modules in the order in which they came, the values of their variables and of all objects, and what these
 -- objects are
@@ -45,7 +44,13 @@ with_module program m s = record s { store = record s.store { globals = changed 
 -- a body or a command begins with no active call; no turn is spent, and there is room
 abbrev pub body_procedure : Module → Procedure
 body_procedure m = record {
-  name = []; mark = mark.Hidden; at = record { line = 0; col = 0 }; binding = None; parameters = []; result = None; locals = [];
+  name = [];
+  mark = mark.Hidden;
+  at = record { line = 0; col = 0 };
+  binding = None;
+  parameters = [];
+  result = None;
+  locals = [];
   body = m.body;
 }
 
@@ -83,7 +88,7 @@ abbrev pub run_bodies : Program → List Module → ℕ → QName → State → 
 run_bodies program [] heap q s = run_command program heap q s
 run_bodies program (m ∷ ms) heap q s =
     and_then (program ++ m ∷ []) (run_first (program ++ m ∷ []) heap (record { «module» = m.name; object = [] }) (body_procedure m) (with_module (program ++ m ∷ []) m s))
-      (run_bodies (program ++ m ∷ []) ms heap q)
+    (run_bodies (program ++ m ∷ []) ms heap q)
 
 -- a command with so many turns, over what is loaded and the modules that it brings in
 abbrev pub command : System → List Module → ℕ → ℕ → QName → Ended

@@ -3,7 +3,7 @@ use Rattle.std.specs.Prelude.{◌≡◌, ℕ, ◌≤◌, List, ◌++◌}
 use Rattle.ob_tree.specs.declared.names.QName.{QName}
 use Rattle.ob_types.specs.TypedSyntax.{Expr, Stmts, Module}
 use Rattle.ob_meaning.specs.Values.{Program, State}
-use Rattle.ob_meaning.specs.Results.{M, Res, Gives, Stops, Around}
+use Rattle.ob_meaning.specs.Results.{Res, Gives, Stops, Around}
 use Rattle.ob_meaning.specs.Meaning.{value, execs}
 use Rattle.ob_meaning.specs.Calls.{around, calling}
 use Rattle.ob_meaning.specs.Commands.{System, command}

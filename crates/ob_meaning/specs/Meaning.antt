@@ -1,21 +1,18 @@
 -- What designators, expressions and statements do. Each rests on what calls do, which is defined over them.
-use Rattle.std.specs.Prelude.{take, bytes_eq, ℕ, zero, suc, ◌+◌, ◌-◌, ◌*◌, List, [], ◌∷◌, ◌++◌, length, ℤ, pos, negsuc, int_le, nat_lt, nat_le, nat_eq, Option, Some, None, Bool, true, false, not, ◌&&◌, ◌||◌, if◌then◌else◌, unsigned_abs}
+use Rattle.std.specs.Prelude.{take, bytes_eq, ℕ, zero, suc, ◌+◌, ◌-◌, ◌*◌, List, [], ◌∷◌, ◌++◌, length, ℤ, pos, negsuc, int_le, nat_lt, nat_le, Option, Some, None, Bool, true, false, ◌&&◌, ◌||◌, if◌then◌else◌, unsigned_abs}
 use Rattle.ob_tree.specs.declared.pos.Pos.{Pos}
 use Rattle.ob_tree.specs.declared.names.QName.{QName}
-use Rattle.ob_types.specs.declared.types.Basic.TheVariants as basic
 use Rattle.ob_types.specs.declared.types.TypeRef.{TypeRef}
 use Rattle.ob_types.specs.declared.desc.Receiver.{Receiver}
 use Rattle.ob_types.specs.declared.desc.Receiver.TheVariants as receiver
 use Rattle.ob_types.specs.declared.value.Value.{Value as Literal}
 use Rattle.ob_types.specs.declared.value.Value.TheVariants as literal
-use Rattle.ob_types.specs.declared.typed.Width.{Width}
 use Rattle.ob_types.specs.declared.typed.Passing.{Passing}
 use Rattle.ob_types.specs.declared.typed.Passing.TheVariants as passing
 use Rattle.ob_types.specs.declared.typed.Variable.{Variable}
 use Rattle.ob_types.specs.declared.typed.Variable.TheVariants as variable
 use Rattle.ob_types.specs.declared.typed.Guarded.{Guarded}
 use Rattle.ob_types.specs.declared.typed.Guarded.TheVariants as guarded
-use Rattle.ob_types.specs.declared.typed.Comparison.{Comparison}
 use Rattle.ob_types.specs.declared.typed.Connective.{Connective}
 use Rattle.ob_types.specs.declared.typed.Connective.TheVariants as connective
 use Rattle.ob_types.specs.declared.typed.OutProcedure.{OutProcedure}
@@ -31,10 +28,10 @@ use Rattle.ob_types.specs.declared.typed.Made.{Made}
 use Rattle.ob_types.specs.declared.typed.Made.TheVariants as made
 use Rattle.ob_types.specs.declared.typed.Label.{Label}
 use Rattle.ob_types.specs.declared.typed.Binding.{Binding}
-use Rattle.ob_types.specs.TypedSyntax.{Desig, OfVariable, Field, Index, Deref, Guard, Expr, Constant, ValueOf, ProcedureValue, Monadic, Dyadic, Logical, CompareTexts, IsPointer, IsRecord, Length, Call, CallVariable, Actuals, NoActual, AnActual, Stmt, Assign, CallProper, Updated, Copy, New, NewOpenArray, Assert, Halt, If, Case, While, Repeat, For, Loop, Exit, Return, With, Stmts, Nothing, Then, Branches, NoBranch, Branch, Cases, NoCase, OneCase, Otherwise, NoElse, Else, Procedure, Module}
-use Rattle.ob_meaning.specs.Values.{same_name, changed_at, Program, Form, BasicForm, PointerForm, ProcedureForm, ArrayForm, OpenForm, RecordForm, Fields, NoField, AField, form_in, record_in, bases_in, is_among, fields_of, words, Value, Truth, Character, Integer, SetOf, Nil, Object, ProcedureAt, Elements, Record, first, truth_of, character_of, integer_of, length_of, element_of, field_of, type_of, Root, OfModule, OfCall, OfObject, FieldStep, ElementStep, Place, At, inside, value_at, with_value_at, Store, Active, State, AnObject, Whole, Opened}
-use Rattle.ob_meaning.specs.Results.{M, Gives, Why, Trapped, Spent, ◌>>=◌, give, stop, spend, read, assign, write, Passed, ByValue, ByPlace, ByText, Around, trap}
-use Rattle.ob_meaning.specs.Operators.{Computed, Is, Traps, compute, compute_both, updated, holds, text_equal, text_less, constant_value, up_to_end, characters, with_text, padded, integer_in, is_positive}
+use Rattle.ob_types.specs.TypedSyntax.{Desig, OfVariable, Field, Index, Deref, Guard, Expr, Constant, ValueOf, ProcedureValue, Monadic, Dyadic, Logical, CompareTexts, IsPointer, IsRecord, Length, Call, CallVariable, Actuals, NoActual, AnActual, Stmt, Assign, CallProper, Updated, Copy, New, NewOpenArray, Assert, Halt, If, Case, While, Repeat, For, Loop, Exit, Return, With, Stmts, Nothing, Then, Branches, NoBranch, Branch, Cases, NoCase, OneCase, Otherwise, NoElse, Else, Procedure}
+use Rattle.ob_meaning.specs.Values.{same_name, changed_at, Program, Fields, NoField, AField, form_in, record_in, bases_in, is_among, fields_of, words, Value, Truth, Integer, Nil, Object, ProcedureAt, Elements, Record, first, truth_of, character_of, integer_of, length_of, element_of, field_of, type_of, OfModule, OfCall, OfObject, FieldStep, ElementStep, Place, At, inside, value_at, Store, Active, AnObject, Whole, Opened}
+use Rattle.ob_meaning.specs.Results.{M, Gives, Trapped, Spent, ◌>>=◌, give, stop, spend, read, assign, write, Passed, ByValue, ByPlace, ByText, Around, trap}
+use Rattle.ob_meaning.specs.Operators.{Computed, Is, Traps, compute, compute_both, updated, holds, text_equal, text_less, constant_value, up_to_end, characters, with_text, padded, is_positive}
 
 -- VARIABLES
 

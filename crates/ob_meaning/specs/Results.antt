@@ -1,8 +1,8 @@
 -- What a part of a program comes to: a value and the state after it, or a stop.
-use Rattle.std.specs.Prelude.{◌≡◌, ℕ, zero, suc, ◌++◌, List, ℤ, pos, Option, Some, None}
+use Rattle.std.specs.Prelude.{ℕ, zero, suc, ◌++◌, List, ℤ, pos, Option}
 use Rattle.ob_tree.specs.declared.pos.Pos.{Pos}
 use Rattle.ob_tree.specs.declared.names.QName.{QName}
-use Rattle.ob_meaning.specs.Values.{Value, Place, Store, State, Program, value_at, with_value_at}
+use Rattle.ob_meaning.specs.Values.{Value, Place, State, Program, value_at, with_value_at}
 
 -- why a command ends before its end: a trap with its kind and number, or turns that are spent, in a module at a position
 pub data Why : Type 0 where

@@ -1,16 +1,13 @@
 -- Types as they are built, values, places and states.
-use Rattle.std.specs.Prelude.{ℕ, zero, suc, ◌+◌, ◌*◌, List, [], ◌∷◌, ◌++◌, length, ℤ, pos, Option, Some, None, Bool, true, false, ◌&&◌, ◌||◌, nat_eq, bytes_eq, if◌then◌else◌}
-use Rattle.ob_tree.specs.declared.pos.Pos.{Pos}
+use Rattle.std.specs.Prelude.{ℕ, zero, suc, ◌+◌, ◌*◌, List, [], ◌∷◌, ◌++◌, length, ℤ, pos, Option, Some, None, Bool, false, ◌&&◌, ◌||◌, nat_eq, bytes_eq, if◌then◌else◌}
 use Rattle.ob_tree.specs.declared.names.QName.{QName}
 use Rattle.ob_types.specs.declared.types.Basic.{Basic}
 use Rattle.ob_types.specs.declared.types.Basic.TheVariants as basic
 use Rattle.ob_types.specs.declared.types.TypeRef.{TypeRef}
 use Rattle.ob_types.specs.declared.types.TypeRef.TheVariants as ref
-use Rattle.ob_types.specs.declared.types.Signature.{Signature}
 use Rattle.ob_types.specs.declared.desc.Desc.{Desc}
 use Rattle.ob_types.specs.declared.desc.Desc.TheVariants as desc
 use Rattle.ob_types.specs.declared.desc.Field.{Field}
-use Rattle.ob_types.specs.declared.desc.RecordDesc.{RecordDesc}
 use Rattle.ob_types.specs.declared.typed.TypedType.{TypedType}
 use Rattle.ob_types.specs.TypedSyntax.{Procedure, Module}
 

@@ -10,18 +10,15 @@ ghost use Rattle.ob_meaning.specs.Laws.{ExpressionsGoOn, StatementsGoOn, Command
 /// stop, the active calls are those of before.
 pub fn expressions_go_on()
     ensures { ExpressionsGoOn }
-{
-}
+{}
 
 /// The law of statements, likewise.
 pub fn statements_go_on()
     ensures { StatementsGoOn }
-{
-}
+{}
 
 /// The law of commands: bodies and the command's procedure spend of the turns that the command
 /// was given, and what is left is never more.
 pub fn commands_spend()
     ensures { CommandsSpend }
-{
-}
+{}

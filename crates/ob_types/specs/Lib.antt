@@ -3,3 +3,4 @@ pub mod Spelled
 pub mod SpelledLaws
 pub mod TypedSyntax
 pub mod TypedView
+pub mod TypedKinds

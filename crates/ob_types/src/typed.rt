@@ -517,9 +517,10 @@ pub struct TypedProcedure {
     pub body: List<TypedStmt>,
 }
 
-/// What constant expressions and array lengths of a module name, of which nothing else is left
-/// in the tree: objects of other modules, and the types of designators in LEN and of their
-/// prefixes.
+/// What the text of a module names, where constants, lengths and tests have left nothing of it in
+/// the tree: each object of another module that the text names anywhere, in the order of the
+/// text, doubles too; and the types of the designators in LEN and of their prefixes, and those
+/// that MAX and MIN name.
 #[derive(Debug, Drop)]
 pub struct Mentioned {
     pub objects: List<QName>,
