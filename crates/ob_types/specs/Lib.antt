@@ -1,3 +1,6 @@
 pub mod Maps
 pub mod Spelled
 pub mod SpelledLaws
+pub mod TypedSyntax
+pub mod TypedView
+pub mod TypedKinds

@@ -5,11 +5,18 @@
 mod desc;
 mod face;
 mod spelled;
+mod typed;
 mod types;
 mod value;
 
 pub use desc::{Desc, Field, Method, Receiver, RecordDesc};
 pub use face::{Aspect, Interface, Object, Use};
 pub use spelled::{read_print, write_print};
+pub use typed::{
+    Actual, Assigned, Binary, Binding, Callee, Compared, Comparison, Connective, Designator,
+    ExprType, Family, Guarded, Label, Made, Mentioned, OutProcedure, Passing, TypedBranch,
+    TypedCase, TypedConstant, TypedExpr, TypedModule, TypedParameter, TypedProcedure, TypedStmt,
+    TypedType, TypedVariable, Unary, Update, Variable, Width,
+};
 pub use types::{Basic, Mark, Mode, Signature, TypeRef, Types};
 pub use value::Value;

@@ -1,0 +1,36 @@
+-- What holds of every part of every program.
+use Rattle.std.specs.Prelude.{◌≡◌, ℕ, ◌≤◌, List, ◌++◌}
+use Rattle.ob_tree.specs.declared.names.QName.{QName}
+use Rattle.ob_types.specs.TypedSyntax.{Expr, Stmts, Module}
+use Rattle.ob_meaning.specs.Values.{Program, State}
+use Rattle.ob_meaning.specs.Results.{Res, Gives, Stops, Around}
+use Rattle.ob_meaning.specs.Meaning.{value, execs}
+use Rattle.ob_meaning.specs.Calls.{around, calling}
+use Rattle.ob_meaning.specs.Commands.{System, command}
+
+-- a later state: no turn has come back, and what was written stands in front of what is written now
+pub record Later (s t : State) : Type 0 where
+  pub turns : t.turns ≤ s.turns
+  pub added : List ℕ
+  pub out : t.out ≡ s.out ++ added
+
+-- a result in a later state; where it is no stop, the active calls are those of before
+abbrev pub Onward : {A : Type 0} → State → Res A → Type 0
+Onward s (Gives a t) = Later s t × (t.calls ≡ s.calls)
+Onward s (Stops why t) = Later s t
+
+-- what stands around a part of a procedure or body of a program, where at most n turns are left
+abbrev pub in_program : Program → ℕ → ℕ → List ℕ → Around
+in_program program heap n unit = around program heap n (calling program heap n) unit
+
+-- Of expressions and statements: turns never rise, every stop keeps the output so far as a front of what is written, and every
+-- call that was begun has ended where there is no stop.
+abbrev pub ExpressionsGoOn : Type 0
+ExpressionsGoOn = (program : Program) (heap n : ℕ) (unit : List ℕ) (e : Expr) (s : State) → Onward s (value e (in_program program heap n unit) s)
+
+abbrev pub StatementsGoOn : Type 0
+StatementsGoOn = (program : Program) (heap n : ℕ) (unit : List ℕ) (body : Stmts) (s : State) → Onward s (execs body (in_program program heap n unit) s)
+
+-- Of commands: what is left of the turns is at most what it was given.
+abbrev pub CommandsSpend : Type 0
+CommandsSpend = (system : System) (plan : List Module) (heap turns : ℕ) (q : QName) → (command system plan heap turns q).turns ≤ turns
