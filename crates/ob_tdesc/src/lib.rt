@@ -2,5 +2,9 @@
 #![tactic(auto)]
 
 mod descriptor;
+mod descriptors;
+mod steps;
 
 pub use descriptor::Descriptor;
+pub use descriptors::Descriptors;
+pub use steps::Steps;
