@@ -1,2 +1,5 @@
 pub mod Lines
 pub mod Tables
+pub mod Kept
+pub mod New
+pub mod Going

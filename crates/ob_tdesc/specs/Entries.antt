@@ -1,6 +1,6 @@
 -- How the descriptors are kept: each with its level and its ancestors of the levels 0 to 15, and its
 -- procedure table as a part of one list.
-use Rattle.std.specs.Prelude.{◌≡◌, ℕ, zero, suc, ◌+◌, ◌-◌, ◌<◌, ◌≤◌, ◌^◌, List, [], ◌∷◌, length, take, drop, map, get_or, Option, Some, None, slice_get, vec_len, vec_capacity}
+use Rattle.std.specs.Prelude.{◌≡◌, ℕ, zero, suc, ◌+◌, ◌-◌, ◌<◌, ◌≤◌, ◌^◌, List, [], ◌∷◌, length, take, drop, map, get_or, Option, Some, None, slice_get, slice_set, replicate, nat_lt, if◌then◌else◌, vec_len, vec_capacity}
 use Rattle.ob_tree.specs.declared.proc_ref.ProcRef.{ProcRef}
 use Rattle.ob_tdesc.specs.declared.descriptor.Descriptor.{Descriptor}
 use Rattle.ob_tdesc.specs.declared.descriptors.Entry.{Entry}
@@ -38,3 +38,24 @@ pub record IsKept (d : Inside) : Type 0 where
   pub few : vec_len d.entries + d.types_room < 2 ^ 32
   pub types : vec_len d.entries + d.types_room ≤ vec_capacity d.entries
   pub methods : vec_len d.methods + d.methods_room ≤ vec_capacity d.methods
+
+-- the level and the ancestors of a new entry with a base or none
+abbrev pub level_over : Option Entry → ℕ
+level_over None = 0
+level_over (Some e) = e.level + 1
+
+abbrev pub level_above : List Entry → Option ℕ → ℕ
+level_above entries None = 0
+level_above entries (Some b) = level_over (slice_get entries b)
+
+abbrev pub ancestors_over : Option Entry → List ℕ
+ancestors_over None = replicate 16 0
+ancestors_over (Some e) = e.ancestors
+
+abbrev pub ancestors_above : List Entry → Option ℕ → List ℕ
+ancestors_above entries None = replicate 16 0
+ancestors_above entries (Some b) = ancestors_over (slice_get entries b)
+
+-- the number of an entry among its own ancestors, where its level is one of the table's
+abbrev pub with_own : ℕ → ℕ → List ℕ → List ℕ
+with_own number level ancestors = if nat_lt level 16 then slice_set ancestors level number else ancestors
