@@ -1,19 +1,16 @@
 -- Small programs, run by the table.
-use Rattle.std.specs.Prelude.{◌≡◌, ℕ, zero, suc, ◌+◌, ◌∷◌, [], List, ℤ, pos, negsuc, replicate, Some, None, true, false, refl, codes, ◌++◌}
+use Rattle.std.specs.Prelude.{◌≡◌, ℕ, ◌∷◌, [], List, ℤ, pos, replicate, Some, None, true, false, refl, codes}
 use Rattle.std.specs.Fmt.{digits}
-use Rattle.ob_tree.specs.declared.pos.Pos.{Pos}
 use Rattle.ob_tree.specs.declared.proc_ref.ProcRef.{ProcRef}
 use Rattle.ob_tdesc.specs.declared.descriptor.Descriptor.{Descriptor}
 use Rattle.ob_instr.specs.declared.opcode.Opcode.{Opcode}
 use Rattle.ob_instr.specs.declared.opcode.Opcode.TheVariants as op
 use Rattle.ob_instr.specs.declared.instr.Instr.{Instr}
 use Rattle.ob_instr.specs.declared.procedure.Procedure.{Procedure}
-use Rattle.ob_instr.specs.declared.procedure.Param.{Param}
 use Rattle.ob_instr.specs.declared.procedure.Param.TheVariants as param
 use Rattle.ob_instr.specs.declared.procedure.Position.{Position}
-use Rattle.ob_instr.specs.Image.{ModuleImage, Image, Room, World, End, Done, Trapped, Spent, Illegal, Point, Go, Over}
-use Rattle.ob_instr.specs.Rows.{Effect, Next, Goto, Enter, Leave, Traps, Spends, Unable}
-use Rattle.ob_instr.specs.Table.{row, run, start}
+use Rattle.ob_instr.specs.Image.{ModuleImage, Image, World, End, Done, Spent, Illegal, Point, Go, Over}
+use Rattle.ob_instr.specs.Table.{run, start}
 
 abbrev i : Opcode → ℤ → ℤ → Instr
 i o a b = record { op = o; a = a; b = b }

@@ -1,12 +1,12 @@
 -- What the descriptors keep, as their methods need it.
-use Rattle.std.proofs.Common.{◌≡◌, ℕ, zero, suc, ◌+◌, ◌-◌, ◌*◌, ◌<◌, ◌≤◌, ◌^◌, Bool, true, false, List, [], ◌∷◌, ◌++◌, length, get_or, take, drop, Option, Some, None, refl, sym, ap, ◌∙◌, subst, inl, inr, length-append, arith}
-use Rattle.std.specs.Prelude.{slice_get, map, IfSome, ◌⊎◌, Result, IsOk, is_ok, nat_lt, slice_set, if◌then◌else◌, vec_len, vec_capacity}
+use Rattle.std.proofs.Common.{◌≡◌, ℕ, zero, suc, ◌+◌, ◌<◌, ◌≤◌, ◌^◌, Bool, true, false, List, [], ◌∷◌, ◌++◌, length, get_or, take, drop, Option, Some, None, refl, sym, ap, ◌∙◌, subst, inl, inr, length-append, arith}
+use Rattle.std.specs.Prelude.{slice_get, map, IfSome, Result, IsOk, is_ok, nat_lt, slice_set, if◌then◌else◌, vec_len, vec_capacity}
 use Rattle.std.proofs.lemmas.Option.{slice_get_read}
 use Rattle.ob_tree.specs.declared.proc_ref.ProcRef.{ProcRef}
 use Rattle.ob_tdesc.specs.declared.descriptor.Descriptor.{Descriptor}
 use Rattle.ob_tdesc.specs.declared.descriptors.Entry.{Entry}
 use Rattle.ob_tdesc.specs.declared.descriptors.Descriptors.TheInside.{Inside}
-use Rattle.ob_tdesc.specs.Bases.{base_in, base_of, level_of, method_in, method_of}
+use Rattle.ob_tdesc.specs.Bases.{base_in, method_in}
 use Rattle.ob_tdesc.specs.Entries.{Methods, described, list_of, Tiles, IsPlaced, ArePlaced, IsKept, level_above, ancestors_above, with_own}
 use Rattle.ob_tdesc.proofs.Lines.{AreBelow, level_within}
 use Rattle.ob_tdesc.proofs.Tables.{get_map, get_take, get_last, get_within, tiles_le, tiles_same, tiles_more, tiles_cut, placed_append, placed_front, front_below}

@@ -3,3 +3,4 @@ pub mod Tables
 pub mod Kept
 pub mod New
 pub mod Going
+pub mod Read

@@ -1,9 +1,9 @@
 -- Lines of bases, where each base stands before what it is the base of.
-use Rattle.std.proofs.Common.{◌≡◌, ℕ, zero, suc, ◌+◌, ◌-◌, ◌<◌, ◌≤◌, Bool, true, false, List, [], ◌∷◌, ◌++◌, length, get_or, Option, Some, None, refl, sym, ap, ◌∙◌, subst, arith}
-use Rattle.std.specs.Prelude.{◌||◌, nat_eq, slice_get}
+use Rattle.std.proofs.Common.{◌≡◌, ℕ, zero, suc, ◌-◌, ◌<◌, ◌≤◌, Bool, true, false, List, [], ◌∷◌, length, get_or, Option, Some, None, refl, sym, ap, ◌∙◌, subst, arith}
+use Rattle.std.specs.Prelude.{◌||◌, nat_eq}
 use Rattle.std.proofs.lemmas.Bool.Decides.{nat_tests}
 use Rattle.ob_tdesc.specs.declared.descriptor.Descriptor.{Descriptor}
-use Rattle.ob_tdesc.specs.Bases.{base_in, base_of, with_bases, line_from, line_of, level_of, is_among, is_or_has_base}
+use Rattle.ob_tdesc.specs.Bases.{base_of, with_bases, line_from, line_of, level_of, is_among}
 
 abbrev pub AreBelow : List Descriptor → Type 0
 AreBelow types = (k b : ℕ) → base_of types k ≡ Some b → b < k

@@ -1,14 +1,14 @@
 -- An entry that is added.
-use Rattle.std.proofs.Common.{◌≡◌, ℕ, zero, suc, ◌+◌, ◌-◌, ◌<◌, ◌≤◌, ◌^◌, Bool, true, false, List, [], ◌∷◌, ◌++◌, length, get_or, take, drop, Option, Some, None, refl, sym, ap, ◌∙◌, subst, inl, inr, add-one, arith}
-use Rattle.std.specs.Prelude.{slice_get, slice_set, replicate, nat_lt, nat_eq, map, IfSome, ◌⊎◌, ◌≢◌, if◌then◌else◌}
+use Rattle.std.proofs.Common.{◌≡◌, ℕ, zero, suc, ◌+◌, ◌-◌, ◌<◌, ◌≤◌, Bool, true, false, List, [], ◌∷◌, ◌++◌, length, get_or, Option, Some, None, refl, sym, ap, ◌∙◌, subst, inl, inr, add-one, arith}
+use Rattle.std.specs.Prelude.{slice_get, slice_set, replicate, nat_lt, nat_eq, IfSome, ◌≢◌, if◌then◌else◌}
 use Rattle.std.proofs.lemmas.Bool.Decides.{nat_tests}
 use Rattle.std.proofs.lemmas.List.{get_or-set_same, get_or-set_other}
 use Rattle.ob_tdesc.specs.declared.descriptor.Descriptor.{Descriptor}
 use Rattle.ob_tdesc.specs.declared.descriptors.Entry.{Entry}
 use Rattle.ob_tdesc.specs.Bases.{base_in, base_of, line_of, level_of}
-use Rattle.ob_tdesc.specs.Entries.{Methods, described, list_of, IsPlaced, ArePlaced, level_over, level_above, ancestors_over, ancestors_above, with_own}
+use Rattle.ob_tdesc.specs.Entries.{IsPlaced, ArePlaced, level_over, level_above, ancestors_over, ancestors_above, with_own}
 use Rattle.ob_tdesc.proofs.Lines.{AreBelow, line_up, line_top, level_up, level_top}
-use Rattle.ob_tdesc.proofs.Tables.{get_append, get_last, get_within, line_append, placed_append}
+use Rattle.ob_tdesc.proofs.Tables.{get_last, line_append}
 
 pub get_end : {A : Type 0} (xs : List A) (y : A) → slice_get (xs ++ y ∷ []) (length xs) ≡ Some y
 get_end [] y = refl

@@ -1,11 +1,11 @@
 -- Lists that grow and are cut.
-use Rattle.std.proofs.Common.{◌≡◌, ℕ, zero, suc, ◌+◌, ◌-◌, ◌<◌, ◌≤◌, Bool, true, false, List, [], ◌∷◌, ◌++◌, length, get_or, take, drop, Option, Some, None, refl, sym, ap, ◌∙◌, subst, inl, inr, arith}
+use Rattle.std.proofs.Common.{◌≡◌, ℕ, zero, suc, ◌+◌, ◌-◌, ◌<◌, ◌≤◌, List, [], ◌∷◌, ◌++◌, length, get_or, take, drop, Option, Some, None, refl, sym, ap, ◌∙◌, subst, inl, inr, arith}
 use Rattle.std.specs.Prelude.{slice_get, map, ◌⊎◌}
 use Rattle.std.proofs.lemmas.List.{take-append-le}
 use Rattle.ob_tdesc.specs.declared.descriptor.Descriptor.{Descriptor}
 use Rattle.ob_tdesc.specs.declared.descriptors.Entry.{Entry}
-use Rattle.ob_tdesc.specs.Bases.{base_in, base_of, with_bases, line_from, line_of, level_of}
-use Rattle.ob_tdesc.specs.Entries.{Methods, described, list_of, Tiles, IsPlaced, ArePlaced}
+use Rattle.ob_tdesc.specs.Bases.{base_in, base_of, with_bases, line_from}
+use Rattle.ob_tdesc.specs.Entries.{Methods, list_of, Tiles, IsPlaced}
 use Rattle.ob_tdesc.proofs.Lines.{AreBelow}
 
 pub get_append : {A : Type 0} (xs ys : List A) (k : ℕ) → k < length xs → slice_get (xs ++ ys) k ≡ slice_get xs k

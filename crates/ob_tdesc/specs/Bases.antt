@@ -1,5 +1,5 @@
 -- Record types by their descriptors, named by number in a list, and the bases of each.
-use Rattle.std.specs.Prelude.{ℕ, zero, suc, ◌+◌, ◌-◌, Bool, true, false, ◌||◌, nat_eq, List, [], ◌∷◌, length, Option, Some, None, slice_get}
+use Rattle.std.specs.Prelude.{ℕ, zero, suc, ◌-◌, Bool, false, ◌||◌, nat_eq, List, [], ◌∷◌, length, Option, Some, None, slice_get}
 use Rattle.ob_tree.specs.declared.proc_ref.ProcRef.{ProcRef}
 use Rattle.ob_tdesc.specs.declared.descriptor.Descriptor.{Descriptor}
 

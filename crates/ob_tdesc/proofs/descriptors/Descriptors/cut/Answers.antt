@@ -1,6 +1,6 @@
-use Rattle.std.proofs.Common.{rules, ◌≡◌, ◌<◌, ◌≤◌, ◌++◌, ◌∷◌, [], length, take, List, Some, ap, sym, ◌∙◌, subst, refl, arith}
+use Rattle.std.proofs.Common.{◌≡◌, ◌<◌, ◌≤◌, length, take, Some, ap, sym, ◌∙◌, refl, arith}
 use Rattle.std.specs.Prelude.{slice_get}
-use Rattle.ob_tdesc.specs.Entries.{described, list_of}
+use Rattle.ob_tdesc.specs.Entries.{described}
 use Rattle.ob_tdesc.proofs.Kept.{kept_cut, list_cut, tile_within, length_map}
 use Rattle.std.proofs.lemmas.Option.{slice_get_read}
 use Rattle.ob_tdesc.proofs.descriptors.Descriptors.cut.Goals as goal

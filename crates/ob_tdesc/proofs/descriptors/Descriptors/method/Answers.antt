@@ -1,7 +1,5 @@
-use Rattle.std.proofs.Common.{rules, ◌≡◌, ◌+◌, ◌≤◌, Some, ap, ◌∙◌, sym, subst, refl, arith}
-use Rattle.std.specs.Prelude.{slice_get, IfSome, length}
-use Rattle.ob_tdesc.specs.Bases.{method_of}
-use Rattle.ob_tdesc.specs.Entries.{described}
+use Rattle.std.proofs.Common.{rules, ap, arith}
+use Rattle.std.specs.Prelude.{length}
 use Rattle.ob_tdesc.proofs.Kept.{entry_at, descriptor_at, tile_within, method_here}
 use Rattle.ob_tdesc.proofs.descriptors.Descriptors.method.Goals as goal
 

@@ -1,5 +1,4 @@
-use Rattle.std.proofs.Common.{◌-◌, ◌≡◌, ◌+◌, ◌≤◌, ◌<◌, length}
-use Rattle.ob_tdesc.specs.Bases.{is_or_has_base, level_of}
+use Rattle.std.proofs.Common.{◌-◌, ◌+◌}
 use Rattle.ob_tdesc.proofs.Going.{Going}
 use Rattle.ob_tdesc.proofs.descriptors.Descriptors.test.Given as goal
 
