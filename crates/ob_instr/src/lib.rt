@@ -7,4 +7,4 @@ mod procedure;
 
 pub use instr::{Instr, put_instr, take_instr};
 pub use opcode::Opcode;
-pub use procedure::{Param, Position, Procedure};
+pub use procedure::{MOST_WORDS, Param, Position, Procedure};
