@@ -99,8 +99,12 @@ pub record IsRecord (t : RecordType) : Type 0 where
   pub numbers : AllByRecursion (λ d. d.number < t.count) t.definitions
 
 -- a record type's name, its base, its words, its number of bound procedures, and its own ones
+unfoldable pub record_parts : Format RecordType
+record_parts = made (object_name ⊗ base_form ⊗ word32 ⊗ word32 ⊗ rising definition by_number) (λ p. record { name = p.0; base = p.1.0; words = p.1.1.0; count = p.1.1.1.0; definitions = p.1.1.1.1 }) (λ t. (t.name, (t.base, (t.words, (t.count, t.definitions)))))
+
+-- its limits are kept
 unfoldable pub record_type : Format RecordType
-record_type = such_that (made (object_name ⊗ base_form ⊗ word32 ⊗ word32 ⊗ rising definition by_number) (λ p. record { name = p.0; base = p.1.0; words = p.1.1.0; count = p.1.1.1.0; definitions = p.1.1.1.1 }) (λ t. (t.name, (t.base, (t.words, (t.count, t.definitions)))))) is_record IsRecord
+record_type = such_that record_parts is_record IsRecord
 
 abbrev pub by_type : RecordType → RecordType → Ordering
 by_type a b = by_name a.name b.name

@@ -26,7 +26,7 @@ use Rattle.ob_obj.specs.declared.file.Head.{Head}
 use Rattle.ob_obj.specs.declared.file.Globals.{Globals}
 use Rattle.ob_obj.specs.declared.file.Body.{Body}
 use Rattle.ob_obj.specs.declared.file.ObjFile.{ObjFile}
-use Rattle.ob_obj.specs.Grammar.{by_name, export, by_export, string, variable, by_variable, link, base_at, base_bytes, base_fits, base_form, definition, by_number, is_record, IsRecord, record_type, by_type, command, by_command, is_import, names_in, is_head, IsHead, head, words_of, globals, links, body, bases_stand, has_procedures, begins_with_body, are_placed, is_sound, IsSound, magic, file}
+use Rattle.ob_obj.specs.Grammar.{by_name, export, by_export, string, variable, by_variable, link, base_at, base_bytes, base_fits, base_form, definition, by_number, is_record, IsRecord, record_parts, record_type, by_type, command, by_command, is_import, names_in, is_head, IsHead, head, words_of, globals, links, body, bases_stand, has_procedures, begins_with_body, are_placed, is_sound, IsSound, magic, file}
 
 is_true : (b : Bool) → Decides b (IsTrue b)
 is_true b = ((λ e. e), (λ e. e))
@@ -84,9 +84,13 @@ record_decides t =
     let all = Decides-and (leb t.words most_words) _ (le_decides t.words most_words) (Decides-and (leb t.count most_words) _ (le_decides t.count most_words) numbers) in
     (λ e. let h = all.0 e in record { words = h.0; count = h.1.0; numbers = h.1.1 }, λ s. all.1 (s.words, (s.count, s.numbers)))
 
+pub record_parts_exact : IsExact record_parts
+unfolding record_parts
+record_parts_exact = made_exact (λ p. record { name = p.0; base = p.1.0; words = p.1.1.0; count = p.1.1.1.0; definitions = p.1.1.1.1 }) (λ t. (t.name, (t.base, (t.words, (t.count, t.definitions))))) (pair_exact object_name_exact (pair_exact base_exact (pair_exact word32_exact (pair_exact word32_exact (rising_exact (on_total (λ d. d.number) nat_cmp_total) definition_exact))))) (λ _. refl) (λ _. refl)
+
 pub record_type_exact : IsExact record_type
 unfolding record_type
-record_type_exact = such_that_exact is_record IsRecord record_decides (made_exact (λ p. record { name = p.0; base = p.1.0; words = p.1.1.0; count = p.1.1.1.0; definitions = p.1.1.1.1 }) (λ t. (t.name, (t.base, (t.words, (t.count, t.definitions))))) (pair_exact object_name_exact (pair_exact base_exact (pair_exact word32_exact (pair_exact word32_exact (rising_exact (on_total (λ d. d.number) nat_cmp_total) definition_exact))))) (λ _. refl) (λ _. refl))
+record_type_exact = such_that_exact is_record IsRecord record_decides record_parts_exact
 
 pub command_exact : IsExact command
 unfolding command

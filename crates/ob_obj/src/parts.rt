@@ -1,7 +1,7 @@
-ghost use Rattle.std.specs.Prelude.{◌≡◌, ◌&&◌, nat_lt, nat_le};
+ghost use Rattle.std.specs.Prelude.{◌≡◌, nat_lt};
 ghost use Rattle.std.specs.List.{list_all};
-ghost use Rattle.ob_obj.specs.Grammar.{export, by_export, string, variable, by_variable, link, base_at, base_form, definition, by_number, record_type, by_type, command, by_command};
-ghost use Rattle.ob_instr.specs.Parts.{most_words};
+ghost use Rattle.ob_obj.specs.Grammar.{export, by_export, string, variable, by_variable, link, base_at, base_form, definition, by_number, is_record, record_parts, record_type, by_type, command, by_command};
+ghost use Rattle.ob_format.specs.Format.{Gives};
 ghost use Rattle.ob_types.specs.Spelled.{aspect_number as aspect_number_of};
 ghost use Rattle.ob_obj.specs.Laws.{export_exact, string_exact, variable_exact, link_exact, base_exact, definition_exact, record_type_exact, command_exact};
 
@@ -284,36 +284,46 @@ fn has_numbers_below(definitions: &[Definition], limit: u32) -> bool
     true
 }
 
-fn keeps_limits(words: u32, count: u32, definitions: &[Definition]) -> bool
-    ensures { result ≡ (nat_le words most_words && (nat_le count most_words && list_all (λ d. nat_lt d.number count) definitions.now)) }
+fn keeps_limits(entry: &RecordType) -> bool
+    ensures { result ≡ is_record entry.now }
 {
-    words <= MOST_WORDS && count <= MOST_WORDS && has_numbers_below(definitions, count)
+    entry.words <= MOST_WORDS
+        && entry.count <= MOST_WORDS
+        && has_numbers_below(entry.definitions.as_slice(), entry.count)
+}
+
+#[tactic(auto, unfolding(crate::specs::Grammar::record_parts, ob_format::specs::Format::made_at, ob_format::specs::Format::pair_at))]
+fn read_parts(alloc: Global, bytes: &[u8]) -> Result<(RecordType, &[u8]), Fault>
+    ensures { Gives (λ x. (x.0, x.1.now)) result (record_parts.take bytes.now) }
+{
+    let (name, rest) = ObjName::read(alloc, bytes)?;
+    let (base, rest) = Base::read(alloc, rest)?;
+    let (words, rest) = u32::read(alloc, rest)?;
+    let (count, rest) = u32::read(alloc, rest)?;
+    let (definitions, rest) = rising_list::<Definition>(alloc, rest)?;
+    let found = RecordType {
+        name,
+        base,
+        words,
+        count,
+        definitions,
+    };
+    Ok((found, rest))
 }
 
 impl Wire for RecordType {
     ghost form = { record_type };
 
-    #[tactic(auto, unfolding(crate::specs::Grammar::record_type, ob_format::specs::Format::such_that_at, ob_format::specs::Format::made_at, ob_format::specs::Format::pair_at))]
+    #[tactic(auto, unfolding(crate::specs::Grammar::record_type, ob_format::specs::Format::such_that_at))]
     fn read(alloc: Global, bytes: &[u8]) -> Result<(RecordType, &[u8]), Fault> {
-        let (name, rest) = ObjName::read(alloc, bytes)?;
-        let (base, rest) = Base::read(alloc, rest)?;
-        let (words, rest) = u32::read(alloc, rest)?;
-        let (count, rest) = u32::read(alloc, rest)?;
-        let (definitions, rest) = rising_list::<Definition>(alloc, rest)?;
-        if !keeps_limits(words, count, definitions.as_slice()) {
+        let (found, rest) = read_parts(alloc, bytes)?;
+        if !keeps_limits(&found) {
             return Err(Fault::Damaged);
         }
-        let found = RecordType {
-            name,
-            base,
-            words,
-            count,
-            definitions,
-        };
         Ok((found, rest))
     }
 
-    #[tactic(auto, unfolding(crate::specs::Grammar::record_type), using(ob_format::specs::Exact::then_adds))]
+    #[tactic(auto, unfolding(crate::specs::Grammar::record_type, crate::specs::Grammar::record_parts), using(ob_format::specs::Exact::then_adds))]
     fn write(&self, out: &mut Vec<u8>) -> Result<(), AllocError> {
         self.name.write(out)?;
         self.base.write(out)?;
