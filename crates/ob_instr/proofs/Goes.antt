@@ -1,17 +1,17 @@
 -- What each row does where its conditions hold.
-use Rattle.std.proofs.Common.{◌≡◌, ℕ, zero, suc, List, [], ◌∷◌, ◌++◌, length, take, drop, reverse, Option, Some, None, refl, sym, ap, ◌∙◌}
-use Rattle.std.specs.Prelude.{ℤ, pos, negsuc, ◌+◌, ◌*◌, ◌+ℤ◌, ◌-ℤ◌, ◌*ℤ◌, neg_ℤ, int_lt, Bool, true, false, not, nat_lt, nat_le, slice_get, if◌then◌else◌}
+use Rattle.std.proofs.Common.{◌≡◌, ℕ, suc, List, [], ◌∷◌, ◌++◌, length, take, drop, reverse, Some, refl, ◌∙◌}
+use Rattle.std.specs.Prelude.{ℤ, pos, ◌+◌, ◌*◌, ◌+ℤ◌, ◌-ℤ◌, ◌*ℤ◌, neg_ℤ, int_lt, Bool, true, false, not, nat_lt, nat_le, slice_get, if◌then◌else◌}
 use Rattle.std.specs.Int.{w32, int_div_euclid, int_rem_euclid, int_bit_and, int_bit_or, int_bit_xor, int_bit_not}
 use Rattle.std.specs.Ordering.{int_eq}
 use Rattle.ob_tree.specs.declared.proc_ref.ProcRef.{ProcRef}
-use Rattle.ob_mem.specs.Words.{Held, word_at, are_there, with_words, stored, copied, heap_taken}
+use Rattle.ob_mem.specs.Words.{word_at, are_there, stored, copied}
 use Rattle.ob_tdesc.specs.declared.descriptor.Descriptor.{Descriptor}
 use Rattle.ob_instr.specs.declared.opcode.Opcode.{Opcode}
 use Rattle.ob_instr.specs.declared.opcode.Opcode.TheVariants as op
 use Rattle.ob_instr.specs.declared.procedure.Procedure.{Procedure}
 use Rattle.ob_instr.specs.Parts.{slots}
 use Rattle.ob_instr.specs.Image.{ModuleImage, Image, World}
-use Rattle.ob_instr.specs.Rows.{Effect, Next, Goto, Enter, Leave, Traps, Spends, on_width, in_width, with_memory, truth, is_zero, is_within, magnitude, shifted, capital, set_from, has_element, tag, tag_passes, pointer_passes, Chars, Endless, Ends, chars_at, related, placed, copy_words, procedure_of, calls, calls_with, proc_value, proc_of_value, method_at, tag_method, made, padded, low_byte, low_bytes, printed}
+use Rattle.ob_instr.specs.Rows.{Effect, Next, Goto, Enter, Leave, Traps, Spends, on_found, on_width, in_width, in_type, with_memory, truth, is_zero, is_within, magnitude, shifted, capital, set_from, has_element, tag, tag_passes, pointer_passes, Endless, Ends, chars_at, related, placed, copy_words, procedure_of, calls, calls_with, proc_value, method_at, made, padded, low_byte, low_bytes, printed}
 use Rattle.ob_instr.specs.Table.{row}
 
 -- an integer type's bytes
@@ -94,11 +94,11 @@ module _ (img : Image) (u : ModuleImage) (m p fb pc : ℕ) (w : World) where
   pub tag_next : (a t : ℕ) (ops : List ℤ) → slice_get u.types a ≡ Some t → in_width 4 (tag t) ≡ true → R op.Tag (pos a) (pos 0) ops ≡ Next (tag t ∷ ops) w
   tag_next a t ops e f = rw (e, f) refl
 
-  pub is_p_next : (x : ℤ) (a t : ℕ) (yes : Bool) (ops : List ℤ) → slice_get u.types a ≡ Some t → pointer_passes img.types w.words x t ≡ Some yes → R op.IsP (pos a) (pos 0) (x ∷ ops) ≡ Next (truth yes ∷ ops) w
-  is_p_next x a t yes ops e f = rw (e, f) refl
+  pub is_p_next : (x : ℤ) (a t : ℕ) (b : Bool) (ops : List ℤ) → slice_get u.types a ≡ Some t → pointer_passes img.types w.words x t ≡ Some b → R op.IsP (pos a) (pos 0) (x ∷ ops) ≡ Next (truth b ∷ ops) w
+  is_p_next x a t b ops e f = rw (e, f) refl
 
-  pub is_r_next : (g : ℤ) (a t : ℕ) (yes : Bool) (ops : List ℤ) → slice_get u.types a ≡ Some t → tag_passes img.types g t ≡ Some yes → R op.IsR (pos a) (pos 0) (g ∷ ops) ≡ Next (truth yes ∷ ops) w
-  is_r_next g a t yes ops e f = rw (e, f) refl
+  pub is_r_next : (g : ℤ) (a t : ℕ) (b : Bool) (ops : List ℤ) → slice_get u.types a ≡ Some t → tag_passes img.types g t ≡ Some b → R op.IsR (pos a) (pos 0) (g ∷ ops) ≡ Next (truth b ∷ ops) w
+  is_r_next g a t b ops e f = rw (e, f) refl
 
   pub guard_at_next : (x v : ℤ) (a t : ℕ) (ops : List ℤ) → slice_get u.types a ≡ Some t → word_at w.words x ≡ Some v → pointer_passes img.types w.words v t ≡ Some true → R op.GuardAt (pos a) (pos 0) (x ∷ ops) ≡ Next (x ∷ ops) w
   guard_at_next x v a t ops e f h = rw (e, f, h) refl
@@ -116,22 +116,22 @@ module _ (img : Image) (u : ModuleImage) (m p fb pc : ℕ) (w : World) where
   drop_next v ops = refl
 
   pub add_next : (n : ℕ) (x y : ℤ) (ops : List ℤ) → IsWidth n → in_width n (x +ℤ y) ≡ true → R op.Add (pos n) (pos 0) (y ∷ x ∷ ops) ≡ Next ((x +ℤ y) ∷ ops) w
-  add_next n x y ops h e = h _ ∙ rw e refl
+  add_next n x y ops h e = h (λ k. in_type k (x +ℤ y) ops w) ∙ rw e refl
 
   pub add_traps : (n : ℕ) (x y : ℤ) (ops : List ℤ) → IsWidth n → in_width n (x +ℤ y) ≡ false → R op.Add (pos n) (pos 0) (y ∷ x ∷ ops) ≡ Traps 8 (pos 0) w
-  add_traps n x y ops h e = h _ ∙ rw e refl
+  add_traps n x y ops h e = h (λ k. in_type k (x +ℤ y) ops w) ∙ rw e refl
 
   pub sub_next : (n : ℕ) (x y : ℤ) (ops : List ℤ) → IsWidth n → in_width n (x -ℤ y) ≡ true → R op.Sub (pos n) (pos 0) (y ∷ x ∷ ops) ≡ Next ((x -ℤ y) ∷ ops) w
-  sub_next n x y ops h e = h _ ∙ rw e refl
+  sub_next n x y ops h e = h (λ k. in_type k (x -ℤ y) ops w) ∙ rw e refl
 
   pub sub_traps : (n : ℕ) (x y : ℤ) (ops : List ℤ) → IsWidth n → in_width n (x -ℤ y) ≡ false → R op.Sub (pos n) (pos 0) (y ∷ x ∷ ops) ≡ Traps 8 (pos 0) w
-  sub_traps n x y ops h e = h _ ∙ rw e refl
+  sub_traps n x y ops h e = h (λ k. in_type k (x -ℤ y) ops w) ∙ rw e refl
 
   pub mul_next : (n : ℕ) (x y : ℤ) (ops : List ℤ) → IsWidth n → in_width n (x *ℤ y) ≡ true → R op.Mul (pos n) (pos 0) (y ∷ x ∷ ops) ≡ Next ((x *ℤ y) ∷ ops) w
-  mul_next n x y ops h e = h _ ∙ rw e refl
+  mul_next n x y ops h e = h (λ k. in_type k (x *ℤ y) ops w) ∙ rw e refl
 
   pub mul_traps : (n : ℕ) (x y : ℤ) (ops : List ℤ) → IsWidth n → in_width n (x *ℤ y) ≡ false → R op.Mul (pos n) (pos 0) (y ∷ x ∷ ops) ≡ Traps 8 (pos 0) w
-  mul_traps n x y ops h e = h _ ∙ rw e refl
+  mul_traps n x y ops h e = h (λ k. in_type k (x *ℤ y) ops w) ∙ rw e refl
 
   pub div_next : (x y : ℤ) (ops : List ℤ) → int_lt (pos 0) y ≡ true → R op.Div (pos 0) (pos 0) (y ∷ x ∷ ops) ≡ Next (int_div_euclid x y ∷ ops) w
   div_next x y ops e = rw e refl
@@ -146,22 +146,22 @@ module _ (img : Image) (u : ModuleImage) (m p fb pc : ℕ) (w : World) where
   mod_traps x y ops e = rw e refl
 
   pub neg_next : (n : ℕ) (v : ℤ) (ops : List ℤ) → IsWidth n → in_width n (neg_ℤ v) ≡ true → R op.Neg (pos n) (pos 0) (v ∷ ops) ≡ Next (neg_ℤ v ∷ ops) w
-  neg_next n v ops h e = h _ ∙ rw e refl
+  neg_next n v ops h e = h (λ k. in_type k (neg_ℤ v) ops w) ∙ rw e refl
 
   pub neg_traps : (n : ℕ) (v : ℤ) (ops : List ℤ) → IsWidth n → in_width n (neg_ℤ v) ≡ false → R op.Neg (pos n) (pos 0) (v ∷ ops) ≡ Traps 8 (pos 0) w
-  neg_traps n v ops h e = h _ ∙ rw e refl
+  neg_traps n v ops h e = h (λ k. in_type k (neg_ℤ v) ops w) ∙ rw e refl
 
   pub abs_next : (n : ℕ) (v : ℤ) (ops : List ℤ) → IsWidth n → in_width n (magnitude v) ≡ true → R op.Abs (pos n) (pos 0) (v ∷ ops) ≡ Next (magnitude v ∷ ops) w
-  abs_next n v ops h e = h _ ∙ rw e refl
+  abs_next n v ops h e = h (λ k. in_type k (magnitude v) ops w) ∙ rw e refl
 
   pub abs_traps : (n : ℕ) (v : ℤ) (ops : List ℤ) → IsWidth n → in_width n (magnitude v) ≡ false → R op.Abs (pos n) (pos 0) (v ∷ ops) ≡ Traps 8 (pos 0) w
-  abs_traps n v ops h e = h _ ∙ rw e refl
+  abs_traps n v ops h e = h (λ k. in_type k (magnitude v) ops w) ∙ rw e refl
 
   pub range_next : (n : ℕ) (v : ℤ) (ops : List ℤ) → IsWidth n → in_width n (v) ≡ true → R op.Range (pos n) (pos 0) (v ∷ ops) ≡ Next (v ∷ ops) w
-  range_next n v ops h e = h _ ∙ rw e refl
+  range_next n v ops h e = h (λ k. in_type k (v) ops w) ∙ rw e refl
 
   pub range_traps : (n : ℕ) (v : ℤ) (ops : List ℤ) → IsWidth n → in_width n (v) ≡ false → R op.Range (pos n) (pos 0) (v ∷ ops) ≡ Traps 8 (pos 0) w
-  range_traps n v ops h e = h _ ∙ rw e refl
+  range_traps n v ops h e = h (λ k. in_type k (v) ops w) ∙ rw e refl
 
   pub eq_next : (x y : ℤ) (ops : List ℤ) → R op.Eq (pos 0) (pos 0) (y ∷ x ∷ ops) ≡ Next (truth (int_eq x y) ∷ ops) w
   eq_next x y ops = refl
@@ -236,16 +236,16 @@ module _ (img : Image) (u : ModuleImage) (m p fb pc : ℕ) (w : World) where
   ash_traps x n ops e = rw e refl
 
   pub inc_next : (n : ℕ) (x d v : ℤ) (l : List ℤ) (ops : List ℤ) → IsWidth n → word_at w.words x ≡ Some v → in_width n (v +ℤ d) ≡ true → stored w.words x (v +ℤ d) ≡ Some l → R op.Inc (pos n) (pos 0) (d ∷ x ∷ ops) ≡ Next ops (with_memory w l)
-  inc_next n x d v l ops h e f g = h _ ∙ rw (e, f, g) refl
+  inc_next n x d v l ops h e f g = h (λ k. on_found (word_at w.words x) (λ v. if in_width k (v +ℤ d) then on_found (stored w.words x (v +ℤ d)) (λ l. Next ops (with_memory w l)) else Traps 8 (pos 0) w)) ∙ rw (e, f, g) refl
 
   pub inc_traps : (n : ℕ) (x d v : ℤ) (ops : List ℤ) → IsWidth n → word_at w.words x ≡ Some v → in_width n (v +ℤ d) ≡ false → R op.Inc (pos n) (pos 0) (d ∷ x ∷ ops) ≡ Traps 8 (pos 0) w
-  inc_traps n x d v ops h e f = h _ ∙ rw (e, f) refl
+  inc_traps n x d v ops h e f = h (λ k. on_found (word_at w.words x) (λ v. if in_width k (v +ℤ d) then on_found (stored w.words x (v +ℤ d)) (λ l. Next ops (with_memory w l)) else Traps 8 (pos 0) w)) ∙ rw (e, f) refl
 
   pub dec_next : (n : ℕ) (x d v : ℤ) (l : List ℤ) (ops : List ℤ) → IsWidth n → word_at w.words x ≡ Some v → in_width n (v -ℤ d) ≡ true → stored w.words x (v -ℤ d) ≡ Some l → R op.Dec (pos n) (pos 0) (d ∷ x ∷ ops) ≡ Next ops (with_memory w l)
-  dec_next n x d v l ops h e f g = h _ ∙ rw (e, f, g) refl
+  dec_next n x d v l ops h e f g = h (λ k. on_found (word_at w.words x) (λ v. if in_width k (v -ℤ d) then on_found (stored w.words x (v -ℤ d)) (λ l. Next ops (with_memory w l)) else Traps 8 (pos 0) w)) ∙ rw (e, f, g) refl
 
   pub dec_traps : (n : ℕ) (x d v : ℤ) (ops : List ℤ) → IsWidth n → word_at w.words x ≡ Some v → in_width n (v -ℤ d) ≡ false → R op.Dec (pos n) (pos 0) (d ∷ x ∷ ops) ≡ Traps 8 (pos 0) w
-  dec_traps n x d v ops h e f = h _ ∙ rw (e, f) refl
+  dec_traps n x d v ops h e f = h (λ k. on_found (word_at w.words x) (λ v. if in_width k (v -ℤ d) then on_found (stored w.words x (v -ℤ d)) (λ l. Next ops (with_memory w l)) else Traps 8 (pos 0) w)) ∙ rw (e, f) refl
 
   pub str_rel_next : (a : ℕ) (x l y n : ℤ) (s t : List ℤ) (ops : List ℤ) → nat_lt a 6 ≡ true → chars_at w.words x l ≡ Ends s → chars_at w.words y n ≡ Ends t → R op.StrRel (pos a) (pos 0) (n ∷ y ∷ l ∷ x ∷ ops) ≡ Next (truth (related a s t) ∷ ops) w
   str_rel_next a x l y n s t ops e f h = rw (e, f, h) refl

@@ -1,13 +1,13 @@
 -- Runs of the machine, step by step.
-use Rattle.std.proofs.Common.{◌≡◌, ℕ, zero, suc, ◌≤◌, length, List, [], ◌∷◌, ◌++◌, Option, Some, None, ℤ, refl, sym, ap, ◌∙◌, subst, arith}
+use Rattle.std.proofs.Common.{◌≡◌, ℕ, zero, suc, ◌≤◌, length, List, [], ◌∷◌, Some, ℤ, refl, sym, ap, ◌∙◌, subst, arith}
 use Rattle.std.proofs.lemmas.Bool.Decides.{nat_tests}
-use Rattle.std.specs.Prelude.{◌+◌, pos, slice_get, nat_le, Bool, true, false, if◌then◌else◌}
+use Rattle.std.specs.Prelude.{◌+◌, pos, slice_get, nat_le, true, false, if◌then◌else◌}
 use Rattle.ob_tree.specs.declared.proc_ref.ProcRef.{ProcRef}
 use Rattle.ob_instr.specs.declared.instr.Instr.{Instr}
 use Rattle.ob_instr.specs.declared.procedure.Procedure.{Procedure}
 use Rattle.ob_instr.specs.Parts.{slots}
-use Rattle.ob_instr.specs.Image.{ModuleImage, Image, World, Act, End, Trapped, Spent, Illegal, Point, Go, Over}
-use Rattle.ob_instr.specs.Rows.{Effect, Next, Goto, Enter, Leave, Traps, Spends, Unable, entered}
+use Rattle.ob_instr.specs.Image.{ModuleImage, Image, World, Act, End, Trapped, Spent, Point, Go, Over}
+use Rattle.ob_instr.specs.Rows.{Effect, Next, Goto, Enter, Leave, Traps, Spends, entered}
 use Rattle.ob_instr.specs.Table.{row, position_at, checked, has_room, left, come_to, act, act_in, step, run}
 
 pub record InModule (img : Image) (m : ℕ) (u : ModuleImage) : Type 0 where

@@ -1,13 +1,12 @@
 -- The formats of procedures and positions are exact.
-use Rattle.std.proofs.Common.{◌≡◌, ℕ, zero, suc, ◌+◌, ◌<◌, ◌≤◌, ◌^◌, Bool, true, false, leb, List, Option, Some, None, refl, ap, sym, subst, arith}
+use Rattle.std.proofs.Common.{◌≡◌, ℕ, zero, suc, ◌+◌, ◌≤◌, Bool, true, false, leb, Some, None, refl, subst, arith}
 use Rattle.std.specs.Prelude.{if◌then◌else◌, nat_le}
 use Rattle.std.specs.Bool.{Decides}
 use Rattle.std.proofs.lemmas.Bool.Decides.{nat_tests}
-use Rattle.ob_format.specs.Format.{IsBytes, IsParsed, IsExact, byte, word32, ◌⊗◌}
+use Rattle.ob_format.specs.Format.{IsExact, byte, word32, ◌⊗◌}
 use Rattle.ob_format.specs.Exact.{byte_exact, word32_exact, list_exact, parsed_exact, such_that_exact, made_exact, pair_exact}
 use Rattle.ob_instr.specs.declared.procedure.Param.{Param}
 use Rattle.ob_instr.specs.declared.procedure.Param.TheVariants as param
-use Rattle.ob_instr.specs.declared.procedure.Procedure.{Procedure}
 use Rattle.ob_instr.specs.Parts.{most_words, slots, param_of, param_at, param_pair, ParamFits, param_form, flag_at, flag_number, flag, procedure, position}
 
 pub le_decides : (a b : ℕ) → Decides (leb a b) (a ≤ b)

@@ -1,7 +1,5 @@
 -- The spelling of procedures and positions in an object file.
-use Rattle.std.specs.Prelude.{◌≡◌, ℕ, zero, suc, ◌+◌, ◌≤◌, Bool, true, false, nat_le, List, [], ◌∷◌, Option, Some, None, if◌then◌else◌}
-use Rattle.std.specs.Ordering.{nat_cmp}
-use Rattle.std.specs.declared.cmp.Ordering.{Ordering}
+use Rattle.std.specs.Prelude.{ℕ, zero, suc, ◌+◌, ◌≤◌, Bool, true, false, nat_le, List, [], ◌∷◌, Option, Some, None, if◌then◌else◌}
 use Rattle.ob_format.specs.Format.{Format, byte, word32, list_of, parsed, such_that, made, ◌⊗◌}
 use Rattle.ob_instr.specs.declared.procedure.Param.{Param}
 use Rattle.ob_instr.specs.declared.procedure.Param.TheVariants as param

@@ -4,8 +4,8 @@ ghost use Rattle.ob_instr.specs.Parts.{most_words, slots, slots_of, param_form, 
 ghost use Rattle.ob_instr.specs.PartLaws.{param_exact, procedure_exact, position_exact};
 
 use ob_format::{Fault, Wire, put_bytes};
-use std::alloc::{AllocError, Global};
 use ob_tree::{List, Pos};
+use std::alloc::{AllocError, Global};
 
 /// How a call passes a parameter: the slots that it has in the new activation.
 #[derive(Clone, Copy, Debug, PartialEq, Eq, Drop)]

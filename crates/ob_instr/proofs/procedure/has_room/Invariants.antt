@@ -1,5 +1,5 @@
-use Rattle.std.proofs.Common.{◌≡◌, ◌+◌, ◌≤◌, length}
-use Rattle.ob_instr.specs.Parts.{slots, most_words}
+use Rattle.std.proofs.Common.{◌≡◌, ◌+◌, length}
+use Rattle.ob_instr.specs.Parts.{slots}
 use Rattle.ob_instr.proofs.procedure.has_room.Given as goal
 
 abbrev pub invariant-loop-rest : goal.invariant-loop-rest
