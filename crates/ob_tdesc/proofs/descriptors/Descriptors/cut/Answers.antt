@@ -1,0 +1,36 @@
+use Rattle.std.proofs.Common.{◌≡◌, ◌<◌, ◌≤◌, length, take, Some, ap, sym, ◌∙◌, refl, arith}
+use Rattle.std.specs.Prelude.{slice_get}
+use Rattle.ob_tdesc.specs.Entries.{described}
+use Rattle.ob_tdesc.proofs.Kept.{kept_cut, list_cut, tile_within, length_map}
+use Rattle.std.proofs.lemmas.Option.{slice_get_read}
+use Rattle.ob_tdesc.proofs.descriptors.Descriptors.cut.Goals as goal
+
+pub overflow_sub-self : goal.overflow_sub-self
+overflow_sub-self c =
+    let d = c.self.inside in
+    let len : length c.args.self.now.list ≡ length d.entries.items = ap length (sym (ap (λ v. v.list) c.self.view_is)) ∙ length_map (described d.methods.items) d.entries.items in
+    let le : c.args.types ≤ length c.args.self.now.list = c.requires in
+    let lt : c.args.types < length d.entries.items = omega arith in
+    let at : slice_get d.entries.items c.args.types ≡ Some c.index.result.now = slice_get_read d.entries.items (length d.entries.items) c.args.types c.index.result.now refl lt c.index.ensures in
+    let within = tile_within 0 d.entries.items (length d.methods.items) c.args.types c.index.result.now c.self.invariant.tiles at in
+    omega arith
+
+pub invariant_of-self : goal.invariant_of-self
+invariant_of-self c =
+    let d = c.self.inside in
+    let len : length c.args.self.now.list ≡ length d.entries.items = ap length (sym (ap (λ v. v.list) c.self.view_is)) ∙ length_map (described d.methods.items) d.entries.items in
+    let le : c.args.types ≤ length c.args.self.now.list = c.requires in
+    let lt : c.args.types < length d.entries.items = omega arith in
+    let at : slice_get d.entries.items c.args.types ≡ Some c.index.result.now = slice_get_read d.entries.items (length d.entries.items) c.args.types c.index.result.now refl lt c.index.ensures in
+    let within = tile_within 0 d.entries.items (length d.methods.items) c.args.types c.index.result.now c.self.invariant.tiles at in
+    kept_cut d _ c.args.types c.index.result.now c.self.invariant at c.truncate-2.ensures.items c.truncate.ensures.items (omega arith) (omega arith) (omega arith)
+
+pub returns-clause-list : goal.returns-clause-list
+returns-clause-list c =
+    let d = c.self.inside in
+    let is = ap (λ v. v.list) c.self.view_is in
+    let len : length c.args.self.now.list ≡ length d.entries.items = ap length (sym is) ∙ length_map (described d.methods.items) d.entries.items in
+    let le : c.args.types ≤ length c.args.self.now.list = c.requires in
+    let lt : c.args.types < length d.entries.items = omega arith in
+    let at : slice_get d.entries.items c.args.types ≡ Some c.index.result.now = slice_get_read d.entries.items (length d.entries.items) c.args.types c.index.result.now refl lt c.index.ensures in
+    rw (c.truncate-2.ensures.items, c.truncate.ensures.items) (list_cut d.methods.items d.entries.items c.args.types c.index.result.now c.self.invariant.tiles at ∙ ap (take c.args.types) is)

@@ -1,0 +1,3 @@
+pub mod Bases
+pub mod Described
+pub mod Entries
