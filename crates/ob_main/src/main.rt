@@ -5,6 +5,7 @@ mod real;
 
 use ob_shell::session;
 use real::{RealFolder, RealSink, RealSource};
+use std::io::ErrorKind;
 use std::process::ExitCode;
 use std::{env, io};
 
@@ -13,9 +14,14 @@ const USAGE: &str = "usage: oberon [--turns N] [--heap N]";
 
 fn main(rt: HostRuntime) -> io::Result<ExitCode> {
     let alloc = rt.alloc();
-    let Ok(args) = env::args(&rt) else {
-        let _ = rt.eprintln(USAGE);
-        return Ok(ExitCode::from(2));
+    let args = match env::args(&rt) {
+        Ok(args) => args,
+        Err(fault) if fault.kind() == ErrorKind::OutOfMemory => return Ok(ExitCode::from(5)),
+        // A word that is no text is no word that is accepted.
+        Err(_) => {
+            let _ = rt.eprintln(USAGE);
+            return Ok(ExitCode::from(2));
+        }
     };
     let mut words = Vec::new(alloc);
     for word in args.skip(1) {
