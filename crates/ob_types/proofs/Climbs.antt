@@ -1,23 +1,18 @@
 -- A record extends what the chain of its bases comes to.
-use Rattle.std.proofs.Common.{◌≡◌, ℕ, zero, suc, ◌≤◌, ◌<◌, ◌+◌, ◌-◌, Bool, true, false, ◌&&◌, ◌||◌, List, [], ◌∷◌, ◌++◌, Option, Some, None, refl, sym, ap, subst, ◌∙◌, arith}
-use Rattle.std.specs.Prelude.{MatchOption, IfSome, IsTrue, bytes_eq, nat_eq}
-use Rattle.std.specs.Bool.{Decides}
+use Rattle.std.proofs.Common.{◌≡◌, ℕ, zero, suc, ◌≤◌, ◌<◌, ◌+◌, ◌-◌, Bool, true, false, ◌||◌, List, ◌++◌, Option, Some, None, refl, sym, ap, subst, ◌∙◌, arith}
+use Rattle.std.specs.Prelude.{MatchOption, IfSome, IsTrue}
 use Rattle.std.specs.List.{AllByRecursion}
-use Rattle.std.specs.Cmp.Lexicographic.{bytes_decides}
-use Rattle.std.proofs.lemmas.Bool.Decides.{Decides-and, Decides-eqb}
 use Rattle.ob_tree.specs.declared.names.QName.{QName}
-use Rattle.ob_types.specs.declared.types.Basic.{Basic}
-use Rattle.ob_types.specs.declared.types.Basic.TheVariants.{Boolean, Char, ShortInt, Integer, LongInt, Set}
 use Rattle.ob_types.specs.declared.types.Mark.{Mark}
 use Rattle.ob_types.specs.declared.types.TypeRef.{TypeRef}
 use Rattle.ob_types.specs.declared.types.TypeRef.TheVariants as types
 use Rattle.ob_types.specs.declared.desc.Desc.{Desc}
 use Rattle.ob_types.specs.declared.desc.Desc.TheVariants as desc
 use Rattle.ob_types.specs.declared.desc.RecordDesc.{RecordDesc}
-use Rattle.ob_types.specs.Maps.{IsHeld, IsWithin, is_type, stands_on, named_by, listed}
-use Rattle.ob_types.specs.Relations.{StandsFor, Same, Extends, same, base, pointers, Is, is_record, is_structure, Keeps, IsGrounded}
+use Rattle.ob_types.specs.Maps.{IsHeld, IsWithin, is_type, stands_on, listed}
+use Rattle.ob_types.specs.Relations.{StandsFor, Extends, same, base, pointers, Is, is_record, is_structure, IsGrounded}
 use Rattle.ob_types.specs.Tests.{target, same_at, shape_at, base_of, pointer_of, holds_of, climbs, both, extends_at}
-use Rattle.ob_types.proofs.Targets.{unique, IsTarget, is_target}
+use Rattle.ob_types.proofs.Targets.{unique, is_target}
 use Rattle.ob_types.proofs.Sameness.{at, same_decides}
 
 -- ---- the loop
@@ -170,12 +165,12 @@ unfolding climbs
 climbs_sound map grounded zero a b ha hb e = same ((same_decides map grounded a b ha hb).0 e)
 climbs_sound map grounded (suc n) a b ha hb e =
     or_cases (same_at map a b) (holds_of (base_of (shape_at map (target map 201 a))) (λ c. climbs map n c b)) e (Extends map a b)
-      (λ is. same ((same_decides map grounded a b ha hb).0 is))
-      (λ is.
-        let h = holds_some (base_of (shape_at map (target map 201 a))) (λ c. climbs map n c b) is in
-        let x = based map (target map 201 a) h.0 h.1.0 in
-        let stands = subst (λ (u : TypeRef). StandsFor map a u) x.is (at map grounded a ha).stands in
-        base stands x.has x.base (climbs_sound map grounded n h.0 b (base_held map grounded x.q x.r h.0 x.has x.base) hb h.1.1))
+    (λ is. same ((same_decides map grounded a b ha hb).0 is))
+    (λ is.
+    let h = holds_some (base_of (shape_at map (target map 201 a))) (λ c. climbs map n c b) is in
+    let x = based map (target map 201 a) h.0 h.1.0 in
+    let stands = subst (λ (u : TypeRef). StandsFor map a u) x.is (at map grounded a ha).stands in
+    base stands x.has x.base (climbs_sound map grounded n h.0 b (base_held map grounded x.q x.r h.0 x.has x.base) hb h.1.1))
 
 shape_is : (map : QName → Option Desc) (u : TypeRef) (q : QName) (d : Desc) → u ≡ types.Named q → map q ≡ Some d → shape_at map u ≡ Some d
 shape_is map u q d is has = ap (shape_at map) is ∙ has
@@ -218,14 +213,14 @@ pub extends_sound : (map : QName → Option Desc) → IsGrounded map → (a b : 
 unfolding extends_at
 extends_sound map grounded a b ha hb e =
     or_cases (climbs map 201 a b) (both (λ s t. climbs map 201 s t) (pointer_of (shape_at map (target map 201 a))) (pointer_of (shape_at map (target map 201 b)))) e (Extends map a b)
-      (λ is. climbs_sound map grounded 201 a b ha hb is)
-      (λ is.
-        let h = both_some (λ s t. climbs map 201 s t) (pointer_of (shape_at map (target map 201 a))) (pointer_of (shape_at map (target map 201 b))) is in
-        let x = points map (target map 201 a) h.0 h.1.1.0 in
-        let y = points map (target map 201 b) h.1.0 h.1.1.1.0 in
-        let sa = subst (λ (u : TypeRef). StandsFor map a u) x.is (at map grounded a ha).stands in
-        let sb = subst (λ (u : TypeRef). StandsFor map b u) y.is (at map grounded b hb).stands in
-        pointers sa x.has sb y.has (climbs_sound map grounded 201 h.0 h.1.0 (pointed_held map grounded x.q x.m h.0 x.has) (pointed_held map grounded y.q y.m h.1.0 y.has) h.1.1.1.1))
+    (λ is. climbs_sound map grounded 201 a b ha hb is)
+    (λ is.
+    let h = both_some (λ s t. climbs map 201 s t) (pointer_of (shape_at map (target map 201 a))) (pointer_of (shape_at map (target map 201 b))) is in
+    let x = points map (target map 201 a) h.0 h.1.1.0 in
+    let y = points map (target map 201 b) h.1.0 h.1.1.1.0 in
+    let sa = subst (λ (u : TypeRef). StandsFor map a u) x.is (at map grounded a ha).stands in
+    let sb = subst (λ (u : TypeRef). StandsFor map b u) y.is (at map grounded b hb).stands in
+    pointers sa x.has sb y.has (climbs_sound map grounded 201 h.0 h.1.0 (pointed_held map grounded x.q x.m h.0 x.has) (pointed_held map grounded y.q y.m h.1.0 y.has) h.1.1.1.1))
 
 pub extends_complete : (map : QName → Option Desc) → IsGrounded map → (a b : TypeRef) → IsHeld map a → IsHeld map b → Extends map a b → extends_at map a b ≡ true
 unfolding extends_at

@@ -1,20 +1,16 @@
 -- Types are the same where their targets are one.
-use Rattle.std.proofs.Common.{◌≡◌, ℕ, zero, suc, ◌≤◌, ◌<◌, ◌+◌, ◌-◌, Bool, true, false, ◌&&◌, ◌||◌, List, [], ◌∷◌, ◌++◌, Option, Some, None, refl, sym, ap, subst, ◌∙◌, arith}
-use Rattle.std.specs.Prelude.{MatchOption, IfSome, IsTrue, bytes_eq, nat_eq}
+use Rattle.std.proofs.Common.{◌≡◌, ℕ, zero, suc, List, Option, refl, sym, ap, subst, ◌∙◌, arith}
+use Rattle.std.specs.Prelude.{IsTrue, bytes_eq}
 use Rattle.std.specs.Bool.{Decides}
-use Rattle.std.specs.List.{AllByRecursion}
 use Rattle.std.specs.Cmp.Lexicographic.{bytes_decides}
 use Rattle.std.proofs.lemmas.Bool.Decides.{Decides-and, Decides-eqb}
 use Rattle.ob_tree.specs.declared.names.QName.{QName}
 use Rattle.ob_types.specs.declared.types.Basic.{Basic}
 use Rattle.ob_types.specs.declared.types.Basic.TheVariants.{Boolean, Char, ShortInt, Integer, LongInt, Set}
-use Rattle.ob_types.specs.declared.types.Mark.{Mark}
 use Rattle.ob_types.specs.declared.types.TypeRef.{TypeRef}
 use Rattle.ob_types.specs.declared.types.TypeRef.TheVariants as types
 use Rattle.ob_types.specs.declared.desc.Desc.{Desc}
-use Rattle.ob_types.specs.declared.desc.Desc.TheVariants as desc
-use Rattle.ob_types.specs.declared.desc.RecordDesc.{RecordDesc}
-use Rattle.ob_types.specs.Maps.{IsHeld, IsWithin, is_type, stands_on, named_by, listed}
+use Rattle.ob_types.specs.Maps.{IsHeld}
 use Rattle.ob_types.specs.Relations.{StandsFor, Same, IsGrounded}
 use Rattle.ob_types.specs.Tests.{basic_number, target, type_eq, same_at}
 use Rattle.ob_types.proofs.Targets.{unique, IsTarget, is_target}
@@ -73,6 +69,7 @@ unfolding same_at
 same_decides map grounded a b ha hb =
     let x = at map grounded a ha in
     let y = at map grounded b hb in
-    let d = type_eq_decides (target map 201 a) (target map 201 b) in
-    (λ e. (target map 201 a, (x.stands, subst (λ (u : TypeRef). StandsFor map b u) (sym (d.0 e)) y.stands)),
-     λ s. d.1 (unique map x.stands s.1.0 ∙ sym (unique map y.stands s.1.1)))
+    let d = type_eq_decides (target map 201 a) (target map 201 b) in (
+      λ e. (target map 201 a, (x.stands, subst (λ (u : TypeRef). StandsFor map b u) (sym (d.0 e)) y.stands)),
+      λ s. d.1 (unique map x.stands s.1.0 ∙ sym (unique map y.stands s.1.1)),
+    )

@@ -1,5 +1,5 @@
 -- What a type stands for.
-use Rattle.std.proofs.Common.{◌≡◌, ℕ, zero, suc, ◌≤◌, ◌<◌, ◌+◌, ◌-◌, Bool, true, false, List, [], ◌∷◌, Option, Some, None, refl, sym, ap, subst, ◌∙◌, arith}
+use Rattle.std.proofs.Common.{◌≡◌, ℕ, zero, suc, ◌≤◌, ◌<◌, ◌+◌, ◌-◌, true, false, List, [], ◌∷◌, Option, Some, None, refl, sym, ap, subst, ◌∙◌, arith}
 use Rattle.std.specs.Prelude.{MatchOption, IsTrue}
 use Rattle.std.specs.List.{AllByRecursion}
 use Rattle.ob_tree.specs.declared.names.QName.{QName}
@@ -8,8 +8,8 @@ use Rattle.ob_types.specs.declared.types.TypeRef.{TypeRef}
 use Rattle.ob_types.specs.declared.types.TypeRef.TheVariants as types
 use Rattle.ob_types.specs.declared.desc.Desc.{Desc}
 use Rattle.ob_types.specs.declared.desc.Desc.TheVariants as desc
-use Rattle.ob_types.specs.Maps.{IsHeld, IsWithin, is_type, stands_on}
-use Rattle.ob_types.specs.Relations.{IsOwn, is_alias, StandsFor, itself, equated, Same}
+use Rattle.ob_types.specs.Maps.{IsWithin, is_type, stands_on}
+use Rattle.ob_types.specs.Relations.{IsOwn, is_alias, StandsFor, itself, equated}
 use Rattle.ob_types.specs.Tests.{target_of, alias_of, follow, target}
 
 -- an alias is no own type
@@ -35,7 +35,6 @@ unique map (equated {q = q} {m = m} {t = t} e s) (equated {m = k} {t = u} {u = w
 pub record IsTarget (map : QName → Option Desc) (n : ℕ) (t u : TypeRef) : Type 0 where
   pub stands : StandsFor map t u
   pub within : IsWithin map n u
-
 
 all_more : (P Q : TypeRef → Type 0) → ((t : TypeRef) → P t → Q t) → (ts : List TypeRef) → AllByRecursion P ts → AllByRecursion Q ts
 all_more P Q f [] h = tt

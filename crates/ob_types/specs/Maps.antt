@@ -1,5 +1,5 @@
 -- Maps of descriptions: what a type stands on, and which maps are grounded.
-use Rattle.std.specs.Prelude.{◌≡◌, ◌⊎◌, ℕ, zero, suc, Bool, true, false, List, [], ◌∷◌, ◌++◌, map as each, Option, Some, None, Contains, MatchOption, IfSome, IsTrue}
+use Rattle.std.specs.Prelude.{◌≡◌, ◌⊎◌, ℕ, zero, suc, Bool, true, false, List, [], ◌∷◌, ◌++◌, map as each, Option, Some, None, Contains, MatchOption, IsTrue}
 use Rattle.std.specs.List.{flat_map, AllByRecursion}
 use Rattle.ob_tree.specs.declared.names.QName.{QName}
 use Rattle.ob_types.specs.declared.types.TypeRef.{TypeRef}

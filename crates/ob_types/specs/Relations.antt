@@ -1,5 +1,5 @@
 -- How types stand to each other.
-use Rattle.std.specs.Prelude.{◌≡◌, ◌⊎◌, ℕ, Bool, true, false, List, [], ◌∷◌, Option, Some, None, MatchOption, IfSome, IsTrue}
+use Rattle.std.specs.Prelude.{◌≡◌, Bool, true, false, List, [], ◌∷◌, Option, Some, None, MatchOption, IfSome, IsTrue}
 use Rattle.std.specs.List.{AllByRecursion}
 use Rattle.ob_tree.specs.declared.names.QName.{QName}
 use Rattle.ob_types.specs.declared.types.Mark.{Mark}
@@ -40,14 +40,14 @@ SameResult map (Some a) (Some b) = Same map a b
 mutual
   -- Two types are equal where they are the same, or both open arrays of equal elements, or both procedure types with matching parameter lists.
   pub data Equal (map : QName → Option Desc) : TypeRef → TypeRef → Type 0 where
-    same : {a b : TypeRef} → Same map a b → Equal map a b
+    are_same : {a b : TypeRef} → Same map a b → Equal map a b
     arrays : {a b s t : TypeRef} {p q : QName} {m k : Mark} → StandsFor map a (types.Named p) → map p ≡ Some (desc.OpenArray m s) → StandsFor map b (types.Named q) → map q ≡ Some (desc.OpenArray k t) → Equal map s t → Equal map a b
     procedures : {a b : TypeRef} {s t : Signature} {p q : QName} {m k : Mark} → StandsFor map a (types.Named p) → map p ≡ Some (desc.ProcType m s) → StandsFor map b (types.Named q) → map q ≡ Some (desc.ProcType k t) → EqualParams map s.params t.params → SameResult map s.result t.result → Equal map a b
 
   -- equally many parameters, pairwise of the same mode and of equal types
   pub data EqualParams (map : QName → Option Desc) : List (Mode × TypeRef) → List (Mode × TypeRef) → Type 0 where
-    none : EqualParams map [] []
-    more : {k : Mode} {a b : TypeRef} {ps qs : List (Mode × TypeRef)} → Equal map a b → EqualParams map ps qs → EqualParams map ((k, a) ∷ ps) ((k, b) ∷ qs)
+    no_params : EqualParams map [] []
+    one_more : {k : Mode} {a b : TypeRef} {ps qs : List (Mode × TypeRef)} → Equal map a b → EqualParams map ps qs → EqualParams map ((k, a) ∷ ps) ((k, b) ∷ qs)
 
 -- Parameter lists match where the parameters are equal and the results the same, or none.
 abbrev pub Matches : (QName → Option Desc) → Signature → Signature → Type 0

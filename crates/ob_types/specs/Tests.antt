@@ -1,5 +1,5 @@
 -- The relations as they are computed, by chains of at most so many steps.
-use Rattle.std.specs.Prelude.{◌≡◌, ℕ, zero, suc, Bool, true, false, ◌&&◌, ◌||◌, List, [], ◌∷◌, Option, Some, None, bytes_eq, nat_eq}
+use Rattle.std.specs.Prelude.{ℕ, zero, suc, Bool, true, false, ◌&&◌, ◌||◌, List, [], ◌∷◌, Option, Some, None, bytes_eq, nat_eq}
 use Rattle.ob_tree.specs.declared.names.QName.{QName}
 use Rattle.ob_types.specs.declared.types.Basic.{Basic}
 use Rattle.ob_types.specs.declared.types.Basic.TheVariants.{Boolean, Char, ShortInt, Integer, LongInt, Set}
@@ -105,8 +105,21 @@ params_alike f [] (q ∷ qs) = false
 params_alike f (p ∷ ps) [] = false
 params_alike f (p ∷ ps) (q ∷ qs) = modes_alike p.0 q.0 && (f p.1 q.1 && params_alike f ps qs)
 
--- the parts of both are equal: the elements of open arrays, the parameters and results of procedure types
+-- both have elements, which pass f, or both have signatures, which pass g
+abbrev pub parts_alike : (TypeRef → TypeRef → Bool) → (Signature → Signature → Bool) → Option TypeRef → Option TypeRef → Option Signature → Option Signature → Bool
+parts_alike f g (Some a) (Some b) s t = f a b
+parts_alike f g (Some a) None s t = false
+parts_alike f g None e (Some s) (Some t) = g s t
+parts_alike f g None e (Some s) None = false
+parts_alike f g None e None t = false
+
+abbrev pub shapes_alike : (TypeRef → TypeRef → Bool) → (Signature → Signature → Bool) → Option Desc → Option Desc → Bool
+shapes_alike f g o p = parts_alike f g (element_of o) (element_of p) (signature_of o) (signature_of p)
+
+abbrev pub signatures_alike : (TypeRef → TypeRef → Bool) → (TypeRef → TypeRef → Bool) → Signature → Signature → Bool
+signatures_alike f g s t = params_alike f s.params t.params && results_alike g s.result t.result
+
+-- the same, or alike in their parts: the elements of open arrays, the parameters and results of procedure types
 unfoldable pub equal_at : (QName → Option Desc) → ℕ → TypeRef → TypeRef → Bool
 equal_at map zero a b = same_at map a b
-equal_at map (suc n) a b = same_at map a b || (both (λ s t. equal_at map n s t) (element_of (shape_at map (target map 201 a))) (element_of (shape_at map (target map 201 b)))
-    || both (λ s t. params_alike (λ x y. equal_at map n x y) s.params t.params && results_alike (λ x y. same_at map x y) s.result t.result) (signature_of (shape_at map (target map 201 a))) (signature_of (shape_at map (target map 201 b))))
+equal_at map (suc n) a b = same_at map a b || shapes_alike (λ x y. equal_at map n x y) (λ s t. signatures_alike (λ x y. equal_at map n x y) (λ x y. same_at map x y) s t) (shape_at map (target map 201 a)) (shape_at map (target map 201 b))

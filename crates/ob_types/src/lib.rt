@@ -11,7 +11,7 @@ mod value;
 
 pub use desc::{Desc, Field, Method, Receiver, RecordDesc};
 pub use face::{Aspect, Interface, Object, Use};
-pub use relations::{extends, same};
+pub use relations::{equal, extends, matches, same};
 pub use spelled::{read_print, write_print};
 pub use types::{Basic, Mark, Mode, Signature, TypeRef, Types};
 pub use value::Value;

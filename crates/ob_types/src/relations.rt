@@ -1,11 +1,12 @@
 ghost use Rattle.std.specs.Prelude.{◌≡◌, ◌↔◌, IsTrue, Option};
 ghost use Rattle.std.specs.Option.{option_copied};
-ghost use Rattle.ob_types.specs.Maps.{IsHeld};
+ghost use Rattle.std.specs.List.{AllByRecursion};
+ghost use Rattle.ob_types.specs.Maps.{IsHeld, signature_types};
 ghost use Rattle.ob_types.specs.Relations.{Same, Equal, Matches, Extends, IsGrounded};
-ghost use Rattle.ob_types.specs.Tests.{basic_number, target_of, alias_of, target, type_eq, same_at, shape_at, base_of, pointer_of, climbs, both, extends_at};
+ghost use Rattle.ob_types.specs.Tests.{basic_number, target_of, alias_of, target, type_eq, same_at, shape_at, base_of, pointer_of, climbs, both, extends_at, element_of, signature_of, modes_alike, params_alike, results_alike, signatures_alike, equal_at};
 
 use crate::desc::Desc;
-use crate::types::{Basic, TypeRef, Types};
+use crate::types::{Basic, Mode, Signature, TypeRef, Types};
 
 /// The most types that stand in a chain of a grounded map.
 const CHAIN: u32 = 201;
@@ -189,6 +190,150 @@ fn extends_within<T: Types>(types: &T, a: &TypeRef, b: &TypeRef) -> bool
         || pointers_climb(types, pointed_within(types, a), pointed_within(types, b))
 }
 
+fn mode_is(a: Mode, b: Mode) -> bool
+    ensures { result ≡ modes_alike a b }
+{
+    match a {
+        Mode::Value => match b {
+            Mode::Value => true,
+            Mode::Var => false,
+        },
+        Mode::Var => match b {
+            Mode::Value => false,
+            Mode::Var => true,
+        },
+    }
+}
+
+fn element(desc: &Desc) -> Option<&TypeRef>
+    ensures { option_copied result ≡ element_of (Some desc.now) }
+{
+    match desc {
+        Desc::OpenArray(_, of) => Some(of),
+        Desc::Const(_) => None,
+        Desc::Var(_, _) => None,
+        Desc::Proc(_) => None,
+        Desc::Alias(_, _) => None,
+        Desc::Array(_, _, _) => None,
+        Desc::Pointer(_, _) => None,
+        Desc::ProcType(_, _) => None,
+        Desc::Record(_) => None,
+    }
+}
+
+fn signature(desc: &Desc) -> Option<&Signature>
+    ensures { option_copied result ≡ signature_of (Some desc.now) }
+{
+    match desc {
+        Desc::ProcType(_, signature) => Some(signature),
+        Desc::Const(_) => None,
+        Desc::Var(_, _) => None,
+        Desc::Proc(_) => None,
+        Desc::Alias(_, _) => None,
+        Desc::Array(_, _, _) => None,
+        Desc::OpenArray(_, _) => None,
+        Desc::Pointer(_, _) => None,
+        Desc::Record(_) => None,
+    }
+}
+
+// The elements of the open array that t stands for.
+fn element_within<'a, T: Types>(types: &'a T, t: &'a TypeRef) -> Option<&'a TypeRef>
+    ensures { option_copied result ≡ element_of (shape_at (T.types types.now) (target (T.types types.now) CHAIN t.now)) }
+{
+    match shape_of(types, target_within(types, t)) {
+        None => None,
+        Some(desc) => element(desc),
+    }
+}
+
+// The signature of the procedure type that t stands for.
+fn signature_within<'a, T: Types>(types: &'a T, t: &'a TypeRef) -> Option<&'a Signature>
+    ensures { option_copied result ≡ signature_of (shape_at (T.types types.now) (target (T.types types.now) CHAIN t.now)) }
+{
+    match shape_of(types, target_within(types, t)) {
+        None => None,
+        Some(desc) => signature(desc),
+    }
+}
+
+fn results_same<T: Types>(types: &T, a: &Option<TypeRef>, b: &Option<TypeRef>) -> bool
+    ensures { result ≡ results_alike (λ x y. same_at (T.types types.now) x y) a.now b.now }
+{
+    match a {
+        None => match b {
+            None => true,
+            Some(_) => false,
+        },
+        Some(first) => match b {
+            None => false,
+            Some(second) => is_same_at(types, first, second),
+        },
+    }
+}
+
+#[cycle(equal)]
+#[tactic(auto, unfolding(crate::specs::Tests::equal_at))]
+fn equal_within<T: Types>(types: &T, left: u32, a: &TypeRef, b: &TypeRef) -> bool
+    ensures { result ≡ equal_at (T.types types.now) left a.now b.now }
+{
+    if is_same_at(types, a, b) {
+        return true;
+    }
+    if left == 0 {
+        return false;
+    }
+    match element_within(types, a) {
+        Some(first) => match element_within(types, b) {
+            Some(second) => equal_within(types, left - 1, first, second),
+            None => false,
+        },
+        None => match signature_within(types, a) {
+            Some(first) => match signature_within(types, b) {
+                Some(second) => {
+                    params_equal(
+                        types,
+                        left - 1,
+                        first.params.as_slice(),
+                        second.params.as_slice(),
+                    ) && results_same(types, &first.result, &second.result)
+                }
+                None => false,
+            },
+            None => false,
+        },
+    }
+}
+
+#[cycle(equal)]
+fn params_equal<T: Types>(
+    types: &T,
+    left: u32,
+    a: &[(Mode, TypeRef)],
+    b: &[(Mode, TypeRef)],
+) -> bool
+    ensures { result ≡ params_alike (λ x y. equal_at (T.types types.now) left x y) a.now b.now }
+{
+    let mut first = a;
+    let mut second = b;
+    while let [p, ps @ ..] = first {
+        match second {
+            [] => return false,
+            [q, qs @ ..] => {
+                if !mode_is(p.0, q.0) {
+                    return false;
+                }
+                if !equal_within(types, left, &p.1, &q.1) {
+                    return false;
+                }
+                first = ps;
+                second = qs;
+            }
+        }
+    }
+    second.is_empty()
+}
+
 /// Whether two types are the same: come from the same identifier, identifiers equated to each
 /// other being one. Takes no memory.
 pub fn same<T: Types>(types: &T, a: &TypeRef, b: &TypeRef) -> bool
@@ -209,4 +354,33 @@ pub fn extends<T: Types>(types: &T, a: &TypeRef, b: &TypeRef) -> bool
     ensures { IsTrue result ↔ Extends (T.types types.now) a.now b.now }
 {
     extends_within(types, a, b)
+}
+
+fn signatures_match<T: Types>(types: &T, a: &Signature, b: &Signature) -> bool
+    ensures { result ≡ signatures_alike (λ x y. equal_at (T.types types.now) CHAIN x y) (λ x y. same_at (T.types types.now) x y) a.now b.now }
+{
+    params_equal(types, CHAIN, a.params.as_slice(), b.params.as_slice())
+        && results_same(types, &a.result, &b.result)
+}
+
+/// Whether two types are equal: the same, or both open arrays with equal element types, or both
+/// procedure types whose parameter lists match. Takes no memory.
+pub fn equal<T: Types>(types: &T, a: &TypeRef, b: &TypeRef) -> bool
+    requires grounded { IsGrounded (T.types types.now) }
+    requires first { IsHeld (T.types types.now) a.now }
+    requires second { IsHeld (T.types types.now) b.now }
+    ensures { IsTrue result ↔ Equal (T.types types.now) a.now b.now }
+{
+    equal_within(types, CHAIN, a, b)
+}
+
+/// Whether two parameter lists match: equally many parameters, pairwise of the same mode and of
+/// equal types, and the same result or none. Takes no memory.
+pub fn matches<T: Types>(types: &T, a: &Signature, b: &Signature) -> bool
+    requires grounded { IsGrounded (T.types types.now) }
+    requires first { AllByRecursion (λ t. IsHeld (T.types types.now) t) (signature_types a.now) }
+    requires second { AllByRecursion (λ t. IsHeld (T.types types.now) t) (signature_types b.now) }
+    ensures { IsTrue result ↔ Matches (T.types types.now) a.now b.now }
+{
+    signatures_match(types, a, b)
 }

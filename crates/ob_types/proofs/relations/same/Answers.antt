@@ -1,4 +1,4 @@
-use Rattle.std.proofs.Common.{sym, ap, ◌∙◌}
+use Rattle.std.proofs.Common.{sym, ◌∙◌}
 use Rattle.ob_types.proofs.Sameness.{same_decides}
 use Rattle.ob_types.proofs.relations.same.Goals as goal
 
