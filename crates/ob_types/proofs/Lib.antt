@@ -1,0 +1,4 @@
+pub mod Targets
+pub mod Sameness
+pub mod Climbs
+pub mod Equals

@@ -4,12 +4,14 @@
 
 mod desc;
 mod face;
+mod relations;
 mod spelled;
 mod types;
 mod value;
 
 pub use desc::{Desc, Field, Method, Receiver, RecordDesc};
 pub use face::{Aspect, Interface, Object, Use};
+pub use relations::{equal, extends, matches, same};
 pub use spelled::{read_print, write_print};
 pub use types::{Basic, Mark, Mode, Signature, TypeRef, Types};
 pub use value::Value;
