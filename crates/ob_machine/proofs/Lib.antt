@@ -1,0 +1,5 @@
+pub mod Blanks
+pub mod Kept
+pub mod Grows
+pub mod Turns
+pub mod Runs

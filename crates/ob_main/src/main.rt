@@ -1,0 +1,44 @@
+//! The program: it does the lines of a script from standard input, over the files of the folder that it runs in.
+#![tactic(auto)]
+
+mod real;
+
+use ob_shell::session;
+use real::{RealFolder, RealSink, RealSource};
+use std::process::ExitCode;
+use std::{env, io};
+
+/// The line on standard error where the words are refused.
+const USAGE: &str = "usage: oberon [--turns N] [--heap N]";
+
+fn main(rt: HostRuntime) -> io::Result<ExitCode> {
+    let alloc = rt.alloc();
+    let Ok(args) = env::args(&rt) else {
+        let _ = rt.eprintln(USAGE);
+        return Ok(ExitCode::from(2));
+    };
+    let mut words = Vec::new(alloc);
+    for word in args.skip(1) {
+        if words.push(word).is_err() {
+            return Ok(ExitCode::from(5));
+        }
+    }
+    let mut script = RealSource {
+        inner: rt.reader(),
+        faults: 0,
+    };
+    let mut out = RealSink {
+        inner: io::writer(&rt),
+        faults: 0,
+    };
+    let mut folder = RealFolder {
+        rt: &rt,
+        alloc,
+        faults: 0,
+    };
+    let status = session(alloc, &words, &mut folder, &mut script, &mut out);
+    if status == 2 {
+        let _ = rt.eprintln(USAGE);
+    }
+    Ok(ExitCode::from(status))
+}

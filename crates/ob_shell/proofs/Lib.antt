@@ -1,0 +1,11 @@
+pub mod Split
+pub mod Words
+pub mod Newest
+pub mod Names
+pub mod Limits
+pub mod Counts
+pub mod Shops
+pub mod Runs
+pub mod Replies
+pub mod Goings
+pub mod Kept
