@@ -1,4 +1,3 @@
-<<<<<<< HEAD
 -- Maps of descriptions: what a type stands on, and which maps are grounded.
 use Rattle.std.specs.Prelude.{◌≡◌, ◌⊎◌, ℕ, zero, suc, Bool, true, false, List, [], ◌∷◌, ◌++◌, map as each, Option, Some, None, Contains, MatchOption, IsTrue}
 use Rattle.std.specs.List.{flat_map, AllByRecursion}
@@ -55,13 +54,3 @@ unfoldable pub IsWithin : (QName → Option Desc) → ℕ → TypeRef → Type 0
 IsWithin map n (types.Basic b) = Unit {0}
 IsWithin map zero (types.Named q) = ⊥
 IsWithin map (suc n) (types.Named q) = MatchOption (map q) ⊥ (λ d. IsTrue (is_type d) × AllByRecursion (λ t. IsWithin map n t) (stands_on d))
-=======
--- Maps of descriptions.
-use Rattle.std.specs.Prelude.{◌≡◌, ◌⊎◌, Option, None, List, Contains}
-use Rattle.ob_tree.specs.declared.names.QName.{QName}
-use Rattle.ob_types.specs.declared.desc.Desc.{Desc}
-
--- there is a list of all names that the map holds
-abbrev pub IsFinite : (QName → Option Desc) → Type 0
-IsFinite map = (names : List QName) × ((q : QName) → (map q ≡ None) ⊎ Contains names q)
->>>>>>> origin/main
