@@ -1,1 +1,8 @@
+<<<<<<< HEAD
 pub mod TypedViews
+=======
+pub mod Targets
+pub mod Sameness
+pub mod Climbs
+pub mod Equals
+>>>>>>> h/format

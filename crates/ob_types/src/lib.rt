@@ -4,6 +4,7 @@
 
 mod desc;
 mod face;
+mod relations;
 mod spelled;
 mod typed;
 mod types;
@@ -11,6 +12,7 @@ mod value;
 
 pub use desc::{Desc, Field, Method, Receiver, RecordDesc};
 pub use face::{Aspect, Interface, Object, Use};
+pub use relations::{equal, extends, matches, same};
 pub use spelled::{read_print, write_print};
 pub use typed::{
     Actual, Assigned, Binary, Binding, Callee, Compared, Comparison, Connective, Designator,

@@ -65,3 +65,23 @@ pub trait Types {
     fn desc_of(&self, name: &QName) -> Option<&Desc>
         ensures { option_copied result ≡ types self.now name.now };
 }
+
+impl TypeRef {
+    /// Whether both are the same basic type or the same name. Takes no memory.
+    ///
+    /// Names that are equated to each other differ here.
+    pub fn is_same(&self, other: &TypeRef) -> bool
+        ensures { IsTrue result ↔ (self.now ≡ other.now) }
+    {
+        match self {
+            TypeRef::Basic(basic) => match other {
+                TypeRef::Basic(another) => *basic == *another,
+                TypeRef::Named(_) => false,
+            },
+            TypeRef::Named(name) => match other {
+                TypeRef::Basic(_) => false,
+                TypeRef::Named(another) => name.is_same(another),
+            },
+        }
+    }
+}
