@@ -5,5 +5,7 @@ pub mod WorkedOrder
 pub mod WorkedLoops
 pub mod WorkedCalls
 pub mod WorkedValues
+pub mod WorkedModules
+pub mod WorkedArrays
 pub mod Onward
 pub mod Spending
