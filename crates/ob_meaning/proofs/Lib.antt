@@ -9,3 +9,4 @@ pub mod WorkedModules
 pub mod WorkedArrays
 pub mod Onward
 pub mod Spending
+pub mod Loading
