@@ -5,5 +5,8 @@ pub mod WorkedOrder
 pub mod WorkedLoops
 pub mod WorkedCalls
 pub mod WorkedValues
+pub mod WorkedModules
+pub mod WorkedArrays
 pub mod Onward
 pub mod Spending
+pub mod Loading

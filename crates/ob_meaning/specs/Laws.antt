@@ -1,12 +1,12 @@
 -- What holds of every part of every program.
-use Rattle.std.specs.Prelude.{◌≡◌, ℕ, ◌≤◌, List, ◌++◌}
+use Rattle.std.specs.Prelude.{◌≡◌, ℕ, ◌≤◌, List, ◌++◌, take, None}
 use Rattle.ob_tree.specs.declared.names.QName.{QName}
 use Rattle.ob_types.specs.TypedSyntax.{Expr, Stmts, Module}
 use Rattle.ob_meaning.specs.Values.{Program, State}
 use Rattle.ob_meaning.specs.Results.{Res, Gives, Stops, Around}
 use Rattle.ob_meaning.specs.Meaning.{value, execs}
 use Rattle.ob_meaning.specs.Calls.{around, calling}
-use Rattle.ob_meaning.specs.Commands.{System, command}
+use Rattle.ob_meaning.specs.Commands.{System, Ended, command}
 
 -- a later state: no turn has come back, and what was written stands in front of what is written now
 pub record Later (s t : State) : Type 0 where
@@ -34,3 +34,14 @@ StatementsGoOn = (program : Program) (heap n : ℕ) (unit : List ℕ) (body : St
 -- Of commands: what is left of the turns is at most what it was given.
 abbrev pub CommandsSpend : Type 0
 CommandsSpend = (system : System) (plan : List Module) (heap turns : ℕ) (q : QName) → (command system plan heap turns q).turns ≤ turns
+
+-- what is loaded when a command has ended: what was loaded before, and the first of the modules that it brought in; all of them
+-- where no stop came
+pub record Joined (before : Program) (plan : List Module) (e : Ended) : Type 0 where
+  pub count : ℕ
+  pub first : e.system.program ≡ before ++ take count plan
+  pub all : e.why ≡ None → e.system.program ≡ before ++ plan
+
+-- Of commands: modules join in their order, each before its body is run, and none is taken away.
+abbrev pub CommandsLoad : Type 0
+CommandsLoad = (system : System) (plan : List Module) (heap turns : ℕ) (q : QName) → Joined system.program plan (command system plan heap turns q)

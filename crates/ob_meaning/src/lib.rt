@@ -2,7 +2,7 @@
 //! trees. There are definitions, and laws above them; there is no code.
 #![tactic(auto)]
 
-ghost use Rattle.ob_meaning.specs.Laws.{ExpressionsGoOn, StatementsGoOn, CommandsSpend};
+ghost use Rattle.ob_meaning.specs.Laws.{ExpressionsGoOn, StatementsGoOn, CommandsSpend, CommandsLoad};
 
 /// The law of expressions: whatever the program, the tree and the state, evaluating an
 /// expression never raises the turns that are left, and what was written before stands in front
@@ -21,4 +21,11 @@ pub fn statements_go_on()
 /// was given, and what is left is never more.
 pub fn commands_spend()
     ensures { CommandsSpend }
+{}
+
+/// The law of loading: when a command has ended, what was loaded before is loaded still, followed by
+/// the first of the modules that the command brought in, in their order. Where no stop came, all of
+/// them are.
+pub fn commands_load()
+    ensures { CommandsLoad }
 {}
