@@ -1,20 +1,18 @@
 -- The image of object files: what the machine has after they were entered, in order.
-use Rattle.std.specs.Prelude.{◌≡◌, ℕ, zero, suc, ◌+◌, ◌-◌, ◌≤◌, ◌<◌, Bool, true, false, ◌&&◌, List, [], ◌∷◌, ◌++◌, length, take, map, replicate, slice_get, slice_set, Option, Some, None, IsSome, if◌then◌else◌, ℤ, pos}
+use Rattle.std.specs.Prelude.{◌≡◌, ℕ, zero, suc, ◌+◌, ◌-◌, ◌≤◌, Bool, ◌&&◌, List, [], ◌∷◌, ◌++◌, length, take, map, replicate, slice_get, slice_set, Option, Some, None, IsSome, if◌then◌else◌, ℤ, pos, ◌<◌, ◌^◌}
 use Rattle.std.specs.List.{AllByRecursion}
 use Rattle.std.specs.Ordering.{is_eq}
 use Rattle.ob_tree.specs.declared.proc_ref.ProcRef.{ProcRef}
 use Rattle.ob_tree.specs.declared.names.QName.{QName}
 use Rattle.ob_mem.specs.Words.{with_words}
 use Rattle.ob_tdesc.specs.declared.descriptor.Descriptor.{Descriptor}
-use Rattle.ob_instr.specs.Image.{ModuleImage, Image, World}
+use Rattle.ob_instr.specs.Image.{ModuleImage, Image}
 use Rattle.ob_obj.specs.declared.parts.Base.{Base}
 use Rattle.ob_obj.specs.declared.parts.Base.TheVariants as base
 use Rattle.ob_obj.specs.declared.parts.StringConst.{StringConst}
-use Rattle.ob_obj.specs.declared.parts.Variable.{Variable}
 use Rattle.ob_obj.specs.declared.parts.Link.{Link}
 use Rattle.ob_obj.specs.declared.parts.Definition.{Definition}
 use Rattle.ob_obj.specs.declared.parts.RecordType.{RecordType}
-use Rattle.ob_obj.specs.declared.parts.Command.{Command}
 use Rattle.ob_obj.specs.declared.file.ObjFile.{ObjFile}
 use Rattle.ob_obj.specs.Grammar.{by_name, words_of, file}
 
@@ -170,7 +168,7 @@ words_with img [] words = words
 words_with img (f ∷ files) words = words_with (entered img f) files (with_globals img f words)
 
 -- When a file can be entered: it has a spelling, its module is not there yet, each of its links names
--- something, and its globals have room.
+-- something, and there is room for its globals, for a module more, and for its types.
 pub record IsEnterable (img : Image) (f : ObjFile) : Type 0 where
   pub fits : file.fits f
   pub new : module_from 0 img.modules f.head.«module» ≡ None
@@ -178,6 +176,8 @@ pub record IsEnterable (img : Image) (f : ObjFile) : Type 0 where
   pub procedures : AllByRecursion (λ l. IsSome (linked_procedure img.modules l)) f.links.procedures
   pub types : AllByRecursion (λ q. IsSome (linked_type img.types q)) f.links.types
   pub room : img.next + global_words f ≤ suc img.room.globals
+  pub few : length img.modules < 255
+  pub few_types : length img.types + length f.body.types < 2 ^ 32
 
 abbrev pub AreEnterable : Image → List ObjFile → Type 0
 AreEnterable img [] = Unit {0}

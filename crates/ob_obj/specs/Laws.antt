@@ -1,32 +1,24 @@
 -- Each format of the grammar is exact.
-use Rattle.std.proofs.Common.{◌≡◌, ℕ, zero, suc, ◌+◌, ◌^◌, ◌<◌, ◌≤◌, Bool, true, ltb, leb, List, [], ◌∷◌, ◌++◌, length, Option, Some, refl, ap, subst, arith}
-use Rattle.std.specs.Prelude.{◌&&◌, IsTrue, nat_le, nat_lt, not, nat_eq}
+use Rattle.std.proofs.Common.{◌≡◌, ℕ, zero, suc, ◌+◌, ◌<◌, ◌≤◌, Bool, ltb, leb, List, [], ◌∷◌, ◌++◌, length, Some, refl, ap, subst}
+use Rattle.std.specs.Prelude.{IsTrue, nat_le, nat_lt}
 use Rattle.std.specs.Bool.{Decides}
-use Rattle.std.specs.List.{list_all, AllByRecursion}
+use Rattle.std.specs.List.{list_all}
 use Rattle.std.proofs.lemmas.Bool.Decides.{Decides-and, Decides-ltb}
 use Rattle.std.proofs.lemmas.Cmp.{nat_cmp_total, nat_list_cmp_total, on_total, then_total}
-use Rattle.ob_format.specs.Format.{IsBytes, IsExact, Format, ◌>>=◌, word32}
+use Rattle.ob_format.specs.Format.{IsBytes, IsExact, word32}
 use Rattle.ob_format.specs.Exact.{bind_some, some_is, word32_exact, text32_exact, list_exact, rising_exact, few_exact, le_decides, each_decides, such_that_exact, made_exact, lead_exact, pair_exact}
 use Rattle.ob_format.specs.NameLaws.{name_exact, object_name_exact, qname_exact}
-use Rattle.ob_types.specs.Spelled.{aspect_number, by_object}
+use Rattle.ob_types.specs.Spelled.{aspect_number}
 use Rattle.ob_types.specs.SpelledLaws.{aspect_exact, print_form_exact, use_exact, objects_total}
 use Rattle.ob_instr.specs.SpellingLaws.{instr_exact}
 use Rattle.ob_instr.specs.Parts.{most_words}
 use Rattle.ob_instr.specs.PartLaws.{procedure_exact, position_exact}
 use Rattle.ob_obj.specs.declared.parts.Base.{Base}
 use Rattle.ob_obj.specs.declared.parts.Base.TheVariants as base
-use Rattle.ob_obj.specs.declared.parts.Export.{Export}
-use Rattle.ob_obj.specs.declared.parts.StringConst.{StringConst}
-use Rattle.ob_obj.specs.declared.parts.Variable.{Variable}
-use Rattle.ob_obj.specs.declared.parts.Link.{Link}
-use Rattle.ob_obj.specs.declared.parts.Definition.{Definition}
 use Rattle.ob_obj.specs.declared.parts.RecordType.{RecordType}
-use Rattle.ob_obj.specs.declared.parts.Command.{Command}
 use Rattle.ob_obj.specs.declared.file.Head.{Head}
-use Rattle.ob_obj.specs.declared.file.Globals.{Globals}
-use Rattle.ob_obj.specs.declared.file.Body.{Body}
 use Rattle.ob_obj.specs.declared.file.ObjFile.{ObjFile}
-use Rattle.ob_obj.specs.Grammar.{by_name, export, by_export, string, variable, by_variable, link, base_at, base_bytes, base_fits, base_form, definition, by_number, is_record, IsRecord, record_parts, record_type, by_type, command, by_command, is_import, names_in, is_head, IsHead, head, words_of, globals, links, body, bases_stand, has_procedures, begins_with_body, are_placed, is_sound, IsSound, magic, file}
+use Rattle.ob_obj.specs.Grammar.{by_name, export, string, variable, link, base_at, base_bytes, base_fits, base_form, definition, is_record, IsRecord, record_parts, record_type, by_type, command, is_import, names_in, is_head, IsHead, head, words_of, globals, links, body, bases_stand, has_procedures, begins_with_body, are_placed, is_sound, IsSound, magic, file}
 
 is_true : (b : Bool) → Decides b (IsTrue b)
 is_true b = ((λ e. e), (λ e. e))

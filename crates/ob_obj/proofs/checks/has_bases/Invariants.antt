@@ -1,5 +1,4 @@
-use Rattle.std.proofs.Common.{◌≡◌, ◌+◌, ◌≤◌, length, nat_lt}
-use Rattle.std.specs.List.{list_all}
+use Rattle.std.proofs.Common.{◌≡◌, ◌+◌, length}
 use Rattle.ob_obj.specs.Grammar.{bases_stand}
 use Rattle.ob_obj.proofs.checks.has_bases.Given as goal
 

@@ -1,4 +1,4 @@
-use Rattle.std.proofs.Common.{◌≡◌, ◌+◌, ◌≤◌, length, nat_lt}
+use Rattle.std.proofs.Common.{◌≡◌, length}
 use Rattle.std.specs.List.{list_all}
 use Rattle.ob_obj.specs.Grammar.{has_procedures}
 use Rattle.ob_obj.proofs.checks.has_definitions_within.Given as goal
