@@ -1,8 +1,5 @@
-<<<<<<< HEAD
 pub mod TypedViews
-=======
 pub mod Targets
 pub mod Sameness
 pub mod Climbs
 pub mod Equals
->>>>>>> h/format

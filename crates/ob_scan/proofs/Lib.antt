@@ -1,0 +1,4 @@
+pub mod Gaps
+pub mod Longest
+pub mod Beginnings
+pub mod Leads

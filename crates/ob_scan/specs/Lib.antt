@@ -1,0 +1,4 @@
+pub mod Vocabulary
+pub mod Scanning
+pub mod Gaps
+pub mod Kinds

@@ -1,0 +1,182 @@
+//! One symbol.
+
+ghost use Rattle.std.specs.Prelude.{◌≡◌, ◌<◌, ◌≤◌, IfOk, true, false, ◌+◌, length, slice_index, drop};
+ghost use Rattle.std.specs.List.{prefix_len};
+ghost use Rattle.ob_scan.specs.Vocabulary as spec;
+ghost use Rattle.ob_scan.specs.Scanning as scanning;
+ghost use Rattle.ob_scan.specs.Kinds as kinds;
+ghost use Rattle.ob_scan.specs.Kinds.{test_of};
+
+use crate::bytes::{
+    is_digit, is_hex_digit, is_letter, is_letter_or_digit, is_plain, is_quote, mark_of_one,
+    mark_of_two,
+};
+use crate::fault::ScanFault;
+use crate::words::word_symbol;
+use ob_tree::{Pos, Symbol};
+
+/// A kind of bytes that stand in a row.
+#[derive(Clone, Copy)]
+pub enum Kind {
+    LetterOrDigit,
+    Digit,
+    HexDigit,
+    /// What may stand in a string that begins with this mark.
+    Plain(u8),
+}
+
+fn is_of(kind: Kind, b: u8) -> bool
+    ensures { result ≡ test_of kind b }
+{
+    match kind {
+        Kind::LetterOrDigit => is_letter_or_digit(b),
+        Kind::Digit => is_digit(b),
+        Kind::HexDigit => is_hex_digit(b),
+        Kind::Plain(quote) => is_plain(quote, b),
+    }
+}
+
+// How many bytes at the front are of this kind.
+fn run(kind: Kind, text: &[u8]) -> usize
+    ensures value { result ≡ prefix_len (test_of kind) text.now }
+    ensures within { result ≤ length text.now }
+{
+    let mut n = 0;
+    'run: while n < text.len() {
+        if !is_of(kind, text[n]) {
+            return n;
+        }
+        n += 1;
+    }
+    n
+}
+
+// Where one stands behind the first byte and those of this kind behind it.
+fn behind_first(kind: Kind, text: &[u8]) -> usize
+    requires { 0 < length text.now }
+    ensures value { result ≡ 1 + prefix_len (test_of kind) (drop 1 text.now) }
+    ensures within { result ≤ length text.now }
+{
+    let rest = &text[1..];
+    1 + run(kind, rest)
+}
+
+// Whether a dot stands there, and no second one behind it.
+fn is_dot_alone(text: &[u8]) -> bool
+    ensures { result ≡ scanning.is_dot_alone text.now }
+{
+    match text {
+        [] => false,
+        [a] => *a == b'.',
+        [a, b, ..] => *a == b'.' && !(*b == b'.'),
+    }
+}
+
+// What begins with a letter.
+fn word_at(text: &[u8], pos: Pos) -> Result<(Symbol, usize), ScanFault>
+    requires some { 0 < length text.now }
+    requires letter { spec.is_letter (slice_index text.now 0) ≡ true }
+    ensures { result ≡ scanning.symbol_at pos text.now }
+{
+    let n = run(Kind::LetterOrDigit, text);
+    if 64 < n {
+        Err(ScanFault::Limit { pos })
+    } else {
+        Ok((word_symbol(&text[..n]), n))
+    }
+}
+
+// What begins with a digit.
+fn number_at(text: &[u8], pos: Pos) -> Result<(Symbol, usize), ScanFault>
+    requires some { 0 < length text.now }
+    requires digit { spec.is_digit (slice_index text.now 0) ≡ true }
+    ensures { result ≡ scanning.symbol_at pos text.now }
+{
+    let digits = run(Kind::Digit, text);
+    if is_dot_alone(&text[digits..]) {
+        return Err(ScanFault::Real { pos });
+    }
+    whole_at(text, pos, digits)
+}
+
+// An integer or a character; so many decimal digits are at its front.
+fn whole_at(text: &[u8], pos: Pos, digits: usize) -> Result<(Symbol, usize), ScanFault>
+    requires some { 0 < length text.now }
+    requires digit { spec.is_digit (slice_index text.now 0) ≡ true }
+    requires count { digits ≡ prefix_len spec.is_digit text.now }
+    requires dot { scanning.is_dot_alone (drop digits text.now) ≡ false }
+    ensures { result ≡ scanning.symbol_at pos text.now }
+{
+    let n = behind_first(Kind::HexDigit, text);
+    if n == text.len() {
+        Ok((Symbol::Int, digits))
+    } else if text[n] == b'H' {
+        Ok((Symbol::Int, n + 1))
+    } else if text[n] == b'X' {
+        Ok((Symbol::Char, n + 1))
+    } else {
+        Ok((Symbol::Int, digits))
+    }
+}
+
+// What begins with the mark of a string.
+fn string_at(text: &[u8], pos: Pos) -> Result<(Symbol, usize), ScanFault>
+    requires some { 0 < length text.now }
+    requires quote { spec.is_quote (slice_index text.now 0) ≡ true }
+    ensures { result ≡ scanning.symbol_at pos text.now }
+{
+    let quote = text[0];
+    let n = behind_first(Kind::Plain(quote), text);
+    if n == text.len() {
+        Err(ScanFault::Symbol { pos })
+    } else if text[n] == quote {
+        Ok((Symbol::Str, n + 1))
+    } else {
+        Err(ScanFault::Symbol { pos })
+    }
+}
+
+// The mark that the first two bytes are.
+fn two_at(text: &[u8]) -> Option<Symbol>
+    ensures { result ≡ kinds.two_of text.now }
+{
+    match text {
+        [a, b, ..] => mark_of_two(*a, *b),
+        _ => None,
+    }
+}
+
+// What begins with anything else.
+fn mark_at(text: &[u8], pos: Pos) -> Result<(Symbol, usize), ScanFault>
+    requires some { 0 < length text.now }
+    requires letter { spec.is_letter (slice_index text.now 0) ≡ false }
+    requires digit { spec.is_digit (slice_index text.now 0) ≡ false }
+    requires quote { spec.is_quote (slice_index text.now 0) ≡ false }
+    ensures { result ≡ scanning.symbol_at pos text.now }
+{
+    match two_at(text) {
+        Some(symbol) => Ok((symbol, 2)),
+        None => match mark_of_one(text[0]) {
+            Some(symbol) => Ok((symbol, 1)),
+            None => Err(ScanFault::Symbol { pos }),
+        },
+    }
+}
+
+// The symbol that begins here, and how many bytes it has.
+pub fn symbol_at(text: &[u8], pos: Pos) -> Result<(Symbol, usize), ScanFault>
+    requires { 0 < length text.now }
+    ensures value { result ≡ scanning.symbol_at pos text.now }
+    ensures within { IfOk result (λ x. (0 < x.1) × (x.1 ≤ length text.now)) }
+{
+    let b = text[0];
+    if is_letter(b) {
+        word_at(text, pos)
+    } else if is_digit(b) {
+        number_at(text, pos)
+    } else if is_quote(b) {
+        string_at(text, pos)
+    } else {
+        mark_at(text, pos)
+    }
+}
