@@ -1,7 +1,7 @@
 //! What a session answers when a call fails, and at the limits of its script.
 
 use crate::session::{expect, folder_of};
-use ob_io::{MemSink, MemSource};
+use ob_io::{Folder, MemFolder, MemSink, MemSource};
 use ob_shell::session;
 use std::alloc::{AllocError, Global};
 use std::test::Fail;
@@ -75,11 +75,35 @@ fn each_read_fails(rt: HostRuntime) -> Result<(), Fail> {
     Ok(())
 }
 
-// The folder's one call of a compile fails.
+// The session of `Sum` has one call of the folder, behind the one that put the file there: the session ends
+// there with 6 and has written nothing. It is whole where a later call would fail.
+#[test]
+fn each_call_of_the_folder_fails(rt: HostRuntime) -> Result<(), Fail> {
+    let alloc = rt.alloc();
+    for (number, status, output) in [(2u64, 6, ""), (3, 0, OUTPUT)] {
+        let mut folder = MemFolder::new(alloc, [number].to_vec(alloc)?);
+        folder.reserve(1, 1000)?;
+        if folder.replace("Sum.Mod", SUM.as_bytes()).is_err() {
+            return Err("the file has no room".into());
+        }
+        let mut source = MemSource::new(
+            b"compile Sum.Mod\nSum.Go\n".to_vec(alloc)?,
+            Vec::new(alloc),
+        );
+        let mut out = MemSink::new(alloc, 1000, Vec::new(alloc))?;
+        let words = Vec::new(alloc);
+        let got = session(alloc, &words, &mut folder, &mut source, &mut out);
+        assert_eq!(rt; got, status, "at call {number}");
+        assert!(rt; out.bytes() == output.as_bytes(), "at call {number}");
+    }
+    Ok(())
+}
+
+// What was printed before a fault of the folder stands.
 #[test]
 fn a_file_is_not_read(rt: HostRuntime) -> Result<(), Fail> {
     let alloc = rt.alloc();
-    let mut folder = ob_io::MemFolder::new(alloc, [1u64].to_vec(alloc)?);
+    let mut folder = MemFolder::new(alloc, [1u64].to_vec(alloc)?);
     let mut source = MemSource::new(
         b"frob\ncompile Sum.Mod\nfrob\n".to_vec(alloc)?,
         Vec::new(alloc),
