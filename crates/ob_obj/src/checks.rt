@@ -1,11 +1,14 @@
-ghost use Rattle.std.specs.Prelude.{◌≡◌, ◌+◌, ◌≤◌, length, nat_lt, nat_le};
+ghost use Rattle.std.specs.Prelude.{◌≡◌, ◌+◌, ◌≤◌, length, nat_lt, nat_le, IfOk};
 ghost use Rattle.std.specs.List.{list_all};
-ghost use Rattle.ob_obj.specs.Grammar.{is_import, repeats, names_in, words_of, base_stands, bases_stand, has_procedures, begins_with_body, can_stop, is_jump, has_position, are_placed};
+ghost use Rattle.ob_format.specs.Order.{differ};
+ghost use Rattle.ob_obj.specs.Grammar.{by_type, is_import, repeats, names_in, words_of, base_stands, bases_stand, has_procedures, begins_with_body, can_stop, is_jump, has_position, are_placed};
 
 use crate::parts::{Base, Command, Definition, Export, RecordType, StringConst};
 use ob_instr::{Instr, Opcode, Position, Procedure};
 use ob_tree::Name;
+use std::alloc::{AllocError, Global};
 use std::cmp::Ordering;
+use std::collections::BTreeSet;
 
 /// The most words of globals.
 const MOST_GLOBALS: u64 = 262_144;
@@ -70,6 +73,19 @@ pub fn has_few_words(variables: u32, strings: &[StringConst]) -> bool
         rest = more;
     }
     words <= MOST_GLOBALS
+}
+
+/// Whether no two types have the same name. An `Err` is a want of memory.
+pub fn has_distinct_names(alloc: Global, types: &[RecordType]) -> Result<bool, AllocError>
+    ensures { IfOk result (λ b. b ≡ differ by_type types.now) }
+{
+    let mut names = BTreeSet::new(alloc);
+    for entry in types {
+        if !names.insert(entry.name.as_bytes())? {
+            return Ok(false);
+        }
+    }
+    Ok(true)
 }
 
 fn base_stands_at(base: Base, links: usize, index: usize) -> bool

@@ -1,12 +1,13 @@
 ghost use Rattle.std.specs.Prelude.{◌≡◌, IfOk, Some};
 ghost use Rattle.std.specs.Result.{IsErrOf};
 ghost use Rattle.ob_obj.specs.Given.{Reads};
-ghost use Rattle.ob_obj.specs.Grammar.{head, globals, links, body, file, file as file_form, is_sound};
+ghost use Rattle.ob_format.specs.Format.{Gives, few};
+ghost use Rattle.ob_obj.specs.Grammar.{head, globals, links, record_type, by_type, body, file, file as file_form, is_sound};
 ghost use Rattle.ob_obj.specs.Laws.{head_exact, globals_exact, links_exact, body_exact, file_exact};
 
 use crate::checks::{
     are_imports, begins_with_main, count_names, has_bases, has_commands_within,
-    has_definitions_within, has_entries_within, has_few_words, has_places,
+    has_definitions_within, has_distinct_names, has_entries_within, has_few_words, has_places,
 };
 use crate::parts::{Command, Export, Link, RecordType, StringConst, Variable};
 use ob_format::{Fault, Wire, few_list, put_bytes, read_whole, rising_list, skip, write_whole};
@@ -14,6 +15,7 @@ use ob_instr::{Instr, Position, Procedure};
 use ob_tree::{List, Name, QName, Text};
 use ob_types::Use;
 use std::alloc::{AllocError, Global};
+use thiserror::Error;
 
 /// Which module the file is of, and what it shows and uses.
 #[derive(Debug, Drop)]
@@ -70,14 +72,19 @@ pub struct ObjFile {
 }
 
 /// Why bytes could not be read as an object file.
-#[derive(Debug, Drop)]
+#[derive(Clone, Copy, Debug, Error)]
 pub enum ObjFault {
-    /// They are none.
+    /// The bytes are no object file.
+    #[error("damaged")]
     Damaged,
+    /// Memory was wanting. It says nothing of the bytes.
+    #[error("no memory")]
     Memory,
 }
 
 const MAGIC: [u8; 5] = [79, 79, 66, 74, 1];
+
+const MOST_TYPES: usize = 1_048_576;
 
 const MOST_PROCEDURES: usize = 4096;
 
@@ -174,12 +181,24 @@ impl Wire for Links {
     ghost exact = { links_exact };
 }
 
+// The record types at the front, whose names differ.
+#[tactic(auto, unfolding(ob_format::specs::Format::such_that_at))]
+fn record_types(alloc: Global, bytes: &[u8]) -> Result<(List<RecordType>, &[u8]), Fault>
+    ensures { Gives (λ x. (x.0, x.1.now)) result ((few 1048576 record_type by_type).take bytes.now) }
+{
+    let (types, rest) = List::<RecordType>::read(alloc, bytes)?;
+    if types.len() > MOST_TYPES || !has_distinct_names(alloc, types.as_slice())? {
+        return Err(Fault::Damaged);
+    }
+    Ok((types, rest))
+}
+
 impl Wire for Body {
     ghost form = { body };
 
     #[tactic(auto, unfolding(crate::specs::Grammar::body, ob_format::specs::Format::made_at, ob_format::specs::Format::pair_at))]
     fn read(alloc: Global, bytes: &[u8]) -> Result<(Body, &[u8]), Fault> {
-        let (types, rest) = few_list::<RecordType>(alloc, 1_048_576, bytes)?;
+        let (types, rest) = record_types(alloc, bytes)?;
         let (procedures, rest) = List::<Procedure>::read(alloc, rest)?;
         let (commands, rest) = rising_list::<Command>(alloc, rest)?;
         let (code, rest) = List::<Instr>::read(alloc, rest)?;

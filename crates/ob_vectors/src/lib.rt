@@ -104,4 +104,93 @@ mod tests {
         )?;
         Ok(())
     }
+
+    // Adds a number of four bytes.
+    fn put_number(bytes: &mut Vec<u8>, number: u32) -> Result<(), Fail> {
+        bytes.extend_from_slice(&number.to_be_bytes())?;
+        Ok(())
+    }
+
+    // A file of the module X by the table of the parts: these types without a base, one procedure
+    // with an entry, the code Out 4, Out 4, Ret, and positions at these indices.
+    fn object_file(
+        alloc: Global,
+        types: &[&[u8]],
+        entry: u32,
+        positions: &[u32],
+    ) -> Result<Vec<u8>, Fail> {
+        let mut bytes = Vec::from_slice(alloc, b"OOBJ\x01\x00\x01X".as_slice())?;
+        // no imports, exports, uses, variable words, strings, variables and links of three kinds
+        for _ in 0..9 {
+            put_number(&mut bytes, 0)?;
+        }
+        put_number(&mut bytes, types.len() as u32)?;
+        for name in types {
+            bytes.extend_from_slice(&(name.len() as u16).to_be_bytes())?;
+            bytes.extend_from_slice(name)?;
+            // no base, one word, no bound procedures
+            bytes.push(0)?;
+            put_number(&mut bytes, 1)?;
+            put_number(&mut bytes, 0)?;
+            put_number(&mut bytes, 0)?;
+        }
+        put_number(&mut bytes, 1)?;
+        put_number(&mut bytes, entry)?;
+        put_number(&mut bytes, 0)?;
+        put_number(&mut bytes, 0)?;
+        bytes.push(0)?;
+        put_number(&mut bytes, 0)?;
+        put_number(&mut bytes, 3)?;
+        for _ in 0..2 {
+            bytes.extend_from_slice(b"\x47\x00\x00\x00\x04\x00\x00\x00\x00".as_slice())?;
+        }
+        bytes.extend_from_slice(b"\x45\x00\x00\x00\x00\x00\x00\x00\x00".as_slice())?;
+        put_number(&mut bytes, positions.len() as u32)?;
+        for at in positions {
+            put_number(&mut bytes, *at)?;
+            put_number(&mut bytes, 1)?;
+            put_number(&mut bytes, 2)?;
+        }
+        Ok(bytes)
+    }
+
+    fn is_refused(alloc: Global, bytes: &[u8]) -> bool {
+        match read_obj(alloc, bytes) {
+            Err(ObjFault::Damaged) => true,
+            _ => false,
+        }
+    }
+
+    #[test]
+    fn edges_of_object_files(rt: HostRuntime) -> Result<(), Fail> {
+        let alloc = rt.alloc();
+        let first = b"T".as_slice();
+        let second = b"U".as_slice();
+        object_again(
+            &rt,
+            alloc,
+            &object_file(alloc, &[first, second], 0, &[0, 1])?,
+        )?;
+        object_again(
+            &rt,
+            alloc,
+            &object_file(alloc, &[second, first], 2, &[0, 1])?,
+        )?;
+        let entry_outside = object_file(alloc, &[], 3, &[0, 1])?;
+        assert!(rt;
+            is_refused(alloc, &entry_outside),
+            "an entry behind the code"
+        );
+        let falling = object_file(alloc, &[], 0, &[1, 0])?;
+        assert!(rt; is_refused(alloc, &falling), "positions that fall");
+        let twice = object_file(alloc, &[], 0, &[0, 0, 1])?;
+        assert!(rt; is_refused(alloc, &twice), "a position twice");
+        let one = object_file(alloc, &[], 0, &[1])?;
+        assert!(rt; is_refused(alloc, &one), "a position is not there");
+        let more = object_file(alloc, &[], 0, &[0, 1, 2])?;
+        assert!(rt; is_refused(alloc, &more), "a position of a return");
+        let same = object_file(alloc, &[first, second, first], 0, &[0, 1])?;
+        assert!(rt; is_refused(alloc, &same), "two types of one name");
+        Ok(())
+    }
 }
