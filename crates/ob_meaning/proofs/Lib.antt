@@ -10,3 +10,4 @@ pub mod WorkedArrays
 pub mod Onward
 pub mod Spending
 pub mod Loading
+pub mod Ending

@@ -11,7 +11,7 @@ use Rattle.ob_meaning.specs.Laws.{Onward, in_program}
 use Rattle.ob_meaning.proofs.Onward.{calls_keep, keep_execs}
 
 -- a first call goes on from the state in which its variables are there
-first_goes_on : (program : Program) (heap : ℕ) (q : QName) (p : Procedure) (s : State) → Onward (begun program q p [] s) (run_first program heap q p s)
+pub first_goes_on : (program : Program) (heap : ℕ) (q : QName) (p : Procedure) (s : State) → Onward (begun program q p [] s) (run_first program heap q p s)
 first_goes_on program heap q p s = (keep_execs (in_program program heap s.turns q.module) (calls_keep program heap s.turns q.module) p.body).at (begun program q p [] s)
 
 end_spends : (program : Program) (b : State) (r : Res Flow) → Onward b r → (end_of program r).turns ≤ b.turns

@@ -265,3 +265,47 @@ stopped_body = refl
 
 stays : length cut_short.system.program ≡ 1
 stays = refl
+
+-- THREE MODULES, each of whose records extends that of the one before: the first introduces P, the second a hidden hid, and the
+-- third redefines P, which calls the one above, and has a hid of its own
+
+abbrev low_r : QName
+low_r = named (codes "Low") (codes "R")
+
+abbrev mid_s : QName
+mid_s = named (codes "Mid") (codes "S")
+
+abbrev high_t : QName
+high_t = named (codes "High") (codes "T")
+
+abbrev by_var : List ℕ → QName → Desig
+by_var x q = parameter passing.VariableRecord x (ref.Named q)
+
+abbrev takes_var : QName → List TypedParameter
+takes_var q = parameter_of (codes "t") passing.VariableRecord (ref.Named q) ∷ []
+
+abbrev send_var : QName → List ℕ → QName → Stmt
+send_var q x t = call_bound q x receiver.Record (passed passing.VariableRecord (ValueOf (by_var (codes "t") t)) NoActual) nowhere
+
+abbrev give_t : QName → Stmt
+give_t q = call q (passed passing.VariableRecord (ValueOf (global (codes "High") (codes "t") (ref.Named high_t))) NoActual) nowhere
+
+abbrev low : Module
+low = unit_of (codes "Low") (type_of (codes "R") (record_type None []) ∷ []) []
+    (procedure (codes "R.P") (bound_to low_r receiver.Record (family_of low_r (codes "P"))) (takes_var low_r) None [] nowhere (says (codes "1") ∷ [])
+    ∷ procedure (codes "Use") None (takes_var low_r) None [] nowhere (send_var low_r (codes "P") low_r ∷ []) ∷ []) []
+
+abbrev mid : Module
+mid = unit_of (codes "Mid") (type_of (codes "S") (record_type (Some (ref.Named low_r)) []) ∷ []) []
+    (procedure (codes "S.hid") (bound_to mid_s receiver.Record (family_of mid_s (codes "hid"))) (takes_var mid_s) None [] nowhere (says (codes "2") ∷ [])
+    ∷ procedure (codes "Hide") None (takes_var mid_s) None [] nowhere (send_var mid_s (codes "hid") mid_s ∷ []) ∷ []) []
+
+abbrev high : Module
+high = unit_of (codes "High") (type_of (codes "T") (record_type (Some (ref.Named mid_s)) []) ∷ []) (variable_of (codes "t") (ref.Named high_t) ∷ [])
+    (procedure (codes "T.P") (bound_to high_t receiver.Record (family_of low_r (codes "P"))) (takes_var high_t) None [] nowhere
+    (says (codes "3") ∷ CallProper (Call (callee.Super mid_s (family_of low_r (codes "P")) receiver.Record) (passed passing.VariableRecord (ValueOf (by_var (codes "t") high_t)) NoActual) nowhere None) ∷ [])
+    ∷ procedure (codes "T.hid") (bound_to high_t receiver.Record (family_of high_t (codes "hid"))) (takes_var high_t) None [] nowhere (says (codes "x") ∷ [])
+    ∷ proper (codes "Go") (give_t (named (codes "Low") (codes "Use")) ∷ give_t (named (codes "Mid") (codes "Hide")) ∷ []) ∷ []) []
+
+hidden_between : outcome (run_all (low ∷ mid ∷ high ∷ []) (named (codes "High") (codes "Go")) 100) ≡ ends (codes "312")
+hidden_between = refl

@@ -54,6 +54,10 @@ body_procedure m = record {
   body = m.body;
 }
 
+-- a body has no name
+abbrev pub body_name : Module → QName
+body_name m = record { «module» = m.name; object = [] }
+
 abbrev pub run_first : Program → ℕ → QName → Procedure → M Flow
 run_first program heap q p = λ s. execs p.body (around program heap s.turns (calling program heap s.turns) q.module) (begun program q p [] s)
 
@@ -87,10 +91,12 @@ and_then program (Stops why s) rest = end_with (Some why) program s
 abbrev pub run_bodies : Program → List Module → ℕ → QName → State → Ended
 run_bodies program [] heap q s = run_command program heap q s
 run_bodies program (m ∷ ms) heap q s =
-    and_then (program ++ m ∷ []) (run_first (program ++ m ∷ []) heap (record { «module» = m.name; object = [] }) (body_procedure m) (with_module (program ++ m ∷ []) m s))
+    and_then (program ++ m ∷ []) (run_first (program ++ m ∷ []) heap (body_name m) (body_procedure m) (with_module (program ++ m ∷ []) m s))
     (run_bodies (program ++ m ∷ []) ms heap q)
+
+abbrev pub command_begins : System → ℕ → State
+command_begins system turns = record { store = system.store; calls = []; made = system.made; turns = turns; out = [] }
 
 -- a command with so many turns, over what is loaded and the modules that it brings in
 abbrev pub command : System → List Module → ℕ → ℕ → QName → Ended
-command system plan heap turns q =
-    run_bodies system.program plan heap q (record { store = system.store; calls = []; made = system.made; turns = turns; out = [] })
+command system plan heap turns q = run_bodies system.program plan heap q (command_begins system turns)

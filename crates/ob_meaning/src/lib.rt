@@ -2,7 +2,7 @@
 //! trees. There are definitions, and laws above them; there is no code.
 #![tactic(auto)]
 
-ghost use Rattle.ob_meaning.specs.Laws.{ExpressionsGoOn, StatementsGoOn, CommandsSpend, CommandsLoad};
+ghost use Rattle.ob_meaning.specs.Laws.{ExpressionsGoOn, StatementsGoOn, CommandsSpend, CommandsLoad, CommandsLeaveNoCalls};
 
 /// The law of expressions: whatever the program, the tree and the state, evaluating an
 /// expression never raises the turns that are left, and what was written before stands in front
@@ -28,4 +28,11 @@ pub fn commands_spend()
 /// them are.
 pub fn commands_load()
     ensures { CommandsLoad }
+{}
+
+/// The law of ends: each body that a command runs, and its procedure, begins with no active call;
+/// where it comes to its end, its own call is the only active one, and the end of that leaves none.
+/// What a command leaves has no active calls, also after a stop: what is loaded holds none.
+pub fn commands_leave_no_calls()
+    ensures { CommandsLeaveNoCalls }
 {}
