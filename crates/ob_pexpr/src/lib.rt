@@ -1,0 +1,13 @@
+//! Tokens from the front on, and the parser of names, designators and expressions.
+#![tactic(auto)]
+
+mod cursor;
+mod expr;
+mod fault;
+mod names;
+mod source;
+
+pub use cursor::Cursor;
+pub use expr::{designator, elements, exprs, nested_expr};
+pub use fault::ParseFault;
+pub use names::{ident_def, ident_list, qualident};
