@@ -1,5 +1,5 @@
 -- A module leaves no token.
-use Rattle.std.proofs.Common.{◌≡◌, refl, sym, ap, subst, ◌∙◌, ℕ, [], ◌∷◌, ◌++◌, Result, Ok, Err, append_assoc}
+use Rattle.std.proofs.Common.{◌≡◌, refl, sym, ap, subst, ◌∙◌, [], ◌∷◌, ◌++◌, Result, Ok, Err, append_assoc}
 use Rattle.ob_tree.specs.declared.symbol.Symbol.TheVariants as s
 use Rattle.ob_tree.specs.declared.token.Token.{Token}
 use Rattle.ob_tree.specs.declared.decl.Module.{Module}

@@ -1,4 +1,3 @@
-use Rattle.ob_parse.specs.Parsed.{limit}
 use Rattle.ob_parse.proofs.Ends.{says}
 use Rattle.ob_parse.proofs.modules.parse_from.Goals as goal
 

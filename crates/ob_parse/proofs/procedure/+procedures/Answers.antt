@@ -1,13 +1,9 @@
 use Rattle.std.proofs.Common.{◌≡◌, ◌∙◌, ◌≤◌, sym, arith}
-use Rattle.ob_tree.specs.declared.symbol.Symbol.TheVariants as s
-use Rattle.ob_grammar.specs.Phrase.{AType, many}
-use Rattle.ob_grammar.specs.Expressions as expr
-use Rattle.ob_grammar.specs.Types as types
+use Rattle.ob_grammar.specs.Phrase.{many}
 use Rattle.ob_grammar.specs.Declarations as spec
 use Rattle.ob_grammar.specs.Grammar.{reads}
-use Rattle.ob_grammar.proofs.Loops.{on_turn, join_turn, deeper, next_starts}
-use Rattle.ob_grammar.proofs.Local.{Takes}
-use Rattle.ob_parse.proofs.Turns.{takes_section, takes_field_list, takes_import_item, takes_constant, takes_named_type, takes_variables, takes_block, takes_procedure_item, constant_starts, named_type_starts, variables_starts, procedure_item_starts, fork_deep, fork_on}
+use Rattle.ob_grammar.proofs.Loops.{on_turn}
+use Rattle.ob_parse.proofs.Turns.{takes_procedure_item, procedure_item_starts, fork_deep, fork_on}
 use Rattle.ob_parse.proofs.procedure.+procedures.Goals as goal
 
 pub procedure_items-more-smaller : goal.procedure_items-more-smaller
