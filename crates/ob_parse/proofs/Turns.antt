@@ -7,9 +7,7 @@ use Rattle.ob_tree.specs.declared.pos.Pos.{Pos}
 use Rattle.ob_tree.specs.declared.decl.Decl.{Decl}
 use Rattle.ob_grammar.specs.Phrase.{Tokens, same, Procedure, Phrase, many, fork}
 use Rattle.ob_grammar.proofs.Basics.{found_value}
-use Rattle.ob_pexpr.specs.declared.fault.ParseFault.{ParseFault}
-use Rattle.ob_pexpr.specs.declared.fault.ParseFault.TheVariants as fault
-use Rattle.ob_pexpr.specs.Contract.{FailsAs, IsAt}
+use Rattle.ob_pexpr.specs.Contract.{IsAt}
 use Rattle.ob_grammar.specs.Reading.{Read, Found, Fails, Wrong, Deep, ◌>>=◌, starts, take_word}
 use Rattle.ob_grammar.specs.Expressions.{next_of, separated}
 use Rattle.ob_grammar.specs.Types.{section, field_list}
@@ -17,7 +15,7 @@ use Rattle.ob_grammar.specs.Declarations.{constant, named_type, variables, block
 use Rattle.ob_grammar.specs.Grammar.{reads, begins, is_full}
 use Rattle.ob_grammar.proofs.Fine.{every}
 use Rattle.ob_grammar.proofs.Local.{Takes}
-use Rattle.ob_grammar.proofs.Loops.{takes, after, many_fails, GoesOn, JoinsOn, deeper, not_full}
+use Rattle.ob_grammar.proofs.Loops.{takes, after, GoesOn, JoinsOn, deeper, not_full}
 
 pub takes_section : (d : ℕ) → Takes (begins (next_of s.Semicolon section)) (reads d (next_of s.Semicolon section))
 unfolding every
@@ -70,13 +68,6 @@ variables_starts (t ∷ ts) = or_no _ ∙ or_no _ ∙ or_no _
 pub procedure_item_starts : (ts : Tokens) → starts (begins procedure_item) ts ≡ starts (λ x. same x s.KwProcedure) ts
 procedure_item_starts [] = refl
 procedure_item_starts (t ∷ ts) = or_no _
-
--- where a turn fails, the whole list fails
-pub on_wrong : {A : Type 0} (d : ℕ) (p : Phrase A) (T : Takes (begins p) (reads d p)) (whole : Read (List A)) (xs : List A) (ts : Tokens) (e : ParseFault)
-    → GoesOn whole d p xs ts → starts (begins p) ts ≡ true → FailsAs e (reads d p ts) → FailsAs e whole
-on_wrong d p T whole xs ts fault.Memory g st h = tt
-on_wrong d p T whole xs ts (fault.Syntax pos) g st h = (h.0, g ∙ ap (after xs) (many_fails (begins p) (reads d p) T ts _ h.0 st h.1), h.2)
-on_wrong d p T whole xs ts (fault.TooDeep pos) g st h = (h.0, g ∙ ap (after xs) (many_fails (begins p) (reads d p) T ts _ h.0 st h.1), h.2)
 
 -- a list with its first item, and nothing more yet
 pub joins_first : {A : Type 0} (d : ℕ) (p : Phrase (List A)) (xs : List A) (ts : Tokens) (whole : Read (List (List A))) → whole ≡ after (xs ∷ []) (reads d (many p) ts) → JoinsOn whole d p xs ts

@@ -89,11 +89,7 @@ fn more_types(
     Ok(found)
 }
 
-fn variable_list(
-    alloc: Global,
-    tokens: &mut Cursor<'_>,
-    levels: usize,
-) -> Result<Decl, ParseFault>
+fn variable_list(alloc: Global, tokens: &mut Cursor<'_>, levels: usize) -> Result<Decl, ParseFault>
     ensures { Reads (reads levels spec.variables tokens.old) result tokens.new }
 {
     let names = ident_list(alloc, tokens)?;
@@ -130,11 +126,7 @@ fn more_variables(
     Ok(found)
 }
 
-fn block(
-    alloc: Global,
-    tokens: &mut Cursor<'_>,
-    levels: usize,
-) -> Result<List<Decl>, ParseFault>
+fn block(alloc: Global, tokens: &mut Cursor<'_>, levels: usize) -> Result<List<Decl>, ParseFault>
     ensures { Reads (reads levels spec.block tokens.old) result tokens.new }
 {
     if tokens.sees(Symbol::KwConst) {
@@ -163,11 +155,7 @@ pub fn blocks(
 }
 
 /// The heading of a procedure, behind its PROCEDURE.
-pub fn heading(
-    alloc: Global,
-    tokens: &mut Cursor<'_>,
-    levels: usize,
-) -> Result<Heading, ParseFault>
+pub fn heading(alloc: Global, tokens: &mut Cursor<'_>, levels: usize) -> Result<Heading, ParseFault>
     ensures { Reads (reads levels spec.heading tokens.old) result tokens.new }
 {
     let receiver = receiver(tokens)?;
@@ -181,11 +169,7 @@ pub fn heading(
 }
 
 /// A forward declaration, behind its PROCEDURE.
-pub fn forward(
-    alloc: Global,
-    tokens: &mut Cursor<'_>,
-    levels: usize,
-) -> Result<Decl, ParseFault>
+pub fn forward(alloc: Global, tokens: &mut Cursor<'_>, levels: usize) -> Result<Decl, ParseFault>
     ensures { Reads (reads levels spec.forward tokens.old) result tokens.new }
 {
     tokens.expect(Symbol::Caret)?;

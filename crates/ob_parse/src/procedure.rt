@@ -14,11 +14,7 @@ use ob_tree::{Decl, List, Stmt, Symbol};
 use std::alloc::Global;
 
 /// The statements behind BEGIN; none where that is not written.
-pub fn body(
-    alloc: Global,
-    tokens: &mut Cursor<'_>,
-    levels: usize,
-) -> Result<List<Stmt>, ParseFault>
+pub fn body(alloc: Global, tokens: &mut Cursor<'_>, levels: usize) -> Result<List<Stmt>, ParseFault>
     ensures { Reads (reads levels spec.body tokens.old) result tokens.new }
 {
     if tokens.sees(Symbol::KwBegin) {
@@ -66,11 +62,7 @@ fn forked(alloc: Global, tokens: &mut Cursor<'_>, levels: usize) -> Result<Decl,
 }
 
 #[cycle(procedures)]
-fn procedure_item(
-    alloc: Global,
-    tokens: &mut Cursor<'_>,
-    levels: usize,
-) -> Result<Decl, ParseFault>
+fn procedure_item(alloc: Global, tokens: &mut Cursor<'_>, levels: usize) -> Result<Decl, ParseFault>
     ensures { Reads (reads levels spec.procedure_item tokens.old) result tokens.new }
 {
     let x = forked(alloc, tokens, levels)?;

@@ -17,11 +17,7 @@ use std::alloc::Global;
 // ---- parameters
 
 #[cycle(types)]
-fn section(
-    alloc: Global,
-    tokens: &mut Cursor<'_>,
-    levels: usize,
-) -> Result<Section, ParseFault>
+fn section(alloc: Global, tokens: &mut Cursor<'_>, levels: usize) -> Result<Section, ParseFault>
     ensures { Reads (reads levels spec.section tokens.old) result tokens.new }
 {
     let is_var = is_var(tokens)?;
@@ -124,11 +120,7 @@ pub fn parameters(
 // ---- fields
 
 #[cycle(types)]
-fn fields(
-    alloc: Global,
-    tokens: &mut Cursor<'_>,
-    levels: usize,
-) -> Result<FieldList, ParseFault>
+fn fields(alloc: Global, tokens: &mut Cursor<'_>, levels: usize) -> Result<FieldList, ParseFault>
     ensures { Reads (reads levels spec.fields tokens.old) result tokens.new }
 {
     let names = ident_list(alloc, tokens)?;
@@ -220,11 +212,7 @@ fn record_type(
 }
 
 #[cycle(types)]
-fn pointer(
-    alloc: Global,
-    tokens: &mut Cursor<'_>,
-    levels: usize,
-) -> Result<TypeNode, ParseFault>
+fn pointer(alloc: Global, tokens: &mut Cursor<'_>, levels: usize) -> Result<TypeNode, ParseFault>
     ensures { Reads (reads levels spec.pointer tokens.old) result tokens.new }
 {
     let pos = tokens.expect(Symbol::KwPointer)?;
@@ -255,11 +243,7 @@ fn named(tokens: &mut Cursor<'_>) -> Result<TypeNode, ParseFault>
 }
 
 #[cycle(types)]
-fn type_node(
-    alloc: Global,
-    tokens: &mut Cursor<'_>,
-    levels: usize,
-) -> Result<TypeNode, ParseFault>
+fn type_node(alloc: Global, tokens: &mut Cursor<'_>, levels: usize) -> Result<TypeNode, ParseFault>
     ensures { Reads (reads levels spec.type_node tokens.old) result tokens.new }
 {
     if tokens.sees(Symbol::Ident) {
