@@ -15,7 +15,7 @@ use Rattle.ob_grammar.specs.Declarations.{constant, named_type, variables, block
 use Rattle.ob_grammar.specs.Grammar.{reads, begins, is_full}
 use Rattle.ob_grammar.proofs.Fine.{every}
 use Rattle.ob_grammar.proofs.Local.{Takes}
-use Rattle.ob_grammar.proofs.Loops.{takes, after, GoesOn, JoinsOn, deeper, not_full}
+use Rattle.ob_grammar.proofs.Loops.{takes, after, JoinsOn, deeper, not_full}
 
 pub takes_section : (d : ℕ) → Takes (begins (next_of s.Semicolon section)) (reads d (next_of s.Semicolon section))
 unfolding every
