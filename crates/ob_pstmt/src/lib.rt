@@ -1,0 +1,6 @@
+//! The parser of statements, a function for each rule of the grammar.
+#![tactic(auto)]
+
+mod stmt;
+
+pub use stmt::nested_statements;
