@@ -23,6 +23,15 @@ abbrev pub Reads : {A : Type 0} → Read A → Result A ParseFault → Tokens �
 Reads r (Ok x) new = r ≡ Found x new
 Reads r (Err e) new = FailsAs e r
 
+-- the same symbol with the same text at the same place
+abbrev pub Alike : Token → Token → Type 0
+Alike t u = (t.symbol ≡ u.symbol) × (t.text.now ≡ u.text.now) × (t.pos ≡ u.pos)
+
+-- a token was read, and a like one is given
+abbrev pub Gives : Read Token → Result Token ParseFault → Tokens → Type 0
+Gives r (Ok u) new = (t : Token) × (r ≡ Found t new) × Alike t u
+Gives r (Err e) new = FailsAs e r
+
 -- a symbol was taken, and the place of its token is known
 abbrev pub Takes : Symbol → Tokens → Result Pos ParseFault → Tokens → Type 0
 Takes x old (Ok pos) new = (t : Token) × (take_word x old ≡ Found t new) × (pos ≡ t.pos)

@@ -2,13 +2,13 @@
 
 ghost use Rattle.std.specs.Prelude.{◌≡◌, ◌+◌, ◌<◌, ◌^◌, length, drop};
 ghost use Rattle.ob_tree.specs.declared.symbol.Symbol.TheVariants as s;
-ghost use Rattle.ob_grammar.specs.Phrase.{same};
+ghost use Rattle.ob_grammar.specs.Phrase.{same, AnExpr, Negated};
 ghost use Rattle.ob_grammar.specs.Reading.{Wrong, Deep, starts, take_word};
 ghost use Rattle.ob_grammar.specs.Expressions as spec;
-ghost use Rattle.ob_grammar.specs.Grammar.{reads};
+ghost use Rattle.ob_grammar.specs.Grammar.{reads, read, begins, first_of};
 ghost use Rattle.ob_scan.specs.Scanning.{start_of};
 ghost use Rattle.ob_pexpr.specs.Left.{NamesFit, tokens_of};
-ghost use Rattle.ob_pexpr.specs.Contract.{IsAt, IsFault, Reads, Takes};
+ghost use Rattle.ob_pexpr.specs.Contract.{IsAt, IsFault, FailsAs, Gives, Reads, Takes};
 
 use crate::fault::ParseFault;
 use crate::source::Source;
@@ -92,11 +92,19 @@ impl<'a> Cursor<'a> {
 }
 
 impl<'a> Cursor<'a> {
+    /// Takes the next token where it is this symbol; else Syntax at it.
+    pub fn token(&mut self, symbol: Symbol) -> Result<Token<'a>, ParseFault>
+        ensures { Gives (take_word symbol self.old) result self.new }
+    {
+        Err(ParseFault::Memory)
+    }
+
     /// Takes the next token where it is this symbol, and gives its place; else Syntax at it.
     pub fn expect(&mut self, symbol: Symbol) -> Result<Pos, ParseFault>
         ensures { Takes symbol self.old result self.new }
     {
-        Err(ParseFault::Memory)
+        let t = self.token(symbol)?;
+        Ok(t.pos)
     }
 
     /// Takes an identifier; else Syntax at the next token.
@@ -105,4 +113,177 @@ impl<'a> Cursor<'a> {
     {
         Err(ParseFault::Memory)
     }
+}
+
+// ---- sets of symbols
+
+impl<'a> Cursor<'a> {
+    /// Whether a selector begins here.
+    pub fn sees_selector(&self) -> bool
+        ensures { result ≡ starts (begins spec.selector) self.now }
+    {
+        self.sees(Symbol::Dot)
+            || self.sees(Symbol::LeftSquare)
+            || self.sees(Symbol::Caret)
+            || self.sees(Symbol::LeftRound)
+    }
+
+    /// Whether an expression begins here.
+    pub fn sees_expr(&self) -> bool
+        ensures { result ≡ starts (first_of AnExpr) self.now }
+    {
+        match &self.next {
+            None => false,
+            Some(t) => begins_expr(t.symbol),
+        }
+    }
+
+    /// Whether `*`, `/`, DIV, MOD or `&` stands here.
+    pub fn sees_mul_op(&self) -> bool
+        ensures { result ≡ starts (begins spec.mul_op) self.now }
+    {
+        self.sees(Symbol::Star)
+            || self.sees(Symbol::Slash)
+            || self.sees(Symbol::KwDiv)
+            || self.sees(Symbol::KwMod)
+            || self.sees(Symbol::Ampersand)
+    }
+
+    /// Whether `+`, `-` or OR stands here.
+    pub fn sees_add_op(&self) -> bool
+        ensures { result ≡ starts (begins spec.add_op) self.now }
+    {
+        self.sees(Symbol::Plus) || self.sees(Symbol::Minus) || self.sees(Symbol::KwOr)
+    }
+
+    /// Whether a sign stands here.
+    pub fn sees_sign(&self) -> bool
+        ensures { result ≡ starts (begins spec.sign_symbol) self.now }
+    {
+        self.sees(Symbol::Plus) || self.sees(Symbol::Minus)
+    }
+
+    /// Whether a relation stands here.
+    pub fn sees_relation(&self) -> bool
+        ensures { result ≡ starts (begins spec.relation) self.now }
+    {
+        self.sees(Symbol::Equal)
+            || self.sees(Symbol::Hash)
+            || self.sees(Symbol::Less)
+            || self.sees(Symbol::LessEqual)
+            || self.sees(Symbol::Greater)
+            || self.sees(Symbol::GreaterEqual)
+            || self.sees(Symbol::KwIn)
+            || self.sees(Symbol::KwIs)
+    }
+}
+
+impl<'a> Cursor<'a> {
+    /// Takes `*`, `/`, DIV, MOD or `&`; else Syntax.
+    pub fn mul_op(&mut self) -> Result<Token<'a>, ParseFault>
+        ensures { Gives (reads 0 spec.mul_op self.old) result self.new }
+    {
+        if self.sees(Symbol::Star) {
+            self.token(Symbol::Star)
+        } else if self.sees(Symbol::Slash) {
+            self.token(Symbol::Slash)
+        } else if self.sees(Symbol::KwDiv) {
+            self.token(Symbol::KwDiv)
+        } else if self.sees(Symbol::KwMod) {
+            self.token(Symbol::KwMod)
+        } else {
+            self.token(Symbol::Ampersand)
+        }
+    }
+
+    /// Takes `+`, `-` or OR; else Syntax.
+    pub fn add_op(&mut self) -> Result<Token<'a>, ParseFault>
+        ensures { Gives (reads 0 spec.add_op self.old) result self.new }
+    {
+        if self.sees(Symbol::Plus) {
+            self.token(Symbol::Plus)
+        } else if self.sees(Symbol::Minus) {
+            self.token(Symbol::Minus)
+        } else {
+            self.token(Symbol::KwOr)
+        }
+    }
+
+    /// Takes a sign; else Syntax.
+    pub fn sign(&mut self) -> Result<Token<'a>, ParseFault>
+        ensures { Gives (reads 0 spec.sign_symbol self.old) result self.new }
+    {
+        if self.sees(Symbol::Plus) {
+            self.token(Symbol::Plus)
+        } else {
+            self.token(Symbol::Minus)
+        }
+    }
+
+    /// Takes a relation; else Syntax.
+    pub fn relation(&mut self) -> Result<Token<'a>, ParseFault>
+        ensures { Gives (reads 0 spec.relation self.old) result self.new }
+    {
+        if self.sees(Symbol::Equal) {
+            self.token(Symbol::Equal)
+        } else if self.sees(Symbol::Hash) {
+            self.token(Symbol::Hash)
+        } else if self.sees(Symbol::Less) {
+            self.token(Symbol::Less)
+        } else if self.sees(Symbol::LessEqual) {
+            self.token(Symbol::LessEqual)
+        } else if self.sees(Symbol::Greater) {
+            self.token(Symbol::Greater)
+        } else if self.sees(Symbol::GreaterEqual) {
+            self.token(Symbol::GreaterEqual)
+        } else if self.sees(Symbol::KwIn) {
+            self.token(Symbol::KwIn)
+        } else {
+            self.token(Symbol::KwIs)
+        }
+    }
+}
+
+// ---- where no level is left
+
+impl<'a> Cursor<'a> {
+    /// Where no level is left for an expression: TooDeep where one begins here, else Syntax.
+    pub fn fault_at_expr(&self) -> ParseFault
+        ensures { FailsAs result (read 0 AnExpr self.now) }
+    {
+        if self.sees_expr() {
+            self.too_deep()
+        } else {
+            self.wrong()
+        }
+    }
+
+    /// Where no level is left for `~`: TooDeep where it stands here, else Syntax.
+    pub fn fault_at_negation(&self) -> ParseFault
+        ensures { FailsAs result (read 0 Negated self.now) }
+    {
+        if self.sees(Symbol::Tilde) {
+            self.too_deep()
+        } else {
+            self.wrong()
+        }
+    }
+}
+
+fn begins_expr(symbol: Symbol) -> bool
+    ensures { result ≡ first_of AnExpr symbol }
+{
+    matches!(
+        symbol,
+        Symbol::Ident
+            | Symbol::Int
+            | Symbol::Char
+            | Symbol::Str
+            | Symbol::KwNil
+            | Symbol::LeftCurly
+            | Symbol::LeftRound
+            | Symbol::Tilde
+            | Symbol::Plus
+            | Symbol::Minus
+    )
 }

@@ -2,16 +2,239 @@
 //! levels of nesting are left.
 
 ghost use Rattle.std.specs.Prelude.{◌≡◌};
-ghost use Rattle.ob_grammar.specs.Phrase.{AnExpr};
+ghost use Rattle.ob_tree.specs.declared.symbol.Symbol.TheVariants as s;
+ghost use Rattle.ob_grammar.specs.Phrase.{AnExpr, Negated, many, nest};
 ghost use Rattle.ob_grammar.specs.Expressions as spec;
 ghost use Rattle.ob_grammar.specs.Grammar.{reads, read};
 ghost use Rattle.ob_pexpr.specs.Contract.{Reads};
 
 use crate::cursor::Cursor;
 use crate::fault::ParseFault;
-use ob_tree::{Boxed, Designator, Element, Expr, List, Symbol};
+use crate::plain::{chain, char, deref, field, int, nil, operator_of, relation_of, sign_of, string};
+use ob_tree::{Boxed, Designator, Element, Expr, List, Selector, Symbol, Tail};
 use std::alloc::Global;
 
+// ---- selectors
+
+#[cycle(expr)]
+fn further_index(
+    alloc: Global,
+    tokens: &mut Cursor<'_>,
+    levels: usize,
+) -> Result<Selector, ParseFault>
+    ensures { Reads (reads levels spec.further_index tokens.old) result tokens.new }
+{
+    let pos = tokens.expect(Symbol::Comma)?;
+    let index = nested_expr(alloc, tokens, levels)?;
+    Ok(Selector::Index { pos, index })
+}
+
+#[cycle(expr)]
+fn further_indexes(
+    alloc: Global,
+    tokens: &mut Cursor<'_>,
+    levels: usize,
+) -> Result<List<Selector>, ParseFault>
+    ensures { Reads (reads levels (many spec.further_index) tokens.old) result tokens.new }
+{
+    let mut found = List::new(alloc);
+    'more: while tokens.sees(Symbol::Comma) {
+        let x = further_index(alloc, tokens, levels)?;
+        found.push(x)?;
+    }
+    Ok(found)
+}
+
+#[cycle(expr)]
+fn index(
+    alloc: Global,
+    tokens: &mut Cursor<'_>,
+    levels: usize,
+) -> Result<List<Selector>, ParseFault>
+    ensures { Reads (reads levels spec.index tokens.old) result tokens.new }
+{
+    let pos = tokens.expect(Symbol::LeftSquare)?;
+    let index = nested_expr(alloc, tokens, levels)?;
+    let further = further_indexes(alloc, tokens, levels)?;
+    tokens.expect(Symbol::RightSquare)?;
+    let mut found = List::new(alloc);
+    found.push(Selector::Index { pos, index })?;
+    found.append(further)?;
+    Ok(found)
+}
+
+#[cycle(expr)]
+fn next_expr(
+    alloc: Global,
+    tokens: &mut Cursor<'_>,
+    levels: usize,
+) -> Result<Expr, ParseFault>
+    ensures { Reads (reads levels (spec.next_of s.Comma (nest AnExpr)) tokens.old) result tokens.new }
+{
+    tokens.expect(Symbol::Comma)?;
+    let x = nested_expr(alloc, tokens, levels)?;
+    Ok(x)
+}
+
+/// Expressions with commas between; at least one.
+#[cycle(expr)]
+pub fn exprs(
+    alloc: Global,
+    tokens: &mut Cursor<'_>,
+    levels: usize,
+) -> Result<List<Expr>, ParseFault>
+    ensures { Reads (reads levels spec.exprs tokens.old) result tokens.new }
+{
+    let first = nested_expr(alloc, tokens, levels)?;
+    let mut found = List::new(alloc);
+    found.push(first)?;
+    'more: while tokens.sees(Symbol::Comma) {
+        let x = next_expr(alloc, tokens, levels)?;
+        found.push(x)?;
+    }
+    Ok(found)
+}
+
+#[cycle(expr)]
+fn call(
+    alloc: Global,
+    tokens: &mut Cursor<'_>,
+    levels: usize,
+) -> Result<List<Selector>, ParseFault>
+    ensures { Reads (reads levels spec.call tokens.old) result tokens.new }
+{
+    let pos = tokens.expect(Symbol::LeftRound)?;
+    let arguments = if tokens.sees_expr() {
+        exprs(alloc, tokens, levels)?
+    } else {
+        List::new(alloc)
+    };
+    tokens.expect(Symbol::RightRound)?;
+    let mut found = List::new(alloc);
+    found.push(Selector::Call { pos, arguments })?;
+    Ok(found)
+}
+
+#[cycle(expr)]
+fn selector(
+    alloc: Global,
+    tokens: &mut Cursor<'_>,
+    levels: usize,
+) -> Result<List<Selector>, ParseFault>
+    ensures { Reads (reads levels spec.selector tokens.old) result tokens.new }
+{
+    if tokens.sees(Symbol::Dot) {
+        field(alloc, tokens)
+    } else if tokens.sees(Symbol::LeftSquare) {
+        index(alloc, tokens, levels)
+    } else if tokens.sees(Symbol::Caret) {
+        deref(alloc, tokens)
+    } else {
+        call(alloc, tokens, levels)
+    }
+}
+
+#[cycle(expr)]
+fn selectors(
+    alloc: Global,
+    tokens: &mut Cursor<'_>,
+    levels: usize,
+) -> Result<List<Selector>, ParseFault>
+    ensures { Reads (reads levels spec.selectors tokens.old) result tokens.new }
+{
+    let mut found = List::new(alloc);
+    'more: while tokens.sees_selector() {
+        let x = selector(alloc, tokens, levels)?;
+        found.append(x)?;
+    }
+    Ok(found)
+}
+
+/// A name and its selectors, where so many levels are left; else the fault at the token at
+/// fault.
+#[cycle(expr)]
+pub fn designator(
+    alloc: Global,
+    tokens: &mut Cursor<'_>,
+    levels: usize,
+) -> Result<Designator, ParseFault>
+    ensures { Reads (reads levels spec.designator tokens.old) result tokens.new }
+{
+    let ident = tokens.ident()?;
+    let selectors = selectors(alloc, tokens, levels)?;
+    Ok(Designator { ident, selectors })
+}
+
+// ---- factors
+
+#[cycle(expr)]
+fn element(
+    alloc: Global,
+    tokens: &mut Cursor<'_>,
+    levels: usize,
+) -> Result<Element, ParseFault>
+    ensures { Reads (reads levels spec.element tokens.old) result tokens.new }
+{
+    let low = nested_expr(alloc, tokens, levels)?;
+    if tokens.sees(Symbol::DotDot) {
+        tokens.expect(Symbol::DotDot)?;
+        let high = nested_expr(alloc, tokens, levels)?;
+        Ok(Element {
+            low,
+            high: Some(high),
+        })
+    } else {
+        Ok(Element { low, high: None })
+    }
+}
+
+#[cycle(expr)]
+fn next_element(
+    alloc: Global,
+    tokens: &mut Cursor<'_>,
+    levels: usize,
+) -> Result<Element, ParseFault>
+    ensures { Reads (reads levels (spec.next_of s.Comma spec.element) tokens.old) result tokens.new }
+{
+    tokens.expect(Symbol::Comma)?;
+    let x = element(alloc, tokens, levels)?;
+    Ok(x)
+}
+
+/// Elements of a set, or labels of a case, with commas between; at least one.
+#[cycle(expr)]
+pub fn elements(
+    alloc: Global,
+    tokens: &mut Cursor<'_>,
+    levels: usize,
+) -> Result<List<Element>, ParseFault>
+    ensures { Reads (reads levels spec.elements tokens.old) result tokens.new }
+{
+    let first = element(alloc, tokens, levels)?;
+    let mut found = List::new(alloc);
+    found.push(first)?;
+    'more: while tokens.sees(Symbol::Comma) {
+        let x = next_element(alloc, tokens, levels)?;
+        found.push(x)?;
+    }
+    Ok(found)
+}
+
+#[cycle(expr)]
+fn set(alloc: Global, tokens: &mut Cursor<'_>, levels: usize) -> Result<Expr, ParseFault>
+    ensures { Reads (reads levels spec.set tokens.old) result tokens.new }
+{
+    let pos = tokens.expect(Symbol::LeftCurly)?;
+    let elements = if tokens.sees_expr() {
+        elements(alloc, tokens, levels)?
+    } else {
+        List::new(alloc)
+    };
+    tokens.expect(Symbol::RightCurly)?;
+    Ok(Expr::Set { pos, elements })
+}
+
+#[cycle(expr)]
 fn paren(alloc: Global, tokens: &mut Cursor<'_>, levels: usize) -> Result<Expr, ParseFault>
     ensures { Reads (reads levels spec.paren tokens.old) result tokens.new }
 {
@@ -22,18 +245,172 @@ fn paren(alloc: Global, tokens: &mut Cursor<'_>, levels: usize) -> Result<Expr, 
     Ok(Expr::Paren { pos, inner })
 }
 
-/// A name and its selectors, where so many levels are left; else the fault at the token at fault.
-pub fn designator(
+#[cycle(expr)]
+fn negation(alloc: Global, tokens: &mut Cursor<'_>, levels: usize) -> Result<Expr, ParseFault>
+    ensures { Reads (reads levels spec.negated tokens.old) result tokens.new }
+{
+    let pos = tokens.expect(Symbol::Tilde)?;
+    let operand = factor(alloc, tokens, levels)?;
+    let operand = Boxed::new(alloc, operand)?;
+    Ok(Expr::Not { pos, operand })
+}
+
+// `~` and what it negates take a level.
+#[cycle(expr)]
+fn negated(alloc: Global, tokens: &mut Cursor<'_>, levels: usize) -> Result<Expr, ParseFault>
+    ensures { Reads (read levels Negated tokens.old) result tokens.new }
+{
+    if levels == 0 {
+        return Err(tokens.fault_at_negation());
+    }
+    negation(alloc, tokens, levels - 1)
+}
+
+#[cycle(expr)]
+fn factor(alloc: Global, tokens: &mut Cursor<'_>, levels: usize) -> Result<Expr, ParseFault>
+    ensures { Reads (reads levels spec.factor tokens.old) result tokens.new }
+{
+    if tokens.sees(Symbol::Ident) {
+        let named = designator(alloc, tokens, levels)?;
+        Ok(Expr::Designator(named))
+    } else if tokens.sees(Symbol::Int) {
+        int(alloc, tokens)
+    } else if tokens.sees(Symbol::Char) {
+        char(alloc, tokens)
+    } else if tokens.sees(Symbol::Str) {
+        string(alloc, tokens)
+    } else if tokens.sees(Symbol::KwNil) {
+        nil(tokens)
+    } else if tokens.sees(Symbol::LeftCurly) {
+        set(alloc, tokens, levels)
+    } else if tokens.sees(Symbol::LeftRound) {
+        paren(alloc, tokens, levels)
+    } else {
+        negated(alloc, tokens, levels)
+    }
+}
+
+// ---- chains
+
+#[cycle(expr)]
+fn mul_tail(alloc: Global, tokens: &mut Cursor<'_>, levels: usize) -> Result<Tail, ParseFault>
+    ensures { Reads (reads levels spec.mul_tail tokens.old) result tokens.new }
+{
+    let by = tokens.mul_op()?;
+    let operand = factor(alloc, tokens, levels)?;
+    Ok(Tail {
+        operator: operator_of(by.symbol),
+        pos: by.pos,
+        operand,
+    })
+}
+
+#[cycle(expr)]
+fn mul_tails(
     alloc: Global,
     tokens: &mut Cursor<'_>,
     levels: usize,
-) -> Result<Designator, ParseFault>
-    ensures { Reads (reads levels spec.designator tokens.old) result tokens.new }
+) -> Result<List<Tail>, ParseFault>
+    ensures { Reads (reads levels (many spec.mul_tail) tokens.old) result tokens.new }
 {
-    Err(ParseFault::Memory)
+    let mut found = List::new(alloc);
+    'more: while tokens.sees_mul_op() {
+        let x = mul_tail(alloc, tokens, levels)?;
+        found.push(x)?;
+    }
+    Ok(found)
+}
+
+#[cycle(expr)]
+fn term(alloc: Global, tokens: &mut Cursor<'_>, levels: usize) -> Result<Expr, ParseFault>
+    ensures { Reads (reads levels spec.term tokens.old) result tokens.new }
+{
+    let first = factor(alloc, tokens, levels)?;
+    let tails = mul_tails(alloc, tokens, levels)?;
+    let whole = chain(alloc, first, tails)?;
+    Ok(whole)
+}
+
+#[cycle(expr)]
+fn signed(alloc: Global, tokens: &mut Cursor<'_>, levels: usize) -> Result<Expr, ParseFault>
+    ensures { Reads (reads levels spec.signed tokens.old) result tokens.new }
+{
+    if tokens.sees_sign() {
+        let by = tokens.sign()?;
+        let operand = term(alloc, tokens, levels)?;
+        let operand = Boxed::new(alloc, operand)?;
+        Ok(Expr::Signed {
+            sign: sign_of(by.symbol),
+            pos: by.pos,
+            operand,
+        })
+    } else {
+        term(alloc, tokens, levels)
+    }
+}
+
+#[cycle(expr)]
+fn add_tail(alloc: Global, tokens: &mut Cursor<'_>, levels: usize) -> Result<Tail, ParseFault>
+    ensures { Reads (reads levels spec.add_tail tokens.old) result tokens.new }
+{
+    let by = tokens.add_op()?;
+    let operand = term(alloc, tokens, levels)?;
+    Ok(Tail {
+        operator: operator_of(by.symbol),
+        pos: by.pos,
+        operand,
+    })
+}
+
+#[cycle(expr)]
+fn add_tails(
+    alloc: Global,
+    tokens: &mut Cursor<'_>,
+    levels: usize,
+) -> Result<List<Tail>, ParseFault>
+    ensures { Reads (reads levels (many spec.add_tail) tokens.old) result tokens.new }
+{
+    let mut found = List::new(alloc);
+    'more: while tokens.sees_add_op() {
+        let x = add_tail(alloc, tokens, levels)?;
+        found.push(x)?;
+    }
+    Ok(found)
+}
+
+#[cycle(expr)]
+fn simple(alloc: Global, tokens: &mut Cursor<'_>, levels: usize) -> Result<Expr, ParseFault>
+    ensures { Reads (reads levels spec.simple tokens.old) result tokens.new }
+{
+    let first = signed(alloc, tokens, levels)?;
+    let tails = add_tails(alloc, tokens, levels)?;
+    let whole = chain(alloc, first, tails)?;
+    Ok(whole)
+}
+
+#[cycle(expr)]
+fn expr(alloc: Global, tokens: &mut Cursor<'_>, levels: usize) -> Result<Expr, ParseFault>
+    ensures { Reads (reads levels spec.expr tokens.old) result tokens.new }
+{
+    let left = simple(alloc, tokens, levels)?;
+    if tokens.sees_relation() {
+        let by = tokens.relation()?;
+        let right = simple(alloc, tokens, levels)?;
+        let left = Boxed::new(alloc, left)?;
+        let right = Boxed::new(alloc, right)?;
+        Ok(Expr::Relate {
+            left,
+            relation: relation_of(by.symbol),
+            pos: by.pos,
+            right,
+        })
+    } else {
+        Ok(left)
+    }
 }
 
 /// An expression, which takes one of the levels that are left.
+#[cycle(expr)]
 pub fn nested_expr(
     alloc: Global,
     tokens: &mut Cursor<'_>,
@@ -41,27 +418,8 @@ pub fn nested_expr(
 ) -> Result<Expr, ParseFault>
     ensures { Reads (read levels AnExpr tokens.old) result tokens.new }
 {
-    Err(ParseFault::Memory)
-}
-
-/// Expressions with commas between; at least one.
-pub fn exprs(
-    alloc: Global,
-    tokens: &mut Cursor<'_>,
-    levels: usize,
-) -> Result<List<Expr>, ParseFault>
-    ensures { Reads (reads levels spec.exprs tokens.old) result tokens.new }
-{
-    Err(ParseFault::Memory)
-}
-
-/// Elements of a set, or labels of a case, with commas between; at least one.
-pub fn elements(
-    alloc: Global,
-    tokens: &mut Cursor<'_>,
-    levels: usize,
-) -> Result<List<Element>, ParseFault>
-    ensures { Reads (reads levels spec.elements tokens.old) result tokens.new }
-{
-    Err(ParseFault::Memory)
+    if levels == 0 {
+        return Err(tokens.fault_at_expr());
+    }
+    expr(alloc, tokens, levels - 1)
 }

@@ -5,6 +5,7 @@ mod cursor;
 mod expr;
 mod fault;
 mod names;
+mod plain;
 mod source;
 
 pub use cursor::Cursor;

@@ -1,0 +1,52 @@
+-- What is repeated takes a token each time, and how it starts.
+use Rattle.std.proofs.Common.{◌≡◌, refl, ℕ, Bool, true, false, ◌||◌, [], ◌∷◌}
+use Rattle.ob_tree.specs.declared.symbol.Symbol.TheVariants as s
+use Rattle.ob_grammar.specs.Phrase.{Tokens, same, AnExpr, nest}
+use Rattle.ob_grammar.specs.Reading.{starts}
+use Rattle.ob_grammar.specs.Expressions.{next_of, further_index, mul_op, mul_tail, add_op, add_tail, selector, element}
+use Rattle.ob_grammar.specs.Grammar.{reads, begins}
+use Rattle.ob_grammar.proofs.Fine.{every}
+use Rattle.ob_grammar.proofs.Local.{Takes}
+use Rattle.ob_grammar.proofs.Loops.{takes}
+
+pub takes_further : (d : ℕ) → Takes (begins further_index) (reads d further_index)
+unfolding every
+takes_further d = takes d further_index refl refl
+
+pub takes_mul : (d : ℕ) → Takes (begins mul_tail) (reads d mul_tail)
+unfolding every
+takes_mul d = takes d mul_tail refl refl
+
+pub takes_add : (d : ℕ) → Takes (begins add_tail) (reads d add_tail)
+unfolding every
+takes_add d = takes d add_tail refl refl
+
+pub takes_selector : (d : ℕ) → Takes (begins selector) (reads d selector)
+unfolding every
+takes_selector d = takes d selector refl refl
+
+pub takes_expr : (d : ℕ) → Takes (begins (next_of s.Comma (nest AnExpr))) (reads d (next_of s.Comma (nest AnExpr)))
+unfolding every
+takes_expr d = takes d (next_of s.Comma (nest AnExpr)) refl refl
+
+pub takes_element : (d : ℕ) → Takes (begins (next_of s.Comma element)) (reads d (next_of s.Comma element))
+unfolding every
+takes_element d = takes d (next_of s.Comma element) refl refl
+
+or_no : (b : Bool) → (b || false) ≡ b
+or_no true = refl
+or_no false = refl
+
+-- a further index starts with its comma
+pub further_starts : (ts : Tokens) → starts (begins further_index) ts ≡ starts (λ x. same x s.Comma) ts
+further_starts [] = refl
+further_starts (t ∷ ts) = or_no _
+
+-- a tail starts with its operator
+pub mul_starts : (ts : Tokens) → starts (begins mul_tail) ts ≡ starts (begins mul_op) ts
+mul_starts [] = refl
+mul_starts (t ∷ ts) = or_no _
+
+pub add_starts : (ts : Tokens) → starts (begins add_tail) ts ≡ starts (begins add_op) ts
+add_starts [] = refl
+add_starts (t ∷ ts) = or_no _

@@ -1,0 +1,63 @@
+use Rattle.std.proofs.Common.{◌≡◌, ◌∙◌, ◌≤◌, sym, true, false, arith}
+use Rattle.ob_tree.specs.declared.symbol.Symbol.TheVariants as s
+use Rattle.ob_grammar.specs.Phrase.{AnExpr, Negated, many, nest}
+use Rattle.ob_grammar.specs.Expressions as spec
+use Rattle.ob_grammar.specs.Grammar.{reads}
+use Rattle.ob_grammar.proofs.Loops.{on_turn, join_turn, deeper, next_starts}
+use Rattle.ob_grammar.proofs.Local.{Takes}
+use Rattle.ob_pexpr.proofs.Turns.{takes_further, takes_mul, takes_add, takes_selector, takes_expr, takes_element, further_starts, mul_starts, add_starts}
+use Rattle.ob_pexpr.proofs.expr.+expr.Goals as goal
+
+pub further_indexes-more-smaller : goal.further_indexes-more-smaller
+further_indexes-more-smaller t c = (takes_further c.args.levels).falls c.more.tokens _ c.further_index.new.tokens (further_starts c.more.tokens ∙ sym c.sees.ensures ∙ c.more-test.true) c.in_ok-x.ensures
+
+pub further_indexes-more-preserved : goal.further_indexes-more-preserved
+further_indexes-more-preserved t c = rw c.in_ok-push.ensures.ok
+    (on_turn c.args.levels spec.further_index (takes_further c.args.levels) (reads c.args.levels (many spec.further_index) c.args.tokens.now) c.more.found c.more.tokens _ c.further_index.new.tokens
+    c.more.invariant (further_starts c.more.tokens ∙ sym c.sees.ensures ∙ c.more-test.true) c.in_ok-x.ensures)
+
+pub mul_tails-more-smaller : goal.mul_tails-more-smaller
+mul_tails-more-smaller t c = (takes_mul c.args.levels).falls c.more.tokens _ c.mul_tail.new.tokens (mul_starts c.more.tokens ∙ sym c.sees_mul_op.ensures ∙ c.more-test.true) c.in_ok-x.ensures
+
+pub mul_tails-more-preserved : goal.mul_tails-more-preserved
+mul_tails-more-preserved t c = rw c.in_ok-push.ensures.ok
+    (on_turn c.args.levels spec.mul_tail (takes_mul c.args.levels) (reads c.args.levels (many spec.mul_tail) c.args.tokens.now) c.more.found c.more.tokens _ c.mul_tail.new.tokens
+    c.more.invariant (mul_starts c.more.tokens ∙ sym c.sees_mul_op.ensures ∙ c.more-test.true) c.in_ok-x.ensures)
+
+pub add_tails-more-smaller : goal.add_tails-more-smaller
+add_tails-more-smaller t c = (takes_add c.args.levels).falls c.more.tokens _ c.add_tail.new.tokens (add_starts c.more.tokens ∙ sym c.sees_add_op.ensures ∙ c.more-test.true) c.in_ok-x.ensures
+
+pub add_tails-more-preserved : goal.add_tails-more-preserved
+add_tails-more-preserved t c = rw c.in_ok-push.ensures.ok
+    (on_turn c.args.levels spec.add_tail (takes_add c.args.levels) (reads c.args.levels (many spec.add_tail) c.args.tokens.now) c.more.found c.more.tokens _ c.add_tail.new.tokens
+    c.more.invariant (add_starts c.more.tokens ∙ sym c.sees_add_op.ensures ∙ c.more-test.true) c.in_ok-x.ensures)
+
+pub exprs-more-smaller : goal.exprs-more-smaller
+exprs-more-smaller t c = (takes_expr c.args.levels).falls c.more.tokens _ c.next_expr.new.tokens (next_starts s.Comma (nest AnExpr) c.more.tokens ∙ sym c.sees.ensures ∙ c.more-test.true) c.in_ok-x.ensures
+
+pub exprs-more-preserved : goal.exprs-more-preserved
+exprs-more-preserved t c = rw c.in_ok-push-2.ensures.ok
+    (on_turn c.args.levels (spec.next_of s.Comma (nest AnExpr)) (takes_expr c.args.levels) (reads c.args.levels spec.exprs c.args.tokens.now) c.more.found c.more.tokens _ c.next_expr.new.tokens
+    c.more.invariant (next_starts s.Comma (nest AnExpr) c.more.tokens ∙ sym c.sees.ensures ∙ c.more-test.true) c.in_ok-x.ensures)
+
+pub elements-more-smaller : goal.elements-more-smaller
+elements-more-smaller t c = (takes_element c.args.levels).falls c.more.tokens _ c.next_element.new.tokens (next_starts s.Comma spec.element c.more.tokens ∙ sym c.sees.ensures ∙ c.more-test.true) c.in_ok-x.ensures
+
+pub elements-more-preserved : goal.elements-more-preserved
+elements-more-preserved t c = rw c.in_ok-push-2.ensures.ok
+    (on_turn c.args.levels (spec.next_of s.Comma spec.element) (takes_element c.args.levels) (reads c.args.levels spec.elements c.args.tokens.now) c.more.found c.more.tokens _ c.next_element.new.tokens
+    c.more.invariant (next_starts s.Comma spec.element c.more.tokens ∙ sym c.sees.ensures ∙ c.more-test.true) c.in_ok-x.ensures)
+
+pub selectors-more-smaller : goal.selectors-more-smaller
+selectors-more-smaller t c = (takes_selector c.args.levels).falls c.more.tokens _ c.selector.new.tokens (sym c.sees_selector.ensures ∙ c.more-test.true) c.in_ok-x.ensures
+
+pub selectors-more-preserved : goal.selectors-more-preserved
+selectors-more-preserved t c = rw c.in_ok-append.ensures.ok
+    (join_turn c.args.levels spec.selector (takes_selector c.args.levels) (reads c.args.levels (many spec.selector) c.args.tokens.now) c.more.found c.more.tokens _ c.selector.new.tokens
+    c.more.invariant (sym c.sees_selector.ensures ∙ c.more-test.true) c.in_ok-x.ensures)
+
+pub nested_expr-returns : goal.nested_expr-returns
+nested_expr-returns t c = let some : 1 ≤ c.args.levels = omega arith in rw (deeper c.args.levels AnExpr c.args.tokens.now some) c.expr.ensures
+
+pub negated-returns : goal.negated-returns
+negated-returns t c = let some : 1 ≤ c.args.levels = omega arith in rw (deeper c.args.levels Negated c.args.tokens.now some) c.negation.ensures

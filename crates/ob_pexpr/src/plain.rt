@@ -1,0 +1,129 @@
+//! What has no expression in it: literals, `^`, and a field.
+
+ghost use Rattle.std.specs.Prelude.{◌≡◌, IfOk};
+ghost use Rattle.ob_tree.specs.declared.symbol.Symbol.TheVariants as s;
+ghost use Rattle.ob_grammar.specs.Expressions as spec;
+ghost use Rattle.ob_grammar.specs.Grammar.{reads};
+ghost use Rattle.ob_pexpr.specs.Contract.{Reads};
+
+use crate::cursor::Cursor;
+use crate::fault::ParseFault;
+use ob_tree::{Boxed, Expr, List, Operator, Relation, Selector, Sign, Symbol, Tail};
+use std::alloc::{AllocError, Global};
+
+pub fn int(alloc: Global, tokens: &mut Cursor<'_>) -> Result<Expr, ParseFault>
+    ensures { Reads (reads 0 spec.int tokens.old) result tokens.new }
+{
+    let t = tokens.token(Symbol::Int)?;
+    let text = List::from_slice(alloc, t.text)?;
+    Ok(Expr::Int { pos: t.pos, text })
+}
+
+pub fn char(alloc: Global, tokens: &mut Cursor<'_>) -> Result<Expr, ParseFault>
+    ensures { Reads (reads 0 spec.char tokens.old) result tokens.new }
+{
+    let t = tokens.token(Symbol::Char)?;
+    let text = List::from_slice(alloc, t.text)?;
+    Ok(Expr::Char { pos: t.pos, text })
+}
+
+// What stands between the marks of a string.
+fn between_marks(text: &[u8]) -> &[u8]
+    ensures { result.now ≡ spec.between_marks text.now }
+{
+    match text {
+        [] => text,
+        [_, rest @ ..] => {
+            if rest.is_empty() {
+                rest
+            } else {
+                &rest[..rest.len() - 1]
+            }
+        }
+    }
+}
+
+pub fn string(alloc: Global, tokens: &mut Cursor<'_>) -> Result<Expr, ParseFault>
+    ensures { Reads (reads 0 spec.string tokens.old) result tokens.new }
+{
+    let t = tokens.token(Symbol::Str)?;
+    let text = List::from_slice(alloc, between_marks(t.text))?;
+    Ok(Expr::Str { pos: t.pos, text })
+}
+
+pub fn nil(tokens: &mut Cursor<'_>) -> Result<Expr, ParseFault>
+    ensures { Reads (reads 0 spec.nil tokens.old) result tokens.new }
+{
+    let pos = tokens.expect(Symbol::KwNil)?;
+    Ok(Expr::Nil(pos))
+}
+
+pub fn field(alloc: Global, tokens: &mut Cursor<'_>) -> Result<List<Selector>, ParseFault>
+    ensures { Reads (reads 0 spec.field tokens.old) result tokens.new }
+{
+    let pos = tokens.expect(Symbol::Dot)?;
+    let ident = tokens.ident()?;
+    let mut found = List::new(alloc);
+    found.push(Selector::Field { pos, ident })?;
+    Ok(found)
+}
+
+pub fn deref(alloc: Global, tokens: &mut Cursor<'_>) -> Result<List<Selector>, ParseFault>
+    ensures { Reads (reads 0 spec.deref tokens.old) result tokens.new }
+{
+    let pos = tokens.expect(Symbol::Caret)?;
+    let mut found = List::new(alloc);
+    found.push(Selector::Deref(pos))?;
+    Ok(found)
+}
+
+pub fn operator_of(symbol: Symbol) -> Operator
+    ensures { result ≡ spec.operator_of symbol }
+{
+    match symbol {
+        Symbol::Plus => Operator::Add,
+        Symbol::Minus => Operator::Subtract,
+        Symbol::KwOr => Operator::Or,
+        Symbol::Star => Operator::Multiply,
+        Symbol::Slash => Operator::Divide,
+        Symbol::KwDiv => Operator::Quotient,
+        Symbol::KwMod => Operator::Remainder,
+        _ => Operator::And,
+    }
+}
+
+pub fn relation_of(symbol: Symbol) -> Relation
+    ensures { result ≡ spec.relation_of symbol }
+{
+    match symbol {
+        Symbol::Equal => Relation::Equal,
+        Symbol::Hash => Relation::NotEqual,
+        Symbol::Less => Relation::Less,
+        Symbol::LessEqual => Relation::LessEqual,
+        Symbol::Greater => Relation::Greater,
+        Symbol::GreaterEqual => Relation::GreaterEqual,
+        Symbol::KwIn => Relation::In,
+        _ => Relation::Is,
+    }
+}
+
+pub fn sign_of(symbol: Symbol) -> Sign
+    ensures { result ≡ spec.sign_of symbol }
+{
+    match symbol {
+        Symbol::Plus => Sign::Plus,
+        _ => Sign::Minus,
+    }
+}
+
+/// A first operand and what follows it; where nothing does, the operand alone.
+pub fn chain(alloc: Global, first: Expr, tails: List<Tail>) -> Result<Expr, AllocError>
+    ensures { IfOk result (λ x. x ≡ spec.chain_of (first, tails)) }
+{
+    if tails.is_empty() {
+        Ok(first)
+    } else {
+        let operand = Boxed::new(alloc, first)?;
+        Ok(Expr::Chain { operand, tails })
+    }
+}
