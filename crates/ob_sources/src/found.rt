@@ -1,0 +1,56 @@
+//! What a text is found to be.
+
+use ob_pexpr::ParseFault;
+use ob_scan::ScanFault;
+use ob_text::{TextFault, parse_text};
+use ob_tree::Pos;
+use std::alloc::{AllocError, Global};
+
+#[derive(Clone, Copy, Debug, PartialEq, Eq, Drop)]
+pub enum Found {
+    Module,
+    Symbol(Pos),
+    Real(Pos),
+    Long(Pos),
+    Syntax(Pos),
+    TooDeep(Pos),
+    NoMemory,
+}
+
+pub fn at(line: u32, col: u32) -> Pos {
+    Pos { line, col }
+}
+
+pub fn found(alloc: Global, text: &str) -> Found {
+    let bytes = text.as_bytes();
+    // No text of the tests is so long.
+    if bytes.len() >= 1_000_000_000 {
+        return Found::NoMemory;
+    }
+    match parse_text(alloc, bytes) {
+        Ok(_) => Found::Module,
+        Err(TextFault::Scan(ScanFault::Symbol { pos })) => Found::Symbol(pos),
+        Err(TextFault::Scan(ScanFault::Real { pos })) => Found::Real(pos),
+        Err(TextFault::Scan(ScanFault::Limit { pos })) => Found::Long(pos),
+        Err(TextFault::Parse(ParseFault::Syntax { pos })) => Found::Syntax(pos),
+        Err(TextFault::Parse(ParseFault::TooDeep { pos })) => Found::TooDeep(pos),
+        Err(_) => Found::NoMemory,
+    }
+}
+
+/// A front, so many times a middle, and an end.
+pub fn repeated(
+    alloc: Global,
+    front: &str,
+    count: u32,
+    middle: &str,
+    end: &str,
+) -> Result<String, AllocError> {
+    let mut text = String::new(alloc);
+    text.push_str(front)?;
+    for _ in 0..count {
+        text.push_str(middle)?;
+    }
+    text.push_str(end)?;
+    Ok(text)
+}
