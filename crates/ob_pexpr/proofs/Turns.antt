@@ -3,7 +3,7 @@ use Rattle.std.proofs.Common.{◌≡◌, refl, ℕ, Bool, true, false, ◌||◌,
 use Rattle.ob_tree.specs.declared.symbol.Symbol.TheVariants as s
 use Rattle.ob_grammar.specs.Phrase.{Tokens, same, AnExpr, nest}
 use Rattle.ob_grammar.specs.Reading.{starts}
-use Rattle.ob_grammar.specs.Expressions.{next_of, further_index, mul_op, mul_tail, add_op, add_tail, selector, element}
+use Rattle.ob_grammar.specs.Expressions.{next_of, ident, ident_def, further_index, mul_op, mul_tail, add_op, add_tail, selector, element}
 use Rattle.ob_grammar.specs.Grammar.{reads, begins}
 use Rattle.ob_grammar.proofs.Fine.{every}
 use Rattle.ob_grammar.proofs.Local.{Takes}
@@ -32,6 +32,14 @@ takes_expr d = takes d (next_of s.Comma (nest AnExpr)) refl refl
 pub takes_element : (d : ℕ) → Takes (begins (next_of s.Comma element)) (reads d (next_of s.Comma element))
 unfolding every
 takes_element d = takes d (next_of s.Comma element) refl refl
+
+pub takes_ident_def : (d : ℕ) → Takes (begins (next_of s.Comma ident_def)) (reads d (next_of s.Comma ident_def))
+unfolding every
+takes_ident_def d = takes d (next_of s.Comma ident_def) refl refl
+
+pub takes_ident : (d : ℕ) → Takes (begins (next_of s.Comma ident)) (reads d (next_of s.Comma ident))
+unfolding every
+takes_ident d = takes d (next_of s.Comma ident) refl refl
 
 or_no : (b : Bool) → (b || false) ≡ b
 or_no true = refl

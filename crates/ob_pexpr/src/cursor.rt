@@ -1,20 +1,19 @@
 //! The tokens that are left.
 
-ghost use Rattle.std.specs.Prelude.{◌≡◌, ◌+◌, ◌<◌, ◌^◌, length, drop};
-ghost use Rattle.ob_tree.specs.declared.symbol.Symbol.TheVariants as s;
+ghost use Rattle.std.specs.Prelude.{◌≡◌, ◌+◌, ◌<◌, ◌^◌, length, IfOk, true};
 ghost use Rattle.ob_grammar.specs.Phrase.{same, AnExpr, Negated};
 ghost use Rattle.ob_grammar.specs.Reading.{Wrong, Deep, starts, take_word};
 ghost use Rattle.ob_grammar.specs.Expressions as spec;
 ghost use Rattle.ob_grammar.specs.Grammar.{reads, read, begins, first_of};
 ghost use Rattle.ob_scan.specs.Scanning.{start_of};
-ghost use Rattle.ob_pexpr.specs.Left.{NamesFit, tokens_of};
+ghost use Rattle.ob_pexpr.specs.Left.{NamesFit, name_fits, tokens_of};
 ghost use Rattle.ob_pexpr.specs.Contract.{IsAt, IsFault, FailsAs, Gives, Reads, Takes};
 
+use crate::behind::{next_behind, scanned};
 use crate::fault::ParseFault;
 use crate::source::Source;
 use ob_scan::Scanner;
-use ob_tree::{Ident, Name, Pos, Symbol, Text, Token};
-use std::alloc::Global;
+use ob_tree::{Ident, Name, Pos, Symbol, Token};
 use std::marker::Model;
 
 /// Stands before a token, and goes on token by token, over a list of them or over a text. It is
@@ -56,6 +55,20 @@ impl<'a> Cursor<'a> {
         }
     }
 
+    /// Stands before the first token of this text of fewer than 2^32 - 1 bytes. Where the scanner
+    /// finds a fault, no token is left.
+    pub fn of_text(text: &'a [u8]) -> Cursor<'a>
+        requires { length text.now + 1 < 2 ^ 32 }
+        ensures { result ≡ tokens_of (start_of text.now) }
+    {
+        let mut scanner = Scanner::new(text);
+        let next = scanned(&mut scanner);
+        Cursor {
+            next,
+            source: Source::Scanned(scanner),
+        }
+    }
+
     /// Whether the next token is this symbol.
     pub fn sees(&self, symbol: Symbol) -> bool
         ensures { result ≡ starts (λ x. same x symbol) self.now }
@@ -94,9 +107,22 @@ impl<'a> Cursor<'a> {
 impl<'a> Cursor<'a> {
     /// Takes the next token where it is this symbol; else Syntax at it.
     pub fn token(&mut self, symbol: Symbol) -> Result<Token<'a>, ParseFault>
-        ensures { Gives (take_word symbol self.old) result self.new }
+        ensures value { Gives (take_word symbol self.old) result self.new }
+
+        // An identifier has at most 64 characters.
+        ensures fits { IfOk result (λ t. name_fits t ≡ true) }
     {
-        Err(ParseFault::Memory)
+        match self.next {
+            None => Err(self.wrong()),
+            Some(t) => {
+                if t.symbol == symbol {
+                    self.next = next_behind(&mut self.source, t.symbol);
+                    Ok(t)
+                } else {
+                    Err(ParseFault::Syntax { pos: t.pos })
+                }
+            }
+        }
     }
 
     /// Takes the next token where it is this symbol, and gives its place; else Syntax at it.
@@ -111,7 +137,11 @@ impl<'a> Cursor<'a> {
     pub fn ident(&mut self) -> Result<Ident, ParseFault>
         ensures { Reads (reads 0 spec.ident self.old) result self.new }
     {
-        Err(ParseFault::Memory)
+        let t = self.token(Symbol::Ident)?;
+        Ok(Ident {
+            name: Name::new(t.text),
+            pos: t.pos,
+        })
     }
 }
 

@@ -10,7 +10,9 @@ ghost use Rattle.ob_pexpr.specs.Contract.{Reads};
 
 use crate::cursor::Cursor;
 use crate::fault::ParseFault;
-use crate::plain::{chain, char, deref, field, int, nil, operator_of, relation_of, sign_of, string};
+use crate::plain::{
+    chain, char, deref, field, int, nil, operator_of, relation_of, sign_of, string,
+};
 use ob_tree::{Boxed, Designator, Element, Expr, List, Selector, Symbol, Tail};
 use std::alloc::Global;
 
@@ -64,11 +66,7 @@ fn index(
 }
 
 #[cycle(expr)]
-fn next_expr(
-    alloc: Global,
-    tokens: &mut Cursor<'_>,
-    levels: usize,
-) -> Result<Expr, ParseFault>
+fn next_expr(alloc: Global, tokens: &mut Cursor<'_>, levels: usize) -> Result<Expr, ParseFault>
     ensures { Reads (reads levels (spec.next_of s.Comma (nest AnExpr)) tokens.old) result tokens.new }
 {
     tokens.expect(Symbol::Comma)?;
@@ -96,11 +94,7 @@ pub fn exprs(
 }
 
 #[cycle(expr)]
-fn call(
-    alloc: Global,
-    tokens: &mut Cursor<'_>,
-    levels: usize,
-) -> Result<List<Selector>, ParseFault>
+fn call(alloc: Global, tokens: &mut Cursor<'_>, levels: usize) -> Result<List<Selector>, ParseFault>
     ensures { Reads (reads levels spec.call tokens.old) result tokens.new }
 {
     let pos = tokens.expect(Symbol::LeftRound)?;
@@ -168,11 +162,7 @@ pub fn designator(
 // ---- factors
 
 #[cycle(expr)]
-fn element(
-    alloc: Global,
-    tokens: &mut Cursor<'_>,
-    levels: usize,
-) -> Result<Element, ParseFault>
+fn element(alloc: Global, tokens: &mut Cursor<'_>, levels: usize) -> Result<Element, ParseFault>
     ensures { Reads (reads levels spec.element tokens.old) result tokens.new }
 {
     let low = nested_expr(alloc, tokens, levels)?;

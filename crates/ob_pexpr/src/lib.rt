@@ -1,6 +1,7 @@
 //! Tokens from the front on, and the parser of names, designators and expressions.
 #![tactic(auto)]
 
+mod behind;
 mod cursor;
 mod expr;
 mod fault;
@@ -11,4 +12,4 @@ mod source;
 pub use cursor::Cursor;
 pub use expr::{designator, elements, exprs, nested_expr};
 pub use fault::ParseFault;
-pub use names::{ident_def, ident_list, qualident};
+pub use names::{ident_def, ident_list, idents, qualident};

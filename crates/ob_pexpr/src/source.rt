@@ -1,3 +1,7 @@
+//! Where tokens come from.
+
+ghost use Rattle.std.specs.Prelude.{◌≡◌};
+
 use ob_scan::Scanner;
 use ob_tree::Token;
 

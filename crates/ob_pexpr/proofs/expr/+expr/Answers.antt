@@ -1,10 +1,9 @@
-use Rattle.std.proofs.Common.{◌≡◌, ◌∙◌, ◌≤◌, sym, true, false, arith}
+use Rattle.std.proofs.Common.{◌∙◌, ◌≤◌, sym, arith}
 use Rattle.ob_tree.specs.declared.symbol.Symbol.TheVariants as s
 use Rattle.ob_grammar.specs.Phrase.{AnExpr, Negated, many, nest}
 use Rattle.ob_grammar.specs.Expressions as spec
 use Rattle.ob_grammar.specs.Grammar.{reads}
 use Rattle.ob_grammar.proofs.Loops.{on_turn, join_turn, deeper, next_starts}
-use Rattle.ob_grammar.proofs.Local.{Takes}
 use Rattle.ob_pexpr.proofs.Turns.{takes_further, takes_mul, takes_add, takes_selector, takes_expr, takes_element, further_starts, mul_starts, add_starts}
 use Rattle.ob_pexpr.proofs.expr.+expr.Goals as goal
 
