@@ -1,6 +1,6 @@
 //! Phrases nested to the limit of 200 levels and beyond, and long chains, which nest nothing.
 
-use crate::found::{Found, at, found, repeated};
+use crate::verdict::{Verdict, at, repeated, verdict_of};
 use std::alloc::Global;
 use std::test::Fail;
 
@@ -23,28 +23,28 @@ fn two_hundred_levels(rt: HostRuntime) -> Result<(), Fail> {
     let alloc = rt.alloc();
     for (front, count, parts, end, fault) in [
         // The body's statements are one level, and the value is another.
-        ("MODULE M; BEGIN x := ", 198, ("(", "a", ")"), " END M.", Found::Module),
-        ("MODULE M; BEGIN x := ", 199, ("(", "a", ")"), " END M.", Found::TooDeep(at(1, 221))),
-        ("MODULE M; BEGIN x := ", 199, ("(", "", ")"), " END M.", Found::Syntax(at(1, 221))),
-        ("MODULE M; BEGIN x := ", 198, ("~", "a", ""), " END M.", Found::Module),
-        ("MODULE M; BEGIN x := ", 199, ("~", "a", ""), " END M.", Found::TooDeep(at(1, 220))),
-        ("MODULE M; BEGIN x", 199, ("[x", "", "]"), " END M.", Found::Module),
-        ("MODULE M; BEGIN x", 200, ("[x", "", "]"), " END M.", Found::TooDeep(at(1, 417))),
+        ("MODULE M; BEGIN x := ", 198, ("(", "a", ")"), " END M.", Verdict::Module),
+        ("MODULE M; BEGIN x := ", 199, ("(", "a", ")"), " END M.", Verdict::TooDeep(at(1, 221))),
+        ("MODULE M; BEGIN x := ", 199, ("(", "", ")"), " END M.", Verdict::Syntax(at(1, 221))),
+        ("MODULE M; BEGIN x := ", 198, ("~", "a", ""), " END M.", Verdict::Module),
+        ("MODULE M; BEGIN x := ", 199, ("~", "a", ""), " END M.", Verdict::TooDeep(at(1, 220))),
+        ("MODULE M; BEGIN x", 199, ("[x", "", "]"), " END M.", Verdict::Module),
+        ("MODULE M; BEGIN x", 200, ("[x", "", "]"), " END M.", Verdict::TooDeep(at(1, 417))),
         // A sequence without a token is at no level.
-        ("MODULE M; BEGIN\n", 200, ("LOOP ", "", "END "), "END M.", Found::Module),
-        ("MODULE M; BEGIN\n", 199, ("LOOP ", "EXIT ", "END "), "END M.", Found::Module),
-        ("MODULE M; BEGIN\n", 200, ("LOOP ", "EXIT ", "END "), "END M.", Found::TooDeep(at(2, 1001))),
-        ("MODULE M; BEGIN\n", 200, ("LOOP ", "; ", "END "), "END M.", Found::TooDeep(at(2, 1001))),
-        ("MODULE M; BEGIN\n", 201, ("LOOP ", "", "END "), "END M.", Found::TooDeep(at(2, 1001))),
-        ("MODULE M; VAR x:\n", 199, ("POINTER TO ", "CHAR", ""), "; END M.", Found::Module),
-        ("MODULE M; VAR x:\n", 200, ("POINTER TO ", "CHAR", ""), "; END M.", Found::TooDeep(at(2, 2201))),
-        ("MODULE M; VAR x:\n", 200, ("POINTER TO ", "", ""), "; END M.", Found::Syntax(at(2, 2201))),
-        ("MODULE M;\n", 200, ("PROCEDURE P; ", "", "END P; "), "END M.", Found::Module),
-        ("MODULE M;\n", 200, ("PROCEDURE P; ", "PROCEDURE ^ Q; ", "END P; "), "END M.", Found::Module),
-        ("MODULE M;\n", 201, ("PROCEDURE P; ", "", "END P; "), "END M.", Found::TooDeep(at(2, 2601))),
+        ("MODULE M; BEGIN\n", 200, ("LOOP ", "", "END "), "END M.", Verdict::Module),
+        ("MODULE M; BEGIN\n", 199, ("LOOP ", "EXIT ", "END "), "END M.", Verdict::Module),
+        ("MODULE M; BEGIN\n", 200, ("LOOP ", "EXIT ", "END "), "END M.", Verdict::TooDeep(at(2, 1001))),
+        ("MODULE M; BEGIN\n", 200, ("LOOP ", "; ", "END "), "END M.", Verdict::TooDeep(at(2, 1001))),
+        ("MODULE M; BEGIN\n", 201, ("LOOP ", "", "END "), "END M.", Verdict::TooDeep(at(2, 1001))),
+        ("MODULE M; VAR x:\n", 199, ("POINTER TO ", "CHAR", ""), "; END M.", Verdict::Module),
+        ("MODULE M; VAR x:\n", 200, ("POINTER TO ", "CHAR", ""), "; END M.", Verdict::TooDeep(at(2, 2201))),
+        ("MODULE M; VAR x:\n", 200, ("POINTER TO ", "", ""), "; END M.", Verdict::Syntax(at(2, 2201))),
+        ("MODULE M;\n", 200, ("PROCEDURE P; ", "", "END P; "), "END M.", Verdict::Module),
+        ("MODULE M;\n", 200, ("PROCEDURE P; ", "PROCEDURE ^ Q; ", "END P; "), "END M.", Verdict::Module),
+        ("MODULE M;\n", 201, ("PROCEDURE P; ", "", "END P; "), "END M.", Verdict::TooDeep(at(2, 2601))),
     ] {
         let text = nested(alloc, front, count, parts, end)?;
-        assert_eq!(rt; found(alloc, &text), fault, "{count} of {front}");
+        assert_eq!(rt; verdict_of(alloc, &text), fault, "{count} of {front}");
     }
     Ok(())
 }
@@ -65,7 +65,7 @@ fn long_chains(rt: HostRuntime) -> Result<(), Fail> {
         ("MODULE M; ", 100_000, "(* *)", " END M."),
     ] {
         let text = repeated(alloc, front, count, middle, end)?;
-        assert_eq!(rt; found(alloc, &text), Found::Module, "{count} of {middle}");
+        assert_eq!(rt; verdict_of(alloc, &text), Verdict::Module, "{count} of {middle}");
     }
     Ok(())
 }
@@ -75,8 +75,8 @@ fn deep_comment(rt: HostRuntime) -> Result<(), Fail> {
     let alloc = rt.alloc();
     let comment = ("(*", "", "*)");
     let text = nested(alloc, "MODULE M;\n", 100_000, comment, " END M.")?;
-    assert_eq!(rt; found(alloc, &text), Found::Module, "closed");
+    assert_eq!(rt; verdict_of(alloc, &text), Verdict::Module, "closed");
     let text = repeated(alloc, "MODULE M;\n(*", 100_000, "(*", " END M.")?;
-    assert_eq!(rt; found(alloc, &text), Found::Symbol(at(2, 1)), "open");
+    assert_eq!(rt; verdict_of(alloc, &text), Verdict::Symbol(at(2, 1)), "open");
     Ok(())
 }

@@ -7,10 +7,10 @@ mod depth;
 #[cfg(test)]
 mod faults;
 #[cfg(test)]
-mod found;
-#[cfg(test)]
 mod places;
 #[cfg(test)]
 mod sources;
+#[cfg(test)]
+mod verdict;
 #[cfg(test)]
 mod vocabulary;

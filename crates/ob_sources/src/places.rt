@@ -1,6 +1,6 @@
 //! Where the nodes of a tree stand.
 
-use crate::found::at;
+use crate::verdict::at;
 use ob_text::parse_text;
 use ob_tree::{Expr, Module, Pos, Selector, Stmt};
 use std::alloc::Global;

@@ -1,6 +1,6 @@
 //! Modules of systems that were worked out whole.
 
-use crate::found::{Found, found};
+use crate::verdict::{Verdict, verdict_of};
 
 #[test]
 fn first_sources(rt: HostRuntime) {
@@ -25,7 +25,7 @@ fn first_sources(rt: HostRuntime) {
         "MODULE A; TYPE T* = RECORD END; PROCEDURE (VAR t: T) Draw*; END Draw; END A.\n",
         "MODULE M; IMPORT A; TYPE T1* = RECORD (A.T) END; PROCEDURE (VAR t: T1) Draw*; END Draw; PROCEDURE Go*; END Go; END M.\n",
     ] {
-        assert_eq!(rt; found(rt.alloc(), text), Found::Module, "{text}");
+        assert_eq!(rt; verdict_of(rt.alloc(), text), Verdict::Module, "{text}");
     }
 }
 
@@ -52,7 +52,7 @@ fn second_sources(rt: HostRuntime) {
         "MODULE Lists; IMPORT Out; TYPE Node* = POINTER TO NodeDesc; NodeDesc* = RECORD next: Node END; List* = RECORD first: Node; n-: LONGINT END; PROCEDURE (VAR l: List) Add*(x: Node); BEGIN x.next := l.first; l.first := x; INC(l.n) END Add; PROCEDURE (x: Node) Print*; BEGIN Out.Char(\"?\") END Print; PROCEDURE (VAR l: List) All*; VAR x: Node; BEGIN Out.Char(\">\"); x := l.first; WHILE x # NIL DO x.Print; x := x.next END; Out.Ln END All; END Lists.\n",
         "MODULE Lists; IMPORT Out; TYPE Node* = POINTER TO NodeDesc; NodeDesc* = RECORD next: Node END; List* = RECORD first: Node; n-: LONGINT; last: Node END; PROCEDURE (VAR l: List) Add*(x: Node); BEGIN x.next := l.first; l.first := x; INC(l.n) END Add; PROCEDURE (x: Node) Print*; BEGIN Out.Char(\"?\") END Print; PROCEDURE (VAR l: List) All*; VAR x: Node; BEGIN Out.Char(\">\"); x := l.first; WHILE x # NIL DO x.Print; x := x.next END; Out.Ln END All; END Lists.\n",
     ] {
-        assert_eq!(rt; found(rt.alloc(), text), Found::Module, "{text}");
+        assert_eq!(rt; verdict_of(rt.alloc(), text), Verdict::Module, "{text}");
     }
 }
 
@@ -79,6 +79,6 @@ fn third_sources(rt: HostRuntime) {
         "MODULE M; IMPORT A, Out; TYPE S = RECORD (A.T) END; VAR s: S; PROCEDURE (VAR t: S) Q*; BEGIN Out.Char(\"m\") END Q; PROCEDURE Go*; BEGIN s.P; s.Q; Out.Ln END Go; END M.\n",
         "MODULE A; IMPORT Out; TYPE T* = RECORD a*: INTEGER; b*: LONGINT END; BEGIN Out.Char(\"A\"); Out.Ln END A.\n",
     ] {
-        assert_eq!(rt; found(rt.alloc(), text), Found::Module, "{text}");
+        assert_eq!(rt; verdict_of(rt.alloc(), text), Verdict::Module, "{text}");
     }
 }

@@ -7,7 +7,7 @@ use ob_tree::Pos;
 use std::alloc::{AllocError, Global};
 
 #[derive(Clone, Copy, Debug, PartialEq, Eq, Drop)]
-pub enum Found {
+pub enum Verdict {
     Module,
     Symbol(Pos),
     Real(Pos),
@@ -21,20 +21,20 @@ pub fn at(line: u32, col: u32) -> Pos {
     Pos { line, col }
 }
 
-pub fn found(alloc: Global, text: &str) -> Found {
+pub fn verdict_of(alloc: Global, text: &str) -> Verdict {
     let bytes = text.as_bytes();
     // No text of the tests is so long.
     if bytes.len() >= 1_000_000_000 {
-        return Found::NoMemory;
+        return Verdict::NoMemory;
     }
     match parse_text(alloc, bytes) {
-        Ok(_) => Found::Module,
-        Err(TextFault::Scan(ScanFault::Symbol { pos })) => Found::Symbol(pos),
-        Err(TextFault::Scan(ScanFault::Real { pos })) => Found::Real(pos),
-        Err(TextFault::Scan(ScanFault::Limit { pos })) => Found::Long(pos),
-        Err(TextFault::Parse(ParseFault::Syntax { pos })) => Found::Syntax(pos),
-        Err(TextFault::Parse(ParseFault::TooDeep { pos })) => Found::TooDeep(pos),
-        Err(_) => Found::NoMemory,
+        Ok(_) => Verdict::Module,
+        Err(TextFault::Scan(ScanFault::Symbol { pos })) => Verdict::Symbol(pos),
+        Err(TextFault::Scan(ScanFault::Real { pos })) => Verdict::Real(pos),
+        Err(TextFault::Scan(ScanFault::Limit { pos })) => Verdict::Long(pos),
+        Err(TextFault::Parse(ParseFault::Syntax { pos })) => Verdict::Syntax(pos),
+        Err(TextFault::Parse(ParseFault::TooDeep { pos })) => Verdict::TooDeep(pos),
+        Err(_) => Verdict::NoMemory,
     }
 }
 
