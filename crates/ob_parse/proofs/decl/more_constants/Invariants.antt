@@ -1,0 +1,12 @@
+use Rattle.std.proofs.Common.{length}
+use Rattle.ob_grammar.specs.Phrase.{many}
+use Rattle.ob_grammar.specs.Declarations as spec
+use Rattle.ob_grammar.specs.Grammar.{reads}
+use Rattle.ob_grammar.proofs.Loops.{GoesOn}
+use Rattle.ob_parse.proofs.decl.more_constants.Given as goal
+
+abbrev pub invariant-more : goal.invariant-more
+invariant-more l = GoesOn (reads l.levels (many spec.constant) l.fn.tokens) l.levels spec.constant l.found l.tokens
+
+abbrev pub decreases-more : goal.decreases-more
+decreases-more l = length l.tokens

@@ -1,0 +1,15 @@
+use Rattle.std.proofs.Common.{◌∙◌, sym}
+use Rattle.ob_grammar.specs.Phrase.{many}
+use Rattle.ob_grammar.specs.Declarations as spec
+use Rattle.ob_grammar.specs.Grammar.{reads}
+use Rattle.ob_grammar.proofs.Loops.{on_turn}
+use Rattle.ob_parse.proofs.Turns.{takes_variables, variables_starts}
+use Rattle.ob_parse.proofs.decl.more_variables.Goals as goal
+
+pub more-smaller : goal.more-smaller
+more-smaller c = (takes_variables c.args.levels).falls c.more.tokens _ c.variable_list.new.tokens (variables_starts c.more.tokens ∙ sym c.sees.ensures ∙ c.more-test.true) c.in_ok-x.ensures
+
+pub more-preserved : goal.more-preserved
+more-preserved c = rw c.in_ok-push.ensures.ok
+    (on_turn c.args.levels spec.variables (takes_variables c.args.levels) (reads c.args.levels (many spec.variables) c.args.tokens.now) c.more.found c.more.tokens _ c.variable_list.new.tokens
+    c.more.invariant (variables_starts c.more.tokens ∙ sym c.sees.ensures ∙ c.more-test.true) c.in_ok-x.ensures)

@@ -1,0 +1,67 @@
+//! Modules.
+
+ghost use Rattle.std.specs.Prelude.{◌≡◌};
+ghost use Rattle.ob_grammar.specs.Declarations.{«module»};
+ghost use Rattle.ob_grammar.specs.Grammar.{reads};
+ghost use Rattle.ob_pexpr.specs.Contract.{Reads};
+ghost use Rattle.ob_pexpr.specs.Left.{NamesFit};
+ghost use Rattle.ob_parse.specs.Parsed.{limit, EndsOnce, Says};
+
+use crate::imports::imports;
+use crate::procedure::{body, declarations};
+use ob_pexpr::{Cursor, ParseFault};
+use ob_tree::{Module, Symbol, Token};
+use std::alloc::Global;
+
+fn nest_limit() -> usize
+    ensures { result ≡ limit }
+{
+    200
+}
+
+fn whole(alloc: Global, tokens: &mut Cursor<'_>, levels: usize) -> Result<Module, ParseFault>
+    ensures { Reads (reads levels «module» tokens.old) result tokens.new }
+{
+    tokens.expect(Symbol::KwModule)?;
+    let name = tokens.ident()?;
+    tokens.expect(Symbol::Semicolon)?;
+    let imports = imports(alloc, tokens)?;
+    let decls = declarations(alloc, tokens, levels)?;
+    let body = body(alloc, tokens, levels)?;
+    tokens.expect(Symbol::KwEnd)?;
+    let closing = tokens.ident()?;
+    tokens.expect(Symbol::Dot)?;
+    tokens.expect(Symbol::End)?;
+    Ok(Module {
+        name,
+        imports,
+        decls,
+        body,
+        closing,
+    })
+}
+
+/// The module that the tokens that are left spell, and then the end. The faults are those of
+/// `parse`.
+pub fn parse_from(alloc: Global, tokens: &mut Cursor<'_>) -> Result<Module, ParseFault>
+    requires { EndsOnce tokens.old }
+    ensures { Says result tokens.old }
+{
+    whole(alloc, tokens, nest_limit())
+}
+
+/// The module that the tokens spell, of which the last is the end of a text and no other is, and
+/// each identifier has at most 64 characters; or why they spell none:
+///
+/// - Syntax, at the first token with which no module goes on.
+/// - TooDeep, at the first token inside more than 200 phrases that nest: expressions, types,
+///   sequences of statements, procedures, and `~` with its operand.
+/// - Memory, where there was none.
+pub fn parse(alloc: Global, tokens: &[Token<'_>]) -> Result<Module, ParseFault>
+    requires ends { EndsOnce tokens.now }
+    requires names { NamesFit tokens.now }
+    ensures { Says result tokens.now }
+{
+    let mut left = Cursor::new(tokens);
+    parse_from(alloc, &mut left)
+}
