@@ -48,11 +48,7 @@ fn statements(
 }
 
 #[cycle(statements)]
-fn next_statement(
-    alloc: Global,
-    tokens: &mut Cursor<'_>,
-    levels: usize,
-) -> Result<Stmt, ParseFault>
+fn next_statement(alloc: Global, tokens: &mut Cursor<'_>, levels: usize) -> Result<Stmt, ParseFault>
     ensures { Reads (reads levels (next_of s.Semicolon spec.statement) tokens.old) result tokens.new }
 {
     tokens.expect(Symbol::Semicolon)?;
@@ -73,11 +69,7 @@ fn statement(alloc: Global, tokens: &mut Cursor<'_>, levels: usize) -> Result<St
 }
 
 #[cycle(statements)]
-fn some_statement(
-    alloc: Global,
-    tokens: &mut Cursor<'_>,
-    levels: usize,
-) -> Result<Stmt, ParseFault>
+fn some_statement(alloc: Global, tokens: &mut Cursor<'_>, levels: usize) -> Result<Stmt, ParseFault>
     ensures { Reads (reads levels spec.some_statement tokens.old) result tokens.new }
 {
     if tokens.sees(Symbol::Ident) {
@@ -134,11 +126,7 @@ fn branch(alloc: Global, tokens: &mut Cursor<'_>, levels: usize) -> Result<Branc
 
 /// `ELSIF` and its branch.
 #[cycle(statements)]
-fn next_branch(
-    alloc: Global,
-    tokens: &mut Cursor<'_>,
-    levels: usize,
-) -> Result<Branch, ParseFault>
+fn next_branch(alloc: Global, tokens: &mut Cursor<'_>, levels: usize) -> Result<Branch, ParseFault>
     ensures { Reads (reads levels (next_of s.KwElsif spec.branch) tokens.old) result tokens.new }
 {
     tokens.expect(Symbol::KwElsif)?;
@@ -225,11 +213,7 @@ fn cases(alloc: Global, tokens: &mut Cursor<'_>, levels: usize) -> Result<List<C
 
 /// `CASE`
 #[cycle(statements)]
-fn case_statement(
-    alloc: Global,
-    tokens: &mut Cursor<'_>,
-    levels: usize,
-) -> Result<Stmt, ParseFault>
+fn case_statement(alloc: Global, tokens: &mut Cursor<'_>, levels: usize) -> Result<Stmt, ParseFault>
     ensures { Reads (reads levels spec.case_statement tokens.old) result tokens.new }
 {
     let pos = tokens.expect(Symbol::KwCase)?;
@@ -355,11 +339,7 @@ fn guarded_branches(
 
 /// `WITH`
 #[cycle(statements)]
-fn with_statement(
-    alloc: Global,
-    tokens: &mut Cursor<'_>,
-    levels: usize,
-) -> Result<Stmt, ParseFault>
+fn with_statement(alloc: Global, tokens: &mut Cursor<'_>, levels: usize) -> Result<Stmt, ParseFault>
     ensures { Reads (reads levels spec.with_statement tokens.old) result tokens.new }
 {
     let pos = tokens.expect(Symbol::KwWith)?;

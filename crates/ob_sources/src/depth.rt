@@ -23,25 +23,133 @@ fn two_hundred_levels(rt: HostRuntime) -> Result<(), Fail> {
     let alloc = rt.alloc();
     for (front, count, parts, end, fault) in [
         // The body's statements are one level, and the value is another.
-        ("MODULE M; BEGIN x := ", 198, ("(", "a", ")"), " END M.", Verdict::Module),
-        ("MODULE M; BEGIN x := ", 199, ("(", "a", ")"), " END M.", Verdict::TooDeep(at(1, 221))),
-        ("MODULE M; BEGIN x := ", 199, ("(", "", ")"), " END M.", Verdict::Syntax(at(1, 221))),
-        ("MODULE M; BEGIN x := ", 198, ("~", "a", ""), " END M.", Verdict::Module),
-        ("MODULE M; BEGIN x := ", 199, ("~", "a", ""), " END M.", Verdict::TooDeep(at(1, 220))),
-        ("MODULE M; BEGIN x", 199, ("[x", "", "]"), " END M.", Verdict::Module),
-        ("MODULE M; BEGIN x", 200, ("[x", "", "]"), " END M.", Verdict::TooDeep(at(1, 417))),
+        (
+            "MODULE M; BEGIN x := ",
+            198,
+            ("(", "a", ")"),
+            " END M.",
+            Verdict::Module,
+        ),
+        (
+            "MODULE M; BEGIN x := ",
+            199,
+            ("(", "a", ")"),
+            " END M.",
+            Verdict::TooDeep(at(1, 221)),
+        ),
+        (
+            "MODULE M; BEGIN x := ",
+            199,
+            ("(", "", ")"),
+            " END M.",
+            Verdict::Syntax(at(1, 221)),
+        ),
+        (
+            "MODULE M; BEGIN x := ",
+            198,
+            ("~", "a", ""),
+            " END M.",
+            Verdict::Module,
+        ),
+        (
+            "MODULE M; BEGIN x := ",
+            199,
+            ("~", "a", ""),
+            " END M.",
+            Verdict::TooDeep(at(1, 220)),
+        ),
+        (
+            "MODULE M; BEGIN x",
+            199,
+            ("[x", "", "]"),
+            " END M.",
+            Verdict::Module,
+        ),
+        (
+            "MODULE M; BEGIN x",
+            200,
+            ("[x", "", "]"),
+            " END M.",
+            Verdict::TooDeep(at(1, 417)),
+        ),
         // A sequence without a token is at no level.
-        ("MODULE M; BEGIN\n", 200, ("LOOP ", "", "END "), "END M.", Verdict::Module),
-        ("MODULE M; BEGIN\n", 199, ("LOOP ", "EXIT ", "END "), "END M.", Verdict::Module),
-        ("MODULE M; BEGIN\n", 200, ("LOOP ", "EXIT ", "END "), "END M.", Verdict::TooDeep(at(2, 1001))),
-        ("MODULE M; BEGIN\n", 200, ("LOOP ", "; ", "END "), "END M.", Verdict::TooDeep(at(2, 1001))),
-        ("MODULE M; BEGIN\n", 201, ("LOOP ", "", "END "), "END M.", Verdict::TooDeep(at(2, 1001))),
-        ("MODULE M; VAR x:\n", 199, ("POINTER TO ", "CHAR", ""), "; END M.", Verdict::Module),
-        ("MODULE M; VAR x:\n", 200, ("POINTER TO ", "CHAR", ""), "; END M.", Verdict::TooDeep(at(2, 2201))),
-        ("MODULE M; VAR x:\n", 200, ("POINTER TO ", "", ""), "; END M.", Verdict::Syntax(at(2, 2201))),
-        ("MODULE M;\n", 200, ("PROCEDURE P; ", "", "END P; "), "END M.", Verdict::Module),
-        ("MODULE M;\n", 200, ("PROCEDURE P; ", "PROCEDURE ^ Q; ", "END P; "), "END M.", Verdict::Module),
-        ("MODULE M;\n", 201, ("PROCEDURE P; ", "", "END P; "), "END M.", Verdict::TooDeep(at(2, 2601))),
+        (
+            "MODULE M; BEGIN\n",
+            200,
+            ("LOOP ", "", "END "),
+            "END M.",
+            Verdict::Module,
+        ),
+        (
+            "MODULE M; BEGIN\n",
+            199,
+            ("LOOP ", "EXIT ", "END "),
+            "END M.",
+            Verdict::Module,
+        ),
+        (
+            "MODULE M; BEGIN\n",
+            200,
+            ("LOOP ", "EXIT ", "END "),
+            "END M.",
+            Verdict::TooDeep(at(2, 1001)),
+        ),
+        (
+            "MODULE M; BEGIN\n",
+            200,
+            ("LOOP ", "; ", "END "),
+            "END M.",
+            Verdict::TooDeep(at(2, 1001)),
+        ),
+        (
+            "MODULE M; BEGIN\n",
+            201,
+            ("LOOP ", "", "END "),
+            "END M.",
+            Verdict::TooDeep(at(2, 1001)),
+        ),
+        (
+            "MODULE M; VAR x:\n",
+            199,
+            ("POINTER TO ", "CHAR", ""),
+            "; END M.",
+            Verdict::Module,
+        ),
+        (
+            "MODULE M; VAR x:\n",
+            200,
+            ("POINTER TO ", "CHAR", ""),
+            "; END M.",
+            Verdict::TooDeep(at(2, 2201)),
+        ),
+        (
+            "MODULE M; VAR x:\n",
+            200,
+            ("POINTER TO ", "", ""),
+            "; END M.",
+            Verdict::Syntax(at(2, 2201)),
+        ),
+        (
+            "MODULE M;\n",
+            200,
+            ("PROCEDURE P; ", "", "END P; "),
+            "END M.",
+            Verdict::Module,
+        ),
+        (
+            "MODULE M;\n",
+            200,
+            ("PROCEDURE P; ", "PROCEDURE ^ Q; ", "END P; "),
+            "END M.",
+            Verdict::Module,
+        ),
+        (
+            "MODULE M;\n",
+            201,
+            ("PROCEDURE P; ", "", "END P; "),
+            "END M.",
+            Verdict::TooDeep(at(2, 2601)),
+        ),
     ] {
         let text = nested(alloc, front, count, parts, end)?;
         assert_eq!(rt; verdict_of(alloc, &text), fault, "{count} of {front}");
@@ -57,15 +165,29 @@ fn long_chains(rt: HostRuntime) -> Result<(), Fail> {
         ("MODULE M; BEGIN x := a", 20_000, "*a", " END M."),
         ("MODULE M; BEGIN x", 20_000, ".x^", " END M."),
         ("MODULE M; BEGIN ", 100_000, "x;", " END M."),
-        ("MODULE M; BEGIN IF a THEN", 20_000, " ELSIF a THEN", " END END M."),
-        ("MODULE M; BEGIN CASE x OF 1:", 20_000, "|2:x", " END END M."),
+        (
+            "MODULE M; BEGIN IF a THEN",
+            20_000,
+            " ELSIF a THEN",
+            " END END M.",
+        ),
+        (
+            "MODULE M; BEGIN CASE x OF 1:",
+            20_000,
+            "|2:x",
+            " END END M.",
+        ),
         ("MODULE M; BEGIN CASE x OF 1", 20_000, ",2", ": END END M."),
         ("MODULE M; VAR x", 20_000, ",y", ": CHAR; END M."),
         ("MODULE M;", 5_000, " PROCEDURE P; END P;", " END M."),
         ("MODULE M; ", 100_000, "(* *)", " END M."),
     ] {
         let text = repeated(alloc, front, count, middle, end)?;
-        assert_eq!(rt; verdict_of(alloc, &text), Verdict::Module, "{count} of {middle}");
+        assert_eq!(rt;
+            verdict_of(alloc, &text),
+            Verdict::Module,
+            "{count} of {middle}"
+        );
     }
     Ok(())
 }

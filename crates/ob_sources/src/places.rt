@@ -68,7 +68,8 @@ fn place_of(value: &Expr) -> Pos {
 
 #[test]
 fn statements(rt: HostRuntime) -> Result<(), Fail> {
-    let text = "MODULE M;\nBEGIN\n  x := 1;\n  P;\n  IF a THEN ELSIF b THEN END;\n  CASE c OF END;\n  WHILE d DO END;\n  REPEAT UNTIL e;\n  FOR i := 1 TO 2 BY 3 DO END;\n  LOOP EXIT END;\n  RETURN;\n  WITH v: T DO END; EXIT\nEND M.";
+    let text =
+        "MODULE M;\nBEGIN\n  x := 1;\n  P;\n  IF a THEN ELSIF b THEN END;\n  CASE c OF END;\n  WHILE d DO END;\n  REPEAT UNTIL e;\n  FOR i := 1 TO 2 BY 3 DO END;\n  LOOP EXIT END;\n  RETURN;\n  WITH v: T DO END; EXIT\nEND M.";
     let tree = module_of(rt.alloc(), text)?;
     let places = [
         at(3, 5),

@@ -107,7 +107,10 @@ fn words_and_constants(rt: HostRuntime) {
         ("end", Symbol::Ident),
         ("ENDE", Symbol::Ident),
         ("CHAR", Symbol::Ident),
-        ("aaaaaaaaaaaaaaaaaaaaaaaaaaaaaaaaaaaaaaaaaaaaaaaaaaaaaaaaaaaaaaaa", Symbol::Ident),
+        (
+            "aaaaaaaaaaaaaaaaaaaaaaaaaaaaaaaaaaaaaaaaaaaaaaaaaaaaaaaaaaaaaaaa",
+            Symbol::Ident,
+        ),
         ("0", Symbol::Int),
         ("007", Symbol::Int),
         ("0FFH", Symbol::Int),

@@ -17,12 +17,12 @@ statements-more-smaller t c = (takes_statement c.args.levels).falls c.more.token
 pub statements-more-preserved : goal.statements-more-preserved
 statements-more-preserved t c = rw c.in_ok-push-2.ensures.ok
     (on_turn c.args.levels (next_of s.Semicolon spec.statement) (takes_statement c.args.levels) (reads c.args.levels (separated s.Semicolon spec.statement) c.args.tokens.now) c.more.found c.more.tokens _ c.next_statement.new.tokens
-      c.more.invariant (next_starts s.Semicolon spec.statement c.more.tokens ∙ sym c.sees.ensures ∙ c.more-test.true) c.in_ok-next_statement.ensures)
+    c.more.invariant (next_starts s.Semicolon spec.statement c.more.tokens ∙ sym c.sees.ensures ∙ c.more-test.true) c.in_ok-next_statement.ensures)
 
 pub statements-returns-in_err-next_statement : goal.statements-returns-in_err-next_statement
 statements-returns-in_err-next_statement t c =
     fails_by c.args.levels (next_of s.Semicolon spec.statement) (takes_statement c.args.levels) (reads c.args.levels (separated s.Semicolon spec.statement) c.args.tokens.now) c.more.found c.more.tokens _ _ _
-      c.more.invariant (next_starts s.Semicolon spec.statement c.more.tokens ∙ sym c.sees.ensures ∙ c.more-test.true) c.in_err-next_statement.ensures c.from_residual-in_err-next_statement.ensures.1
+    c.more.invariant (next_starts s.Semicolon spec.statement c.more.tokens ∙ sym c.sees.ensures ∙ c.more-test.true) c.in_err-next_statement.ensures c.from_residual-in_err-next_statement.ensures.1
 
 pub further_branches-more-smaller : goal.further_branches-more-smaller
 further_branches-more-smaller t c = (takes_branch c.args.levels).falls c.more.tokens _ c.next_branch.new.tokens (next_starts s.KwElsif spec.branch c.more.tokens ∙ sym c.sees.ensures ∙ c.more-test.true) c.in_ok-next_branch.ensures
@@ -30,12 +30,12 @@ further_branches-more-smaller t c = (takes_branch c.args.levels).falls c.more.to
 pub further_branches-more-preserved : goal.further_branches-more-preserved
 further_branches-more-preserved t c = rw c.in_ok-push.ensures.ok
     (on_turn c.args.levels (next_of s.KwElsif spec.branch) (takes_branch c.args.levels) (reads c.args.levels (many (next_of s.KwElsif spec.branch)) c.args.tokens.now) c.more.found c.more.tokens _ c.next_branch.new.tokens
-      c.more.invariant (next_starts s.KwElsif spec.branch c.more.tokens ∙ sym c.sees.ensures ∙ c.more-test.true) c.in_ok-next_branch.ensures)
+    c.more.invariant (next_starts s.KwElsif spec.branch c.more.tokens ∙ sym c.sees.ensures ∙ c.more-test.true) c.in_ok-next_branch.ensures)
 
 pub further_branches-returns-in_err-next_branch : goal.further_branches-returns-in_err-next_branch
 further_branches-returns-in_err-next_branch t c =
     fails_by c.args.levels (next_of s.KwElsif spec.branch) (takes_branch c.args.levels) (reads c.args.levels (many (next_of s.KwElsif spec.branch)) c.args.tokens.now) c.more.found c.more.tokens _ _ _
-      c.more.invariant (next_starts s.KwElsif spec.branch c.more.tokens ∙ sym c.sees.ensures ∙ c.more-test.true) c.in_err-next_branch.ensures c.from_residual.ensures.1
+    c.more.invariant (next_starts s.KwElsif spec.branch c.more.tokens ∙ sym c.sees.ensures ∙ c.more-test.true) c.in_err-next_branch.ensures c.from_residual.ensures.1
 
 pub cases-more-smaller : goal.cases-more-smaller
 cases-more-smaller t c = (takes_case c.args.levels).falls c.more.tokens _ c.next_case.new.tokens (next_starts s.Bar spec.case_branch c.more.tokens ∙ sym c.sees.ensures ∙ c.more-test.true) c.in_ok-next_case.ensures
@@ -43,12 +43,12 @@ cases-more-smaller t c = (takes_case c.args.levels).falls c.more.tokens _ c.next
 pub cases-more-preserved : goal.cases-more-preserved
 cases-more-preserved t c = rw c.in_ok-push-2.ensures.ok
     (on_turn c.args.levels (next_of s.Bar spec.case_branch) (takes_case c.args.levels) (reads c.args.levels (separated s.Bar spec.case_branch) c.args.tokens.now) c.more.found c.more.tokens _ c.next_case.new.tokens
-      c.more.invariant (next_starts s.Bar spec.case_branch c.more.tokens ∙ sym c.sees.ensures ∙ c.more-test.true) c.in_ok-next_case.ensures)
+    c.more.invariant (next_starts s.Bar spec.case_branch c.more.tokens ∙ sym c.sees.ensures ∙ c.more-test.true) c.in_ok-next_case.ensures)
 
 pub cases-returns-in_err-next_case : goal.cases-returns-in_err-next_case
 cases-returns-in_err-next_case t c =
     fails_by c.args.levels (next_of s.Bar spec.case_branch) (takes_case c.args.levels) (reads c.args.levels (separated s.Bar spec.case_branch) c.args.tokens.now) c.more.found c.more.tokens _ _ _
-      c.more.invariant (next_starts s.Bar spec.case_branch c.more.tokens ∙ sym c.sees.ensures ∙ c.more-test.true) c.in_err-next_case.ensures c.from_residual-in_err-next_case.ensures.1
+    c.more.invariant (next_starts s.Bar spec.case_branch c.more.tokens ∙ sym c.sees.ensures ∙ c.more-test.true) c.in_err-next_case.ensures c.from_residual-in_err-next_case.ensures.1
 
 pub guarded_branches-more-smaller : goal.guarded_branches-more-smaller
 guarded_branches-more-smaller t c = (takes_guarded c.args.levels).falls c.more.tokens _ c.next_guarded.new.tokens (next_starts s.Bar spec.guarded c.more.tokens ∙ sym c.sees.ensures ∙ c.more-test.true) c.in_ok-next_guarded.ensures
@@ -56,9 +56,9 @@ guarded_branches-more-smaller t c = (takes_guarded c.args.levels).falls c.more.t
 pub guarded_branches-more-preserved : goal.guarded_branches-more-preserved
 guarded_branches-more-preserved t c = rw c.in_ok-push-2.ensures.ok
     (on_turn c.args.levels (next_of s.Bar spec.guarded) (takes_guarded c.args.levels) (reads c.args.levels (separated s.Bar spec.guarded) c.args.tokens.now) c.more.found c.more.tokens _ c.next_guarded.new.tokens
-      c.more.invariant (next_starts s.Bar spec.guarded c.more.tokens ∙ sym c.sees.ensures ∙ c.more-test.true) c.in_ok-next_guarded.ensures)
+    c.more.invariant (next_starts s.Bar spec.guarded c.more.tokens ∙ sym c.sees.ensures ∙ c.more-test.true) c.in_ok-next_guarded.ensures)
 
 pub guarded_branches-returns-in_err-next_guarded : goal.guarded_branches-returns-in_err-next_guarded
 guarded_branches-returns-in_err-next_guarded t c =
     fails_by c.args.levels (next_of s.Bar spec.guarded) (takes_guarded c.args.levels) (reads c.args.levels (separated s.Bar spec.guarded) c.args.tokens.now) c.more.found c.more.tokens _ _ _
-      c.more.invariant (next_starts s.Bar spec.guarded c.more.tokens ∙ sym c.sees.ensures ∙ c.more-test.true) c.in_err-next_guarded.ensures c.from_residual-in_err-next_guarded.ensures.1
+    c.more.invariant (next_starts s.Bar spec.guarded c.more.tokens ∙ sym c.sees.ensures ∙ c.more-test.true) c.in_err-next_guarded.ensures c.from_residual-in_err-next_guarded.ensures.1
