@@ -1,9 +1,9 @@
 -- A type that is not there is no base.
-use Rattle.std.proofs.Common.{◌≡◌, ℕ, zero, suc, ◌≤◌, ◌<◌, Bool, true, false, List, [], ◌∷◌, Option, Some, None, refl, ap, ◌∙◌, arith}
+use Rattle.std.proofs.Common.{◌≡◌, ℕ, zero, suc, ◌<◌, false, List, Option, Some, None, refl, ap, ◌∙◌, arith}
 use Rattle.std.specs.Prelude.{nat_eq, ◌||◌}
 use Rattle.std.proofs.lemmas.Bool.Decides.{nat_tests}
 use Rattle.ob_tdesc.specs.declared.descriptor.Descriptor.{Descriptor}
-use Rattle.ob_tdesc.specs.Bases.{base_of, with_bases, line_from, line_of, is_among, is_or_has_base}
+use Rattle.ob_tdesc.specs.Bases.{base_of, with_bases, line_from, is_among, is_or_has_base}
 use Rattle.ob_effect.specs.Bases.{AreBelow}
 
 not_eq : (t a : ℕ) → a < t → nat_eq t a ≡ false

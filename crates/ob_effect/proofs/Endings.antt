@@ -1,7 +1,7 @@
 -- The end of a text, and the order of two.
-use Rattle.std.proofs.Common.{◌≡◌, ℕ, zero, suc, ◌+◌, ◌-◌, ◌≤◌, ◌<◌, List, [], ◌∷◌, ◌++◌, length, take, drop, get_or, Bool, true, false, Option, Some, None, ℤ, pos, negsuc, ◌+ℤ◌, ◌<ℤ◌, ◌≤ℤ◌, ◌≢◌, ⊎_elim, refl, sym, ap, subst, ◌∙◌, arith, add-one, length-drop, length-take, w32, of_z, to_z}
+use Rattle.std.proofs.Common.{◌≡◌, ℕ, zero, suc, ◌+◌, ◌-◌, ◌≤◌, ◌<◌, List, [], ◌∷◌, ◌++◌, length, take, drop, get_or, true, false, Option, Some, None, ℤ, pos, negsuc, ◌+ℤ◌, ◌<ℤ◌, ◌≤ℤ◌, ◌≢◌, ⊎_elim, refl, sym, ap, subst, ◌∙◌, arith, add-one, length-drop, length-take, w32, of_z, to_z}
 use Rattle.std.specs.Int.RustNames.{FitsSigned}
-use Rattle.std.specs.Prelude.{if◌then◌else◌, min, slice_get, int_lt, nat_lt, nat_eq, not, ◌&&◌}
+use Rattle.std.specs.Prelude.{if◌then◌else◌, min, slice_get, int_lt, ◌&&◌}
 use Rattle.std.specs.Ordering.{int_eq}
 use Rattle.std.proofs.lemmas.Bool.Decides.{nat_tests}
 use Rattle.std.proofs.lemmas.Option.{slice_get_within, get_or_from_slice_get, slice_get-get_or}
@@ -72,9 +72,9 @@ seen_more words start len i c seen lt e z =
     record {
       within = omega arith;
       is = seen.is
-        ∙ ap (λ u. before_text (text words start i) u) (next_text words start len i (Some c) lt e ∙ ap (λ b. if b then Ends [] else onto c t) z)
-        ∙ sym (before_onto (text words start i) c t)
-        ∙ ap (λ l. before_text l t) (sym (one_more words start i c e));
+          ∙ ap (λ u. before_text (text words start i) u) (next_text words start len i (Some c) lt e ∙ ap (λ b. if b then Ends [] else onto c t) z)
+          ∙ sym (before_onto (text words start i) c t)
+          ∙ ap (λ l. before_text l t) (sym (one_more words start i c e));
     }
 
 pub seen_end : (words : List ℤ) (start len i : ℕ) (c : ℤ) → HasSeen words start len i → i < len → slice_get words (start + i) ≡ Some c → is_zero c ≡ true → (start + i < length words) × (chars_from words len (pos (suc start)) ≡ Ends (text words start i))
@@ -133,19 +133,21 @@ pub less_here : (s t : List ℤ) (i : ℕ) (c d : ℤ) → SameSoFar s t i → d
 less_here s t i c d same es et lt =
     let h = int_ne_lt c d lt in
     let u = drop (suc i) s in
-    let v = drop (suc i) t in
-    ( same.lt ∙ ap (λ l. chars_lt l (drop i t)) es ∙ ap (λ l. chars_lt (c ∷ u) l) et ∙ ap (λ b. if b then chars_lt u v else int_lt c d) h.0 ∙ h.2
-    , same.gt ∙ ap (λ l. chars_lt l (drop i s)) et ∙ ap (λ l. chars_lt (d ∷ v) l) es ∙ ap (λ b. if b then chars_lt v u else int_lt d c) h.1 ∙ h.3
-    , same.eq ∙ ap (λ l. chars_eq l (drop i t)) es ∙ ap (λ l. chars_eq (c ∷ u) l) et ∙ ap (λ b. b && chars_eq u v) h.0 )
+    let v = drop (suc i) t in (
+      same.lt ∙ ap (λ l. chars_lt l (drop i t)) es ∙ ap (λ l. chars_lt (c ∷ u) l) et ∙ ap (λ b. if b then chars_lt u v else int_lt c d) h.0 ∙ h.2,
+      same.gt ∙ ap (λ l. chars_lt l (drop i s)) et ∙ ap (λ l. chars_lt (d ∷ v) l) es ∙ ap (λ b. if b then chars_lt v u else int_lt d c) h.1 ∙ h.3,
+      same.eq ∙ ap (λ l. chars_eq l (drop i t)) es ∙ ap (λ l. chars_eq (c ∷ u) l) et ∙ ap (λ b. b && chars_eq u v) h.0,
+    )
 
 pub more_here : (s t : List ℤ) (i : ℕ) (c d : ℤ) → SameSoFar s t i → drop i s ≡ c ∷ drop (suc i) s → drop i t ≡ d ∷ drop (suc i) t → d <ℤ c → (chars_lt s t ≡ false) × (chars_lt t s ≡ true) × (chars_eq s t ≡ false)
 more_here s t i c d same es et lt =
     let h = int_ne_lt d c lt in
     let u = drop (suc i) s in
-    let v = drop (suc i) t in
-    ( same.lt ∙ ap (λ l. chars_lt l (drop i t)) es ∙ ap (λ l. chars_lt (c ∷ u) l) et ∙ ap (λ b. if b then chars_lt u v else int_lt c d) h.1 ∙ h.3
-    , same.gt ∙ ap (λ l. chars_lt l (drop i s)) et ∙ ap (λ l. chars_lt (d ∷ v) l) es ∙ ap (λ b. if b then chars_lt v u else int_lt d c) h.0 ∙ h.2
-    , same.eq ∙ ap (λ l. chars_eq l (drop i t)) es ∙ ap (λ l. chars_eq (c ∷ u) l) et ∙ ap (λ b. b && chars_eq u v) h.1 )
+    let v = drop (suc i) t in (
+      same.lt ∙ ap (λ l. chars_lt l (drop i t)) es ∙ ap (λ l. chars_lt (c ∷ u) l) et ∙ ap (λ b. if b then chars_lt u v else int_lt c d) h.1 ∙ h.3,
+      same.gt ∙ ap (λ l. chars_lt l (drop i s)) et ∙ ap (λ l. chars_lt (d ∷ v) l) es ∙ ap (λ b. if b then chars_lt v u else int_lt d c) h.0 ∙ h.2,
+      same.eq ∙ ap (λ l. chars_eq l (drop i t)) es ∙ ap (λ l. chars_eq (c ∷ u) l) et ∙ ap (λ b. b && chars_eq u v) h.1,
+    )
 
 -- where one of them ends
 less_ends : (u v : List ℤ) → length u ≡ 0 → 0 < length v → (chars_lt u v ≡ true) × (chars_lt v u ≡ false) × (chars_eq u v ≡ false)
@@ -188,6 +190,7 @@ pub not_missing : (words : List ℤ) (i : ℕ) → i < length words → slice_ge
 not_missing words i lt e = let h = slice_get-get_or words i (pos 0) lt in cc
 
 pub ruleset seen = (seen_none, seen_more, seen_end, seen_missing, seen_all)
+
 pub ruleset ordered = (same_at_first, same_more, less_here, more_here, less_at_end, more_at_end, same_at_end, text_at, length_text, not_missing)
 
 pub is_end : (x : ℤ) → FitsSigned w32 x → of_z w32 x ≡ 0 → is_zero x ≡ true

@@ -1,6 +1,6 @@
 -- A word times a power of 2, and divided by one.
-use Rattle.std.proofs.Common.{◌≡◌, ◌≢◌, ℕ, zero, suc, ◌+◌, ◌-◌, ◌*◌, ◌/◌, ◌^◌, ◌<◌, ◌≤◌, ℤ, pos, negsuc, neg_ℤ, ◌*ℤ◌, ◌<ℤ◌, ◌≤ℤ◌, Bool, true, false, Option, Some, None, refl, sym, ap, subst, ◌∙◌, w32, w64, to_z, of_z, arith}
-use Rattle.std.specs.Prelude.{if◌then◌else◌, nat_lt}
+use Rattle.std.proofs.Common.{◌≡◌, ◌≢◌, ℕ, zero, suc, ◌*◌, ◌^◌, ◌<◌, ◌≤◌, ℤ, pos, negsuc, neg_ℤ, ◌*ℤ◌, ◌<ℤ◌, ◌≤ℤ◌, false, Option, Some, None, refl, sym, ap, subst, ◌∙◌, w32, w64, to_z, arith}
+use Rattle.std.specs.Prelude.{if◌then◌else◌}
 use Rattle.std.specs.Int.{int_div_euclid}
 use Rattle.std.specs.Int.RustNames.{FitsSigned, unsigned_abs}
 use Rattle.std.proofs.lemmas.Bool.Decides.{nat_tests}
@@ -59,6 +59,7 @@ scaled_fits x e f lt =
     fits_signed_mul w64 x (pos (2 ^ e)) 2147483648 2147483648 (small_abs x f) (omega arith) (omega arith)
 
 pub ruleset ups = (up_zero, up_far)
+
 pub ruleset downs = (down_far_up, down_far_low)
 
 pub product_is : (x y : ℤ) (p e : ℕ) → FitsSigned w32 x → e < 32 → y ≡ x → p ≡ 2 ^ e → (y *ℤ to_z w64 p ≡ x *ℤ pos (2 ^ e)) × FitsSigned w64 (y *ℤ to_z w64 p)

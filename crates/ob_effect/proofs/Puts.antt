@@ -1,9 +1,9 @@
 -- Words put one after the other.
-use Rattle.std.proofs.Common.{◌≡◌, ℕ, zero, suc, ◌+◌, ◌-◌, ◌≤◌, ◌<◌, List, [], ◌∷◌, ◌++◌, length, take, drop, get_or, set, Bool, true, false, Option, Some, None, ℤ, pos, negsuc, w32, unwrap_or, refl, sym, ap, subst, ◌∙◌, arith, append_assoc, length-append, length-drop, add-one}
-use Rattle.std.specs.Prelude.{if◌then◌else◌, nat_le, ◌+ℤ◌, ◌&&◌, slice_set}
+use Rattle.std.proofs.Common.{◌≡◌, ℕ, zero, suc, ◌+◌, ◌-◌, ◌≤◌, ◌<◌, List, [], ◌∷◌, ◌++◌, length, take, drop, get_or, set, Bool, true, false, Some, None, ℤ, pos, negsuc, unwrap_or, refl, sym, ap, subst, ◌∙◌, arith, append_assoc, length-append, length-drop}
+use Rattle.std.specs.Prelude.{if◌then◌else◌, nat_le, ◌+ℤ◌, ◌&&◌}
 use Rattle.std.proofs.lemmas.Bool.Decides.{nat_tests}
 use Rattle.std.proofs.lemmas.List.{length-take-le, take-append-drop}
-use Rattle.std.proofs.Math.Seq.{drop-cons, take-suc, set-append_seam}
+use Rattle.std.proofs.Math.Seq.{drop-cons, set-append_seam}
 use Rattle.ob_mem.specs.Words.{Held, are_there, before, words_at, with_words, stored, copied}
 use Rattle.ob_instr.specs.Rows.{Next, on_found, placed}
 use Rattle.ob_effect.specs.Texts.{text}
@@ -122,6 +122,7 @@ placed_nowhere words y start count e lt =
     let t = text words start count ++ pos 0 ∷ [] in
     let len : length t ≡ count + 1 = omega (arith, length_text words start count (omega arith), length-append (text words start count) (pos 0 ∷ [])) in
     none_if (are_there (length words) y (length t)) (with_words words y t) (ap (λ n. are_there (length words) y n) len ∙ e)
+
 pub ruleset placing = (placed_there, placed_nowhere)
 
 -- the words after each of the two changes

@@ -5,18 +5,25 @@ ghost use Rattle.ob_values.specs.Effects.{Does, Moves};
 ghost use Rattle.ob_effect.specs.Bases.{AreBelow};
 ghost use Rattle.ob_effect.specs.Places.{IsPlace, image_at, module_at, is_call};
 
-use ob_values::{Comparison, State, Step, abs, add, address, bit, bits, cap, character, compare, complement, contains, differ, div, drop_one, index, index_open, meet, minus, modulo, mul, neg, not, odd, offset, push, range, sub, union};
 use crate::jumps::{assert_true, jump, jump_at_false, trap};
-use crate::memory::{exclude, include, copy, dec, deref, inc, load, store, tagged};
+use crate::memory::{copy, dec, deref, exclude, inc, include, load, store, tagged};
 use crate::objects::{make_array, make_open_array, make_record};
-use crate::writing::write;
 use crate::records::copy_record;
 use crate::shifts::ash;
 use crate::texts::{copy_text, relate};
-use crate::types::{external, guard_at, guard_record, is_pointer, is_record, linked_procedure, own_procedure, push_tag};
+use crate::types::{
+    external, guard_at, guard_record, is_pointer, is_record, linked_procedure, own_procedure,
+    push_tag,
+};
+use crate::writing::write;
 use ob_instr::{Instr, Opcode};
 use ob_tdesc::Descriptors;
 use ob_tree::ProcRef;
+use ob_values::{
+    Comparison, State, Step, abs, add, address, bit, bits, cap, character, compare, complement,
+    contains, differ, div, drop_one, index, index_open, meet, minus, modulo, mul, neg, not, odd,
+    offset, push, range, sub, union,
+};
 
 /// What the instructions read of their module and of the machine.
 #[derive(Clone, Copy)]

@@ -4,7 +4,6 @@ ghost use Rattle.ob_values.specs.Effects.{Does, Keeps, Moves};
 
 use ob_values::{State, Step, take};
 
-
 /// A number from 0 up to a bound.
 pub fn below(bound: usize, number: i32) -> Option<u32>
     ensures { result ≡ below bound number }
@@ -93,7 +92,10 @@ pub fn assert_true(state: &mut State, a: i32) -> Step
         return Step::Unable;
     };
     if word == 0 {
-        return Step::Traps { kind: 10, number: a };
+        return Step::Traps {
+            kind: 10,
+            number: a,
+        };
     }
     Step::Goes
 }

@@ -5,11 +5,11 @@ mod acting;
 mod jumps;
 mod memory;
 mod objects;
-mod writing;
 mod records;
 mod shifts;
 mod texts;
 mod types;
+mod writing;
 
 pub use acting::{Place, effect};
 pub use texts::word_behind;

@@ -4,7 +4,10 @@ ghost use Rattle.ob_mem.specs.Words.{word_at, stored, copied};
 ghost use Rattle.ob_instr.specs.Rows.{Next, Traps, on_one, on_two, on_found, on_count, on_width, in_width, is_zero, with_memory, on_element, set_from};
 ghost use Rattle.ob_values.specs.Effects.{Does, Keeps};
 
-use ob_values::{Fit, State, Step, difference, element, fitted, push, put, sum, take, take_two, with_element, without_element};
+use ob_values::{
+    Fit, State, Step, difference, element, fitted, push, put, sum, take, take_two, with_element,
+    without_element,
+};
 
 /// Puts a word at an address.
 pub fn store_word(state: &mut State, at: i32, word: i32) -> Step

@@ -3,9 +3,9 @@ ghost use Rattle.ob_mem.specs.Words.{are_there};
 ghost use Rattle.ob_instr.specs.Rows.{Next, Traps, on_one, on_two, on_found, on_count, item, tag, made, made_many, where_there};
 ghost use Rattle.ob_values.specs.Effects.{Does, Keeps};
 
-use ob_values::{State, Step, take, take_two};
 use crate::types::item_of;
 use ob_tdesc::Descriptors;
+use ob_values::{State, Step, take, take_two};
 
 #[tactic(auto, using(crate::proofs::Made::made_there))]
 fn make(state: &mut State, at: i32, extra: &[i32], count: u64) -> Step
@@ -20,15 +20,26 @@ fn make(state: &mut State, at: i32, extra: &[i32], count: u64) -> Step
     let len = state.words.len();
     let total = extra.len() as u64 + count;
     if total > (len + 1 - first) as u64 {
-        return Step::Traps { kind: 12, number: 0 };
+        return Step::Traps {
+            kind: 12,
+            number: 0,
+        };
     }
     let _ = state.words.take_heap(total as u32);
     let _ = state.words.put(first as i64, extra);
-    let _ = state.words.store(i64::from(at), (first + extra.len()) as i32);
+    let _ = state
+        .words
+        .store(i64::from(at), (first + extra.len()) as i32);
     Step::Goes
 }
 
-pub fn make_record(state: &mut State, descriptors: &Descriptors, count: u32, types: &[u32], a: i32) -> Step
+pub fn make_record(
+    state: &mut State,
+    descriptors: &Descriptors,
+    count: u32,
+    types: &[u32],
+    a: i32,
+) -> Step
     requires few { length descriptors.now.list < 2 ^ 31 }
     requires count { count ≡ length descriptors.now.list }
     ensures does { Does (λ ops w. on_found (item types.now a) (λ t. on_found (slice_get descriptors.now.list t) (λ d. on_one ops (λ x rest. where_there w x (made x (tag t ∷ []) d.words rest w))))) state.old state.new result }
@@ -83,7 +94,10 @@ pub fn make_open_array(state: &mut State, a: i32) -> Step
         return Step::Unable;
     }
     if l < 1 {
-        return Step::Traps { kind: 16, number: 0 };
+        return Step::Traps {
+            kind: 16,
+            number: 0,
+        };
     }
     make(state, x, &[0, l], l as u64 * a as u64)
 }

@@ -4,9 +4,9 @@ ghost use Rattle.ob_mem.specs.Words.{copied};
 ghost use Rattle.ob_instr.specs.Rows.{Next, Traps, on_three, on_found, on_count, item, tag, with_memory};
 ghost use Rattle.ob_values.specs.Effects.{Does, Keeps};
 
-use ob_values::{State, Step, take_three};
 use crate::memory::copy_words;
 use crate::types::item_of;
+use ob_values::{State, Step, take_three};
 use ob_words::Words;
 
 // Whether so many words can be copied.
@@ -28,7 +28,10 @@ fn copy_exact(state: &mut State, t: u32, to: i32, found: i32, from: i32, count: 
     if !can_copy(&state.words, to, from, count) {
         return Step::Unable;
     }
-    Step::Traps { kind: 14, number: 0 }
+    Step::Traps {
+        kind: 14,
+        number: 0,
+    }
 }
 
 pub fn copy_record(state: &mut State, types: &[u32], a: i32, b: i32) -> Step

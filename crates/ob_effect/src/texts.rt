@@ -3,8 +3,8 @@ ghost use Rattle.ob_instr.specs.Rows.{Next, Traps, on_found, on_four, on_both, b
 ghost use Rattle.ob_values.specs.Effects.{Does, Keeps};
 ghost use Rattle.ob_effect.specs.Texts.{TextIs, TextIsFrom, IsOrder, text};
 
-use ob_values::{State, Step, push, take_four};
 use crate::jumps::below;
+use ob_values::{State, Step, push, take_four};
 use ob_words::Words;
 use std::cmp::Ordering;
 
@@ -106,7 +106,6 @@ fn holds(relation: u32, order: Ordering) -> bool
     }
 }
 
-
 pub fn relate(state: &mut State, a: i32) -> Step
     requires room { 257 ≤ vec_capacity state.old.operands }
     requires few { vec_len state.old.operands ≤ 256 }
@@ -124,11 +123,11 @@ pub fn relate(state: &mut State, a: i32) -> Step
     let second = text_ending(&state.words, y, n);
     match (first, second) {
         (Ending::Missing, _) | (_, Ending::Missing) => Step::Unable,
-        (Ending::Endless, _) | (_, Ending::Endless) => Step::Traps { kind: 15, number: 0 },
-        (
-            Ending::After { start: a, count: k },
-            Ending::After { start: b, count: m },
-        ) => {
+        (Ending::Endless, _) | (_, Ending::Endless) => Step::Traps {
+            kind: 15,
+            number: 0,
+        },
+        (Ending::After { start: a, count: k }, Ending::After { start: b, count: m }) => {
             let order = order(&state.words, a, k, b, m);
             push(state, i32::from(holds(relation, order)))
         }
@@ -163,7 +162,10 @@ pub fn copy_text(state: &mut State) -> Step
     }
     match text_ending(&state.words, x, l) {
         Ending::Missing => Step::Unable,
-        Ending::Endless => Step::Traps { kind: 15, number: 0 },
+        Ending::Endless => Step::Traps {
+            kind: 15,
+            number: 0,
+        },
         Ending::After { start, count } => place_text(state, y, start, count.min(n as u32 - 1)),
     }
 }

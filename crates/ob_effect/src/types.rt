@@ -5,10 +5,10 @@ ghost use Rattle.ob_instr.specs.Rows.{Next, Traps, on_one, on_found, below, item
 ghost use Rattle.ob_values.specs.Effects.{Does, Keeps};
 ghost use Rattle.ob_effect.specs.Bases.{AreBelow};
 
-use ob_values::{State, Step, push, push_word, take};
 use crate::jumps::below;
 use ob_tdesc::{Descriptors, Steps};
 use ob_tree::ProcRef;
+use ob_values::{State, Step, push, push_word, take};
 use ob_words::Words;
 use std::marker::Brand;
 use std::sync::ledger::{Blank, Ledger};
@@ -79,7 +79,13 @@ fn tag_passes(descriptors: &Descriptors, count: u32, tag: i32, t: u32) -> Option
 }
 
 // The same for the object of a pointer.
-fn pointer_passes(descriptors: &Descriptors, count: u32, words: &Words, pointer: i32, t: u32) -> Option<bool>
+fn pointer_passes(
+    descriptors: &Descriptors,
+    count: u32,
+    words: &Words,
+    pointer: i32,
+    t: u32,
+) -> Option<bool>
     requires count { count ≡ length descriptors.now.list }
     requires bases { AreBelow descriptors.now.list }
     ensures { result ≡ pointer_passes descriptors.now.list words.now.words pointer t }
@@ -159,7 +165,13 @@ pub fn linked_procedure(state: &mut State, links: &[ProcRef], a: i32) -> Step
     procedure(state, link.module, link.proc)
 }
 
-pub fn is_pointer(state: &mut State, descriptors: &Descriptors, count: u32, types: &[u32], a: i32) -> Step
+pub fn is_pointer(
+    state: &mut State,
+    descriptors: &Descriptors,
+    count: u32,
+    types: &[u32],
+    a: i32,
+) -> Step
     requires room { 257 ≤ vec_capacity state.old.operands }
     requires few { vec_len state.old.operands ≤ 256 }
     requires count { count ≡ length descriptors.now.list }
@@ -180,7 +192,13 @@ pub fn is_pointer(state: &mut State, descriptors: &Descriptors, count: u32, type
     push(state, i32::from(passes))
 }
 
-pub fn is_record(state: &mut State, descriptors: &Descriptors, count: u32, types: &[u32], a: i32) -> Step
+pub fn is_record(
+    state: &mut State,
+    descriptors: &Descriptors,
+    count: u32,
+    types: &[u32],
+    a: i32,
+) -> Step
     requires room { 257 ≤ vec_capacity state.old.operands }
     requires few { vec_len state.old.operands ≤ 256 }
     requires count { count ≡ length descriptors.now.list }
@@ -201,7 +219,13 @@ pub fn is_record(state: &mut State, descriptors: &Descriptors, count: u32, types
     push(state, i32::from(passes))
 }
 
-pub fn guard_at(state: &mut State, descriptors: &Descriptors, count: u32, types: &[u32], a: i32) -> Step
+pub fn guard_at(
+    state: &mut State,
+    descriptors: &Descriptors,
+    count: u32,
+    types: &[u32],
+    a: i32,
+) -> Step
     requires room { 257 ≤ vec_capacity state.old.operands }
     requires few { vec_len state.old.operands ≤ 256 }
     requires count { count ≡ length descriptors.now.list }
@@ -228,7 +252,13 @@ pub fn guard_at(state: &mut State, descriptors: &Descriptors, count: u32, types:
     push(state, x)
 }
 
-pub fn guard_record(state: &mut State, descriptors: &Descriptors, count: u32, types: &[u32], a: i32) -> Step
+pub fn guard_record(
+    state: &mut State,
+    descriptors: &Descriptors,
+    count: u32,
+    types: &[u32],
+    a: i32,
+) -> Step
     requires room { 257 ≤ vec_capacity state.old.operands }
     requires few { vec_len state.old.operands ≤ 256 }
     requires count { count ≡ length descriptors.now.list }

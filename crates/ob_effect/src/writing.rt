@@ -2,8 +2,8 @@ ghost use Rattle.std.specs.Prelude.{◌≡◌, ◌≤◌, ◌∷◌, [], ℕ, po
 ghost use Rattle.ob_instr.specs.Rows.{Next, on_one, on_two, on_turn, printed, padded, low_byte, written, written_chars, chars_at};
 ghost use Rattle.ob_values.specs.Effects.{Does, Moves};
 
-use ob_values::{State, Step, take, take_two};
 use crate::texts::{Ending, text_ending};
+use ob_values::{State, Step, take, take_two};
 
 fn write_char(state: &mut State) -> Step
     ensures does { Does (λ ops w. on_one ops (λ c rest. on_turn w (λ v. Next rest (printed v (low_byte c ∷ []))))) state.old state.new result }
@@ -38,7 +38,10 @@ fn write_text(state: &mut State) -> Step
     state.turns -= 1;
     match text {
         Ending::After { start, count } => Step::Text { start, count },
-        _ => Step::Traps { kind: 15, number: 0 },
+        _ => Step::Traps {
+            kind: 15,
+            number: 0,
+        },
     }
 }
 

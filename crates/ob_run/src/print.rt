@@ -60,6 +60,7 @@ pub fn put_char<S: Sink>(out: &mut S, word: i32) -> Result<(), Failed>
 
 /// Writes the low eight bits of `count` words that stand behind `start` others, as far as there are so
 /// many.
+#[tactic(auto, using(crate::proofs::Chars::chars))]
 pub fn put_text<S: Sink>(out: &mut S, words: &Words, start: u32, count: u32) -> Result<(), Failed>
     ensures told { S.tells out.new ≡ S.tells out.old }
     ensures bytes { S.tells out.old ≡ true → WritesAll (S.taken out.old) (S.taken out.new) result (low_bytes (take count (drop start words.now.words))) }

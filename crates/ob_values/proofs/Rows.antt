@@ -1,13 +1,10 @@
 -- Parts of rows, at the operands that stand.
-use Rattle.std.proofs.Common.{◌≡◌, ℕ, List, [], ◌∷◌, ℤ, pos, Bool, true, ap, sym, ◌∙◌, w32, w64, to_z, of_z}
+use Rattle.std.proofs.Common.{◌≡◌, List, ◌∷◌, ℤ, Bool, true, ap, sym, ◌∙◌, w32, w64, to_z, of_z}
 use Rattle.std.specs.Prelude.{if◌then◌else◌}
 use Rattle.std.specs.Int.RustNames.{FitsSigned}
 use Rattle.std.proofs.lemmas.Int.{to_z-of_z}
 use Rattle.ob_instr.specs.Image.{World}
-use Rattle.ob_instr.specs.Rows.{Effect, Next, Traps, Unable, on_one, on_two, on_three, on_width, in_width, in_type, word}
-use Rattle.ob_values.specs.declared.numbers.Fit.{Fit}
-use Rattle.ob_values.specs.declared.numbers.Fit.TheVariants as fit
-use Rattle.ob_values.specs.Effects.{on_fit}
+use Rattle.ob_instr.specs.Rows.{Effect, on_one, on_two, on_three, on_width, in_type, word}
 
 pub in_type_of_two : (f : ℤ → ℤ → ℤ) (b : ℤ) (ops rest : List ℤ) (x y v : ℤ) (w : World) (e : Effect) → FitsSigned w32 b → FitsSigned w64 v → ops ≡ y ∷ x ∷ rest → v ≡ f x y → on_width (to_z w32 (of_z w32 b)) (λ n. in_type n (to_z w64 (of_z w64 v)) rest w) ≡ e → on_width b (λ n. on_two ops (λ s t u. in_type n (f s t) u w)) ≡ e
 in_type_of_two f b ops rest x y v w e bf vf is number done =

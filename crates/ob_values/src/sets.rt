@@ -20,7 +20,6 @@ pub fn element(word: i32) -> Option<u32>
     Some(word as u32)
 }
 
-
 // The set of the elements from one to another.
 fn set_of(first: u32, last: u32) -> i32
     requires first { first < 32 }

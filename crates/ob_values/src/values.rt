@@ -3,7 +3,10 @@ ghost use Rattle.std.specs.Int.{int_div_euclid, int_rem_euclid};
 ghost use Rattle.ob_instr.specs.Rows.{Next, Traps, on_one, on_two, on_three, on_width, word, in_type, in_width, compared, truth, is_within, is_zero, magnitude, shifted, capital};
 ghost use Rattle.ob_values.specs.Effects.{Does, Keeps, holds_of};
 
-use crate::numbers::{Comparison, Fit, capital, difference, element_at, fitted, is_within, negated, product, sum, word_of};
+use crate::numbers::{
+    Comparison, Fit, capital, difference, element_at, fitted, is_within, negated, product, sum,
+    word_of,
+};
 use crate::operands::{put, take, take_three, take_two};
 use crate::state::{State, Step};
 

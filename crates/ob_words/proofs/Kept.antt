@@ -1,5 +1,5 @@
 -- What each change keeps.
-use Rattle.std.proofs.Common.{◌≡◌, ℕ, zero, suc, ◌+◌, ◌-◌, ◌≤◌, ◌<◌, List, ◌++◌, length, take, drop, replicate, Bool, true, false, Option, Some, None, ℤ, pos, negsuc, w32, unwrap_or, refl, sym, subst, ◌∙◌, arith, length-append, length-drop}
+use Rattle.std.proofs.Common.{◌≡◌, ℕ, zero, suc, ◌+◌, ◌≤◌, List, ◌++◌, length, take, drop, replicate, Bool, true, false, Some, None, ℤ, pos, negsuc, w32, unwrap_or, refl, arith, length-append, length-drop}
 use Rattle.std.specs.Prelude.{if◌then◌else◌, ◌&&◌, nat_lt, slice_set}
 use Rattle.std.specs.List.{All}
 use Rattle.std.specs.Int.RustNames.{FitsSigned}

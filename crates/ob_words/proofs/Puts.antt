@@ -1,14 +1,11 @@
 -- Words put one after the other.
-use Rattle.std.proofs.Common.{◌≡◌, ℕ, zero, suc, ◌+◌, ◌-◌, ◌≤◌, ◌<◌, List, [], ◌∷◌, ◌++◌, length, take, drop, get_or, set, Bool, true, false, Option, Some, None, ℤ, pos, negsuc, w32, unwrap_or, refl, sym, ap, subst, ◌∙◌, arith, append_assoc, length-append, length-drop, add-one}
-use Rattle.std.specs.Prelude.{if◌then◌else◌, nat_le, ◌+ℤ◌, slice_set}
-use Rattle.std.specs.List.{All}
-use Rattle.std.specs.Int.RustNames.{FitsSigned}
+use Rattle.std.proofs.Common.{◌≡◌, ℕ, zero, suc, ◌+◌, ◌-◌, ◌≤◌, ◌<◌, List, [], ◌∷◌, ◌++◌, length, take, drop, get_or, set, Bool, true, false, Some, None, ℤ, pos, negsuc, unwrap_or, refl, sym, ap, subst, ◌∙◌, arith, append_assoc, length-append, add-one}
+use Rattle.std.specs.Prelude.{if◌then◌else◌, nat_le, ◌+ℤ◌}
 use Rattle.std.proofs.lemmas.Bool.Decides.{nat_tests}
 use Rattle.std.proofs.lemmas.List.{length-take-le, take-append-drop}
 use Rattle.std.proofs.Math.Seq.{drop-cons, take-suc, set-append_seam}
 use Rattle.ob_mem.specs.Words.{Held, are_there, before, with_words, stored}
-use Rattle.ob_words.specs.Kept.{IsKept}
-use Rattle.ob_words.proofs.Kept.{there_fits, length_with, kept_with}
+use Rattle.ob_words.proofs.Kept.{length_with}
 
 pub with_none : (words : List ℤ) (x : ℤ) → with_words words x [] ≡ words
 with_none words x = let e : before x + 0 ≡ before x = omega arith in rw e (take-append-drop (before x) words)

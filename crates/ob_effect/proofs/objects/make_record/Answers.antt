@@ -1,4 +1,4 @@
-use Rattle.std.proofs.Common.{rules, subst, sym, ◌≡◌, true, length, arith, w32}
+use Rattle.std.proofs.Common.{rules, subst, sym, ◌≡◌, true, length, arith}
 use Rattle.std.specs.Prelude.{slice_get, IfSome}
 use Rattle.std.proofs.lemmas.Int.{ints, to_z-of_z}
 use Rattle.ob_mem.specs.Words.{are_there}

@@ -1,6 +1,6 @@
-use Rattle.std.proofs.Common.{rules, ◌≡◌, ◌∙◌, ◌^◌, pos, ap, w32, to_z, of_z, arith}
+use Rattle.std.proofs.Common.{rules, ◌≡◌, ◌^◌, pos, ap, w32, to_z, of_z, arith}
 use Rattle.std.specs.Int.RustNames.{FitsSigned}
-use Rattle.std.proofs.lemmas.Int.{ints, to_z-of_z, to_z_pos}
+use Rattle.std.proofs.lemmas.Int.{to_z-of_z}
 use Rattle.ob_effect.proofs.Powers.{below_31}
 use Rattle.ob_effect.proofs.shifts.shifted_down.Goals as goal
 

@@ -1,4 +1,4 @@
-use Rattle.std.proofs.Common.{rules, ◌≡◌, ◌≤ℤ◌, ◌∷◌, [], ◌++◌, reverse, pos, min, ap, sym, ◌∙◌, arith, w32, to_z, of_z}
+use Rattle.std.proofs.Common.{rules, ◌≡◌, ◌∷◌, [], ◌++◌, reverse, pos, ap, sym, ◌∙◌, arith, w32, to_z, of_z}
 use Rattle.std.specs.Int.RustNames.{FitsSigned}
 use Rattle.std.proofs.lemmas.Int.{ints, to_z-of_z}
 use Rattle.ob_instr.specs.Rows.{Next, on_found, placed, with_memory, chars_at, Ends}
@@ -14,9 +14,9 @@ returns-in-After-clause-does c = λ out.
     let fl : FitsSigned w32 c.in-Some.l = search rules in
     let fy : FitsSigned w32 c.in-Some.y = search rules in
     let ends : chars_at ws c.in-Some.x c.in-Some.l ≡ Ends (text ws c.in-After.start c.in-After.count) =
-        ap (λ z. chars_at ws z c.in-Some.l) (sym (to_z-of_z w32 c.in-Some.x fx))
-        ∙ ap (λ z. chars_at ws (to_z w32 (of_z w32 c.in-Some.x)) z) (sym (to_z-of_z w32 c.in-Some.l fl))
-        ∙ c.in-After.ensures.2 in
+    ap (λ z. chars_at ws z c.in-Some.l) (sym (to_z-of_z w32 c.in-Some.x fx))
+    ∙ ap (λ z. chars_at ws (to_z w32 (of_z w32 c.in-Some.x)) z) (sym (to_z-of_z w32 c.in-Some.l fl))
+    ∙ c.in-After.ensures.2 in
     let fn : FitsSigned w32 c.in-Some.n = search rules in
     let p = room_of c.in-Some.n fn c.if-n-lt1.false in
     let some = p.1 in

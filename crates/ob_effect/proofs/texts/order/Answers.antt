@@ -1,4 +1,4 @@
-use Rattle.std.proofs.Common.{rules, w32, ◌<ℤ◌, ◌≡◌, ◌+◌, ◌∷◌, suc, drop, Some, refl, ap, sym, subst, ◌∙◌, add-one, arith}
+use Rattle.std.proofs.Common.{rules, w32, ◌<ℤ◌, ◌≡◌, ◌+◌, ◌∷◌, suc, drop, Some, ap, sym, subst, ◌∙◌, add-one, arith}
 use Rattle.std.specs.Prelude.{slice_get}
 use Rattle.std.specs.Int.RustNames.{FitsSigned}
 use Rattle.std.proofs.lemmas.Int.{ints}

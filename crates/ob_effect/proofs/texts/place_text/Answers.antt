@@ -1,4 +1,4 @@
-use Rattle.std.proofs.Common.{◌≡◌, ◌+◌, suc, pos, true, length, refl, arith, w64, add-one}
+use Rattle.std.proofs.Common.{◌≡◌, ◌+◌, true, length, refl, arith}
 use Rattle.std.proofs.lemmas.Int.{ints, to_z-of_z}
 use Rattle.ob_mem.specs.Words.{are_there}
 use Rattle.ob_values.specs.Effects.{ops_of}

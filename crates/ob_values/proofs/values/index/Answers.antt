@@ -1,8 +1,8 @@
-use Rattle.std.proofs.Common.{rules, ◌≡◌, true, pos, ◌+ℤ◌, ◌*ℤ◌, w32, w64, arith}
+use Rattle.std.proofs.Common.{rules, ◌≡◌, true, pos, ◌+ℤ◌, ◌*ℤ◌, w64, arith}
 use Rattle.std.specs.Int.RustNames.{FitsSigned}
 use Rattle.std.proofs.lemmas.Int.{to_z-of_z}
 use Rattle.ob_instr.specs.Rows.{Traps, is_within}
-use Rattle.ob_values.specs.Effects.{ops_of, world_of, effect_of}
+use Rattle.ob_values.specs.Effects.{ops_of, world_of}
 use Rattle.ob_values.proofs.Rows.{word_of_two}
 use Rattle.ob_values.proofs.values.index.Goals as goal
 

@@ -1,7 +1,7 @@
-use Rattle.std.proofs.Common.{rules, reverse, neg_ℤ, w64, arith}
+use Rattle.std.proofs.Common.{rules, neg_ℤ, w64, arith}
 use Rattle.std.specs.Int.RustNames.{FitsSigned}
-use Rattle.std.proofs.lemmas.Int.{ints, to_z-of_z}
-use Rattle.ob_values.specs.Effects.{ops_of, world_of, effect_of}
+use Rattle.std.proofs.lemmas.Int.{ints}
+use Rattle.ob_values.specs.Effects.{ops_of, world_of}
 use Rattle.ob_values.proofs.Rows.{in_type_of_one}
 use Rattle.ob_values.proofs.values.neg.Goals as goal
 

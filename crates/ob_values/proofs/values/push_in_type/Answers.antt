@@ -1,4 +1,4 @@
-use Rattle.std.proofs.Common.{rules, ◌≡◌, ◌∷◌, pos, ap, sym, ◌∙◌, w32}
+use Rattle.std.proofs.Common.{rules, ◌∷◌, pos, ap, sym, ◌∙◌, w32}
 use Rattle.std.specs.Int.RustNames.{FitsSigned}
 use Rattle.std.proofs.lemmas.Int.{to_z-of_z}
 use Rattle.ob_instr.specs.Rows.{Next, Traps}

@@ -1,7 +1,7 @@
-use Rattle.std.proofs.Common.{rules, reverse, ◌-ℤ◌, w64, arith}
+use Rattle.std.proofs.Common.{rules, ◌-ℤ◌, w64, arith}
 use Rattle.std.specs.Int.RustNames.{FitsSigned}
-use Rattle.std.proofs.lemmas.Int.{ints, to_z-of_z}
-use Rattle.ob_values.specs.Effects.{ops_of, world_of, effect_of}
+use Rattle.std.proofs.lemmas.Int.{ints}
+use Rattle.ob_values.specs.Effects.{ops_of, world_of}
 use Rattle.ob_values.proofs.Rows.{in_type_of_two}
 use Rattle.ob_values.proofs.values.sub.Goals as goal
 

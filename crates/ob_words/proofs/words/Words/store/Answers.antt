@@ -1,5 +1,4 @@
 use Rattle.std.proofs.Common.{rules, sym, subst}
-use Rattle.ob_mem.specs.Words.{Held}
 use Rattle.ob_words.specs.Kept.{IsKept}
 use Rattle.ob_words.proofs.Kept.{kept_stored}
 use Rattle.ob_words.proofs.words.Words.store.Goals as goal
