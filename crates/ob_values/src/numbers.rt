@@ -5,11 +5,17 @@ ghost use Rattle.ob_values.specs.Effects.{holds_of, on_fit};
 /// How two words are compared.
 #[derive(Clone, Copy, Debug, PartialEq, Eq, Drop)]
 pub enum Comparison {
+    /// `=`
     Equal,
+    /// `#`
     Unequal,
+    /// `<`
     Less,
+    /// `<=`
     LessOrEqual,
+    /// `>`
     Greater,
+    /// `>=`
     GreaterOrEqual,
 }
 
@@ -20,10 +26,12 @@ pub enum Fit {
     Without,
     /// The number is outside its range.
     Outside,
+    /// The number as a word.
     Inside(i32),
 }
 
 impl Comparison {
+    /// Whether the comparison holds of two words.
     pub fn holds(self, x: i32, y: i32) -> bool
         ensures { result ≡ holds_of self x y }
     {
@@ -118,7 +126,7 @@ pub fn negated(word: i32) -> i64
     -i64::from(word)
 }
 
-/// A power of 2.
+/// A power of 2, with an exponent of at most 32.
 pub fn power(exponent: u32) -> u64
     requires { exponent ≤ 32 }
     ensures { result ≡ 2 ^ exponent }

@@ -57,6 +57,7 @@ fn has(set: i32, element: u32) -> bool
     (set.cast_unsigned() >> element) % 2 == 1
 }
 
+/// Union: the set of the elements of either set.
 pub fn union(state: &mut State) -> Step
     requires room { 257 ≤ vec_capacity state.old.operands }
     requires few { vec_len state.old.operands ≤ 256 }
@@ -70,6 +71,7 @@ pub fn union(state: &mut State) -> Step
     push(state, x | y)
 }
 
+/// Minus: the set of the elements of the first set that the second has not.
 pub fn minus(state: &mut State) -> Step
     requires room { 257 ≤ vec_capacity state.old.operands }
     requires few { vec_len state.old.operands ≤ 256 }
@@ -83,6 +85,7 @@ pub fn minus(state: &mut State) -> Step
     push(state, x & !y)
 }
 
+/// Meet: the set of the elements of both sets.
 pub fn meet(state: &mut State) -> Step
     requires room { 257 ≤ vec_capacity state.old.operands }
     requires few { vec_len state.old.operands ≤ 256 }
@@ -96,6 +99,7 @@ pub fn meet(state: &mut State) -> Step
     push(state, x & y)
 }
 
+/// Xor: the set of the elements of exactly one of the sets.
 pub fn differ(state: &mut State) -> Step
     requires room { 257 ≤ vec_capacity state.old.operands }
     requires few { vec_len state.old.operands ≤ 256 }
@@ -109,6 +113,7 @@ pub fn differ(state: &mut State) -> Step
     push(state, x ^ y)
 }
 
+/// Compl: the set of the elements that the set has not.
 pub fn complement(state: &mut State) -> Step
     requires room { 257 ≤ vec_capacity state.old.operands }
     requires few { vec_len state.old.operands ≤ 256 }
@@ -122,6 +127,7 @@ pub fn complement(state: &mut State) -> Step
     push(state, !v)
 }
 
+/// Bit: the set of one element. Trap 9 where the operand is not from 0 to 31.
 pub fn bit(state: &mut State) -> Step
     requires room { 257 ≤ vec_capacity state.old.operands }
     requires few { vec_len state.old.operands ≤ 256 }
@@ -138,6 +144,7 @@ pub fn bit(state: &mut State) -> Step
     push(state, set_of(i, i))
 }
 
+/// Bits: the set of the elements from one to another. Trap 9 where one of them is not from 0 to 31.
 pub fn bits(state: &mut State) -> Step
     requires room { 257 ≤ vec_capacity state.old.operands }
     requires few { vec_len state.old.operands ≤ 256 }
@@ -157,6 +164,7 @@ pub fn bits(state: &mut State) -> Step
     push(state, set_of(i, j))
 }
 
+/// In: 1 where the set has the element, else 0. Trap 9 where the element is not from 0 to 31.
 pub fn contains(state: &mut State) -> Step
     requires room { 257 ≤ vec_capacity state.old.operands }
     requires few { vec_len state.old.operands ≤ 256 }

@@ -63,6 +63,7 @@ pub fn address(state: &mut State, first: u32, a: i32) -> Step
     push_word(state, i64::from(first) + i64::from(a))
 }
 
+/// Drop: takes the last operand away.
 pub fn drop_one(state: &mut State) -> Step
     ensures does { Does (λ ops w. on_one ops (λ v rest. Next rest w)) state.old state.new result }
     ensures keeps { Keeps state.old state.new result }
@@ -74,6 +75,7 @@ pub fn drop_one(state: &mut State) -> Step
     }
 }
 
+/// Offset: the address `a` words behind the one that stands.
 pub fn offset(state: &mut State, a: i32) -> Step
     requires room { 257 ≤ vec_capacity state.old.operands }
     requires few { vec_len state.old.operands ≤ 256 }
@@ -87,6 +89,8 @@ pub fn offset(state: &mut State, a: i32) -> Step
     push_word(state, i64::from(x) + i64::from(a))
 }
 
+/// Index: the address of an element of `b` words, of which there are `a`. Trap 1 where the index is not
+/// from 0 to `a` - 1.
 pub fn index(state: &mut State, a: i32, b: i32) -> Step
     requires room { 257 ≤ vec_capacity state.old.operands }
     requires few { vec_len state.old.operands ≤ 256 }
@@ -103,6 +107,8 @@ pub fn index(state: &mut State, a: i32, b: i32) -> Step
     push_word(state, element_at(x, i, b))
 }
 
+/// IndexO: the address of an element of `a` words of an open array, whose length stands below the index.
+/// Trap 1 where the index is not from 0 to the length - 1.
 pub fn index_open(state: &mut State, a: i32) -> Step
     requires room { 257 ≤ vec_capacity state.old.operands }
     requires few { vec_len state.old.operands ≤ 256 }
@@ -119,6 +125,7 @@ pub fn index_open(state: &mut State, a: i32) -> Step
     push_word(state, element_at(x, i, a))
 }
 
+/// Add: the sum of two operands. Trap 8 where it is outside the integer type of so many bytes.
 pub fn add(state: &mut State, bytes: i32) -> Step
     requires room { 257 ≤ vec_capacity state.old.operands }
     requires few { vec_len state.old.operands ≤ 256 }
@@ -132,6 +139,7 @@ pub fn add(state: &mut State, bytes: i32) -> Step
     push_in_type(state, bytes, sum(x, y))
 }
 
+/// Sub: the difference of two operands. Trap 8 where it is outside the integer type of so many bytes.
 pub fn sub(state: &mut State, bytes: i32) -> Step
     requires room { 257 ≤ vec_capacity state.old.operands }
     requires few { vec_len state.old.operands ≤ 256 }
@@ -145,6 +153,7 @@ pub fn sub(state: &mut State, bytes: i32) -> Step
     push_in_type(state, bytes, difference(x, y))
 }
 
+/// Mul: the product of two operands. Trap 8 where it is outside the integer type of so many bytes.
 pub fn mul(state: &mut State, bytes: i32) -> Step
     requires room { 257 ≤ vec_capacity state.old.operands }
     requires few { vec_len state.old.operands ≤ 256 }
@@ -158,6 +167,7 @@ pub fn mul(state: &mut State, bytes: i32) -> Step
     push_in_type(state, bytes, product(x, y))
 }
 
+/// Div: the quotient of two operands, rounded down. Trap 7 where the divisor is not above 0.
 pub fn div(state: &mut State) -> Step
     requires room { 257 ≤ vec_capacity state.old.operands }
     requires few { vec_len state.old.operands ≤ 256 }
@@ -174,6 +184,7 @@ pub fn div(state: &mut State) -> Step
     push(state, x.div_euclid(y))
 }
 
+/// Mod: the remainder of that division, from 0 to the divisor - 1. Trap 7 where the divisor is not above 0.
 pub fn modulo(state: &mut State) -> Step
     requires room { 257 ≤ vec_capacity state.old.operands }
     requires few { vec_len state.old.operands ≤ 256 }
@@ -190,6 +201,7 @@ pub fn modulo(state: &mut State) -> Step
     push(state, x.rem_euclid(y))
 }
 
+/// Neg: the operand with the other sign. Trap 8 where that is outside the integer type of so many bytes.
 pub fn neg(state: &mut State, bytes: i32) -> Step
     requires room { 257 ≤ vec_capacity state.old.operands }
     requires few { vec_len state.old.operands ≤ 256 }
@@ -203,6 +215,7 @@ pub fn neg(state: &mut State, bytes: i32) -> Step
     push_in_type(state, bytes, negated(v))
 }
 
+/// Abs: the operand without its sign. Trap 8 where that is outside the integer type of so many bytes.
 pub fn abs(state: &mut State, bytes: i32) -> Step
     requires room { 257 ≤ vec_capacity state.old.operands }
     requires few { vec_len state.old.operands ≤ 256 }
@@ -216,6 +229,7 @@ pub fn abs(state: &mut State, bytes: i32) -> Step
     push_in_type(state, bytes, i64::from(v.unsigned_abs()))
 }
 
+/// Eq to Ge: 1 where the comparison holds of the two operands, else 0.
 pub fn compare(state: &mut State, comparison: Comparison) -> Step
     requires room { 257 ≤ vec_capacity state.old.operands }
     requires few { vec_len state.old.operands ≤ 256 }
@@ -229,6 +243,7 @@ pub fn compare(state: &mut State, comparison: Comparison) -> Step
     push(state, i32::from(comparison.holds(x, y)))
 }
 
+/// Not: 1 where the operand is 0, else 0.
 pub fn not(state: &mut State) -> Step
     requires room { 257 ≤ vec_capacity state.old.operands }
     requires few { vec_len state.old.operands ≤ 256 }
@@ -242,6 +257,7 @@ pub fn not(state: &mut State) -> Step
     push(state, i32::from(v == 0))
 }
 
+/// Range: the operand as it is. Trap 8 where it is outside the integer type of so many bytes.
 pub fn range(state: &mut State, bytes: i32) -> Step
     requires room { 257 ≤ vec_capacity state.old.operands }
     requires few { vec_len state.old.operands ≤ 256 }
@@ -255,6 +271,7 @@ pub fn range(state: &mut State, bytes: i32) -> Step
     push_in_type(state, bytes, i64::from(v))
 }
 
+/// Chr: the operand as it is. Trap 8 where it is not from 0 to 255.
 pub fn character(state: &mut State) -> Step
     requires room { 257 ≤ vec_capacity state.old.operands }
     requires few { vec_len state.old.operands ≤ 256 }
@@ -271,6 +288,7 @@ pub fn character(state: &mut State) -> Step
     push(state, v)
 }
 
+/// Odd: 1 where the operand is odd, else 0.
 pub fn odd(state: &mut State) -> Step
     requires room { 257 ≤ vec_capacity state.old.operands }
     requires few { vec_len state.old.operands ≤ 256 }
@@ -284,6 +302,7 @@ pub fn odd(state: &mut State) -> Step
     push(state, v.rem_euclid(2))
 }
 
+/// Cap: the operand with a letter from a to z as one from A to Z.
 pub fn cap(state: &mut State) -> Step
     requires room { 257 ≤ vec_capacity state.old.operands }
     requires few { vec_len state.old.operands ≤ 256 }
