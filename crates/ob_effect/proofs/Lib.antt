@@ -1,0 +1,5 @@
+pub mod Endings
+pub mod Bases
+pub mod Puts
+pub mod Made
+pub mod Powers

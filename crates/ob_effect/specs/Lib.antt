@@ -1,0 +1,4 @@
+pub mod Texts
+pub mod Bases
+pub mod Places
+pub mod Grows
