@@ -1,0 +1,5 @@
+pub mod Fits
+pub mod Standing
+pub mod Tables
+pub mod Placing
+pub mod Entering

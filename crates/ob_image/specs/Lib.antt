@@ -1,1 +1,6 @@
 pub mod Names
+pub mod Globals
+pub mod Room
+pub mod Standing
+pub mod Cut
+pub mod WordLaws

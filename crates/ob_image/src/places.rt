@@ -27,10 +27,7 @@ pub fn variable_places(
 }
 
 /// The exported procedures with their numbers.
-pub fn command_numbers(
-    alloc: Global,
-    commands: &[Command],
-) -> Result<List<(Name, u32)>, AllocError>
+pub fn command_numbers(alloc: Global, commands: &[Command]) -> Result<List<(Name, u32)>, AllocError>
     ensures { IfOk result (λ l. l ≡ map (λ c. (c.name, c.procedure)) commands.now) }
 {
     let mut numbers = List::new(alloc);

@@ -1,11 +1,15 @@
-ghost use Rattle.std.specs.Prelude.{◌≡◌, ◌+◌, ◌≤◌, ◌<◌, ◌^◌, ◌∷◌, ◌++◌, [], length, take, slice_get, IfSome, OnOk, OnErr, None};
-ghost use Rattle.ob_obj.specs.Images.{linked_type};
-ghost use Rattle.ob_tdesc.specs.Bases.{method_of};
-ghost use Rattle.ob_image.specs.Names.{name_from};
+ghost use Rattle.std.specs.Prelude.{◌≡◌, ◌+◌, ◌≤◌, ◌<◌, ◌^◌, ◌∷◌, ◌++◌, [], length, map, take, IfOk, IfSome, OnOk, OnErr};
+ghost use Rattle.ob_obj.specs.Images.{linked_type, or_zero, with_types, base_number, descriptor_of};
+ghost use Rattle.ob_image.specs.Names.{name_from, names_in};
+ghost use Rattle.ob_image.specs.Cut.{types_of};
+ghost use Rattle.ob_image.specs.Standing.{BasesStand};
 
-use crate::links::is_same;
+use crate::describing::describe;
+use crate::links::{is_same, module_number};
+use crate::loaded::Module;
+use ob_obj::RecordType;
 use ob_tdesc::{Descriptor, Descriptors};
-use ob_tree::{ProcRef, QName};
+use ob_tree::{List, Name, QName};
 use std::alloc::{AllocError, Global};
 use std::marker::Model;
 
@@ -46,6 +50,33 @@ fn name_number(names: &[QName], name: &QName) -> Option<u32>
     None
 }
 
+// How many names, from the first on, are of types of these modules.
+fn count_names(names: &[QName], modules: &[Module]) -> u32
+    requires few { length names.now < 2 ^ 32 }
+    requires modules { length modules.now ≤ 255 }
+    ensures { result ≡ names_in modules.now names.now }
+{
+    let mut count = 0;
+    let mut rest = names;
+    while let [name, more @ ..] = rest {
+        if module_number(modules, &name.module).is_none() {
+            return count;
+        }
+        count += 1;
+        rest = more;
+    }
+    count
+}
+
+fn or_zero(number: Option<u32>) -> u32
+    ensures { result ≡ or_zero number }
+{
+    match number {
+        None => 0,
+        Some(number) => number,
+    }
+}
+
 impl Types {
     /// No types. Takes no memory.
     pub fn new(alloc: Global) -> Types
@@ -79,6 +110,28 @@ impl Types {
         name_number(&self.names, name)
     }
 
+    /// The numbers of the types that links name.
+    pub fn links(&self, alloc: Global, names: &[QName]) -> Result<List<u32>, AllocError>
+        ensures { IfOk result (λ l. l ≡ map (λ q. or_zero (linked_type self.now q)) names.now) }
+    {
+        let mut numbers = List::new(alloc);
+        let mut rest = names;
+        while let [name, more @ ..] = rest {
+            numbers.push(or_zero(self.linked(name)))?;
+            rest = more;
+        }
+        Ok(numbers)
+    }
+
+    /// How many types, from the first on, are of these modules.
+    pub fn count_of(&self, modules: &[Module]) -> u32
+        requires { length modules.now ≤ 255 }
+        ensures types { take result self.now ≡ types_of modules.now self.now }
+        ensures within { result ≤ length self.now }
+    {
+        count_names(&self.names, modules)
+    }
+
     /// Adds a descriptor behind the others. After an `Err` nothing is changed.
     pub fn add(&mut self, alloc: Global, d: Descriptor) -> Result<(), AllocError>
         requires base { IfSome d.base (λ b. b < length self.old) }
@@ -95,6 +148,54 @@ impl Types {
         self.table.reserve(1, d.methods.len() as u32)?;
         self.names.push(name)?;
         let _ = self.table.add(d);
+        Ok(())
+    }
+
+    // Adds one of the record types of a module.
+    fn add_own(
+        &mut self,
+        alloc: Global,
+        module: Name,
+        number: u32,
+        first: u32,
+        links: &[u32],
+        own: &RecordType,
+    ) -> Result<(), AllocError>
+        requires base { IfSome (base_number first links.now own.now.base) (λ b. b < length self.old) }
+        requires few { length self.old + 1 < 2 ^ 32 }
+        ensures ok { OnOk result (self.new ≡ self.old ++ descriptor_of «module» first links.now self.old number own.now ∷ []) }
+        ensures err { OnErr result (self.new ≡ self.old) }
+    {
+        let d = describe(alloc, module, number, first, links, &self.table, own)?;
+        self.add(alloc, d)
+    }
+
+    /// Adds the record types of a module with this name and number, whose type links stand for `links`.
+    /// After an `Err` nothing is changed.
+    pub fn add_all(
+        &mut self,
+        alloc: Global,
+        module: Name,
+        number: u32,
+        links: &[u32],
+        own: &[RecordType],
+    ) -> Result<(), AllocError>
+        requires few { length self.old + length own.now < 2 ^ 32 }
+        requires bases { BasesStand (length self.old) links.now (length self.old) own.now }
+        ensures ok { OnOk result (self.new ≡ with_types «module» (length self.old) links.now number self.old own.now) }
+        ensures err { OnErr result (self.new ≡ self.old) }
+    {
+        let first = self.count();
+        let mut rest = own;
+        while let [record, more @ ..] = rest {
+            match self.add_own(alloc, module, number, first, links, record) {
+                Ok(()) => rest = more,
+                Err(fault) => {
+                    self.cut(first);
+                    return Err(fault);
+                }
+            }
+        }
         Ok(())
     }
 

@@ -1,5 +1,5 @@
-use Rattle.std.proofs.Common.{◌≡◌, ◌+◌, ◌++◌, length, map}
-use Rattle.ob_obj.specs.Images.{linked_variable, linked_procedure, or_zero, or_first}
+use Rattle.std.proofs.Common.{◌≡◌, ◌++◌, length, map}
+use Rattle.ob_obj.specs.Images.{linked_variable, or_zero}
 use Rattle.ob_image.proofs.places.variable_links.Given as goal
 
 abbrev pub invariant-loop-rest : goal.invariant-loop-rest
