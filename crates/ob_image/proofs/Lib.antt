@@ -3,3 +3,5 @@ pub mod Standing
 pub mod Tables
 pub mod Placing
 pub mod Entering
+pub mod Whole
+pub mod Bases

@@ -1,16 +1,16 @@
 -- The globals of the files of an image.
 use Rattle.std.proofs.Common.{◌≡◌, ℕ, suc, ◌≤◌, Bool, true, false, List, [], ◌∷◌, ◌++◌, ◌-◌, length, take, drop, map, replicate, get_or, refl, ap, sym, ◌∙◌, arith, append_assoc}
-use Rattle.std.specs.Prelude.{ℤ, pos, is_some, if◌then◌else◌}
+use Rattle.std.specs.Prelude.{ℤ, pos, if◌then◌else◌}
 use Rattle.std.proofs.Math.Seq.{take-length}
 use Rattle.std.proofs.lemmas.List.{length-append, length-map, length-replicate}
 use Rattle.ob_instr.specs.Image.{ModuleImage, Image}
 use Rattle.ob_tdesc.specs.declared.descriptor.Descriptor.{Descriptor}
 use Rattle.ob_obj.specs.declared.parts.StringConst.{StringConst}
 use Rattle.ob_obj.specs.declared.file.ObjFile.{ObjFile}
-use Rattle.ob_obj.specs.Images.{AreEnterable, entered, words_with, with_globals, module_from, string_words}
+use Rattle.ob_obj.specs.Images.{AreEnterable, entered, words_with, with_globals, string_words}
 use Rattle.ob_image.specs.Names.{name_of, names_in}
 use Rattle.ob_image.specs.Globals.{AreWithin, words_from}
-use Rattle.ob_image.specs.Cut.{types_of}
+use Rattle.ob_image.specs.Cut.{has, types_of}
 use Rattle.ob_image.proofs.Fits.{long}
 
 pub are_within : (img : Image) (files : List ObjFile) → img.room.globals ≡ 262144 → AreEnterable img files → AreWithin img.next files
@@ -52,7 +52,7 @@ one_type modules d types false e = refl
 
 pub types_taken : (modules : List ModuleImage) (types : List Descriptor) → take (names_in modules (map name_of types)) types ≡ types_of modules types
 types_taken modules [] = refl
-types_taken modules (d ∷ types) = one_type modules d types (is_some (module_from 0 modules d.«module»)) (types_taken modules types)
+types_taken modules (d ∷ types) = one_type modules d types (has modules d.«module») (types_taken modules types)
 
 less : (b : Bool) (n m : ℕ) → n ≤ m → (if b then suc n else 0) ≤ suc m
 less true n m le = omega arith
@@ -60,4 +60,4 @@ less false n m le = omega arith
 
 pub types_within : (modules : List ModuleImage) (types : List Descriptor) → names_in modules (map name_of types) ≤ length types
 types_within modules [] = omega arith
-types_within modules (d ∷ types) = less (is_some (module_from 0 modules d.«module»)) (names_in modules (map name_of types)) (length types) (types_within modules types)
+types_within modules (d ∷ types) = less (has modules d.«module») (names_in modules (map name_of types)) (length types) (types_within modules types)

@@ -1,13 +1,18 @@
 -- The image of the first modules alone.
-use Rattle.std.specs.Prelude.{ℕ, List, [], ◌∷◌, take, slice_get, Option, Some, None, is_some, if◌then◌else◌}
+use Rattle.std.specs.Prelude.{ℕ, Bool, true, false, ◌||◌, List, [], ◌∷◌, take, slice_get, Option, Some, None, if◌then◌else◌}
 use Rattle.ob_tdesc.specs.declared.descriptor.Descriptor.{Descriptor}
 use Rattle.ob_instr.specs.Image.{ModuleImage, Image}
-use Rattle.ob_obj.specs.Images.{module_from}
+use Rattle.ob_obj.specs.Images.{same}
+
+-- whether a module of the name is there
+abbrev pub has : List ModuleImage → List ℕ → Bool
+has [] name = false
+has (u ∷ modules) name = same name u.name || has modules name
 
 -- the descriptors of these modules, which stand before those of others
 abbrev pub types_of : List ModuleImage → List Descriptor → List Descriptor
 types_of modules [] = []
-types_of modules (d ∷ types) = if is_some (module_from 0 modules d.«module») then d ∷ types_of modules types else []
+types_of modules (d ∷ types) = if has modules d.«module» then d ∷ types_of modules types else []
 
 -- the first word of a module, or the next free one where there is no such module
 abbrev pub first_of : Option ModuleImage → ℕ → ℕ

@@ -3,4 +3,5 @@ pub mod Globals
 pub mod Room
 pub mod Standing
 pub mod Cut
+pub mod Whole
 pub mod WordLaws

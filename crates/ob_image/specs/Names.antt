@@ -1,9 +1,10 @@
 -- The names of types, in the order of their descriptors.
-use Rattle.std.specs.Prelude.{ℕ, suc, List, [], ◌∷◌, Option, Some, None, is_some, ◌&&◌, if◌then◌else◌}
+use Rattle.std.specs.Prelude.{ℕ, suc, List, [], ◌∷◌, Option, Some, None, ◌&&◌, if◌then◌else◌}
 use Rattle.ob_tree.specs.declared.names.QName.{QName}
 use Rattle.ob_instr.specs.Image.{ModuleImage}
 use Rattle.ob_tdesc.specs.declared.descriptor.Descriptor.{Descriptor}
-use Rattle.ob_obj.specs.Images.{same, module_from}
+use Rattle.ob_obj.specs.Images.{same}
+use Rattle.ob_image.specs.Cut.{has}
 
 -- the name of a descriptor's type
 abbrev pub name_of : Descriptor → QName
@@ -17,4 +18,4 @@ name_from n (o ∷ names) q = if same q.«module» o.«module» && same q.object
 -- how many names, from the first on, are of types of these modules
 abbrev pub names_in : List ModuleImage → List QName → ℕ
 names_in modules [] = 0
-names_in modules (q ∷ names) = if is_some (module_from 0 modules q.«module») then suc (names_in modules names) else 0
+names_in modules (q ∷ names) = if has modules q.«module» then suc (names_in modules names) else 0

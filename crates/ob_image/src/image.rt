@@ -2,7 +2,8 @@ ghost use Rattle.std.specs.Prelude.{◌≡◌, ◌+◌, ◌≤◌, ◌<◌, ◌^
 ghost use Rattle.std.specs.Option.{option_copied};
 ghost use Rattle.ob_obj.specs.Images.{module_of, type_links, entered, image_of, words_with, numbers, IsEnterable, AreEnterable};
 ghost use Rattle.ob_image.specs.Room.{room};
-ghost use Rattle.ob_image.specs.Cut.{cut_to};
+ghost use Rattle.ob_image.specs.Cut.{first_of, cut_to};
+ghost use Rattle.ob_image.specs.Whole.{IsImage};
 
 use crate::globals::{count_globals, put_files};
 use crate::links::module_number;
@@ -29,15 +30,15 @@ pub struct Image {
 }
 
 impl Model for Image {
-    ghost use Rattle.std.specs.Prelude.{◌≤◌, ◌<◌, length};
     ghost use Rattle.ob_instr.specs.Image.{Image as Modules};
     ghost use Rattle.ob_image.specs.Room.{room};
+    ghost use Rattle.ob_image.specs.Whole.{IsImage};
 
     ghost Value = { Modules };
 
     ghost view = { λ i. record { modules = i.modules.items; types = i.types; next = i.next; room = room } };
 
-    ghost invariant = { λ i. (0 < i.next) × (i.next ≤ 262145) × (length i.modules.items ≤ 255) };
+    ghost invariant = { λ i. IsImage (record { modules = i.modules.items; types = i.types; next = i.next; room = room }) };
 }
 
 impl Image {
@@ -70,7 +71,8 @@ impl Image {
 
     /// The descriptors of the types.
     pub fn types(&self) -> &Types
-        ensures { result.now ≡ self.now.types }
+        ensures types { result.now ≡ self.now.types }
+        ensures few { length self.now.types < 2 ^ 31 }
     {
         &self.types
     }
@@ -142,8 +144,7 @@ impl Image {
     // Takes out what was entered last, down to so many modules and types.
     fn go_back(&mut self, modules: usize, types: u32, next: u32)
         requires types { types ≤ length self.old.types }
-        requires some { 0 < next }
-        requires room { next ≤ 262145 }
+        requires image { IsImage (record self.old { modules = take modules self.old.modules; types = take types self.old.types; next = next }) }
         ensures { self.new ≡ record self.old { modules = take modules self.old.modules; types = take types self.old.types; next = next } }
     {
         self.modules.truncate(modules);
@@ -188,17 +189,25 @@ impl Image {
         Ok(())
     }
 
+    // The first word of a module, or the next free one where there is no such module.
+    fn first_of(&self, module: u32) -> u32
+        ensures first { result ≡ first_of (slice_get self.now.modules «module») self.now.next }
+        ensures some { 0 < result }
+        ensures within { result ≤ 262145 }
+    {
+        match self.modules.get(module as usize) {
+            Some(unit) => unit.first,
+            None => self.next,
+        }
+    }
+
     /// Keeps the image of the first modules, so many. Takes no memory.
     pub fn cut(&mut self, modules: u32)
         requires { modules ≤ length self.old.modules }
         ensures { self.new ≡ cut_to modules self.old }
     {
-        let keep = modules as usize;
-        let next = match self.modules.get(keep) {
-            Some(unit) => unit.first,
-            None => self.next,
-        };
-        self.modules.truncate(keep);
+        let next = self.first_of(modules);
+        self.modules.truncate(modules as usize);
         let types = self.types.count_of(&self.modules);
         self.types.cut(types);
         self.next = next;

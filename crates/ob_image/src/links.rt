@@ -1,5 +1,6 @@
 ghost use Rattle.std.specs.Prelude.{◌≡◌, ◌≤◌, length};
 ghost use Rattle.ob_obj.specs.Images.{same, named, module_from, linked_variable, linked_procedure};
+ghost use Rattle.ob_image.specs.Cut.{has};
 
 use crate::loaded::Module;
 use ob_obj::Link;
@@ -37,6 +38,20 @@ fn command_at(commands: &[(Name, u32)], name: &Name) -> Option<u32>
         rest = more;
     }
     None
+}
+
+/// Whether there is a module of the name.
+pub fn has_module(modules: &[Module], name: &Name) -> bool
+    ensures { result ≡ has modules.now name.now }
+{
+    let mut rest = modules;
+    while let [unit, more @ ..] = rest {
+        if is_same(name.as_bytes(), unit.name.as_bytes()) {
+            return true;
+        }
+        rest = more;
+    }
+    false
 }
 
 /// The number of the module of a name.

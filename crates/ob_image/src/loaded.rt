@@ -26,12 +26,12 @@ pub struct Module {
 }
 
 impl Model for Module {
-    ghost use Rattle.std.specs.Prelude.{◌≤◌, ◌<◌};
     ghost use Rattle.ob_instr.specs.Image.{ModuleImage};
+    ghost use Rattle.ob_image.specs.Whole.{IsModule};
 
     ghost Value = { ModuleImage };
 
     ghost view = { λ u. record { name = u.name; code = u.code; positions = u.positions; procedures = u.procedures; first = u.first; variables = u.variables; commands = u.commands; strings = u.strings; variable_links = u.variable_links; procedure_links = u.procedure_links; types = u.types } };
 
-    ghost invariant = { λ u. (0 < u.first) × (u.first ≤ 262145) };
+    ghost invariant = { λ u. IsModule (record { name = u.name; code = u.code; positions = u.positions; procedures = u.procedures; first = u.first; variables = u.variables; commands = u.commands; strings = u.strings; variable_links = u.variable_links; procedure_links = u.procedure_links; types = u.types }) };
 }

@@ -3,9 +3,10 @@ ghost use Rattle.ob_obj.specs.Images.{linked_type, or_zero, with_types, base_num
 ghost use Rattle.ob_image.specs.Names.{name_from, names_in};
 ghost use Rattle.ob_image.specs.Cut.{types_of};
 ghost use Rattle.ob_image.specs.Standing.{BasesStand};
+ghost use Rattle.ob_image.specs.Whole.{BasesBefore};
 
 use crate::describing::describe;
-use crate::links::{is_same, module_number};
+use crate::links::{is_same, has_module};
 use crate::loaded::Module;
 use ob_obj::RecordType;
 use ob_tdesc::{Descriptor, Descriptors};
@@ -24,12 +25,13 @@ impl Model for Types {
     ghost use Rattle.std.specs.Prelude.{List, ◌≡◌, ◌<◌, ◌^◌, map, length};
     ghost use Rattle.ob_tdesc.specs.declared.descriptor.Descriptor.{Descriptor as Described};
     ghost use Rattle.ob_image.specs.Names.{name_of};
+    ghost use Rattle.ob_image.specs.Whole.{BasesBefore};
 
     ghost Value = { List Described };
 
     ghost view = { λ t. t.table.list };
 
-    ghost invariant = { λ t. (t.names.items ≡ map name_of t.table.list) × (length t.table.list < 2 ^ 32) };
+    ghost invariant = { λ t. (t.names.items ≡ map name_of t.table.list) × (length t.table.list < 2 ^ 32) × BasesBefore t.table.list };
 }
 
 fn name_number(names: &[QName], name: &QName) -> Option<u32>
@@ -52,14 +54,13 @@ fn name_number(names: &[QName], name: &QName) -> Option<u32>
 
 // How many names, from the first on, are of types of these modules.
 fn count_names(names: &[QName], modules: &[Module]) -> u32
-    requires few { length names.now < 2 ^ 32 }
-    requires modules { length modules.now ≤ 255 }
+    requires { length names.now < 2 ^ 32 }
     ensures { result ≡ names_in modules.now names.now }
 {
     let mut count = 0;
     let mut rest = names;
     while let [name, more @ ..] = rest {
-        if module_number(modules, &name.module).is_none() {
+        if !has_module(modules, &name.module) {
             return count;
         }
         count += 1;
@@ -96,9 +97,10 @@ impl Types {
         self.names.len() as u32
     }
 
-    /// The descriptors.
+    /// The descriptors. Each base stands before its type.
     pub fn table(&self) -> &Descriptors
-        ensures { result.now.list ≡ self.now }
+        ensures table { result.now.list ≡ self.now }
+        ensures bases { BasesBefore self.now }
     {
         &self.table
     }
@@ -125,7 +127,6 @@ impl Types {
 
     /// How many types, from the first on, are of these modules.
     pub fn count_of(&self, modules: &[Module]) -> u32
-        requires { length modules.now ≤ 255 }
         ensures types { take result self.now ≡ types_of modules.now self.now }
         ensures within { result ≤ length self.now }
     {
@@ -133,6 +134,7 @@ impl Types {
     }
 
     /// Adds a descriptor behind the others. After an `Err` nothing is changed.
+    #[tactic(auto, using(crate::proofs::Bases::bases_added))]
     pub fn add(&mut self, alloc: Global, d: Descriptor) -> Result<(), AllocError>
         requires base { IfSome d.base (λ b. b < length self.old) }
         requires few { length self.old + 1 < 2 ^ 32 }

@@ -1,5 +1,6 @@
 use Rattle.std.proofs.Common.{◌≡◌, ◌+◌, ◌++◌, length, map, ap, refl, ◌∙◌}
 use Rattle.ob_obj.specs.Images.{string_places, linked_variable, linked_procedure, or_zero, or_first, numbers, type_links}
+use Rattle.ob_image.proofs.Fits.{sound, short}
 use Rattle.ob_image.proofs.Entering.{made}
 use Rattle.ob_image.proofs.image.Image.module_of.Goals as goal
 
@@ -20,3 +21,16 @@ returns c =
     let e9 : c.in_ok-procedure_links.procedure_links ≡ map (λ k. or_first (linked_procedure img.modules k)) f.links.procedures = c.in_ok-procedure_links.ensures ∙ ap (λ ms. map (λ k. or_first (linked_procedure ms k)) c.as_slice-8.result.now) (c.deref-2.ensures.value ∙ m) ∙ ap (map (λ k. or_first (linked_procedure img.modules k))) c.as_slice-8.ensures in
     let e10 : c.in_ok-types.types ≡ numbers (length img.types) (length f.body.types) ++ type_links img f = c.in_ok-types.ensures ∙ rw (c.count.ensures.count, t, c.as_slice-9.ensures, c.requires.links) refl in
     made img f c.in_ok-code.code c.in_ok-positions.positions c.in_ok-procedures.procedures c.self.inside.next c.in_ok-variables.variables c.in_ok-commands.commands c.in_ok-strings.strings c.in_ok-variable_links.variable_links c.in_ok-procedure_links.procedure_links c.in_ok-types.types e1 e2 e3 n e5 e6 e7 e8 e9 e10
+
+pub invariant_of-result : goal.invariant_of-result
+invariant_of-result c =
+    let f = c.args.file.now in
+    let e1 : c.in_ok-code.code ≡ f.body.code = c.in_ok-code.ensures ∙ c.as_slice.ensures in
+    let e3 : c.in_ok-procedures.procedures ≡ f.body.procedures = c.in_ok-procedures.ensures ∙ c.as_slice-3.ensures in
+    record {
+      some = c.self.invariant.some;
+      within = c.self.invariant.within;
+      short = rw e1 (sound f c.requires.can.fits).few_instructions;
+      few = rw e3 (sound f c.requires.can.fits).few_procedures;
+      words = rw e3 (short f c.requires.can.fits);
+    }

@@ -1,0 +1,4 @@
+pub mod Waiting
+pub mod Kept
+pub mod Copies
+pub mod Reached

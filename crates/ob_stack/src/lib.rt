@@ -1,0 +1,11 @@
+//! The calls of the machine and their returns, by the table.
+#![tactic(auto)]
+
+mod arguments;
+mod calling;
+mod calls;
+mod entering;
+mod rows;
+
+pub use calling::Called;
+pub use calls::{Calls, Place};
