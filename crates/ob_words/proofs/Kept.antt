@@ -15,7 +15,7 @@ Fits words = All (FitsSigned w32) words
 abbrev with_list : Held → List ℤ → Held
 with_list h words = record h { words = words }
 
-there_fits : (len : ℕ) (x : ℤ) (n : ℕ) → are_there len x (suc n) ≡ true → before x + suc n ≤ len
+pub there_fits : (len : ℕ) (x : ℤ) (n : ℕ) → are_there len x (suc n) ≡ true → before x + suc n ≤ len
 there_fits len (pos zero) n e = absurd cc
 there_fits len (pos (suc a)) n e = let le : a + suc n ≤ len = grind (arith, nat_tests) in omega arith
 there_fits len (negsuc a) n e = absurd cc
@@ -24,7 +24,7 @@ there_fits len (negsuc a) n e = absurd cc
 kept_words : (h : Held) (words : List ℤ) → IsKept h → Fits words → length words ≡ length h.words → IsKept (with_list h words)
 kept_words h words k fits e = record { fits = fits; least = omega arith; most = omega arith; begins = k.begins; ends = omega arith }
 
-length_with : (words : List ℤ) (x : ℤ) (new : List ℤ) → before x + length new ≤ length words → length (with_words words x new) ≡ length words
+pub length_with : (words : List ℤ) (x : ℤ) (new : List ℤ) → before x + length new ≤ length words → length (with_words words x new) ≡ length words
 length_with words x new le =
     let a = length-take-le (before x) words (omega arith) in
     let b = length-drop (before x + length new) words in
@@ -32,7 +32,7 @@ length_with words x new le =
     let e = length-append new (drop (before x + length new) words) in
     omega arith
 
-kept_with : (h : Held) (x : ℤ) (new : List ℤ) → IsKept h → Fits new → before x + length new ≤ length h.words → IsKept (with_list h (with_words h.words x new))
+pub kept_with : (h : Held) (x : ℤ) (new : List ℤ) → IsKept h → Fits new → before x + length new ≤ length h.words → IsKept (with_list h (with_words h.words x new))
 kept_with h x new k fits le =
     kept_words h (with_words h.words x new) k (All-append (FitsSigned w32) _ _ (All-take (FitsSigned w32) (before x) h.words k.fits) (All-append (FitsSigned w32) _ _ fits (All-drop (FitsSigned w32) (before x + length new) h.words k.fits))) (length_with h.words x new le)
 

@@ -1,5 +1,5 @@
-ghost use Rattle.std.specs.Prelude.{◌≡◌, ◌+◌, ◌≤◌, length, replicate, pos, IfOk, is_some, unwrap_or, option_map};
-ghost use Rattle.ob_mem.specs.Words.{word_at, are_there, stored, copied, cleared, heap_taken};
+ghost use Rattle.std.specs.Prelude.{◌≡◌, ◌+◌, ◌≤◌, length, replicate, pos, true, if◌then◌else◌, IfOk, is_some, unwrap_or, option_map};
+ghost use Rattle.ob_mem.specs.Words.{word_at, are_there, with_words, stored, copied, cleared, heap_taken};
 
 use ob_mem::{GLOBAL_WORDS, Memory, STACK_WORDS};
 use std::alloc::{AllocError, Global};
@@ -75,6 +75,33 @@ impl Words {
         ensures after { self.new ≡ record self.old { words = unwrap_or (stored self.old.words at word) self.old.words } }
     {
         self.memory.store(at, i64::from(word))
+    }
+
+    /// Puts words from an address on. `false` exactly where there are some and one of their addresses lies
+    /// outside all areas, and then nothing is changed.
+    pub fn put(&mut self, at: i64, new: &[i32]) -> bool
+        ensures answer { result ≡ are_there (length self.old.words) at (length new.now) }
+        ensures after { self.new ≡ record self.old { words = (if are_there (length self.old.words) at (length new.now) then with_words self.old.words at new.now else self.old.words) } }
+    {
+        let _ = self.len();
+        if !self.is_there(at, new.len()) {
+            return false;
+        }
+        self.put_words(at, new);
+        true
+    }
+
+    // Puts words from an address on, one after the other.
+    fn put_words(&mut self, at: i64, new: &[i32])
+        requires there { are_there (length self.old.words) at (length new.now) ≡ true }
+        requires few { length self.old.words ≤ 5505024 }
+        ensures { self.new ≡ record self.old { words = with_words self.old.words at new.now } }
+    {
+        let mut i = 0;
+        'words: while i < new.len() {
+            self.store(at + i as i64, new[i]);
+            i += 1;
+        }
     }
 
     /// Copies `count` words from `from` to `to`, reading all before it writes any. `false` exactly
