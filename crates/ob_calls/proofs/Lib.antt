@@ -1,0 +1,4 @@
+pub mod Parts
+pub mod Acts
+pub mod Copied
+pub mod Rows

@@ -1,0 +1,4 @@
+use Rattle.ob_calls.proofs.arguments.count_copies.Goals as goal
+
+pub loop-kinds-preserved : goal.loop-kinds-preserved
+loop-kinds-preserved c = ?

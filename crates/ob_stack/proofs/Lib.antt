@@ -1,4 +1,0 @@
-pub mod Acts
-pub mod Parts
-pub mod Copied
-pub mod Rows

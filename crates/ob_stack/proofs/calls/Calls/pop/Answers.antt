@@ -1,4 +1,0 @@
-use Rattle.ob_stack.proofs.calls.Calls.pop.Goals as goal
-
-pub overflow_sub-start : goal.overflow_sub-start
-overflow_sub-start c = ?

@@ -1,4 +1,0 @@
-use Rattle.ob_stack.proofs.entering.make_copies.Goals as goal
-
-pub loop-kinds-preserved : goal.loop-kinds-preserved
-loop-kinds-preserved c = ?

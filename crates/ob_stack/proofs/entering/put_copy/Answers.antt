@@ -1,7 +1,0 @@
-use Rattle.ob_stack.proofs.entering.put_copy.Goals as goal
-
-pub returns-clause-after : goal.returns-clause-after
-returns-clause-after c = ?
-
-pub returns-clause-same : goal.returns-clause-same
-returns-clause-same c = ?

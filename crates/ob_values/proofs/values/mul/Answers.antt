@@ -1,0 +1,11 @@
+use Rattle.std.proofs.Common.{rules, reverse, ◌*ℤ◌, w64, arith}
+use Rattle.std.specs.Int.RustNames.{FitsSigned}
+use Rattle.std.proofs.lemmas.Int.{ints, to_z-of_z}
+use Rattle.ob_values.specs.Effects.{ops_of, world_of, effect_of}
+use Rattle.ob_values.proofs.Rows.{in_type_of_two}
+use Rattle.ob_values.proofs.values.mul.Goals as goal
+
+pub returns-clause-does : goal.returns-clause-does
+returns-clause-does c = λ out.
+    let f : FitsSigned w64 c.product.result = search rules in
+    in_type_of_two (λ x y. x *ℤ y) c.args.bytes (ops_of c.args.state.now) _ c.in-Some.x c.in-Some.y c.product.result (world_of c.args.state.now out) _ c.ranges.bytes f c.in-Some.ensures.some (search (rules, to_z-of_z)) (c.push_in_type.ensures.does out)
