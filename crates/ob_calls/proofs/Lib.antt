@@ -1,4 +1,4 @@
 pub mod Parts
 pub mod Acts
 pub mod Copied
-pub mod Rows
+pub mod Operands

@@ -2,3 +2,4 @@ pub mod Waiting
 pub mod Kept
 pub mod Copies
 pub mod Reached
+pub mod Callees

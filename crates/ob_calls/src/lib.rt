@@ -2,10 +2,12 @@
 #![tactic(auto)]
 
 mod arguments;
+mod callee;
 mod calling;
 mod calls;
 mod entering;
 mod rows;
 
+pub use callee::Callee;
 pub use calling::Called;
 pub use calls::{Calls, Place};

@@ -1,14 +1,15 @@
-ghost use Rattle.std.specs.Prelude.{◌≡◌, ◌+◌, ◌≤◌, ◌<◌, length, pos, if◌then◌else◌, slice_get, vec_len, vec_capacity, IfSome};
+ghost use Rattle.std.specs.Prelude.{◌≡◌, ◌≤◌, ◌<◌, vec_len, vec_capacity};
 ghost use Rattle.ob_instr.specs.Parts.{slots};
-ghost use Rattle.ob_instr.specs.Rows.{Traps, Unable, on_found, on_count, on_args, on_one, on_receiver, on_tag, item, below, is_zero, calls, calls_with, proc_of_value, method_at, tag_method, pointer_method, Leave};
-ghost use Rattle.ob_instr.specs.Table.{row};
+ghost use Rattle.ob_instr.specs.Rows.{calls_with};
 ghost use Rattle.ob_values.specs.Effects.{ops_of};
+ghost use Rattle.ob_calls.specs.Callees.{callee_effect, IsWithin};
 ghost use Rattle.ob_calls.specs.Reached.{Comes};
 
+use crate::callee::Callee;
 use crate::calling::{Called, call, procedure_of};
 use crate::calls::{Calls, Place};
-use ob_image::{Image, Module};
-use ob_instr::{Instr, Opcode, Param};
+use ob_image::Image;
+use ob_instr::Param;
 use ob_tree::ProcRef;
 use ob_values::State;
 
@@ -52,4 +53,35 @@ fn call_with(
         return Called::Unable;
     }
     call(image, here, waiting, state, r, len - slots, len - slots)
+}
+
+/// Calls what the instruction of a call names.
+pub fn call_it(
+    image: &Image,
+    here: &mut Place,
+    waiting: &mut Calls,
+    state: &mut State,
+    callee: Callee,
+) -> Called
+    requires within { IsWithin state.old.operands.items callee }
+    requires few { vec_len state.old.operands ≤ 256 }
+    requires first { 0 < here.old.first }
+    requires next { here.old.next < 262144 }
+    requires stack { 0 < state.old.stack }
+    ensures comes { Comes image.now (callee_effect image.now state.old.operands.items callee) here.old here.new waiting.old waiting.new state.old state.new result }
+    ensures few { vec_len state.new.operands ≤ 256 }
+    ensures capacity { vec_capacity state.new.operands ≡ vec_capacity state.old.operands }
+    ensures first { 0 < here.new.first }
+    ensures stack { 0 < state.new.stack }
+{
+    match callee {
+        Callee::With(r) => call_with(image, here, waiting, state, r),
+        Callee::At {
+            procedure,
+            from,
+            below,
+        } => call(image, here, waiting, state, procedure, from, below),
+        Callee::Nil => Called::Traps(2),
+        Callee::Unable => Called::Unable,
+    }
 }

@@ -1,9 +1,9 @@
 -- Bases stand before their types in the descriptors.
-use Rattle.std.proofs.Common.{◌≡◌, ℕ, zero, suc, ◌<◌, ◌≤◌, List, [], ◌∷◌, ◌++◌, length, take, Option, Some, None, refl, sym, ap, subst, ◌∙◌, arith, ⊎_elim}
+use Rattle.std.proofs.Common.{◌≡◌, ℕ, zero, suc, ◌<◌, ◌≤◌, List, [], ◌∷◌, ◌++◌, length, take, Option, Some, refl, sym, ap, subst, ◌∙◌, arith, ⊎_elim}
 use Rattle.std.specs.Prelude.{slice_get, IfSome}
 use Rattle.std.proofs.lemmas.Bool.{cases_lt}
 use Rattle.ob_tdesc.specs.declared.descriptor.Descriptor.{Descriptor}
-use Rattle.ob_tdesc.specs.Bases.{base_in, base_of}
+use Rattle.ob_tdesc.specs.Bases.{base_in}
 use Rattle.ob_image.specs.Whole.{BasesBefore}
 
 get_front : (xs : List Descriptor) (d : Descriptor) (k : ℕ) → k < length xs → slice_get (xs ++ d ∷ []) k ≡ slice_get xs k
@@ -26,6 +26,7 @@ bases_added types d before here a b e = ⊎_elim front last (cases_lt a (length 
   where
     front : a < length types → b < a
     front lt = before a b (ap base_in (sym (get_front types d a lt)) ∙ e)
+
     last : length types ≤ a → b < a
     last le = let lt = small d.base (length types) b (behind types d a b le e) here in omega arith
 

@@ -1,5 +1,5 @@
 -- Each descriptor is of a module, and each module names types that are there, when one is entered or cut.
-use Rattle.std.proofs.Common.{◌≡◌, ℕ, zero, suc, ◌+◌, ◌*◌, ◌^◌, ◌<◌, ◌≤◌, Bool, true, false, ◌||◌, List, [], ◌∷◌, ◌++◌, length, take, map, get_or, Option, Some, None, IsSome, is_some, refl, sym, ap, subst, ◌∙◌, arith, ⊎_elim}
+use Rattle.std.proofs.Common.{◌≡◌, ℕ, zero, suc, ◌*◌, ◌^◌, ◌<◌, ◌≤◌, Bool, true, false, List, [], ◌∷◌, ◌++◌, length, take, None, refl, ap, subst, ◌∙◌, arith, ⊎_elim}
 use Rattle.std.specs.Prelude.{slice_get, if◌then◌else◌}
 use Rattle.std.specs.List.{AllByRecursion}
 use Rattle.std.specs.Ordering.{is_eq, ordering_reverse, nat_cmp}
@@ -138,12 +138,14 @@ entered_types img f is can few k = ⊎_elim last front (cases_lt (length img.mod
   where
     new : ModuleImage
     new = module_of img f
+
     front : k ≤ length img.modules → length (types_of (take k (entered img f).modules) (entered img f).types) ≤ 1048576 * k
     front le =
         let e : take k (img.modules ++ new ∷ []) ≡ take k img.modules = take-append-le k img.modules (new ∷ []) le in
         let none = not_taken img.modules k f.head.«module» (has_from 0 img.modules f.head.«module» can.new) in
         let o = none_own (take k img.modules) f.head.«module» (length img.types) (type_links img f) (length img.modules) img.types f.body.types none in
         rw (e, o) (is.types k)
+
     last : length img.modules < k → length (types_of (take k (entered img f).modules) (entered img f).types) ≤ 1048576 * k
     last lt =
         let all : take k (img.modules ++ new ∷ []) ≡ img.modules ++ new ∷ [] = take_all k (img.modules ++ new ∷ []) (omega (arith, length-append img.modules (new ∷ []))) in
@@ -169,8 +171,10 @@ cut_types n img is k = ⊎_elim front last (cases_lt k n)
   where
     kept : (j : ℕ) → j ≤ n → types_of (take j (take n img.modules)) (types_of (take n img.modules) img.types) ≡ types_of (take j img.modules) img.types
     kept j le = ap (λ ms. types_of ms (types_of (take n img.modules) img.types)) (taken_twice j n img.modules le) ∙ of_fewer (take j img.modules) (take n img.modules) img.types (λ name t. has_taken img.modules j n name le t)
+
     front : k < n → length (types_of (take k (take n img.modules)) (types_of (take n img.modules) img.types)) ≤ 1048576 * k
     front lt = rw (kept k (omega arith)) (is.types k)
+
     last : n ≤ k → length (types_of (take k (take n img.modules)) (types_of (take n img.modules) img.types)) ≤ 1048576 * k
     last le =
         let all : take k (take n img.modules) ≡ take n img.modules = take_all k (take n img.modules) (omega (arith, length-take n img.modules)) in

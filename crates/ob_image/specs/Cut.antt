@@ -1,5 +1,5 @@
 -- The image of the first modules alone.
-use Rattle.std.specs.Prelude.{ℕ, Bool, true, false, ◌||◌, List, [], ◌∷◌, take, slice_get, Option, Some, None, if◌then◌else◌}
+use Rattle.std.specs.Prelude.{ℕ, Bool, false, ◌||◌, List, [], ◌∷◌, take, slice_get, Option, Some, None, if◌then◌else◌}
 use Rattle.ob_tdesc.specs.declared.descriptor.Descriptor.{Descriptor}
 use Rattle.ob_instr.specs.Image.{ModuleImage, Image}
 use Rattle.ob_obj.specs.Images.{same}

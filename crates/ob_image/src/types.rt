@@ -6,7 +6,7 @@ ghost use Rattle.ob_image.specs.Standing.{BasesStand};
 ghost use Rattle.ob_image.specs.Whole.{BasesBefore};
 
 use crate::describing::describe;
-use crate::links::{is_same, has_module};
+use crate::links::{has_module, is_same};
 use crate::loaded::Module;
 use ob_obj::RecordType;
 use ob_tdesc::{Descriptor, Descriptors};

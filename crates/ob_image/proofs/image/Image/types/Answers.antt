@@ -1,4 +1,4 @@
-use Rattle.std.proofs.Common.{◌≡◌, subst}
+use Rattle.std.proofs.Common.{subst}
 use Rattle.ob_image.specs.Whole.{IsImage}
 use Rattle.ob_image.proofs.Whole.{few_types}
 use Rattle.ob_image.proofs.image.Image.types.Goals as goal

@@ -1,0 +1,8 @@
+//! The machine: object files are entered into it, and it runs their procedures by the table.
+#![tactic(auto)]
+
+mod machine;
+mod outcome;
+
+pub use machine::{Entered, Machine};
+pub use outcome::Outcome;
