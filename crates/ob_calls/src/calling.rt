@@ -67,6 +67,7 @@ pub fn call(
     ensures first { 0 < here.new.first }
     ensures stack { 0 < state.new.stack }
 {
+    let _ = image.count();
     let Some(q) = procedure_of(image, r) else {
         return Called::Unable;
     };

@@ -58,6 +58,7 @@ impl Image {
     pub fn count(&self) -> u32
         ensures count { result ≡ length self.now.modules }
         ensures most { result ≤ 255 }
+        ensures room { self.now.room ≡ room }
     {
         self.modules.len() as u32
     }

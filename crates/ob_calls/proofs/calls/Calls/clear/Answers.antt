@@ -10,4 +10,4 @@ invariant_of-self c = record {
 }
 
 pub returns : goal.returns
-returns c = rw (c.clear.ensures.items, c.clear-2.ensures.items) refl
+returns c = rw c.clear.ensures.items refl

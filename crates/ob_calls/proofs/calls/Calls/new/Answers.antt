@@ -10,4 +10,4 @@ invariant_of-result c = record {
 }
 
 pub returns : goal.returns
-returns c = rw (c.in_ok-waiting.ensures.items, c.in_ok-operands.ensures.items) refl
+returns c = rw c.in_ok-waiting.ensures.items refl

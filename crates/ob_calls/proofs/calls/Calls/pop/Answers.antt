@@ -13,3 +13,24 @@ overflow_sub-start c =
     let counted = subst (λ ws. AreCounted (reverse ws) (reverse d.operands.items)) items c.self.invariant.counted in
     let p = popped_counted w c.pop.new.self.items d.operands.items counted in
     omega (arith, p.0, d.operands.ok.0)
+
+pub invariant_of-self-2 : goal.invariant_of-self-2
+invariant_of-self-2 c =
+    let d = c.self.inside in
+    let w = c.in-Some.waiting in
+    let items : d.waiting.items ≡ c.pop.new.self.items ++ w ∷ [] = c.in-Some.ensures.items in
+    let counted = subst (λ ws. AreCounted (reverse ws) (reverse d.operands.items)) items c.self.invariant.counted in
+    let p = popped_counted w c.pop.new.self.items d.operands.items counted in
+    let start : c.len.result - w.operands + w.operands ≡ length d.operands.items = omega (arith, p.0, c.len.ensures, d.operands.ok.0) in
+    record {
+      counted = rw c.truncate.ensures.items (popped_rest w c.pop.new.self.items d.operands.items (c.len.result - w.operands) start counted);
+      few = omega (arith, c.self.invariant.few, ap length items, length-append c.pop.new.self.items (w ∷ []));
+      room = omega (arith, c.pop.ensures.capacity, c.self.invariant.room);
+      operands = omega (arith, c.truncate.ensures.capacity, c.self.invariant.operands);
+    }
+
+pub returns-clause-some : goal.returns-clause-some
+returns-clause-some c = ?
+
+pub returns-clause-capacity : goal.returns-clause-capacity
+returns-clause-capacity c = ?

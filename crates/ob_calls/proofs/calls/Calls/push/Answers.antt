@@ -1,6 +1,8 @@
 use Rattle.std.proofs.Common.{◌≡◌, ◌+◌, ◌<◌, ◌≤◌, ◌++◌, ◌∷◌, [], IsOk, length, vec_len, vec_capacity, ap, sym, subst, ◌∙◌, arith}
 use Rattle.std.proofs.lemmas.List.{length-append}
 use Rattle.ob_calls.specs.declared.calls.Waiting.{Waiting}
+use Rattle.std.specs.Prelude.{reverse}
+use Rattle.ob_calls.specs.Kept.{act_of}
 use Rattle.ob_calls.proofs.Acts.{ok_is, pushed_acts, pushed_counted, operands_few, calls_waiting}
 use Rattle.ob_calls.proofs.calls.Calls.push.Goals as goal
 
@@ -33,7 +35,7 @@ returns-clause-calls c =
     let kept : c.append.new.self.items ≡ d.operands.items ++ c.args.operands.now.items = c.append.ensures.items ∙ ok_is c.append.result _ _ has in
     let room : IsOk c.push.result = c.push.ensures.succeeds (omega (arith, calls, c.requires.room, c.self.invariant.room, d.waiting.ok.0)) in
     let waiting : c.push.new.self.items ≡ d.waiting.items ++ w ∷ [] = c.push.ensures.items ∙ ok_is c.push.result _ _ room in
-    rw (waiting, kept) (pushed_acts w d.waiting.items d.operands.items c.args.operands.now.items n ∙ ap (λ acts. _ ∷ acts) c.self.view_is)
+    rw (waiting, kept) (pushed_acts w d.waiting.items d.operands.items c.args.operands.now.items n ∙ ap (λ acts. act_of w (reverse c.args.operands.now.items) ∷ acts) c.self.view_is)
 
 pub returns-clause-operands : goal.returns-clause-operands
 returns-clause-operands c =
