@@ -1,15 +1,16 @@
 -- The copies of a call, parameter by parameter.
-use Rattle.std.proofs.Common.{◌≡◌, ℕ, zero, suc, ◌+◌, ◌*◌, ◌-◌, ◌<◌, ◌≤◌, Bool, true, false, List, [], ◌∷◌, ◌++◌, length, take, drop, get_or, Option, Some, None, refl, sym, ap, subst, ◌∙◌, arith}
+use Rattle.std.proofs.Common.{◌≡◌, ℕ, zero, suc, ◌+◌, ◌*◌, ◌-◌, ◌<◌, ◌≤◌, Bool, true, false, List, [], ◌∷◌, ◌++◌, length, take, drop, replicate, get_or, Option, Some, None, refl, sym, ap, subst, ◌∙◌, arith}
 use Rattle.std.specs.Prelude.{ℤ, pos, negsuc, ◌&&◌, if◌then◌else◌, unwrap_or}
 use Rattle.std.proofs.Math.Seq.{take-length}
 use Rattle.std.proofs.lemmas.List.{length-take-le, length-drop}
 use Rattle.std.proofs.lemmas.Bool.Decides.{nat_tests}
-use Rattle.ob_mem.specs.Words.{Held, are_there, before, copied, stored, words_at, with_words}
+use Rattle.ob_mem.specs.Words.{Held, are_there, before, copied, stored, cleared, words_at, with_words}
 use Rattle.ob_instr.specs.declared.procedure.Param.{Param}
 use Rattle.ob_instr.specs.declared.procedure.Param.TheVariants as param
+use Rattle.ob_instr.specs.declared.procedure.Procedure.{Procedure}
 use Rattle.ob_instr.specs.Parts.{slots, slots_of}
-use Rattle.ob_instr.specs.Rows.{more_words, copy_words, or_same, with_copy, with_copies}
-use Rattle.ob_image.specs.WordLaws.{length_spliced, length_with, stored_as}
+use Rattle.ob_instr.specs.Rows.{more_words, copy_words, or_same, with_copy, with_copies, entered}
+use Rattle.ob_image.specs.WordLaws.{length_spliced, length_with, put_both, there, stored_as, cleared_as}
 use Rattle.ob_calls.specs.Copies.{array_size, copy_size, added, with_array, with_one}
 
 none_more : (o : Option ℕ) → o ≡ added (Some 0) o
@@ -152,3 +153,15 @@ copy_put m m1 m2 slot next n x zn zx zs zv one en ex two es ev some le =
     let heap : m1.next ≡ m.next = ap (λ (h : Held). h.next) one in
     let l2 : length m2.words ≡ length m.words = ap (λ (h : Held). length h.words) two ∙ ap length w2 ∙ length_with m1.words (pos next ∷ []) slot (omega arith) ∙ l1 in
     (two ∙ ap (λ l. record m1 { words = l }) (w2 ∙ ap (λ l. with_words l (pos slot) (pos next ∷ [])) w1) ∙ ap (λ k. record { words = with_copy m.words slot next x n; next = k }) heap, l2)
+
+-- A CALL BEGINS
+
+pub begun : (m m1 m2 m3 : Held) (q : Procedure) (args : List ℤ) (first at : ℕ) (z1 z2 : ℤ) (params : List Param) → m1 ≡ record m { words = (if are_there (length m.words) z1 (length args) then with_words m.words z1 args else m.words) } → z1 ≡ pos first → m2 ≡ record m1 { words = unwrap_or (cleared m1.words z2 q.locals) m1.words } → z2 ≡ pos (first + length args) → params ≡ q.params → m3 ≡ record m2 { words = with_copies m2.words params args first at } → slots q.params ≡ length args → at ≡ first + length args + q.locals → 0 < first → first + (length args + q.locals) ≤ length m.words + 1 → m3 ≡ record m { words = entered m.words first q args }
+begun m m1 m2 m3 q args first at z1 z2 params one e1 two e2 ep three es ea some le =
+    let t : are_there (length m.words) (pos first) (length args) ≡ true = there (length m.words) first (length args) some (omega arith) in
+    let w1 : m1 ≡ record m { words = with_words m.words (pos first) args } = one ∙ ap (λ z. record m { words = (if are_there (length m.words) z (length args) then with_words m.words z args else m.words) }) e1 ∙ ap (λ b. record m { words = (if b then with_words m.words (pos first) args else m.words) }) t in
+    let l1 : length m1.words ≡ length m.words = ap (λ (h : Held). length h.words) w1 ∙ length_with m.words args first (omega arith) in
+    let w2 : m2 ≡ record m1 { words = with_words m1.words (pos (first + length args)) (replicate q.locals (pos 0)) } = two ∙ ap (λ z. record m1 { words = unwrap_or (cleared m1.words z q.locals) m1.words }) e2 ∙ ap (λ l. record m1 { words = l }) (cleared_as m1.words (first + length args) q.locals (omega arith) (omega arith)) in
+    let both : m2 ≡ record m { words = with_words m.words (pos first) (args ++ replicate q.locals (pos 0)) } = put_both m m1 m2 first (first + length args) args (replicate q.locals (pos 0)) w1 w2 some (omega arith) refl in
+    let end : at ≡ first + (slots q.params + q.locals) = omega arith in
+    three ∙ ap (λ (h : Held). record h { words = with_copies h.words params args first at }) both ∙ ap (λ ps. record m { words = with_copies (with_words m.words (pos first) (args ++ replicate q.locals (pos 0))) ps args first at }) ep ∙ ap (λ n. record m { words = with_copies (with_words m.words (pos first) (args ++ replicate q.locals (pos 0))) q.params args first n }) end

@@ -2,3 +2,4 @@ pub mod Parts
 pub mod Acts
 pub mod Copied
 pub mod Operands
+pub mod Comings

@@ -30,7 +30,15 @@ invariant_of-self-2 c =
     }
 
 pub returns-clause-some : goal.returns-clause-some
-returns-clause-some c = ?
+returns-clause-some c =
+    let d = c.self.inside in
+    let w = c.in-Some.waiting in
+    let items : d.waiting.items ≡ c.pop.new.self.items ++ w ∷ [] = c.in-Some.ensures.items in
+    let counted = subst (λ ws. AreCounted (reverse ws) (reverse d.operands.items)) items c.self.invariant.counted in
+    let p = popped_counted w c.pop.new.self.items d.operands.items counted in
+    let start : c.len.result - w.operands + w.operands ≡ length d.operands.items = omega (arith, p.0, c.len.ensures, d.operands.ok.0) in
+    let acts = popped_acts w c.pop.new.self.items d.operands.items (c.len.result - w.operands) start in
+    ?
 
 pub returns-clause-capacity : goal.returns-clause-capacity
 returns-clause-capacity c = ?
