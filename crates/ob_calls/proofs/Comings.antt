@@ -1,16 +1,15 @@
 -- What a call comes to.
-use Rattle.std.proofs.Common.{◌≡◌, ℕ, suc, ◌+◌, ◌<◌, ◌≤◌, Bool, true, false, List, [], ◌∷◌, length, Option, Some, refl, sym, ap, ◌∙◌}
-use Rattle.std.specs.Prelude.{ℤ, pos, reverse, nat_le, nat_lt, ◌&&◌, if◌then◌else◌}
+use Rattle.std.proofs.Common.{◌≡◌, ℕ, suc, ◌+◌, true, false, List, [], ◌∷◌, length, Some, refl, ◌∙◌}
+use Rattle.std.specs.Prelude.{ℤ, nat_le, nat_lt, ◌&&◌}
 use Rattle.ob_tree.specs.declared.proc_ref.ProcRef.{ProcRef}
-use Rattle.ob_mem.specs.Words.{Held}
 use Rattle.ob_instr.specs.declared.procedure.Procedure.{Procedure}
 use Rattle.ob_instr.specs.Parts.{slots}
-use Rattle.ob_instr.specs.Image.{ModuleImage, Image, World, Act, Point, Go, Over, Trapped}
-use Rattle.ob_instr.specs.Rows.{Effect, Enter, copy_words, calls, procedure_of, entered}
-use Rattle.ob_instr.specs.Table.{come_to, has_room, position_at}
+use Rattle.ob_instr.specs.Image.{ModuleImage, Image, World, Act}
+use Rattle.ob_instr.specs.Rows.{Enter, copy_words, calls, procedure_of, entered}
+use Rattle.ob_instr.specs.Table.{come_to, has_room}
 use Rattle.ob_image.specs.Room.{room}
 use Rattle.ob_values.specs.declared.state.State.{State}
-use Rattle.ob_values.specs.Effects.{ops_of, world_of}
+use Rattle.ob_values.specs.Effects.{world_of}
 use Rattle.ob_calls.specs.declared.calls.Place.{Place}
 use Rattle.ob_calls.specs.declared.calling.Called.TheVariants as called
 use Rattle.ob_calls.specs.Reached.{Comes}

@@ -1,5 +1,5 @@
 -- The copies of a call, parameter by parameter.
-use Rattle.std.proofs.Common.{◌≡◌, ℕ, zero, suc, ◌+◌, ◌*◌, ◌-◌, ◌<◌, ◌≤◌, Bool, true, false, List, [], ◌∷◌, ◌++◌, length, take, drop, replicate, get_or, Option, Some, None, refl, sym, ap, subst, ◌∙◌, arith}
+use Rattle.std.proofs.Common.{◌≡◌, ℕ, zero, suc, ◌+◌, ◌*◌, ◌-◌, ◌<◌, ◌≤◌, Bool, true, false, List, [], ◌∷◌, ◌++◌, length, take, drop, replicate, get_or, Option, Some, None, refl, sym, ap, ◌∙◌, arith}
 use Rattle.std.specs.Prelude.{ℤ, pos, negsuc, ◌&&◌, if◌then◌else◌, unwrap_or}
 use Rattle.std.proofs.Math.Seq.{take-length}
 use Rattle.std.proofs.lemmas.List.{length-take-le, length-drop}
@@ -11,7 +11,7 @@ use Rattle.ob_instr.specs.declared.procedure.Procedure.{Procedure}
 use Rattle.ob_instr.specs.Parts.{slots, slots_of}
 use Rattle.ob_instr.specs.Rows.{more_words, copy_words, or_same, with_copy, with_copies, entered}
 use Rattle.ob_image.specs.WordLaws.{length_spliced, length_with, put_both, there, stored_as, cleared_as}
-use Rattle.ob_calls.specs.Copies.{array_size, copy_size, added, with_array, with_one}
+use Rattle.ob_calls.specs.Copies.{copy_size, added, with_one}
 
 none_more : (o : Option ℕ) → o ≡ added (Some 0) o
 none_more None = refl

@@ -1,14 +1,13 @@
 -- What the rows of calls do, in the order in which the code looks at them.
-use Rattle.std.proofs.Common.{◌≡◌, ℕ, zero, suc, ◌+◌, ◌-◌, ◌<◌, ◌≤◌, Bool, true, false, List, [], ◌∷◌, ◌++◌, length, take, drop, Option, Some, None, refl, sym, ap, subst, ◌∙◌, arith}
-use Rattle.std.specs.Prelude.{ℤ, pos, reverse, nat_le, if◌then◌else◌}
+use Rattle.std.proofs.Common.{◌≡◌, ℕ, ◌+◌, ◌<◌, ◌≤◌, true, false, List, length, take, drop, Some, ap, ◌∙◌, arith}
+use Rattle.std.specs.Prelude.{ℤ, reverse, nat_le, if◌then◌else◌}
 use Rattle.std.proofs.lemmas.Bool.Decides.{nat_tests}
 use Rattle.std.proofs.lemmas.List.{length-reverse, reverse-reverse}
 use Rattle.ob_tree.specs.declared.proc_ref.ProcRef.{ProcRef}
 use Rattle.ob_instr.specs.declared.procedure.Procedure.{Procedure}
 use Rattle.ob_instr.specs.Parts.{slots}
-use Rattle.ob_instr.specs.Image.{ModuleImage, Image, World, Act, Point}
-use Rattle.ob_instr.specs.Rows.{Effect, Enter, Spends, Unable, on_found, on_args, on_turn, copy_words, calls, calls_with, procedure_of}
-use Rattle.ob_instr.specs.Table.{come_to}
+use Rattle.ob_instr.specs.Image.{Image, World}
+use Rattle.ob_instr.specs.Rows.{Effect, Unable, on_found, on_args, calls, calls_with, procedure_of}
 use Rattle.ob_calls.proofs.Parts.{last_ones, first_ones}
 
 -- a number of operands that are there
@@ -26,3 +25,8 @@ args_missing xs n k lt =
     let r = length-reverse xs in
     let t : nat_le n (length (reverse xs)) ≡ false = grind (arith, nat_tests) in
     ap (λ b. if b then k (reverse (take n (reverse xs))) (drop n (reverse xs)) else Unable) t
+
+pub with_is : (img : Image) (r : ProcRef) (q : Procedure) (xs : List ℤ) (n from : ℕ) (w : World) → procedure_of img r ≡ Some q → n ≡ slots q.params → from + n ≡ length xs → calls_with img r (reverse xs) w ≡ calls img r (drop from xs) (reverse (take from xs)) w
+with_is img r q xs n from w ep en e =
+    let args = args_are xs (slots q.params) from (λ args rest. calls img r args rest w) (omega arith) in
+    ap (λ o. on_found o (λ p. on_args (slots p.params) (reverse xs) (λ args rest. calls img r args rest w))) ep ∙ args

@@ -1,8 +1,8 @@
 -- Parts of the operands.
-use Rattle.std.proofs.Common.{◌≡◌, ℕ, zero, suc, ◌+◌, ◌-◌, ◌<◌, ◌≤◌, List, [], ◌∷◌, ◌++◌, length, take, drop, get_or, refl, sym, ap, subst, ◌∙◌, arith}
+use Rattle.std.proofs.Common.{◌≡◌, ℕ, ◌+◌, ◌-◌, ◌≤◌, List, [], ◌∷◌, ◌++◌, length, take, drop, get_or, sym, ap, ◌∙◌, arith}
 use Rattle.std.specs.Prelude.{reverse}
 use Rattle.std.proofs.Math.Seq.{take-length}
-use Rattle.std.proofs.lemmas.List.{length-take-le, length-drop, take-append-drop, take_at, drop_at}
+use Rattle.std.proofs.lemmas.List.{length-drop, take-append-drop, take_at, drop_at}
 use Rattle.std.proofs.lemmas.List.{reverse-append, length-reverse}
 
 pub parted : {A : Type 0} (rest : List A) (x : A) → x ≡ get_or rest 0 x → 1 ≤ length rest → rest ≡ x ∷ take (length rest - 1) (drop 1 rest)

@@ -1,5 +1,5 @@
 -- What the instruction of a call names.
-use Rattle.std.specs.Prelude.{◌≡◌, ◌≤◌, ℕ, List, length, take, drop, reverse, ℤ, pos}
+use Rattle.std.specs.Prelude.{◌≤◌, List, length, take, drop, reverse, ℤ, pos}
 use Rattle.ob_instr.specs.Image.{Image, World}
 use Rattle.ob_instr.specs.Rows.{Effect, Traps, Unable, calls, calls_with}
 use Rattle.ob_calls.specs.declared.callee.Callee.{Callee}

@@ -1,5 +1,5 @@
 -- The copies that a call makes, parameter by parameter.
-use Rattle.std.specs.Prelude.{ℕ, ◌+◌, ◌*◌, List, [], ◌∷◌, ℤ, pos, negsuc, Option, Some, None, if◌then◌else◌}
+use Rattle.std.specs.Prelude.{ℕ, ◌+◌, ◌*◌, List, ◌∷◌, ℤ, pos, negsuc, Option, Some, None, if◌then◌else◌}
 use Rattle.ob_mem.specs.Words.{are_there}
 use Rattle.ob_instr.specs.declared.procedure.Param.{Param}
 use Rattle.ob_instr.specs.declared.procedure.Param.TheVariants as param

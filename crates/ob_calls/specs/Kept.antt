@@ -1,5 +1,5 @@
 -- How the calls that wait are kept.
-use Rattle.std.specs.Prelude.{◌≡◌, ℕ, ◌<◌, ◌≤◌, List, [], ◌∷◌, length, take, drop, reverse, ℤ, vec_len, vec_capacity}
+use Rattle.std.specs.Prelude.{◌≡◌, ◌<◌, ◌≤◌, List, [], ◌∷◌, length, take, drop, reverse, ℤ, vec_capacity}
 use Rattle.ob_instr.specs.Image.{Act}
 use Rattle.ob_calls.specs.declared.calls.Waiting.{Waiting}
 use Rattle.ob_calls.specs.declared.calls.Calls.TheInside.{Inside}

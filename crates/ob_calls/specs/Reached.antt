@@ -1,5 +1,5 @@
 -- Where the machine stands after a call or a return.
-use Rattle.std.specs.Prelude.{◌≡◌, ℕ, List, ℤ, pos}
+use Rattle.std.specs.Prelude.{◌≡◌, ℕ, List, pos}
 use Rattle.ob_instr.specs.Image.{ModuleImage, Image, Act, World, Point, Go, Over, Done, Trapped, Spent, Illegal}
 use Rattle.ob_instr.specs.Rows.{Effect}
 use Rattle.ob_instr.specs.Table.{come_to, position_at}

@@ -6,6 +6,14 @@ ghost use Rattle.ob_calls.specs.Copies.{array_size, copy_size};
 use ob_instr::Param;
 use ob_words::Words;
 
+/// The words behind so many.
+pub fn behind(words: &[i32], count: usize) -> &[i32]
+    requires { count ≤ length words.now }
+    ensures { result.now ≡ drop count words.now }
+{
+    &words[count..]
+}
+
 // How many words the copy of an array of so many elements has, where they are there.
 fn array_words(words: &Words, from: i32, len: i32, size: u32) -> Option<u64>
     ensures { result ≡ array_size (length words.now.words) from len size }
@@ -58,7 +66,7 @@ pub fn count_copies(words: &Words, params: &[Param], args: &[i32]) -> Option<u64
             return None;
         };
         total += count;
-        rest = &rest[param.slots() as usize..];
+        rest = behind(rest, param.slots() as usize);
         kinds = more;
     }
     if !rest.is_empty() {

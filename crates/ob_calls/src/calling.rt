@@ -4,7 +4,7 @@ ghost use Rattle.ob_instr.specs.Parts.{slots, most_words};
 ghost use Rattle.ob_instr.specs.Rows.{copy_words, calls, procedure_of, entered};
 ghost use Rattle.ob_calls.specs.Reached.{Comes};
 
-use crate::arguments::count_copies;
+use crate::arguments::{behind, count_copies};
 use crate::calls::{Calls, Place};
 use crate::entering::enter_words;
 use ob_image::Image;
@@ -71,7 +71,7 @@ pub fn call(
     let Some(q) = procedure_of(image, r) else {
         return Called::Unable;
     };
-    let args = &state.operands[from..];
+    let args = behind(&state.operands, from);
     let Some(copies) = count_copies(&state.words, q.params.as_slice(), args) else {
         return Called::Unable;
     };
@@ -83,7 +83,14 @@ pub fn call(
     if !has_room(state.stack, need, waiting.len()) {
         return Called::Traps(13);
     }
-    enter_call(&mut state.words, &state.operands, from, state.stack, q, copies as u32);
+    enter_call(
+        &mut state.words,
+        &state.operands,
+        from,
+        state.stack,
+        q,
+        copies as u32,
+    );
     state.operands.truncate(below);
     let place = Place {
         unit: here.unit,
@@ -100,7 +107,14 @@ pub fn call(
     Called::Goes
 }
 
-fn enter_call(words: &mut Words, operands: &[i32], from: usize, first: u32, q: &Procedure, copies: u32)
+fn enter_call(
+    words: &mut Words,
+    operands: &[i32],
+    from: usize,
+    first: u32,
+    q: &Procedure,
+    copies: u32,
+)
     requires from { from ≤ length operands.now }
     requires some { 0 < first }
     requires slots { slots q.now.params ≡ length (drop from operands.now) }
@@ -108,5 +122,5 @@ fn enter_call(words: &mut Words, operands: &[i32], from: usize, first: u32, q: &
     requires room { first + (slots q.now.params + q.now.locals + copies) ≤ 1310721 }
     ensures { words.new ≡ record words.old { words = entered words.old.words first q.now (drop from operands.now) } }
 {
-    enter_words(words, first, q, &operands[from..], copies);
+    enter_words(words, first, q, behind(operands, from), copies);
 }

@@ -1,6 +1,7 @@
 ghost use Rattle.std.specs.Prelude.{◌≡◌, ◌≤◌, ◌<◌, [], ◌∷◌, length, vec_len, vec_capacity, IfOk, IfSome, IfNone};
 ghost use Rattle.ob_calls.specs.Waiting.{waiting_at};
 
+use crate::arguments::behind;
 use std::alloc::{AllocError, Global};
 use std::marker::Model;
 
@@ -97,13 +98,14 @@ impl Calls {
         ensures first { IfSome result (λ p. 0 < p.first) }
         ensures none { IfNone result ((self.old ≡ []) × (self.new ≡ self.old) × (operands.new.items ≡ [])) }
         ensures few { vec_len operands.new ≤ 256 }
-        ensures capacity { vec_capacity operands.new ≡ vec_capacity operands.old }
+        ensures capacity { vec_capacity operands.old ≤ vec_capacity operands.new }
     {
         let Some(waiting) = self.waiting.pop() else {
             return None;
         };
         let start = self.operands.len() - waiting.operands as usize;
-        let _ = operands.extend_from_slice(&self.operands[start..]);
+        let kept = behind(&self.operands, start);
+        let _ = operands.extend_from_slice(kept);
         self.operands.truncate(start);
         Some(waiting.place)
     }

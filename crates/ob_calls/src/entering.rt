@@ -3,7 +3,7 @@ ghost use Rattle.ob_instr.specs.Parts.{slots};
 ghost use Rattle.ob_instr.specs.Rows.{copy_words, with_copy, with_copies, entered};
 ghost use Rattle.ob_calls.specs.Copies.{copy_size, with_one};
 
-use crate::arguments::copy_of;
+use crate::arguments::{behind, copy_of};
 use ob_instr::{Param, Procedure};
 use ob_words::Words;
 
@@ -38,14 +38,7 @@ fn make_copy(words: &mut Words, param: Param, args: &[i32], slot: u32, next: u32
 }
 
 // Makes the copies of the arguments, one behind the other, and puts their addresses into the slots.
-fn make_copies(
-    words: &mut Words,
-    params: &[Param],
-    args: &[i32],
-    slot: u32,
-    next: u32,
-    copies: u32,
-)
+fn make_copies(words: &mut Words, params: &[Param], args: &[i32], slot: u32, next: u32, copies: u32)
     requires some { 0 < slot }
     requires slots { slot + slots params.now ≤ 1310721 }
     requires copies { copy_words (length words.old.words) params.now args.now ≡ Some copies }
@@ -64,7 +57,7 @@ fn make_copies(
         let count = count as u32;
         let slots = param.slots();
         make_copy(words, *param, rest, place, free, count);
-        rest = &rest[slots as usize..];
+        rest = behind(rest, slots as usize);
         place += slots;
         free += count;
         left -= count;

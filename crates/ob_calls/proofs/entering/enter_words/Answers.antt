@@ -1,10 +1,7 @@
-use Rattle.std.proofs.Common.{rules, ◌≡◌, ◌+◌, ◌≤◌, ◌++◌, length, replicate, refl, ap, sym, ◌∙◌, true, arith}
-use Rattle.std.specs.Prelude.{pos, unwrap_or, if◌then◌else◌}
+use Rattle.std.proofs.Common.{rules, refl, ◌∙◌, arith}
 use Rattle.std.proofs.lemmas.Int.{to_z-of_z}
-use Rattle.std.proofs.lemmas.List.{length-replicate}
 use mir.Syntax.{w64}
 use mir.Val.{SFits}
-use Rattle.ob_image.specs.WordLaws.{length_with}
 use Rattle.ob_calls.proofs.Copied.{begun}
 use Rattle.ob_calls.proofs.entering.enter_words.Goals as goal
 

@@ -1,4 +1,4 @@
-use Rattle.std.proofs.Common.{◌≡◌, ◌≤◌, length, refl, arith}
+use Rattle.std.proofs.Common.{refl, arith}
 use Rattle.ob_calls.proofs.calls.Calls.clear.Goals as goal
 
 pub invariant_of-self : goal.invariant_of-self

@@ -1,4 +1,4 @@
-use Rattle.std.proofs.Common.{◌≡◌, ◌≤◌, length, sym, ◌∙◌, arith}
+use Rattle.std.proofs.Common.{sym, ◌∙◌, arith}
 use Rattle.ob_calls.proofs.Acts.{calls_waiting}
 use Rattle.ob_calls.proofs.calls.Calls.len.Goals as goal
 

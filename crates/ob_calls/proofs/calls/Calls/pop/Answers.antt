@@ -1,7 +1,7 @@
-use Rattle.std.proofs.Common.{◌≡◌, ◌+◌, ◌-◌, ◌<◌, ◌≤◌, ◌++◌, ◌∷◌, [], IsOk, length, take, drop, vec_len, vec_capacity, Some, refl, ap, sym, subst, ◌∙◌, arith}
+use Rattle.std.proofs.Common.{◌≡◌, ◌+◌, ◌-◌, ◌++◌, ◌∷◌, [], IsOk, length, drop, vec_len, refl, ap, sym, subst, ◌∙◌, arith}
 use Rattle.std.proofs.lemmas.List.{length-append, length-drop}
 use Rattle.std.specs.Prelude.{reverse}
-use Rattle.ob_calls.specs.Kept.{AreCounted}
+use Rattle.ob_calls.specs.Kept.{AreCounted, acts_of}
 use Rattle.ob_calls.proofs.Acts.{ok_is, popped_acts, popped_counted, popped_rest}
 use Rattle.ob_calls.proofs.calls.Calls.pop.Goals as goal
 
@@ -38,7 +38,9 @@ returns-clause-some c =
     let p = popped_counted w c.pop.new.self.items d.operands.items counted in
     let start : c.len.result - w.operands + w.operands ≡ length d.operands.items = omega (arith, p.0, c.len.ensures, d.operands.ok.0) in
     let acts = popped_acts w c.pop.new.self.items d.operands.items (c.len.result - w.operands) start in
-    ?
-
-pub returns-clause-capacity : goal.returns-clause-capacity
-returns-clause-capacity c = ?
+    let lent : c.behind-kept.result.now ≡ drop (c.len.result - w.operands) d.operands.items = c.behind-kept.ensures ∙ ap (drop (c.len.result - w.operands)) c.deref.ensures.value in
+    let long = length-drop (c.len.result - w.operands) d.operands.items in
+    let none : vec_len c.args.operands.now ≡ 0 = c.args.operands.now.ok.0 ∙ ap length c.requires.empty in
+    let has : IsOk c.extend_from_slice.result = c.extend_from_slice.ensures.succeeds (omega (arith, none, ap length lent, long, start, p.1, c.requires.room)) in
+    let moved : c.extend_from_slice.new.self.items ≡ drop (c.len.result - w.operands) d.operands.items = c.extend_from_slice.ensures.items ∙ ok_is c.extend_from_slice.result _ _ has ∙ ap (λ l. l ++ c.behind-kept.result.now) c.requires.empty ∙ lent in
+    sym c.self.view_is ∙ ap (λ ws. acts_of (reverse ws) (reverse d.operands.items)) items ∙ acts ∙ rw (moved, c.truncate.ensures.items) refl
