@@ -1,0 +1,5 @@
+pub mod Parts
+pub mod Acts
+pub mod Copied
+pub mod Operands
+pub mod Comings

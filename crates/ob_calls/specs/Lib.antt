@@ -1,0 +1,5 @@
+pub mod Waiting
+pub mod Kept
+pub mod Copies
+pub mod Reached
+pub mod Callees

@@ -1,0 +1,7 @@
+pub mod Names
+pub mod Globals
+pub mod Room
+pub mod Standing
+pub mod Cut
+pub mod Whole
+pub mod WordLaws

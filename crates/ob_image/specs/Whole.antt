@@ -1,0 +1,30 @@
+-- What is so of each image at all times.
+use Rattle.std.specs.Prelude.{◌≡◌, ℕ, ◌+◌, ◌*◌, ◌<◌, ◌≤◌, List, length, take, Some}
+use Rattle.std.specs.List.{AllByRecursion}
+use Rattle.ob_tdesc.specs.declared.descriptor.Descriptor.{Descriptor}
+use Rattle.ob_tdesc.specs.Bases.{base_of}
+use Rattle.ob_instr.specs.Parts.{slots, most_words}
+use Rattle.ob_instr.specs.Image.{ModuleImage, Image}
+use Rattle.ob_image.specs.Cut.{types_of}
+
+-- Its first word lies in the globals, or just behind them, and its code, its procedures and the words of
+-- each of them keep their limits.
+pub record IsModule (u : ModuleImage) : Type 0 where
+  pub some : 0 < u.first
+  pub within : u.first ≤ 262145
+  pub short : length u.code ≤ 262144
+  pub few : length u.procedures ≤ 4096
+  pub words : AllByRecursion (λ q. slots q.params + q.locals ≤ most_words) u.procedures
+
+-- each base stands before its type
+abbrev pub BasesBefore : List Descriptor → Type 0
+BasesBefore types = (a b : ℕ) → base_of types a ≡ Some b → b < a
+
+pub record IsImage (img : Image) : Type 0 where
+  pub some : 0 < img.next
+  pub within : img.next ≤ 262145
+  pub few : length img.modules ≤ 255
+  -- each descriptor is of one of the modules
+  pub whole : types_of img.modules img.types ≡ img.types
+  -- a module has at most 1,048,576 types
+  pub types : (k : ℕ) → length (types_of (take k img.modules) img.types) ≤ 1048576 * k

@@ -1,0 +1,212 @@
+ghost use Rattle.std.specs.Prelude.{◌≡◌, ◌+◌, ◌≤◌, ◌<◌, ◌^◌, ◌∷◌, ◌++◌, [], length, map, take, IfOk, IfSome, OnOk, OnErr};
+ghost use Rattle.ob_obj.specs.Images.{linked_type, or_zero, with_types, base_number, descriptor_of};
+ghost use Rattle.ob_image.specs.Names.{name_from, names_in};
+ghost use Rattle.ob_image.specs.Cut.{types_of};
+ghost use Rattle.ob_image.specs.Standing.{BasesStand};
+ghost use Rattle.ob_image.specs.Whole.{BasesBefore};
+
+use crate::describing::describe;
+use crate::links::{has_module, is_same};
+use crate::loaded::Module;
+use ob_obj::RecordType;
+use ob_tdesc::{Descriptor, Descriptors};
+use ob_tree::{List, Name, QName};
+use std::alloc::{AllocError, Global};
+use std::marker::Model;
+
+/// The descriptors of the record types of all modules in the machine, by number.
+#[derive(Drop)]
+pub struct Types {
+    table: Descriptors,
+    names: Vec<QName>,
+}
+
+impl Model for Types {
+    ghost use Rattle.std.specs.Prelude.{List, ◌≡◌, ◌<◌, ◌^◌, map, length};
+    ghost use Rattle.ob_tdesc.specs.declared.descriptor.Descriptor.{Descriptor as Described};
+    ghost use Rattle.ob_image.specs.Names.{name_of};
+    ghost use Rattle.ob_image.specs.Whole.{BasesBefore};
+
+    ghost Value = { List Described };
+
+    ghost view = { λ t. t.table.list };
+
+    ghost invariant = { λ t. (t.names.items ≡ map name_of t.table.list) × (length t.table.list < 2 ^ 32) × BasesBefore t.table.list };
+}
+
+fn name_number(names: &[QName], name: &QName) -> Option<u32>
+    requires { length names.now < 2 ^ 32 }
+    ensures { result ≡ name_from 0 names.now name.now }
+{
+    let mut number = 0;
+    let mut rest = names;
+    while let [other, more @ ..] = rest {
+        if is_same(name.module.as_bytes(), other.module.as_bytes())
+            && is_same(name.object.as_bytes(), other.object.as_bytes())
+        {
+            return Some(number);
+        }
+        number += 1;
+        rest = more;
+    }
+    None
+}
+
+// How many names, from the first on, are of types of these modules.
+fn count_names(names: &[QName], modules: &[Module]) -> u32
+    requires { length names.now < 2 ^ 32 }
+    ensures { result ≡ names_in modules.now names.now }
+{
+    let mut count = 0;
+    let mut rest = names;
+    while let [name, more @ ..] = rest {
+        if !has_module(modules, &name.module) {
+            return count;
+        }
+        count += 1;
+        rest = more;
+    }
+    count
+}
+
+fn or_zero(number: Option<u32>) -> u32
+    ensures { result ≡ or_zero number }
+{
+    match number {
+        None => 0,
+        Some(number) => number,
+    }
+}
+
+impl Types {
+    /// No types. Takes no memory.
+    pub fn new(alloc: Global) -> Types
+        ensures { result ≡ [] }
+    {
+        Types {
+            table: Descriptors::new(alloc),
+            names: Vec::new(alloc),
+        }
+    }
+
+    /// How many there are.
+    pub fn count(&self) -> u32
+        ensures count { result ≡ length self.now }
+        ensures few { length self.now < 2 ^ 32 }
+    {
+        self.names.len() as u32
+    }
+
+    /// The descriptors. Each base stands before its type.
+    pub fn table(&self) -> &Descriptors
+        ensures table { result.now.list ≡ self.now }
+        ensures bases { BasesBefore self.now }
+    {
+        &self.table
+    }
+
+    /// The number of the type that a link names.
+    pub fn linked(&self, name: &QName) -> Option<u32>
+        ensures { result ≡ linked_type self.now name.now }
+    {
+        name_number(&self.names, name)
+    }
+
+    /// The numbers of the types that links name.
+    pub fn links(&self, alloc: Global, names: &[QName]) -> Result<List<u32>, AllocError>
+        ensures { IfOk result (λ l. l ≡ map (λ q. or_zero (linked_type self.now q)) names.now) }
+    {
+        let mut numbers = List::new(alloc);
+        let mut rest = names;
+        while let [name, more @ ..] = rest {
+            numbers.push(or_zero(self.linked(name)))?;
+            rest = more;
+        }
+        Ok(numbers)
+    }
+
+    /// How many types, from the first on, are of these modules.
+    pub fn count_of(&self, modules: &[Module]) -> u32
+        ensures types { take result self.now ≡ types_of modules.now self.now }
+        ensures within { result ≤ length self.now }
+    {
+        count_names(&self.names, modules)
+    }
+
+    /// Adds a descriptor behind the others. After an `Err` nothing is changed.
+    #[tactic(auto, using(crate::proofs::Bases::bases_added))]
+    pub fn add(&mut self, alloc: Global, d: Descriptor) -> Result<(), AllocError>
+        requires base { IfSome d.base (λ b. b < length self.old) }
+        requires few { length self.old + 1 < 2 ^ 32 }
+        requires short { length d.methods < 2 ^ 32 }
+        ensures ok { OnOk result (self.new ≡ self.old ++ d ∷ []) }
+        ensures err { OnErr result (self.new ≡ self.old) }
+    {
+        let object = d.name.clone()?;
+        let name = QName {
+            module: d.module,
+            object,
+        };
+        self.table.reserve(1, d.methods.len() as u32)?;
+        self.names.push(name)?;
+        let _ = self.table.add(d);
+        Ok(())
+    }
+
+    // Adds one of the record types of a module.
+    fn add_own(
+        &mut self,
+        alloc: Global,
+        module: Name,
+        number: u32,
+        first: u32,
+        links: &[u32],
+        own: &RecordType,
+    ) -> Result<(), AllocError>
+        requires base { IfSome (base_number first links.now own.now.base) (λ b. b < length self.old) }
+        requires few { length self.old + 1 < 2 ^ 32 }
+        ensures ok { OnOk result (self.new ≡ self.old ++ descriptor_of «module» first links.now self.old number own.now ∷ []) }
+        ensures err { OnErr result (self.new ≡ self.old) }
+    {
+        let d = describe(alloc, module, number, first, links, &self.table, own)?;
+        self.add(alloc, d)
+    }
+
+    /// Adds the record types of a module with this name and number, whose type links stand for `links`.
+    /// After an `Err` nothing is changed.
+    pub fn add_all(
+        &mut self,
+        alloc: Global,
+        module: Name,
+        number: u32,
+        links: &[u32],
+        own: &[RecordType],
+    ) -> Result<(), AllocError>
+        requires few { length self.old + length own.now < 2 ^ 32 }
+        requires bases { BasesStand (length self.old) links.now (length self.old) own.now }
+        ensures ok { OnOk result (self.new ≡ with_types «module» (length self.old) links.now number self.old own.now) }
+        ensures err { OnErr result (self.new ≡ self.old) }
+    {
+        let first = self.count();
+        let mut rest = own;
+        while let [record, more @ ..] = rest {
+            match self.add_own(alloc, module, number, first, links, record) {
+                Ok(()) => rest = more,
+                Err(fault) => {
+                    self.cut(first);
+                    return Err(fault);
+                }
+            }
+        }
+        Ok(())
+    }
+
+    /// Keeps the first descriptors, so many.
+    pub fn cut(&mut self, types: u32)
+        requires { types ≤ length self.old }
+        ensures { self.new ≡ take types self.old }
+    {
+        self.table.cut(types);
+        self.names.truncate(types as usize);
+    }
+}
