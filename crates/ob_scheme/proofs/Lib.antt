@@ -1,0 +1,12 @@
+pub mod CodePuts
+pub mod LawEnds
+pub mod LawInstrs
+pub mod LawPlaces
+pub mod LawStand
+pub mod LawSteps
+pub mod LawStmts
+pub mod LawSums
+pub mod LawTry
+pub mod LawVariables
+pub mod LawWhole
+pub mod Short
