@@ -1,12 +1,12 @@
 -- A text is read as a module exactly where its tokens spell it.
-use Rattle.std.proofs.Common.{◌≡◌, refl, sym, ap, subst, ◌∙◌, ℕ, ◌+◌, ◌*◌, ◌≤◌, List, [], ◌∷◌, length, Option, Some, None, arith, append-nil}
+use Rattle.std.proofs.Common.{◌≡◌, refl, sym, ap, subst, ◌∙◌, ℕ, List, [], ◌∷◌, Option, Some, None, append-nil}
 use Rattle.ob_first.specs.declared.tree.Module.{Module}
 use Rattle.ob_first.specs.Phrases.{Tokens, Read, Found, Fails, spells_as}
 use Rattle.ob_first.specs.Grammar.{spells, a_module}
 use Rattle.ob_first.specs.Reading.{reads, levels, if_whole, read_tokens, read_text, IsModuleText}
 use Rattle.ob_first.specs.Vocabulary.{start, tokens_of}
 use Rattle.ob_first.proofs.Levels.{good_module}
-use Rattle.ob_first.proofs.Texts.{shown, found, few}
+use Rattle.ob_first.proofs.Texts.{shown, found}
 
 whole_found : (r : Read Module) (m : Module) → if_whole r ≡ Some m → r ≡ Found m []
 whole_found (Found x []) m h = let e : x ≡ m = cc in ap (λ w. Found w []) e

@@ -1,10 +1,10 @@
 -- What each instruction comes to.
 use Rattle.std.proofs.lemmas.Bool.Decides.{nat_tests}
-use Rattle.std.proofs.Common.{◌≡◌, ℕ, suc, ◌+◌, ◌≤◌, ◌<◌, List, [], ◌∷◌, ◌++◌, length, Option, Some, None, refl, sym, ap, ◌∙◌, subst, ◌-◌, arith, length-append}
+use Rattle.std.proofs.Common.{◌≡◌, ℕ, suc, ◌+◌, ◌≤◌, ◌<◌, List, [], ◌∷◌, ◌++◌, length, Some, None, refl, sym, ap, ◌∙◌, ◌-◌, arith, length-append}
 use Rattle.std.specs.Prelude.{slice_get, slice_set, ℤ, pos, negsuc, ◌+ℤ◌, ◌-ℤ◌, Bool, true, false, nat_le, nat_lt, if◌then◌else◌}
 use Rattle.std.specs.Str.{bytes_eq}
 use Rattle.ob_tree.specs.declared.pos.Pos.{Pos}
-use Rattle.ob_mem.specs.Words.{word_at, are_there, stored}
+use Rattle.ob_mem.specs.Words.{are_there, stored}
 use Rattle.ob_instr.specs.declared.opcode.Opcode.{Opcode}
 use Rattle.ob_instr.specs.declared.opcode.Opcode.TheVariants as op
 use Rattle.ob_instr.specs.declared.instr.Instr.{Instr}
@@ -23,8 +23,8 @@ use Rattle.ob_first.specs.Meaning.{State, Trapped, Spent, value_of, assigned, in
 use Rattle.ob_first.specs.Rules.{is_among}
 use Rattle.ob_scheme.specs.Scheme.{slot, sign_code, relation_code}
 use Rattle.ob_scheme.specs.Object.{procedure_at}
-use Rattle.ob_scheme.specs.Law.{names_of, words_of, world_with}
-use Rattle.ob_scheme.proofs.LawSteps.{Setting, world, go, over, stopped, HasAt, Reach, here, steps, jumps, traps, spends, Within}
+use Rattle.ob_scheme.specs.Law.{names_of, words_of}
+use Rattle.ob_scheme.proofs.LawSteps.{Setting, world, go, over, stopped, HasAt, Reach, steps, jumps, traps, spends, Within}
 use Rattle.ob_scheme.proofs.LawVariables.{slot_within, words_length, value_at, assigned_at, get_behind, set_behind}
 
 abbrev pub instr : Opcode → ℤ → Instr

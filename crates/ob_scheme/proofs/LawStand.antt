@@ -4,7 +4,6 @@ use Rattle.std.proofs.Common.{◌≡◌, ℕ, suc, ◌+◌, List, [], ◌∷◌,
 use Rattle.std.specs.Prelude.{slice_get, nat_eq, true, false, if◌then◌else◌}
 use Rattle.ob_tree.specs.declared.pos.Pos.{Pos}
 use Rattle.ob_instr.specs.declared.instr.Instr.{Instr}
-use Rattle.ob_instr.specs.declared.procedure.Position.{Position}
 use Rattle.ob_instr.specs.Table.{position_at}
 use Rattle.ob_instr.proofs.Steps.{Has}
 use Rattle.ob_scheme.specs.declared.line.Line.{Line}

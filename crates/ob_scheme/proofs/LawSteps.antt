@@ -1,6 +1,6 @@
 -- Where a command stands, and what it means that the machine follows a result.
-use Rattle.std.proofs.Common.{◌≡◌, ℕ, suc, ◌+◌, ◌≤◌, List, [], length, Some, refl, sym, ap, ◌∙◌, subst, arith}
-use Rattle.std.specs.Prelude.{slice_get, ℤ, pos}
+use Rattle.std.proofs.Common.{◌≡◌, ℕ, suc, ◌+◌, ◌≤◌, List, [], length, subst, arith}
+use Rattle.std.specs.Prelude.{ℤ, pos}
 use Rattle.ob_tree.specs.declared.pos.Pos.{Pos}
 use Rattle.ob_instr.specs.declared.instr.Instr.{Instr}
 use Rattle.ob_instr.specs.Image as image

@@ -1,15 +1,13 @@
 -- A command's code keeps to the command's meaning, from the start to the end.
-use Rattle.std.proofs.Common.{◌≡◌, ℕ, suc, ◌+◌, ◌-◌, ◌<◌, List, [], ◌∷◌, ◌++◌, length, take, drop, Option, Some, refl, sym, ap, ◌∙◌, subst, arith, length-append}
+use Rattle.std.proofs.Common.{◌≡◌, ℕ, suc, ◌+◌, ◌-◌, ◌<◌, List, [], ◌∷◌, ◌++◌, length, take, drop, Some, refl, ap, ◌∙◌, arith, length-append}
 use Rattle.std.specs.Prelude.{slice_get, ℤ, pos}
 use Rattle.std.proofs.lemmas.List.{take-append-drop}
 use Rattle.ob_mem.specs.Words.{with_words}
 use Rattle.ob_instr.specs.declared.opcode.Opcode.TheVariants as op
-use Rattle.ob_instr.specs.declared.procedure.Procedure.{Procedure}
 use Rattle.ob_instr.specs.Image as image
 use Rattle.ob_instr.specs.Image.{Image, ModuleImage, World, Point, Over}
-use Rattle.ob_instr.specs.Rows.{entered, procedures_of, procedure_of}
-use Rattle.ob_instr.specs.Table.{begins, begun, start, run}
-use Rattle.ob_instr.proofs.Steps as machine
+use Rattle.ob_instr.specs.Rows.{procedures_of, procedure_of}
+use Rattle.ob_instr.specs.Table.{begins, start, run}
 use Rattle.ob_first.specs.Meaning.{State, Trapped, Spent, Res, Gives, Stops, command}
 use Rattle.ob_scheme.specs.declared.line.Line.{Line}
 use Rattle.ob_scheme.specs.Scheme.{plain, instrs_of, end_stmts, stmts_code, module_code}

@@ -1,6 +1,8 @@
 pub mod CodePuts
 pub mod LawEnds
+pub mod LawFits
 pub mod LawInstrs
+pub mod LawNames
 pub mod LawPlaces
 pub mod LawStand
 pub mod LawSteps

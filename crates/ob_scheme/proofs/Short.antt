@@ -10,16 +10,15 @@ use Rattle.ob_first.specs.declared.tree.Sum.{Sum}
 use Rattle.ob_first.specs.declared.tree.Condition.{Condition}
 use Rattle.ob_first.specs.declared.tree.Statement.{Statement}
 use Rattle.ob_first.specs.declared.tree.Statement.TheVariants as statement
-use Rattle.ob_first.specs.declared.tree.Statement.TheFolds.{fold-roll-Statement}
-use Rattle.ob_first.specs.declared.tree.Statement.TheOpen.{Statement-F}
 use Rattle.ob_first.specs.declared.tree.Module.{Module}
 use Rattle.ob_scheme.specs.Scheme.{operand_code, terms_code, sum_code, condition_code, end_condition, end_stmt, stmt_code, stmts_code, module_code}
 use Rattle.ob_first.specs.Syntax.{Stmt, Stmts, Assign, While, OutInt, OutLn, Then}
 use Rattle.ob_first.specs.Reading.{levels}
+use Rattle.ob_first.proofs.CodeViews.{view_assign, view_while, view_out_int, view_out_ln}
 use Rattle.ob_first.proofs.Laws.{sound}
 use Rattle.ob_first.proofs.Texts.{few}
 use Rattle.ob_scheme.specs.Placing.{HasShortCode}
-use Rattle.ob_first.specs.View.{stmt_layer, stmt_view, stmts_view}
+use Rattle.ob_first.specs.View.{stmt_view, stmts_view}
 use Rattle.ob_first.specs.declared.first_token.Symbol.{Symbol}
 use Rattle.ob_first.specs.declared.first_token.Symbol.TheVariants as s
 use Rattle.ob_first.specs.declared.first_token.Token.{Token}
@@ -40,20 +39,6 @@ none_of A = None
 kept_true : {A : Type 0} (b : Bool) (x y : A) → cond b (Some x) (none_of A) ≡ Some y → x ≡ y
 kept_true true x y e = unsome x y e
 kept_true false x y e = let none : ⊥ = cc in absurd none
-
--- A STATEMENT'S VIEW
-
-view_assign : (x : List ℕ) (e : Sum) → stmt_view (statement.Assign x e) ≡ Assign x e
-view_assign x e = ap stmt_view (sym (statement.rolls-Assign x e)) ∙ fold-roll-Statement Stmt stmt_layer (Statement-F.Assign x e)
-
-view_while : (at : Pos) (c : Condition) (body : List Statement) → stmt_view (statement.While at c body) ≡ While at c (stmts_view body)
-view_while at c body = ap stmt_view (sym (statement.rolls-While at c body)) ∙ fold-roll-Statement Stmt stmt_layer (Statement-F.While at c body)
-
-view_out_int : (at : Pos) (e width : Sum) → stmt_view (statement.OutInt at e width) ≡ OutInt at e width
-view_out_int at e width = ap stmt_view (sym (statement.rolls-OutInt at e width)) ∙ fold-roll-Statement Stmt stmt_layer (Statement-F.OutInt at e width)
-
-view_out_ln : (at : Pos) → stmt_view (statement.OutLn at) ≡ OutLn at
-view_out_ln at = ap stmt_view (sym (statement.rolls-OutLn at)) ∙ fold-roll-Statement Stmt stmt_layer (Statement-F.OutLn at)
 
 -- CODE AND TOKENS
 

@@ -1,5 +1,5 @@
 -- The object file of a module.
-use Rattle.std.specs.Prelude.{◌≡◌, ◌<◌, ◌^◌, ℕ, List, [], ◌∷◌, length, false, FitsSigned}
+use Rattle.std.specs.Prelude.{◌<◌, ◌^◌, ℕ, List, [], ◌∷◌, length, false, FitsSigned}
 use Rattle.std.specs.Int.{w32}
 use Rattle.ob_instr.specs.declared.instr.Instr.{Instr}
 use Rattle.ob_instr.specs.declared.procedure.Position.{Position}

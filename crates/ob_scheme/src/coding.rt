@@ -204,7 +204,7 @@ fn put_stmts(code: &mut Vec<Line>, names: &[Name], body: &[Statement]) -> Result
     Ok(())
 }
 
-/// A module's instructions, and the positions of those that can trap or spend a turn.
+// A module's instructions, and the positions of those that can trap or spend a turn.
 #[derive(Drop)]
 pub struct Coded {
     pub code: List<Instr>,
@@ -248,8 +248,7 @@ fn split(alloc: Global, lines: &[Line]) -> Result<Coded, AllocError>
     Ok(Coded { code, positions })
 }
 
-/// The code of a module with these variables, at most 1,000 of them, and this command.
-/// Its only error is want of memory.
+// The code of a module with these variables and this command. Its only error is want of memory.
 pub fn code_of(alloc: Global, names: &[Name], body: &[Statement]) -> Result<Coded, AllocError>
     requires names { length names.now ≤ 1000 }
     requires small { length (module_code names.now (stmts_view body.now)) ≤ 262144 }

@@ -4,7 +4,8 @@
 
 mod coding;
 pub mod line;
+mod object;
 mod theorems;
 
-pub use coding::{Coded, code_of};
-pub use theorems::{code_is_short, placing, simulation};
+pub use object::object_of;
+pub use theorems::{code_is_short, names_are_identifiers, placing, simulation};

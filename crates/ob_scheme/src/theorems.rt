@@ -1,5 +1,5 @@
 ghost use Rattle.ob_scheme.specs.Law.{Simulation};
-ghost use Rattle.ob_scheme.specs.Placing.{Placing, HasShortCode};
+ghost use Rattle.ob_scheme.specs.Placing.{Placing, HasIdentifiers, HasShortCode};
 
 /// The law of simulation. Where a module of an image has a module's code, positions, procedures and
 /// variables, the machine's run of its command ends as the command's meaning ends: with the same
@@ -20,4 +20,9 @@ pub fn placing()
 /// more.
 pub fn code_is_short()
     ensures { HasShortCode }
+{}
+
+/// The names of a module that is read and of its command are identifiers.
+pub fn names_are_identifiers()
+    ensures { HasIdentifiers }
 {}
