@@ -1,5 +1,5 @@
 -- Two ends of one run are the same.
-use Rattle.std.specs.Prelude.{◌≡◌, ℕ, zero, suc, ◌+◌, ◌≤◌, refl}
+use Rattle.std.specs.Prelude.{◌≡◌, ℕ, zero, suc, ◌+◌, ◌≤◌}
 use Rattle.std.proofs.Common.{sym, ap, ◌-◌, ◌∙◌, ⊎_elim, arith}
 use Rattle.std.proofs.lemmas.Bool.{cases_lt}
 use Rattle.ob_tree.specs.declared.proc_ref.ProcRef.{ProcRef}

@@ -1,6 +1,6 @@
 -- A session goes on by a line.
 use Rattle.std.proofs.Common.{◌≡◌, ℕ, ◌+◌, ◌-◌, List, [], ◌∷◌, ◌++◌, length, take, Bool, true, false, refl, sym, ap, ◌∙◌, subst, append_assoc, arith, ◌≤◌, Ok, Err, ⊎_elim}
-use Rattle.std.specs.Prelude.{◌||◌, ◌==◌, cond, map, replicate, pos}
+use Rattle.std.specs.Prelude.{◌||◌, ◌==◌, cond, map}
 use Rattle.std.proofs.lemmas.Bool.{eqb-true, false≢true}
 use Rattle.std.proofs.Math.Dec.{eqb}
 use Rattle.std.proofs.lemmas.List.{append-nil, length-append}

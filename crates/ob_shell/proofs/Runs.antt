@@ -17,7 +17,7 @@ use Rattle.ob_first.specs.declared.tree.Module.{Module}
 use Rattle.ob_first.specs.View.{stmts_view}
 use Rattle.ob_first.specs.Meaning.{Trapped, Spent, Res, Gives, Stops, last}
 use Rattle.ob_scheme.specs.Scheme.{module_code, instrs_of, positions_of}
-use Rattle.ob_scheme.specs.Object.{procedures, object_file}
+use Rattle.ob_scheme.specs.Object.{object_file}
 use Rattle.ob_first.specs.Rules.{are_different, stmts_are_known}
 use Rattle.ob_scheme.specs.Law.{Simulation, IsCommand, end_of, world_with, names_of, words_of, command_of}
 use Rattle.ob_shell.specs.declared.shop.Build.{Build}

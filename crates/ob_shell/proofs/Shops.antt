@@ -15,7 +15,7 @@ use Rattle.ob_instr.specs.Rows.{procedures_of}
 use Rattle.ob_obj.specs.declared.file.ObjFile.{ObjFile}
 use Rattle.ob_obj.specs.Images.{same, module_from, module_of as image_module, AreEnterable}
 use Rattle.ob_stack.specs.Machine.{Held, IsEntry}
-use Rattle.ob_first.specs.Meaning.{Variables, first_values, first_of}
+use Rattle.ob_first.specs.Meaning.{Variables, first_values}
 use Rattle.ob_scheme.specs.Object.{procedure_at, object_file}
 use Rattle.ob_scheme.specs.Law.{names_of, words_of, name_of, word_of, command_of}
 use Rattle.ob_shell.specs.declared.shop.Build.{Build}
@@ -177,16 +177,19 @@ none_in (b ∷ bs) (u ∷ us) (l ∷ ls) off at n name h e =
 
 pub enterable : (bs : List (Rc Build Global)) (old : Held) (ls : List Loaded) (b : Build) (f : ObjFile) → Holds bs old ls → (i : IsBuilt b) → length bs < 255 → position_from (is_build b.name) 0 bs ≡ None → f ≡ object_file i.what → AreEnterable old.image (f ∷ [])
 enterable bs old ls b f h i lt absent e =
-    subst (λ (x : ObjFile). AreEnterable old.image (x ∷ [])) (sym e) (record {
-      fits = i.stands.fits;
-      new = none_in bs old.image.modules ls 0 0 0 i.what.name h.live (ap (λ n. position_from (is_build n) 0 bs) (sym i.stands.name) ∙ absent);
-      variables = tt;
-      procedures = tt;
-      types = tt;
-      room = let r = ap (λ (x : Room). x.globals) h.room in let w = words_all bs old.image.modules ls 0 h.live in let v = i.stands.few in let n = h.next in omega (arith, r, w, v, n);
-      few = let n = as_many bs old.image.modules ls 0 h.live in omega (arith, n.0);
-      few_types = let t = ap length h.types in omega (arith, t);
-    }, tt)
+    subst (λ (x : ObjFile). AreEnterable old.image (x ∷ [])) (sym e) (
+      record {
+        fits = i.stands.fits;
+        new = none_in bs old.image.modules ls 0 0 0 i.what.name h.live (ap (λ n. position_from (is_build n) 0 bs) (sym i.stands.name) ∙ absent);
+        variables = tt;
+        procedures = tt;
+        types = tt;
+        room = let r = ap (λ (x : Room). x.globals) h.room in let w = words_all bs old.image.modules ls 0 h.live in let v = i.stands.few in let n = h.next in omega (arith, r, w, v, n);
+        few = let n = as_many bs old.image.modules ls 0 h.live in omega (arith, n.0);
+        few_types = let t = ap length h.types in omega (arith, t);
+      },
+      tt,
+    )
 
 -- THE LOADED MODULE OF A NAME
 

@@ -15,7 +15,6 @@ use Rattle.ob_stack.specs.Machine.{Held, Runs, room}
 use Rattle.ob_first.specs.declared.tree.Module.{Module}
 use Rattle.ob_first.specs.View.{stmts_view}
 use Rattle.ob_first.specs.Meaning.{Variables, Res, last}
-use Rattle.ob_scheme.specs.Scheme.{module_code}
 use Rattle.ob_scheme.specs.Object.{object_file, procedures}
 use Rattle.ob_first.specs.Rules.{are_different, stmts_are_known}
 use Rattle.ob_scheme.specs.Law.{names_of, words_of, command_of}

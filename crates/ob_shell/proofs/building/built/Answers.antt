@@ -1,6 +1,4 @@
-use Rattle.std.proofs.Common.{refl, ap, ◌∙◌, sym, subst, ℕ, List}
-use Rattle.ob_obj.specs.declared.file.ObjFile.{ObjFile}
-use Rattle.ob_obj.specs.Grammar.{file}
+use Rattle.std.proofs.Common.{refl}
 use Rattle.ob_shell.proofs.Kept.{stands, module_kept, small, few}
 use Rattle.ob_shell.proofs.building.built.Goals as goal
 

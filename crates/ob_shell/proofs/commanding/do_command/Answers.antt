@@ -1,4 +1,4 @@
-use Rattle.std.proofs.Common.{◌∙◌, List, map, subst, ap, Result, Ok, Option}
+use Rattle.std.proofs.Common.{◌∙◌, map, subst, ap, Result, Ok, Option}
 use Rattle.std.specs.declared.rc.Rc.{Rc}
 use Rattle.std.specs.declared.alloc.Global.{Global}
 use Rattle.ob_shell.specs.declared.shop.Build.{Build}
