@@ -29,8 +29,8 @@ use Rattle.ob_types.specs.declared.types.Basic.{Basic}
 use Rattle.ob_types.specs.declared.types.Basic.TheVariants.{Boolean, Char, ShortInt, Integer, LongInt, Set}
 use Rattle.ob_types.specs.declared.types.TypeRef.{TypeRef}
 use Rattle.ob_types.specs.declared.types.TypeRef.TheVariants as types
-use Rattle.ob_types.specs.declared.types.Mark.{Mark}
-use Rattle.ob_types.specs.declared.types.Mark.TheVariants.{Full, ReadOnly, Hidden}
+use Rattle.ob_tree.specs.declared.ident.Mark.{Mark}
+use Rattle.ob_tree.specs.declared.ident.Mark.TheVariants.{Full, ReadOnly, Hidden}
 use Rattle.ob_types.specs.declared.types.Mode.{Mode}
 use Rattle.ob_types.specs.declared.types.Mode.TheVariants.{Value as ByValue, Var}
 use Rattle.ob_types.specs.declared.types.Signature.{Signature}

@@ -7,7 +7,7 @@ use Rattle.ob_tree.specs.declared.pos.Pos.{Pos}
 use Rattle.ob_machine.specs.declared.instr.Opcode.{Opcode}
 use Rattle.ob_machine.specs.declared.instr.Opcode.TheVariants as op
 use Rattle.ob_machine.specs.declared.instr.Instr.{Instr}
-use Rattle.ob_machine.specs.Table.{Image, ModuleImage, World, End, Trapped, Illegal, Point, Go, Over, in_width, is_word, width_of, word_at, with_word, truth, target_of, position_at, padded, pushed, computed, fetched, stored, on_one, on_two, in_type, take_turn, jumped, jumped_if, is_zero, printed, wrote_number, wrote_line, wrote, compared, row, act, act_in, step, run}
+use Rattle.ob_machine.specs.Table.{Image, ModuleImage, World, End, Trapped, Illegal, Point, Go, Over, in_width, is_word, width_of, word_at, with_word, truth, target_of, position_at, padded, pushed, computed, fetched, stored, on_one, on_two, in_type, take_turn, jumped, jumped_if, is_zero, printed, Chars, Missing, Endless, Ends, chars_at, low_byte, low_bytes, wrote_char, wrote_chars, wrote_text, wrote_number, wrote_line, wrote, compared, row, act, act_in, step, run}
 
 abbrev out_at : Point → List ℕ
 out_at (Go m pc ops w) = w.out
@@ -66,6 +66,19 @@ jumped_if_out false m pc at None ops w = same w.out
 jumped_if_out false m pc at (Some a) ops w = same w.out
 jumped_if_out true m pc at a ops w = jumped_out m pc at a ops w
 
+char_out : (m pc : ℕ) (at : Pos) (ops : List ℤ) (w : World) → Extends w.out (out_at (wrote_char m pc at ops w))
+char_out m pc at ops w =
+    one_out m pc ops w (λ c rest. take_turn w.turns m at w (λ t. Go m (suc pc) rest (printed t (low_byte c ∷ []))))
+    (λ c rest. turn_out w.turns m at w (λ t. Go m (suc pc) rest (printed t (low_byte c ∷ []))) (λ k. (low_byte c ∷ [], λ i. w.out ++ low_byte c ∷ [])))
+
+chars_out : (s : Chars) (m pc : ℕ) (at : Pos) (ops : List ℤ) (w : World) → Extends w.out (out_at (wrote_chars s m pc at ops w))
+chars_out Missing m pc at ops w = same w.out
+chars_out Endless m pc at ops w = turn_out w.turns m at w (λ t. Over (Trapped 15 (pos 0) m at) t) (λ k. same w.out)
+chars_out (Ends cs) m pc at ops w = turn_out w.turns m at w (λ t. Go m (suc pc) ops (printed t (low_bytes cs))) (λ k. (low_bytes cs, λ i. w.out ++ low_bytes cs))
+
+text_out : (m pc : ℕ) (at : Pos) (ops : List ℤ) (w : World) → Extends w.out (out_at (wrote_text m pc at ops w))
+text_out m pc at ops w = two_out m pc ops w (λ x l rest. wrote_chars (chars_at w.globals x l) m pc at rest w) (λ x l rest. chars_out (chars_at w.globals x l) m pc at rest w)
+
 number_out : (m pc : ℕ) (at : Pos) (ops : List ℤ) (w : World) → Extends w.out (out_at (wrote_number m pc at ops w))
 number_out m pc at ops w =
     two_out m pc ops w (λ z n rest. take_turn w.turns m at w (λ t. Go m (suc pc) rest (printed t (padded z n))))
@@ -74,11 +87,21 @@ number_out m pc at ops w =
 line_out : (m pc : ℕ) (at : Pos) (ops : List ℤ) (w : World) → Extends w.out (out_at (wrote_line m pc at ops w))
 line_out m pc at ops w = turn_out w.turns m at w (λ t. Go m (suc pc) ops (printed t (10 ∷ []))) (λ k. (10 ∷ [], λ i. w.out ++ 10 ∷ []))
 
+abbrev beyond_number : ℕ → ℕ → Pos → ℤ → List ℤ → World → Point
+beyond_number m pc at kind ops w = cond (int_eq kind (pos 4)) (wrote_line m pc at ops w) (Over (Illegal m pc) w)
+
+abbrev beyond_text : ℕ → ℕ → Pos → ℤ → List ℤ → World → Point
+beyond_text m pc at kind ops w = cond (int_eq kind (pos 3)) (wrote_number m pc at ops w) (beyond_number m pc at kind ops w)
+
+abbrev beyond_char : ℕ → ℕ → Pos → ℤ → List ℤ → World → Point
+beyond_char m pc at kind ops w = cond (int_eq kind (pos 2)) (wrote_text m pc at ops w) (beyond_text m pc at kind ops w)
+
 wrote_out : (m pc : ℕ) (at : Pos) (kind : ℤ) (ops : List ℤ) (w : World) → Extends w.out (out_at (wrote m pc at kind ops w))
 wrote_out m pc at kind ops w =
-    either w.out (int_eq kind (pos 3)) (wrote_number m pc at ops w) (cond (int_eq kind (pos 4)) (wrote_line m pc at ops w) (Over (Illegal m pc) w))
-    (number_out m pc at ops w)
-    (either w.out (int_eq kind (pos 4)) (wrote_line m pc at ops w) (Over (Illegal m pc) w) (line_out m pc at ops w) (same w.out))
+    either w.out (int_eq kind (pos 1)) (wrote_char m pc at ops w) (beyond_char m pc at kind ops w) (char_out m pc at ops w)
+    (either w.out (int_eq kind (pos 2)) (wrote_text m pc at ops w) (beyond_text m pc at kind ops w) (text_out m pc at ops w)
+    (either w.out (int_eq kind (pos 3)) (wrote_number m pc at ops w) (beyond_number m pc at kind ops w) (number_out m pc at ops w)
+    (either w.out (int_eq kind (pos 4)) (wrote_line m pc at ops w) (Over (Illegal m pc) w) (line_out m pc at ops w) (same w.out))))
 
 compared_out : (holds : ℤ → ℤ → Bool) (m pc : ℕ) (ops : List ℤ) (w : World) → Extends w.out (out_at (compared holds m pc ops w))
 compared_out holds m pc ops w = two_out m pc ops w (λ x y rest. pushed m pc (truth (holds x y)) rest w) (λ x y rest. pushed_out m pc (truth (holds x y)) rest w)

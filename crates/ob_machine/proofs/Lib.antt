@@ -3,3 +3,4 @@ pub mod Kept
 pub mod Grows
 pub mod Turns
 pub mod Runs
+pub mod Texts

@@ -1,6 +1,6 @@
 -- What one turn does, and what a run does that goes on by it.
 use Rattle.std.proofs.Common.{◌≡◌, ℕ, zero, suc, ◌+◌, ◌-◌, ◌*◌, ◌<◌, ◌≤◌, ◌⊎◌, List, [], ◌∷◌, ◌++◌, length, ℤ, pos, Option, Some, None, Bool, true, inl, inr, refl, sym, ap, ◌∙◌, ⊎_elim, arith, append_assoc}
-use Rattle.std.specs.Prelude.{slice_get}
+use Rattle.std.specs.Prelude.{slice_get, take, drop}
 use Rattle.std.proofs.lemmas.Bool.{cases_lt}
 use Rattle.std.proofs.lemmas.List.{append-nil}
 use Rattle.std.proofs.lemmas.Option.{slice_get_past}
@@ -13,7 +13,7 @@ use Rattle.ob_machine.specs.declared.steps.Step.TheVariants as step
 use Rattle.ob_machine.specs.declared.outcome.Outcome.{Outcome}
 use Rattle.ob_machine.specs.declared.outcome.Outcome.TheVariants as outcome
 use Rattle.ob_machine.specs.Table as table
-use Rattle.ob_machine.specs.Table.{Image, ModuleImage, World, End, Point, Go, Over, padded, printed, position_at, act, act_in, run}
+use Rattle.ob_machine.specs.Table.{Image, ModuleImage, World, End, Point, Go, Over, padded, printed, low_bytes, position_at, act, act_in, run}
 use Rattle.ob_machine.specs.Running.{name_of, name_in}
 use Rattle.ob_machine.specs.Steps.{Does, Moves, does_row, ops_of, world_of, after}
 use Rattle.ob_machine.specs.Turns.{Ends, Begins, Turn, TurnDoes, Wrote, point_of, work}
@@ -70,14 +70,14 @@ does_done t b u old new i here h = record {
   wrote = λ e. nothing b;
 }
 
-pub does_trap : (t : Bool) (b : List ℕ) (u : ModuleImage) (old new : Frame) (i : Instr) → slice_get u.code old.pc ≡ Some i → Does (does_row u i) old new step.Trap → TurnDoes t b b u old new (Some (outcome.Trap 8 (pos 0) u.name (position_at u.positions old.pc)))
-does_trap t b u old new i here h = record {
+pub does_trap : (t : Bool) (b : List ℕ) (u : ModuleImage) (old new : Frame) (i : Instr) (k : ℕ) → slice_get u.code old.pc ≡ Some i → Does (does_row u i) old new (step.Trap k) → TurnDoes t b b u old new (Some (outcome.Trap k (pos 0) u.name (position_at u.positions old.pc)))
+does_trap t b u old new i k here h = record {
   piece = [];
   turn = λ img m at out. record {
     steps = 1;
-    end = table.Trapped 8 (pos 0) m (position_at u.positions old.pc);
-    comes = first img m u old new i step.Trap at here h out ∙ ap (λ o. Over (table.Trapped 8 (pos 0) m (position_at u.positions old.pc)) (world_of new o)) (nothing out);
-    is = ap (λ n. outcome.Trap 8 (pos 0) n (position_at u.positions old.pc)) (name_at img m u at);
+    end = table.Trapped k (pos 0) m (position_at u.positions old.pc);
+    comes = first img m u old new i (step.Trap k) at here h out ∙ ap (λ o. Over (table.Trapped k (pos 0) m (position_at u.positions old.pc)) (world_of new o)) (nothing out);
+    is = ap (λ n. outcome.Trap k (pos 0) n (position_at u.positions old.pc)) (name_at img m u at);
   };
   wrote = λ e. nothing b;
 }
@@ -122,6 +122,22 @@ does_number t b now u old new i z n here h p = record { piece = padded z n; turn
 
 pub does_number_fault : (t : Bool) (b now : List ℕ) (u : ModuleImage) (old new : Frame) (i : Instr) (z n : ℤ) → slice_get u.code old.pc ≡ Some i → Does (does_row u i) old new (step.Number z n) → (t ≡ true → AddsFront b now (padded z n)) → TurnDoes t b now u old new (Some outcome.SinkFault)
 does_number_fault t b now u old new i z n here h p = record { piece = padded z n; turn = λ img m at out. fault img m old new (padded z n) out (first img m u old new i (step.Number z n) at here h out); wrote = p }
+
+pub does_char : (t : Bool) (b now : List ℕ) (u : ModuleImage) (old new : Frame) (i : Instr) (c : ℕ) → slice_get u.code old.pc ≡ Some i → Does (does_row u i) old new (step.Char c) → (t ≡ true → now ≡ b ++ c ∷ []) → TurnDoes t b now u old new None
+does_char t b now u old new i c here h p = record { piece = c ∷ []; turn = λ img m at out. (1, first img m u old new i (step.Char c) at here h out); wrote = p }
+
+pub does_char_fault : (t : Bool) (b now : List ℕ) (u : ModuleImage) (old new : Frame) (i : Instr) (c : ℕ) → slice_get u.code old.pc ≡ Some i → Does (does_row u i) old new (step.Char c) → (t ≡ true → AddsFront b now (c ∷ [])) → TurnDoes t b now u old new (Some outcome.SinkFault)
+does_char_fault t b now u old new i c here h p = record { piece = c ∷ []; turn = λ img m at out. fault img m old new (c ∷ []) out (first img m u old new i (step.Char c) at here h out); wrote = p }
+
+-- the bytes of a text among the words of a frame
+abbrev pub text_bytes : Frame → ℕ → ℕ → List ℕ
+text_bytes f index count = low_bytes (take count (drop index f.globals.items))
+
+pub does_text : (t : Bool) (b now : List ℕ) (u : ModuleImage) (old new : Frame) (i : Instr) (index count : ℕ) → slice_get u.code old.pc ≡ Some i → Does (does_row u i) old new (step.Text index count) → (t ≡ true → now ≡ b ++ text_bytes new index count) → TurnDoes t b now u old new None
+does_text t b now u old new i index count here h p = record { piece = text_bytes new index count; turn = λ img m at out. (1, first img m u old new i (step.Text index count) at here h out); wrote = p }
+
+pub does_text_fault : (t : Bool) (b now : List ℕ) (u : ModuleImage) (old new : Frame) (i : Instr) (index count : ℕ) → slice_get u.code old.pc ≡ Some i → Does (does_row u i) old new (step.Text index count) → (t ≡ true → AddsFront b now (text_bytes new index count)) → TurnDoes t b now u old new (Some outcome.SinkFault)
+does_text_fault t b now u old new i index count here h p = record { piece = text_bytes new index count; turn = λ img m at out. fault img m old new (text_bytes new index count) out (first img m u old new i (step.Text index count) at here h out); wrote = p }
 
 pub does_line : (t : Bool) (b now : List ℕ) (u : ModuleImage) (old new : Frame) (i : Instr) → slice_get u.code old.pc ≡ Some i → Does (does_row u i) old new step.Line → (t ≡ true → now ≡ b ++ 10 ∷ []) → TurnDoes t b now u old new None
 does_line t b now u old new i here h p = record { piece = 10 ∷ []; turn = λ img m at out. (1, first img m u old new i step.Line at here h out); wrote = p }
@@ -188,4 +204,4 @@ run_on_by t b mid now u old f new r d e = record {
   wrote = λ told. wrote_whole b mid now r d.piece e.piece (d.wrote told) (e.wrote told);
 }
 
-pub ruleset turns = (does_goes, does_past, does_done, does_trap, does_spent, does_illegal, does_line)
+pub ruleset turns = (does_goes, does_past, does_done, does_trap, does_spent, does_illegal, does_char, does_text, does_line)

@@ -1,5 +1,5 @@
 -- What one instruction does to a frame.
-use Rattle.std.specs.Prelude.{◌≡◌, ℕ, suc, ◌+◌, ◌-◌, ◌*◌, ◌^◌, ◌<◌, List, [], ◌∷◌, length, reverse, ℤ, pos, int_lt, Bool, not, Option, Some, None, if◌then◌else◌, ◌⊎◌}
+use Rattle.std.specs.Prelude.{◌≡◌, ℕ, zero, suc, ◌+◌, ◌-◌, ◌*◌, ◌^◌, ◌<◌, ◌≤◌, List, [], ◌∷◌, length, reverse, take, drop, ℤ, pos, int_lt, Bool, not, Option, Some, None, if◌then◌else◌, ◌⊎◌}
 use Rattle.std.specs.Prelude.{vec_capacity}
 use Rattle.std.specs.Ordering.{int_eq}
 use Rattle.ob_tree.specs.declared.pos.Pos.{Pos}
@@ -11,7 +11,9 @@ use Rattle.ob_machine.specs.declared.words.Comparison.{Comparison}
 use Rattle.ob_machine.specs.declared.words.Comparison.TheVariants as comparison
 use Rattle.ob_machine.specs.declared.words.Width.{Width}
 use Rattle.ob_machine.specs.declared.words.Width.TheVariants as width
-use Rattle.ob_machine.specs.Table.{ModuleImage, World, Point, Go, Over, Done, Trapped, Spent, Illegal, row, printed, padded, pushed, computed, in_type, in_width, jumped, word_at, with_word}
+use Rattle.ob_machine.specs.declared.text.Text.{Text}
+use Rattle.ob_machine.specs.declared.text.Text.TheVariants as text
+use Rattle.ob_machine.specs.Table.{ModuleImage, World, Point, Go, Over, Done, Trapped, Spent, Illegal, Chars, Missing, Endless, Ends, row, printed, padded, low_bytes, wrote_chars, onto, is_zero, pushed, computed, in_type, in_width, jumped, word_at, with_word}
 
 -- the operands, the last one first
 abbrev pub ops_of : Frame → List ℤ
@@ -25,9 +27,11 @@ world_of f out = record { globals = f.globals.items; turns = f.turns; out = out 
 abbrev pub after : ℕ → ℕ → Pos → Frame → List ℕ → Step → Point
 after m pc at f out step.Goes = Go m f.pc (ops_of f) (world_of f out)
 after m pc at f out step.Done = Over Done (world_of f out)
-after m pc at f out step.Trap = Over (Trapped 8 (pos 0) m at) (world_of f out)
+after m pc at f out (step.Trap kind) = Over (Trapped kind (pos 0) m at) (world_of f out)
 after m pc at f out step.Spent = Over (Spent m at) (world_of f out)
 after m pc at f out step.Illegal = Over (Illegal m pc) (world_of f out)
+after m pc at f out (step.Char c) = Go m f.pc (ops_of f) (printed (world_of f out) (c ∷ []))
+after m pc at f out (step.Text index count) = Go m f.pc (ops_of f) (printed (world_of f out) (low_bytes (take count (drop index f.globals.items))))
 after m pc at f out (step.Number z n) = Go m f.pc (ops_of f) (printed (world_of f out) (padded z n))
 after m pc at f out step.Line = Go m f.pc (ops_of f) (printed (world_of f out) (10 ∷ []))
 
@@ -51,6 +55,9 @@ does_result n v = λ m pc at ops w. in_type m pc at n v ops w
 abbrev pub does_jump : Option ℕ → Part
 does_jump target = λ m pc at ops w. jumped m pc at target ops w
 
+abbrev pub does_text : Chars → Part
+does_text chars = λ m pc at ops w. wrote_chars chars m pc at ops w
+
 abbrev pub does_row : ModuleImage → Instr → Part
 does_row u i = λ m pc at ops w. row u m i.op i.a pc at ops w
 
@@ -58,12 +65,15 @@ does_row u i = λ m pc at ops w. row u m i.op i.a pc at ops w
 abbrev pub Moves : Frame → Frame → Type 0
 Moves old new = ((new.turns ≡ old.turns) × (old.pc < new.pc)) ⊎ (new.turns + 1 ≡ old.turns)
 
+-- where the run goes on, and a text that is to be written lies in the words
 abbrev pub Ahead : Frame → Frame → Step → Type 0
 Ahead old new step.Goes = Moves old new
+Ahead old new (step.Char c) = Moves old new
+Ahead old new (step.Text index count) = Moves old new × (index + count ≤ length new.globals.items)
 Ahead old new (step.Number z n) = Moves old new
 Ahead old new step.Line = Moves old new
 Ahead old new step.Done = Unit {0}
-Ahead old new step.Trap = Unit {0}
+Ahead old new (step.Trap kind) = Unit {0}
 Ahead old new step.Spent = Unit {0}
 Ahead old new step.Illegal = Unit {0}
 
@@ -99,3 +109,21 @@ limit_of n = 2 ^ (8 * n - 1)
 abbrev pub IsIndex : List ℤ → ℤ → Option ℕ → Type 0
 IsIndex words address None = (word_at words address ≡ None) × ((v : ℤ) → with_word words address v ≡ None)
 IsIndex words address (Some i) = (address ≡ pos (suc i)) × (i < length words)
+
+-- the text that was found among the words
+abbrev pub chars_of : List ℤ → Text → Chars
+chars_of words text.Missing = Missing
+chars_of words text.Endless = Endless
+chars_of words (text.Ends index count) = Ends (take count (drop index words))
+
+-- it lies among them
+abbrev pub LiesIn : List ℤ → Text → Type 0
+LiesIn words text.Missing = Unit {0}
+LiesIn words text.Endless = Unit {0}
+LiesIn words (text.Ends index count) = index + count ≤ length words
+
+-- the text that so many words begin with
+abbrev pub chars_in : ℕ → List ℤ → Chars
+chars_in zero words = Endless
+chars_in (suc n) [] = Missing
+chars_in (suc n) (c ∷ words) = if is_zero c then Ends [] else onto c (chars_in n words)

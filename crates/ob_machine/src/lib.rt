@@ -9,6 +9,7 @@ mod outcome;
 mod print;
 mod running;
 mod steps;
+mod text;
 mod words;
 
 pub use instr::{Instr, Opcode};

@@ -1,8 +1,9 @@
 ghost use Rattle.std.specs.Prelude.{◌≡◌, true, decimal, replicate};
 ghost use Rattle.std.specs.Fmt.{signed_decimal};
 ghost use Rattle.ob_io.specs.Io.{HasCause, WritesAll};
-ghost use Rattle.ob_machine.specs.Table.{columns, padded};
+ghost use Rattle.ob_machine.specs.Table.{columns, padded, low_bytes};
 
+use crate::steps::low_byte;
 use itoa::Buffer;
 use ob_io::{Failed, Sink, write_all};
 
@@ -50,4 +51,16 @@ pub fn put_padded<S: Sink>(out: &mut S, number: i32, width: i32) -> Result<(), F
     let digits = buffer.format(number).as_bytes();
     put_blanks(out, columns(width).saturating_sub(digits.len() as u32))?;
     write_all(out, digits)
+}
+
+/// Writes words that stand for characters, of each its low eight bits.
+pub fn put_chars<S: Sink>(out: &mut S, words: &[i32]) -> Result<(), Failed>
+    ensures told { S.tells out.new ≡ S.tells out.old }
+    ensures bytes { S.tells out.old ≡ true → WritesAll (S.taken out.old) (S.taken out.new) result (low_bytes words.now) }
+    ensures cause { HasCause (S.faults out.old) (S.faults out.new) result }
+{
+    for word in words {
+        write_all(out, &[low_byte(*word)])?;
+    }
+    Ok(())
 }

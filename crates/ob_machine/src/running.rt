@@ -5,7 +5,7 @@ ghost use Rattle.ob_machine.specs.Turns.{TurnDoes, TurnHasCause, work};
 
 use crate::frame::Frame;
 use crate::image::Module;
-use crate::print::put_padded;
+use crate::print::{put_chars, put_padded};
 use crate::steps::{Step, act};
 use crate::{Instr, Outcome};
 use ob_io::{Sink, write_all};
@@ -29,11 +29,11 @@ fn position_at(positions: &[(u32, Pos)], pc: u32) -> Pos
     Pos { line: 0, col: 0 }
 }
 
-fn trap(unit: &Module, pc: u32) -> Outcome
-    ensures { result ≡ Outcome.Trap 8 (pos 0) unit.now.name (position_at unit.now.positions pc) }
+fn trap(unit: &Module, pc: u32, kind: u8) -> Outcome
+    ensures { result ≡ Outcome.Trap kind (pos 0) unit.now.name (position_at unit.now.positions pc) }
 {
     Outcome::Trap {
-        kind: 8,
+        kind,
         number: 0,
         module: unit.name,
         pos: position_at(unit.positions.as_slice(), pc),
@@ -76,9 +76,17 @@ fn turn<S: Sink>(unit: &Module, frame: &mut Frame, out: &mut S) -> Option<Outcom
     match act(unit, instr, frame) {
         Step::Goes => None,
         Step::Done => Some(Outcome::Done),
-        Step::Trap => Some(trap(unit, pc)),
+        Step::Trap(kind) => Some(trap(unit, pc, kind)),
         Step::Spent => Some(turns_spent(unit, pc)),
         Step::Illegal => Some(illegal(unit, pc)),
+        Step::Char(byte) => match write_all(out, &[byte]) {
+            Ok(()) => None,
+            Err(_) => Some(Outcome::SinkFault),
+        },
+        Step::Text(index, count) => match put_chars(out, &frame.globals[index..index + count]) {
+            Ok(()) => None,
+            Err(_) => Some(Outcome::SinkFault),
+        },
         Step::Number(number, width) => match put_padded(out, number, width) {
             Ok(()) => None,
             Err(_) => Some(Outcome::SinkFault),

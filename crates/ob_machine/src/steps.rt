@@ -1,9 +1,10 @@
 ghost use Rattle.std.specs.Prelude.{◌≡◌, ◌≤◌, ◌<◌, ◌^◌, ◌+◌, [], ◌∷◌, true, false, length, reverse, pos, vec_capacity, IfSome, IfNone, ◌+ℤ◌, ◌-ℤ◌};
-ghost use Rattle.ob_machine.specs.Table.{width_of, on_one, on_two, compared, fetched, in_type, stored, word_at, with_word, wrote, wrote_line, wrote_number, jumped_if, is_zero};
-ghost use Rattle.ob_machine.specs.Steps.{Does, Ahead, Keeps, does_push, does_compute, does_result, does_jump, does_row, holds_of, ops_of};
+ghost use Rattle.ob_machine.specs.Table.{width_of, on_one, on_two, compared, fetched, in_type, stored, word_at, with_word, wrote, wrote_char, wrote_line, wrote_number, wrote_text, chars_at, low_byte, Ends, Endless, jumped_if, is_zero};
+ghost use Rattle.ob_machine.specs.Steps.{Does, Ahead, Keeps, does_push, does_compute, does_text, chars_of, LiesIn, does_result, does_jump, does_row, holds_of, ops_of};
 
 use crate::frame::{Frame, ROOM};
 use crate::image::Module;
+use crate::text::{Text, text_at};
 use crate::words::{Comparison, Width, set_word, target_of, word_at};
 use crate::{Instr, Opcode};
 
@@ -12,10 +13,14 @@ use crate::{Instr, Opcode};
 pub enum Step {
     Goes,
     Done,
-    /// A result was outside the range of its type.
-    Trap,
+    /// It trapped: by 8 a result was outside the range of its type, by 15 a text has no end.
+    Trap(u8),
     Spent,
     Illegal,
+    /// A character is to be written.
+    Char(u8),
+    /// A text is to be written: so many of the words of the globals, from an index on.
+    Text(usize, usize),
     /// A number is to be written, with its width.
     Number(i32, i32),
     /// The end of a line is to be written.
@@ -129,7 +134,7 @@ fn give(frame: &mut Frame, bytes: i32, number: i64) -> Step
     };
     match width.fitted(number) {
         Some(word) => push(frame, word),
-        None => Step::Trap,
+        None => Step::Trap(8),
     }
 }
 
@@ -210,6 +215,74 @@ fn jump_at_false(frame: &mut Frame, target: Option<u32>) -> Step
     Step::Goes
 }
 
+// The low eight bits of a word that stands for a character.
+pub fn low_byte(word: i32) -> u8
+    ensures { result ≡ low_byte word }
+{
+    word.rem_euclid(256) as u8
+}
+
+fn character(frame: &mut Frame) -> Step
+    requires here { frame.old.pc < 2 ^ 31 }
+    ensures does { Does wrote_char frame.old frame.new result }
+    ensures ahead { Ahead frame.old frame.new result }
+    ensures keeps { Keeps frame.old frame.new }
+{
+    let Some(word) = take(&mut frame.operands) else {
+        return Step::Illegal;
+    };
+    if frame.turns == 0 {
+        return Step::Spent;
+    }
+    frame.turns -= 1;
+    frame.pc += 1;
+    Step::Char(low_byte(word))
+}
+
+// A text without end traps behind its turn.
+fn endless(frame: &mut Frame) -> Step
+    ensures does { Does (does_text Endless) frame.old frame.new result }
+    ensures ahead { Ahead frame.old frame.new result }
+    ensures keeps { Keeps frame.old frame.new }
+{
+    if frame.turns == 0 {
+        return Step::Spent;
+    }
+    frame.turns -= 1;
+    Step::Trap(15)
+}
+
+fn chars(frame: &mut Frame, index: usize, count: usize) -> Step
+    requires here { frame.old.pc < 2 ^ 31 }
+    requires there { index + count ≤ length frame.old.globals.items }
+    ensures does { Does (does_text (chars_of frame.old.globals.items (Text.Ends index count))) frame.old frame.new result }
+    ensures ahead { Ahead frame.old frame.new result }
+    ensures keeps { Keeps frame.old frame.new }
+{
+    if frame.turns == 0 {
+        return Step::Spent;
+    }
+    frame.turns -= 1;
+    frame.pc += 1;
+    Step::Text(index, count)
+}
+
+fn text(frame: &mut Frame) -> Step
+    requires here { frame.old.pc < 2 ^ 31 }
+    ensures does { Does wrote_text frame.old frame.new result }
+    ensures ahead { Ahead frame.old frame.new result }
+    ensures keeps { Keeps frame.old frame.new }
+{
+    let Some((address, limit)) = take_two(&mut frame.operands) else {
+        return Step::Illegal;
+    };
+    match text_at(&frame.globals, address, limit) {
+        Text::Missing => Step::Illegal,
+        Text::Endless => endless(frame),
+        Text::Ends { index, count } => chars(frame, index, count),
+    }
+}
+
 fn number(frame: &mut Frame) -> Step
     requires here { frame.old.pc < 2 ^ 31 }
     ensures does { Does wrote_number frame.old frame.new result }
@@ -248,6 +321,8 @@ fn write(frame: &mut Frame, kind: i32) -> Step
     ensures keeps { Keeps frame.old frame.new }
 {
     match kind {
+        1 => character(frame),
+        2 => text(frame),
         3 => number(frame),
         4 => line(frame),
         _ => Step::Illegal,

@@ -76,8 +76,8 @@ impl Width {
     }
 }
 
-// The index of the word at an address.
-fn index_of(words: &[i32], address: i32) -> Option<usize>
+/// The index of the word at an address, where there is one.
+pub fn index_of(words: &[i32], address: i32) -> Option<usize>
     ensures { IsIndex words.now address result }
 {
     if address < 1 {

@@ -1,7 +1,7 @@
 -- What a command does, over the modules that are loaded and those that it brings in.
 use Rattle.std.specs.Prelude.{ℕ, List, [], ◌∷◌, ◌++◌, Option, Some, None}
 use Rattle.ob_tree.specs.declared.names.QName.{QName}
-use Rattle.ob_types.specs.declared.types.Mark.TheVariants as mark
+use Rattle.ob_tree.specs.declared.ident.Mark.TheVariants as mark
 use Rattle.ob_types.specs.declared.typed.TypedVariable.{TypedVariable}
 use Rattle.ob_types.specs.TypedSyntax.{Procedure, Module}
 use Rattle.ob_meaning.specs.Values.{changed, Program, procedure_of, form_in, Value, Nil, first, Store, State, AnObject}

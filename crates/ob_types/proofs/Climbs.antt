@@ -3,7 +3,7 @@ use Rattle.std.proofs.Common.{◌≡◌, ℕ, zero, suc, ◌≤◌, ◌<◌, ◌
 use Rattle.std.specs.Prelude.{MatchOption, IfSome, IsTrue}
 use Rattle.std.specs.List.{AllByRecursion}
 use Rattle.ob_tree.specs.declared.names.QName.{QName}
-use Rattle.ob_types.specs.declared.types.Mark.{Mark}
+use Rattle.ob_tree.specs.declared.ident.Mark.{Mark}
 use Rattle.ob_types.specs.declared.types.TypeRef.{TypeRef}
 use Rattle.ob_types.specs.declared.types.TypeRef.TheVariants as types
 use Rattle.ob_types.specs.declared.desc.Desc.{Desc}
@@ -144,15 +144,15 @@ record_no_pointer map a q r stands e p m s other has =
 
 -- ---- climbing
 
-or_cases : (x y : Bool) → (x || y) ≡ true → (C : Type 0) → (x ≡ true → C) → (y ≡ true → C) → C
+pub or_cases : (x y : Bool) → (x || y) ≡ true → (C : Type 0) → (x ≡ true → C) → (y ≡ true → C) → C
 or_cases true y e C one two = one refl
 or_cases false y e C one two = two e
 
-or_left : (x y : Bool) → x ≡ true → (x || y) ≡ true
+pub or_left : (x y : Bool) → x ≡ true → (x || y) ≡ true
 or_left true y e = refl
 or_left false y e = absurd cc
 
-or_right : (x y : Bool) → y ≡ true → (x || y) ≡ true
+pub or_right : (x y : Bool) → y ≡ true → (x || y) ≡ true
 or_right true y e = refl
 or_right false y e = e
 
@@ -172,7 +172,7 @@ climbs_sound map grounded (suc n) a b ha hb e =
     let stands = subst (λ (u : TypeRef). StandsFor map a u) x.is (at map grounded a ha).stands in
     base stands x.has x.base (climbs_sound map grounded n h.0 b (base_held map grounded x.q x.r h.0 x.has x.base) hb h.1.1))
 
-shape_is : (map : QName → Option Desc) (u : TypeRef) (q : QName) (d : Desc) → u ≡ types.Named q → map q ≡ Some d → shape_at map u ≡ Some d
+pub shape_is : (map : QName → Option Desc) (u : TypeRef) (q : QName) (d : Desc) → u ≡ types.Named q → map q ≡ Some d → shape_at map u ≡ Some d
 shape_is map u q d is has = ap (shape_at map) is ∙ has
 
 climb_step : (map : QName → Option Desc) (n : ℕ) (a b c : TypeRef) (q : QName) (r : RecordDesc) → target map 201 a ≡ types.Named q → map q ≡ Some (desc.Record r) → r.base ≡ Some c → climbs map n c b ≡ true → climbs map (suc n) a b ≡ true

@@ -3,7 +3,7 @@ use Rattle.std.proofs.Common.{◌≡◌, ℕ, zero, suc, ◌≤◌, Bool, true, 
 use Rattle.std.specs.Prelude.{MatchOption, IsTrue}
 use Rattle.std.specs.List.{AllByRecursion}
 use Rattle.ob_tree.specs.declared.names.QName.{QName}
-use Rattle.ob_types.specs.declared.types.Mark.{Mark}
+use Rattle.ob_tree.specs.declared.ident.Mark.{Mark}
 use Rattle.ob_types.specs.declared.types.TypeRef.{TypeRef}
 use Rattle.ob_types.specs.declared.types.TypeRef.TheVariants as types
 use Rattle.ob_types.specs.declared.desc.Desc.{Desc}
@@ -26,11 +26,11 @@ record Opens (map : QName → Option Desc) (u c : TypeRef) : Type 0 where
   is : u ≡ types.Named q
   has : map q ≡ Some (desc.OpenArray m c)
 
-record Calls (map : QName → Option Desc) (u : TypeRef) (s : Signature) : Type 0 where
-  q : QName
-  m : Mark
-  is : u ≡ types.Named q
-  has : map q ≡ Some (desc.ProcType m s)
+pub record Calls (map : QName → Option Desc) (u : TypeRef) (s : Signature) : Type 0 where
+  pub q : QName
+  pub m : Mark
+  pub is : u ≡ types.Named q
+  pub has : map q ≡ Some (desc.ProcType m s)
 
 inner : {A : Type 0} (x y : A) (o : Option A) → o ≡ Some x → o ≡ Some y → x ≡ y
 inner x y o a b = cc
@@ -63,7 +63,7 @@ calls_desc map q s (Some (desc.Array m n t)) e is = absurd cc
 calls_desc map q s (Some (desc.OpenArray m t)) e is = absurd cc
 calls_desc map q s (Some (desc.Pointer m t)) e is = absurd cc
 
-calls : (map : QName → Option Desc) (u : TypeRef) (s : Signature) → signature_of (shape_at map u) ≡ Some s → Calls map u s
+pub calls : (map : QName → Option Desc) (u : TypeRef) (s : Signature) → signature_of (shape_at map u) ≡ Some s → Calls map u s
 calls map (types.Basic b) s is = absurd cc
 calls map (types.Named q) s is = calls_desc map q s (map q) refl is
 
@@ -81,11 +81,11 @@ all_back P (x ∷ xs) ys all = all_back P xs ys all.1
 abbrev param_types : List (Mode × TypeRef) → List TypeRef
 param_types ps = each (λ p. p.1) ps
 
-both_true : (x y : Bool) → (x && y) ≡ true → (x ≡ true) × (y ≡ true)
+pub both_true : (x y : Bool) → (x && y) ≡ true → (x ≡ true) × (y ≡ true)
 both_true true y e = (refl, e)
 both_true false y e = absurd cc
 
-true_both : (x y : Bool) → x ≡ true → y ≡ true → (x && y) ≡ true
+pub true_both : (x y : Bool) → x ≡ true → y ≡ true → (x && y) ≡ true
 true_both true y a b = b
 true_both false y a b = absurd cc
 

@@ -6,3 +6,5 @@ pub mod TypedView
 pub mod TypedKinds
 pub mod Relations
 pub mod Tests
+pub mod Assigning
+pub mod AssigningTests

@@ -15,9 +15,9 @@ use Rattle.ob_types.specs.declared.typed.Binary.TheVariants as binary
 use Rattle.ob_types.specs.declared.typed.ExprType.{ExprType}
 use Rattle.ob_types.specs.declared.typed.ExprType.TheVariants as kind
 use Rattle.ob_types.specs.declared.typed.Designator.{Designator}
-use Rattle.ob_types.specs.declared.typed.Designator.TheOpen.{Designator-F, TypedExpr-F, Actual-F}
-use Rattle.ob_types.specs.declared.typed.Designator.TheFolds.{fold-Designator, fold-TypedExpr}
 use Rattle.ob_types.specs.declared.typed.TypedExpr.{TypedExpr}
+use Rattle.ob_types.specs.TypedSyntax.{Desig, OfVariable, Field, Index, Deref, Guard, Expr, Constant, ValueOf, ProcedureValue, Monadic, Dyadic, Logical, CompareTexts, IsPointer, IsRecord, Length, Call, CallVariable}
+use Rattle.ob_types.specs.TypedView.{designator_view, expr_view}
 
 abbrev pub of_basic : Basic → ExprType
 of_basic b = kind.Of (ref.Basic b)
@@ -72,33 +72,31 @@ abbrev pub result_type : Option TypeRef → ExprType
 result_type None = kind.Nothing
 result_type (Some t) = kind.Of t
 
-abbrev pub designator_type_layer : Designator-F TypeRef ExprType (Unit {0}) → TypeRef
-designator_type_layer (Designator-F.Variable v t) = t
-designator_type_layer (Designator-F.Field x owner name t) = t
-designator_type_layer (Designator-F.Index x n i at t) = t
-designator_type_layer (Designator-F.Deref x at t) = t
-designator_type_layer (Designator-F.Guard x g target at t) = t
+abbrev pub variable_type : Desig → TypeRef
+variable_type (OfVariable v t) = t
+variable_type (Field d owner name t) = t
+variable_type (Index d n i at t) = t
+variable_type (Deref d at t) = t
+variable_type (Guard d g target at t) = t
 
-abbrev pub expr_type_layer : TypedExpr-F TypeRef ExprType (Unit {0}) → ExprType
-expr_type_layer (TypedExpr-F.Constant v) = constant_type v
-expr_type_layer (TypedExpr-F.Designator t) = kind.Of t
-expr_type_layer (TypedExpr-F.Procedure name signature) = kind.Procedure signature
-expr_type_layer (TypedExpr-F.Unary op x at) = unary_type op
-expr_type_layer (TypedExpr-F.Binary op x y at) = binary_type op
-expr_type_layer (TypedExpr-F.Logical op x y) = of_basic basic.Boolean
-expr_type_layer (TypedExpr-F.CompareTexts r x y at) = of_basic basic.Boolean
-expr_type_layer (TypedExpr-F.IsPointer x target) = of_basic basic.Boolean
-expr_type_layer (TypedExpr-F.IsRecord x target) = of_basic basic.Boolean
-expr_type_layer (TypedExpr-F.Length x) = of_basic basic.LongInt
-expr_type_layer (TypedExpr-F.Call callee xs at t) = result_type t
-expr_type_layer (TypedExpr-F.CallVariable x xs at t) = result_type t
+abbrev pub type_of : Expr → ExprType
+type_of (Constant v) = constant_type v
+type_of (ValueOf d) = kind.Of (variable_type d)
+type_of (ProcedureValue name signature) = kind.Procedure signature
+type_of (Monadic op e at) = unary_type op
+type_of (Dyadic op a b at) = binary_type op
+type_of (Logical op a b) = of_basic basic.Boolean
+type_of (CompareTexts r a b at) = of_basic basic.Boolean
+type_of (IsPointer e target) = of_basic basic.Boolean
+type_of (IsRecord d target) = of_basic basic.Boolean
+type_of (Length d) = of_basic basic.LongInt
+type_of (Call callee es at t) = result_type t
+type_of (CallVariable d es at t) = result_type t
 
-abbrev pub actual_type_layer : Actual-F TypeRef ExprType (Unit {0}) → Unit {0}
-actual_type_layer x = tt
-
+-- what the type of a designator is
 abbrev pub designator_type : Designator → TypeRef
-designator_type = fold-Designator TypeRef ExprType (Unit {0}) designator_type_layer expr_type_layer actual_type_layer
+designator_type d = variable_type (designator_view d)
 
 -- what the type of an expression is
 abbrev pub expr_type : TypedExpr → ExprType
-expr_type = fold-TypedExpr TypeRef ExprType (Unit {0}) designator_type_layer expr_type_layer actual_type_layer
+expr_type e = type_of (expr_view e)

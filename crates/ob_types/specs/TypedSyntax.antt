@@ -3,7 +3,7 @@
 use Rattle.std.specs.Prelude.{ℕ, ℤ, List, Option}
 use Rattle.ob_tree.specs.declared.pos.Pos.{Pos}
 use Rattle.ob_tree.specs.declared.names.QName.{QName}
-use Rattle.ob_types.specs.declared.types.Mark.{Mark}
+use Rattle.ob_tree.specs.declared.ident.Mark.{Mark}
 use Rattle.ob_types.specs.declared.types.TypeRef.{TypeRef}
 use Rattle.ob_types.specs.declared.types.Signature.{Signature}
 use Rattle.ob_types.specs.declared.value.Value.{Value}

@@ -1,6 +1,6 @@
-use crate::types::{Mark, Signature, TypeRef};
+use crate::types::{Signature, TypeRef};
 use crate::value::Value;
-use ob_tree::{List, Name};
+use ob_tree::{List, Mark, Name};
 
 /// What an object is: one variant for each kind of description, with its parts.
 #[derive(Debug, Drop, Clone)]

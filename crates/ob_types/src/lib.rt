@@ -2,6 +2,7 @@
 //! types of a map of descriptions stand to each other.
 #![tactic(auto)]
 
+mod assigning;
 mod desc;
 mod face;
 mod relations;
@@ -10,9 +11,11 @@ mod typed;
 mod types;
 mod value;
 
+pub use assigning::assignable;
 pub use desc::{Desc, Field, Method, Receiver, RecordDesc};
 pub use face::{Aspect, Interface, Object, Use};
-pub use relations::{equal, extends, matches, same};
+pub use ob_tree::Mark;
+pub use relations::{equal, extends, matches, same, stands_for};
 pub use spelled::{read_print, write_print};
 pub use typed::{
     Actual, Assigned, Binary, Binding, Callee, Compared, Comparison, Connective, Designator,
@@ -20,5 +23,5 @@ pub use typed::{
     TypedCase, TypedConstant, TypedExpr, TypedModule, TypedParameter, TypedProcedure, TypedStmt,
     TypedType, TypedVariable, Unary, Update, Variable, Width,
 };
-pub use types::{Basic, Mark, Mode, Signature, TypeRef, Types};
+pub use types::{Basic, Mode, Signature, TypeRef, Types};
 pub use value::Value;

@@ -2,7 +2,7 @@ ghost use Rattle.std.specs.Prelude.{◌≡◌, ◌↔◌, IsTrue, Option};
 ghost use Rattle.std.specs.Option.{option_copied};
 ghost use Rattle.std.specs.List.{AllByRecursion};
 ghost use Rattle.ob_types.specs.Maps.{IsHeld, signature_types};
-ghost use Rattle.ob_types.specs.Relations.{Same, Equal, Matches, Extends, IsGrounded};
+ghost use Rattle.ob_types.specs.Relations.{StandsFor, Same, Equal, Matches, Extends, IsGrounded};
 ghost use Rattle.ob_types.specs.Tests.{basic_number, target_of, alias_of, target, type_eq, same_at, shape_at, base_of, pointer_of, climbs, both, extends_at, element_of, signature_of, modes_alike, params_alike, results_alike, signatures_alike, equal_at};
 
 use crate::desc::Desc;
@@ -91,7 +91,7 @@ fn pointed(desc: &Desc) -> Option<&TypeRef>
 }
 
 // What the map has of the type.
-fn shape_of<'a, T: Types>(types: &'a T, t: &TypeRef) -> Option<&'a Desc>
+pub fn shape_of<'a, T: Types>(types: &'a T, t: &TypeRef) -> Option<&'a Desc>
     ensures { option_copied result ≡ shape_at (T.types types.now) t.now }
 {
     match t {
@@ -114,7 +114,7 @@ fn alias_target<'a, T: Types>(types: &'a T, t: &TypeRef) -> Option<&'a TypeRef>
 }
 
 // The type that t stands for.
-fn target_within<'a, T: Types>(types: &'a T, t: &'a TypeRef) -> &'a TypeRef
+pub fn target_within<'a, T: Types>(types: &'a T, t: &'a TypeRef) -> &'a TypeRef
     ensures { result.now ≡ target (T.types types.now) CHAIN t.now }
 {
     let mut current = t;
@@ -128,7 +128,7 @@ fn target_within<'a, T: Types>(types: &'a T, t: &'a TypeRef) -> &'a TypeRef
 }
 
 #[tactic(auto, unfolding(crate::specs::Tests::same_at))]
-fn is_same_at<T: Types>(types: &T, a: &TypeRef, b: &TypeRef) -> bool
+pub fn is_same_at<T: Types>(types: &T, a: &TypeRef, b: &TypeRef) -> bool
     ensures { result ≡ same_at (T.types types.now) a.now b.now }
 {
     is_one(target_within(types, a), target_within(types, b))
@@ -183,7 +183,7 @@ fn pointers_climb<T: Types>(types: &T, a: Option<&TypeRef>, b: Option<&TypeRef>)
 }
 
 #[tactic(auto, unfolding(crate::specs::Tests::extends_at))]
-fn extends_within<T: Types>(types: &T, a: &TypeRef, b: &TypeRef) -> bool
+pub fn extends_within<T: Types>(types: &T, a: &TypeRef, b: &TypeRef) -> bool
     ensures { result ≡ extends_at (T.types types.now) a.now b.now }
 {
     climbs_to(types, a, b)
@@ -248,7 +248,7 @@ fn element_within<'a, T: Types>(types: &'a T, t: &'a TypeRef) -> Option<&'a Type
 }
 
 // The signature of the procedure type that t stands for.
-fn signature_within<'a, T: Types>(types: &'a T, t: &'a TypeRef) -> Option<&'a Signature>
+pub fn signature_within<'a, T: Types>(types: &'a T, t: &'a TypeRef) -> Option<&'a Signature>
     ensures { option_copied result ≡ signature_of (shape_at (T.types types.now) (target (T.types types.now) CHAIN t.now)) }
 {
     match shape_of(types, target_within(types, t)) {
@@ -334,6 +334,16 @@ fn params_equal<T: Types>(
     second.is_empty()
 }
 
+/// The type that `t` stands for, which is no alias: itself, or what it is equated to. Takes no
+/// memory.
+pub fn stands_for<'a, T: Types>(types: &'a T, t: &'a TypeRef) -> &'a TypeRef
+    requires grounded { IsGrounded (T.types types.now) }
+    requires held { IsHeld (T.types types.now) t.now }
+    ensures { StandsFor (T.types types.now) t.now result.now }
+{
+    target_within(types, t)
+}
+
 /// Whether two types are the same: come from the same identifier, identifiers equated to each
 /// other being one. Takes no memory.
 pub fn same<T: Types>(types: &T, a: &TypeRef, b: &TypeRef) -> bool
@@ -356,7 +366,7 @@ pub fn extends<T: Types>(types: &T, a: &TypeRef, b: &TypeRef) -> bool
     extends_within(types, a, b)
 }
 
-fn signatures_match<T: Types>(types: &T, a: &Signature, b: &Signature) -> bool
+pub fn signatures_match<T: Types>(types: &T, a: &Signature, b: &Signature) -> bool
     ensures { result ≡ signatures_alike (λ x y. equal_at (T.types types.now) CHAIN x y) (λ x y. same_at (T.types types.now) x y) a.now b.now }
 {
     params_equal(types, CHAIN, a.params.as_slice(), b.params.as_slice())

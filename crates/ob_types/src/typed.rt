@@ -4,9 +4,9 @@
 //! They have no place, number or width in words. What a type is, is asked by its name.
 
 use crate::desc::{Desc, Receiver};
-use crate::types::{Basic, Mark, Signature, TypeRef};
+use crate::types::{Basic, Signature, TypeRef};
 use crate::value::Value;
-use ob_tree::{Boxed, List, Name, ObjName, Pos, QName};
+use ob_tree::{Boxed, List, Mark, Name, ObjName, Pos, QName};
 
 /// An integer type, as that in which an operation computes.
 #[derive(Clone, Copy, Debug, PartialEq, Eq)]

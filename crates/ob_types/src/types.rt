@@ -28,17 +28,6 @@ pub enum TypeRef {
     Named(QName),
 }
 
-/// Whether an object, a field or a bound procedure is seen outside its module.
-#[derive(Clone, Copy, Debug, PartialEq, Eq)]
-pub enum Mark {
-    /// It is not exported.
-    Hidden,
-    /// Exported, and changed by its own module alone.
-    ReadOnly,
-    /// Exported.
-    Full,
-}
-
 /// How a parameter is passed.
 #[derive(Clone, Copy, Debug, PartialEq, Eq)]
 pub enum Mode {
