@@ -1,15 +1,12 @@
 -- A text is read as a module exactly where its tokens spell it.
-use Rattle.std.proofs.Common.{◌≡◌, refl, sym, ap, subst, ◌∙◌, ℕ, ◌+◌, ◌*◌, ◌≤◌, List, [], ◌∷◌, length, Option, Some, None, arith, append-nil}
-use Rattle.ob_first.specs.Scheme.{command_code}
-use Rattle.ob_first.specs.View.{stmts_view}
+use Rattle.std.proofs.Common.{◌≡◌, refl, sym, ap, subst, ◌∙◌, ℕ, List, [], ◌∷◌, Option, Some, None, append-nil}
 use Rattle.ob_first.specs.declared.tree.Module.{Module}
 use Rattle.ob_first.specs.Phrases.{Tokens, Read, Found, Fails, spells_as}
 use Rattle.ob_first.specs.Grammar.{spells, a_module}
 use Rattle.ob_first.specs.Reading.{reads, levels, if_whole, read_tokens, read_text, IsModuleText}
 use Rattle.ob_first.specs.Vocabulary.{start, tokens_of}
 use Rattle.ob_first.proofs.Levels.{good_module}
-use Rattle.ob_first.proofs.Texts.{shown, found, few}
-use Rattle.ob_first.proofs.Short.{module_short}
+use Rattle.ob_first.proofs.Texts.{shown, found}
 
 whole_found : (r : Read Module) (m : Module) → if_whole r ≡ Some m → r ≡ Found m []
 whole_found (Found x []) m h = let e : x ≡ m = cc in ap (λ w. Found w []) e
@@ -33,8 +30,3 @@ complete text m s =
     let K : Tokens → Type 0 = λ w. reads levels a_module w ≡ Found m [] in
     let r = subst K (append-nil s.0) ((good_module levels).only m s.0 [] s.2 refl) in
     ap read_tokens tokens ∙ ap if_whole r
-
-pub short : (text : List ℕ) (m : Module) (names : List (List ℕ)) → read_text text ≡ Some m → length (command_code names (stmts_view m.body)) ≤ 2 * length text + 1
-short text m names h =
-    let s = sound text m h in
-    omega (arith, module_short names levels m s.0 s.2, few s.1)

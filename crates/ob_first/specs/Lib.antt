@@ -1,12 +1,9 @@
 pub mod Grammar
-pub mod Law
 pub mod Meaning
 pub mod Phrases
-pub mod Placing
 pub mod Reading
 pub mod Rules
 pub mod Scanning
-pub mod Scheme
 pub mod Statements
 pub mod Syntax
 pub mod View

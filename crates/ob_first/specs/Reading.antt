@@ -1,8 +1,6 @@
 -- What is read of tokens and of a text.
-use Rattle.std.specs.Prelude.{◌≡◌, ◌≤◌, ◌+◌, ◌*◌, ℕ, List, [], ◌∷◌, length, Option, Some, None, Result, Ok, Err}
+use Rattle.std.specs.Prelude.{◌≡◌, ◌≤◌, ℕ, List, [], ◌∷◌, length, Option, Some, None, Result, Ok, Err}
 use Rattle.ob_first.specs.declared.tree.Module.{Module}
-use Rattle.ob_first.specs.Scheme.{command_code}
-use Rattle.ob_first.specs.View.{stmts_view}
 use Rattle.ob_first.specs.declared.first_cursor.Unread.{Unread}
 use Rattle.ob_first.specs.declared.first_cursor.Unread.TheVariants as unread
 use Rattle.ob_first.specs.Phrases.{Tokens, Phrase, Set, Read, Found, Fails, spells_as, first, read_as}
@@ -57,7 +55,3 @@ ReadsAllThatIsThere = (text : List ℕ) (m : Module) → IsModuleText text m →
 -- A text has no more tokens than bytes.
 abbrev pub HasFewTokens : Type 0
 HasFewTokens = (text : List ℕ) (ts : Tokens) → IsText start text ts → length ts ≤ length text
-
--- The code of a module that is read has at most two instructions for each byte, and one more.
-abbrev pub HasShortCode : Type 0
-HasShortCode = (text : List ℕ) (m : Module) (names : List (List ℕ)) → read_text text ≡ Some m → length (command_code names (stmts_view m.body)) ≤ 2 * length text + 1

@@ -5,7 +5,7 @@ ghost use Rattle.ob_first.specs.declared.first_token.Symbol.TheVariants as s;
 ghost use Rattle.ob_first.specs.Phrases.{starts};
 ghost use Rattle.ob_first.specs.Grammar as spec;
 ghost use Rattle.ob_first.specs.Statements.{SpellsAlternatives, SpellsAllAlternatives};
-ghost use Rattle.ob_first.specs.Reading.{Reads, reads, begins, levels, if_whole, read_text, ReadsWhatIsThere, ReadsAllThatIsThere, HasFewTokens, HasShortCode};
+ghost use Rattle.ob_first.specs.Reading.{Reads, reads, begins, levels, if_whole, read_text, ReadsWhatIsThere, ReadsAllThatIsThere, HasFewTokens};
 
 use crate::first_cursor::{Cursor, Unread};
 use crate::first_scanner::scan;
@@ -462,12 +462,6 @@ pub fn statements_are_alternatives()
 /// A text has no more tokens than bytes.
 pub fn tokens_are_few()
     ensures { HasFewTokens }
-{}
-
-/// The code of a module that is read has at most two instructions for each byte of its text, and one
-/// more.
-pub fn code_is_short()
-    ensures { HasShortCode }
 {}
 
 #[cfg(test)]

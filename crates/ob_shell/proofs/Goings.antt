@@ -1,6 +1,6 @@
 -- A session goes on by a line.
 use Rattle.std.proofs.Common.{◌≡◌, ℕ, ◌+◌, ◌-◌, List, [], ◌∷◌, ◌++◌, length, take, Bool, true, false, refl, sym, ap, ◌∙◌, subst, append_assoc, arith, ◌≤◌, Ok, Err, ⊎_elim}
-use Rattle.std.specs.Prelude.{◌||◌, ◌==◌, cond, map, replicate, pos}
+use Rattle.std.specs.Prelude.{◌||◌, ◌==◌, cond, map}
 use Rattle.std.proofs.lemmas.Bool.{eqb-true, false≢true}
 use Rattle.std.proofs.Math.Dec.{eqb}
 use Rattle.std.proofs.lemmas.List.{append-nil, length-append}
@@ -13,8 +13,7 @@ use Rattle.ob_shell.specs.Model.{Files, World, Answer, start, answer}
 use Rattle.ob_shell.specs.Lines.{lines_of, line_of, text_from, refused_from, within, exceeds, done_lines, session_text}
 use Rattle.ob_shell.specs.Splits.{Stops, GoesOn}
 use Rattle.ob_shell.specs.Session.{Going, Goes, Ends, StatusIs, Behind, is_whole}
-use Rattle.ob_machine.specs.Machine.{IsMachine}
-use Rattle.ob_machine.specs.Held.{Held}
+use Rattle.ob_stack.specs.Machine.{Held, made}
 use Rattle.ob_shell.specs.Does.{Shows, LineDoes, AllBuilt, AllLive, source_of}
 
 -- ONE LINE
@@ -180,13 +179,21 @@ ends_early told before files script status e = record {
 }
 
 -- a session begins with nothing built and loaded
-pub starts : (s : Shop) → s.builds.items ≡ [] → s.live.items ≡ [] → s.machine ≡ record { modules = []; globals = replicate 262144 (pos 0) } → IsMachine s.machine → (w : World) × Shows s w × (w ≡ start)
-starts s e1 e2 e3 m = (
+pub starts : (s : Shop) (heap : ℕ) → s.builds.items ≡ [] → s.live.items ≡ [] → s.machine ≡ made heap → (w : World) × Shows s w × (w ≡ start)
+starts s heap e1 e2 e3 = (
   start,
   record {
     builds = ap (map source_of) e1;
     built = subst AllBuilt (sym e1) (λ k d lt. absurd (omega arith));
-    holds = record { is = m; live = subst (λ bs. AllLive bs s.machine.modules [] 0) (sym e2) (subst (λ (h : Held). AllLive [] h.modules [] 0) (sym e3) tt); rest = s.machine.globals; globals = refl };
+    holds = record {
+      live = subst (λ bs. AllLive bs s.machine.image.modules [] 0) (sym e2) (subst (λ (h : Held). AllLive [] h.image.modules [] 0) (sym e3) tt);
+      few = let n = ap length e2 in omega (arith, n);
+      types = ap (λ (h : Held). h.image.types) e3;
+      next = ap (λ (h : Held). h.image.next) e3;
+      room = ap (λ (h : Held). h.image.room) e3;
+      rest = s.machine.words;
+      words = refl;
+    };
   },
   refl,
 )

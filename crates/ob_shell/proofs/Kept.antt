@@ -1,17 +1,17 @@
 -- What a module that keeps the rules gives its build.
-use Rattle.std.proofs.Common.{◌≡◌, ℕ, ◌≤◌, List, ◌∷◌, length, sym, ap, ◌∙◌, subst, arith, true, false, Some, None}
+use Rattle.std.proofs.Common.{◌≡◌, ℕ, ◌≤◌, List, ◌∷◌, length, ap, ◌∙◌, subst, arith, true, false, Some, None}
 use Rattle.std.specs.Prelude.{cond, codes, not, ◌&&◌, nat_le}
 use Rattle.std.specs.Str.{bytes_eq}
 use Rattle.std.proofs.lemmas.Bool.{and_parts, leb-true}
-use Rattle.ob_machine.specs.declared.instr.Instr.{Instr}
-use Rattle.ob_machine.specs.Machine.{HasPositions}
+use Rattle.ob_obj.specs.declared.file.ObjFile.{ObjFile}
+use Rattle.ob_obj.specs.Grammar.{file}
 use Rattle.ob_first.specs.declared.tree.Module.{Module}
 use Rattle.ob_first.specs.View.{stmts_view}
-use Rattle.ob_first.specs.Scheme.{command_code, instrs_of, positions_of, instr_of}
+use Rattle.ob_scheme.specs.Scheme.{module_code}
+use Rattle.ob_scheme.specs.Object.{object_file}
 use Rattle.ob_first.specs.Rules.{is_kept, is_among, are_different, names_are_free, stmts_are_known, depth_of_stmts}
-use Rattle.ob_first.specs.Placing.{Placing}
-use Rattle.ob_first.specs.Reading.{read_text, HasShortCode}
-use Rattle.std.proofs.lemmas.List.{length-map}
+use Rattle.ob_scheme.specs.Placing.{HasShortCode}
+use Rattle.ob_first.specs.Reading.{read_text}
 use Rattle.ob_shell.specs.declared.shop.Build.{Build}
 use Rattle.ob_shell.specs.ModuleOf.{module_of, kept}
 use Rattle.ob_shell.specs.Does.{Stands}
@@ -53,23 +53,21 @@ pub module_none : (text : List ℕ) → read_text text ≡ None → module_of te
 unfolding module_of
 module_none text r = ap kept r
 
-pub small : HasShortCode → (text : List ℕ) (m : Module) → read_text text ≡ Some m → length text ≤ 65536 → length (command_code m.variables (stmts_view m.body)) ≤ 262144
+pub small : HasShortCode → (text : List ℕ) (m : Module) → read_text text ≡ Some m → length text ≤ 65536 → length (module_code m.variables (stmts_view m.body)) ≤ 262144
 small law text m r h = let s = law text m m.variables r in omega (arith, s, h)
 
--- the build of a module that was read and keeps the rules
-pub stands : HasShortCode → Placing → (text : List ℕ) (m : Module) (b : Build) → read_text text ≡ Some m → is_kept m ≡ true → length text ≤ 65536 → b.name ≡ m.name → b.command ≡ m.command → b.variables ≡ length m.variables → b.code ≡ instrs_of (command_code m.variables (stmts_view m.body)) → b.positions ≡ positions_of 0 (command_code m.variables (stmts_view m.body)) → Stands b m
-stands short placing text m b r k h name command variables code positions =
+pub few : (m : Module) → is_kept m ≡ true → length m.variables ≤ 1000
+few m k = (parts m k).few
+
+-- the build of a module that keeps the rules
+pub stands : (m : Module) (b : Build) (f : ObjFile) → is_kept m ≡ true → b.name ≡ m.name → b.command ≡ m.command → f ≡ object_file m → file.fits f → b.object ≡ file.spell f → Stands b m
+stands m b f k name command is fits spelled =
     let p = parts m k in
-    let s = small short text m r h in
-    let n : length b.code ≡ length (command_code m.variables (stmts_view m.body)) = ap length code ∙ length-map (command_code m.variables (stmts_view m.body)) instr_of in
     record {
       name = name;
       command = command;
-      variables = variables;
-      code = code;
-      positions = positions;
-      short = omega (arith, n, s);
-      placed = subst (λ (c : List Instr). HasPositions c b.positions) (sym code) (subst (HasPositions (instrs_of (command_code m.variables (stmts_view m.body)))) (sym positions) (placing m.variables (stmts_view m.body)));
+      fits = subst file.fits is fits;
+      object = spelled ∙ ap file.spell is;
       few = p.few;
       different = p.different;
       known = p.known;

@@ -9,3 +9,4 @@ pub mod Runs
 pub mod Replies
 pub mod Goings
 pub mod Kept
+pub mod Ends

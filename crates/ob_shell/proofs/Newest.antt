@@ -1,5 +1,5 @@
 -- The newest build of a name.
-use Rattle.std.proofs.Common.{◌≡◌, ℕ, ◌+◌, ◌<◌, List, [], ◌∷◌, ◌++◌, length, take, get_or, Option, Some, None, refl, sym, ap, ◌∙◌, true, false, map}
+use Rattle.std.proofs.Common.{◌≡◌, ℕ, ◌+◌, ◌<◌, List, [], ◌∷◌, ◌++◌, length, take, get_or, Option, Some, None, refl, sym, ap, ◌∙◌, Bool, true, false, map}
 use Rattle.std.specs.Prelude.{cond}
 use Rattle.std.specs.Str.{bytes_eq}
 use Rattle.std.specs.declared.rc.Rc.{Rc}
@@ -39,3 +39,25 @@ newest_named bs name i d h all e = more bs name i d h all ∙ ap (λ t. or_else 
 
 pub newest_other : (bs : List (Rc Build Global)) (name : List ℕ) (i : ℕ) (d : Rc Build Global) → i < length bs → AllBuilt bs → bytes_eq (get_or bs i d).value.name name ≡ false → newest name (map source_of (take (i + 1) bs)) ≡ newest name (map source_of (take i bs))
 newest_other bs name i d h all e = more bs name i d h all ∙ ap (λ t. or_else (cond t (Some (source_of (get_or bs i d))) None) (newest name (map source_of (take i bs)))) e
+
+abbrev none_of : (A : Type 0) → Option A
+none_of A = None
+
+unsome : {A : Type 0} (x y : A) → Some x ≡ Some y → x ≡ y
+unsome x y e = cc
+
+-- what is found has the name
+pub newest_is : (name : List ℕ) (ss : List (List ℕ)) (s : List ℕ) → newest name ss ≡ Some s → is_named name s ≡ true
+newest_is name [] s e = let none : ⊥ = cc in absurd none
+newest_is name (t ∷ ss) s e = by_later (newest name ss) refl (λ h. newest_is name ss s h) e
+  where
+    here : (b : Bool) → is_named name t ≡ b → cond b (Some t) (none_of (List ℕ)) ≡ Some s → is_named name s ≡ true
+    here true q e = ap (is_named name) (sym (unsome t s e)) ∙ q
+    here false q e = let none : ⊥ = cc in absurd none
+
+    by_later : (o : Option (List ℕ)) → newest name ss ≡ o → (newest name ss ≡ Some s → is_named name s ≡ true) → or_else o (cond (is_named name t) (Some t) None) ≡ Some s → is_named name s ≡ true
+    by_later (Some x) q more e = more (q ∙ e)
+    by_later None q more e = here (is_named name t) refl e
+
+pub newest_named_so : (name : List ℕ) (ss : List (List ℕ)) (b : Build) → IsBuilt b → newest name ss ≡ Some b.source.items → bytes_eq b.name name ≡ true
+newest_named_so name ss b i e = sym (named_by b name i) ∙ newest_is name ss b.source.items e

@@ -7,7 +7,7 @@ use Rattle.std.specs.declared.rc.Rc.{Rc}
 use Rattle.std.specs.declared.alloc.Global.{Global}
 use Rattle.std.proofs.lemmas.Bool.{le-leb, lt-leb, le-ltb}
 use Rattle.ob_io.specs.Io.{AddsFront, Finds}
-use Rattle.ob_machine.specs.Table.{ModuleImage}
+use Rattle.ob_instr.specs.Image.{ModuleImage}
 use Rattle.ob_first.specs.declared.tree.Module.{Module}
 use Rattle.ob_first.specs.Meaning.{Res, last, first_values}
 use Rattle.ob_shell.specs.declared.shop.Build.{Build}

@@ -5,18 +5,19 @@ use Rattle.std.specs.List.{All}
 use Rattle.std.specs.declared.rc.Rc.{Rc}
 use Rattle.std.specs.declared.alloc.Global.{Global}
 use Rattle.ob_io.specs.Io.{AddsFront, Rose}
-use Rattle.ob_machine.specs.declared.outcome.Outcome.{Outcome}
-use Rattle.ob_machine.specs.declared.outcome.Outcome.TheVariants as outcome
-use Rattle.ob_machine.specs.Table.{ModuleImage}
-use Rattle.ob_machine.specs.Machine.{IsMachine, HasPositions}
-use Rattle.ob_machine.specs.Held.{Held}
-use Rattle.ob_machine.specs.Running.{Runs}
+use Rattle.ob_stack.specs.declared.outcome.Outcome.{Outcome}
+use Rattle.ob_stack.specs.declared.outcome.Outcome.TheVariants as outcome
+use Rattle.ob_instr.specs.Image.{ModuleImage}
+use Rattle.ob_obj.specs.declared.file.ObjFile.{ObjFile}
+use Rattle.ob_obj.specs.Grammar.{file}
+use Rattle.ob_obj.specs.Images.{image_of, words_with}
+use Rattle.ob_stack.specs.Machine.{Held, Runs, room}
 use Rattle.ob_first.specs.declared.tree.Module.{Module}
 use Rattle.ob_first.specs.View.{stmts_view}
 use Rattle.ob_first.specs.Meaning.{Variables, Res, last}
-use Rattle.ob_first.specs.Scheme.{command_code, instrs_of, positions_of}
+use Rattle.ob_scheme.specs.Object.{object_file, procedures}
 use Rattle.ob_first.specs.Rules.{are_different, stmts_are_known}
-use Rattle.ob_first.specs.Law.{names_of, words_of}
+use Rattle.ob_scheme.specs.Law.{names_of, words_of, command_of}
 use Rattle.ob_shell.specs.declared.shop.Build.{Build}
 use Rattle.ob_shell.specs.declared.shop.Shop.{Shop}
 use Rattle.ob_shell.specs.declared.shop.Stop.{Stop}
@@ -26,15 +27,12 @@ use Rattle.ob_shell.specs.Model.{Loaded, World, Answer, loaded, with_vars, place
 
 -- BUILDS
 
--- a build is that of a module: its code is the scheme's, and the machine can enter it
+-- a build is that of a module: its object file is the module's
 pub record Stands (b : Build) (m : Module) : Type 0 where
   pub name : b.name ≡ m.name
   pub command : b.command ≡ m.command
-  pub variables : b.variables ≡ length m.variables
-  pub code : b.code ≡ instrs_of (command_code m.variables (stmts_view m.body))
-  pub positions : b.positions ≡ positions_of 0 (command_code m.variables (stmts_view m.body))
-  pub short : length b.code ≤ 262144
-  pub placed : HasPositions b.code b.positions
+  pub fits : file.fits (object_file m)
+  pub object : b.object ≡ file.spell (object_file m)
   pub few : length m.variables ≤ 1000
   pub different : are_different m.variables ≡ true
   pub known : stmts_are_known m.variables (stmts_view m.body) ≡ true
@@ -71,11 +69,11 @@ is_build name b = bytes_eq b.value.name name
 pub record Lives (b : Build) (u : ModuleImage) (l : Loaded) (at : ℕ) : Type 0 where
   pub built : IsBuilt b
   pub source : b.source.items ≡ l.source
-  pub name : u.name ≡ b.name
-  pub code : u.code ≡ b.code
-  pub positions : u.positions ≡ b.positions
+  pub name : u.name ≡ built.what.name
+  pub code : u.code ≡ (object_file built.what).body.code
+  pub positions : u.positions ≡ (object_file built.what).body.positions
+  pub procedures : u.procedures ≡ procedures
   pub first : u.first ≡ suc at
-  pub words : u.words ≡ length l.vars
   pub names : names_of l.vars ≡ built.what.variables
 
 abbrev pub AllLive : List (Rc Build Global) → List ModuleImage → List Loaded → ℕ → Type 0
@@ -88,12 +86,19 @@ abbrev pub words_of_live : List Loaded → List ℤ
 words_of_live [] = []
 words_of_live (l ∷ ls) = words_of l.vars ++ words_of_live ls
 
--- the machine holds the loaded modules in their order, and their variables' words at the front of its own
+-- the machine holds the loaded modules in their order and no types, and their variables' words at the front of its own
 pub record Holds (bs : List (Rc Build Global)) (machine : Held) (ls : List Loaded) : Type 0 where
-  pub is : IsMachine machine
-  pub live : AllLive bs machine.modules ls 0
+  pub live : AllLive bs machine.image.modules ls 0
+  pub few : length bs ≤ 255
+  pub types : machine.image.types ≡ []
+  pub next : machine.image.next ≡ suc (length (words_of_live ls))
+  pub room : machine.image.room ≡ room
   pub rest : List ℤ
-  pub globals : machine.globals ≡ words_of_live ls ++ rest
+  pub words : machine.words ≡ words_of_live ls ++ rest
+
+-- the machine in which one more file was entered
+abbrev pub with_file : Held → ObjFile → Held
+with_file h f = record { image = image_of h.image (f ∷ []); words = words_with h.image (f ∷ []) h.words; heap = h.heap }
 
 -- the shop has what the model keeps
 pub record Shows (s : Shop) (w : World) : Type 0 where
@@ -154,8 +159,8 @@ is_cut o = false
 -- a machine's run came to its end, or the sink cut it short
 abbrev pub RunDoes : Bool → List ℕ → List ℕ → Held → Held → ℕ → Result Outcome Stop → Type 0
 RunDoes told before now old new m (Ok outcome.SinkFault) = ⊥
-RunDoes told before now old new m (Ok result) = (left : ℕ) × Runs told before now old new m 10000000 left result
-RunDoes told before now old new m (Err Sink) = Runs told before now old new m 10000000 0 outcome.SinkFault
+RunDoes told before now old new m (Ok result) = (left : ℕ) × Runs told before now old new (command_of m) 10000000 left result
+RunDoes told before now old new m (Err Sink) = Runs told before now old new (command_of m) 10000000 0 outcome.SinkFault
 RunDoes told before now old new m (Err Memory) = told ≡ true → now ≡ before
 RunDoes told before now old new m (Err Folder) = ⊥
 

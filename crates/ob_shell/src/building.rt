@@ -5,7 +5,9 @@ ghost use Rattle.ob_shell.specs.Does.{Builds};
 
 use crate::shop::Build;
 use ob_first::tree::Module;
-use ob_first::{code_is_short, code_of, is_kept, placing, read_module};
+use ob_first::{is_kept, read_module};
+use ob_obj::write_obj;
+use ob_scheme::{code_is_short, names_are_identifiers, object_of};
 use std::alloc::{AllocError, Global};
 
 // The build of a module, which was read of this source and keeps the rules.
@@ -16,15 +18,14 @@ fn built(alloc: Global, source: Vec<u8>, tree: &Module) -> Result<Build, AllocEr
     ensures { IfOk result (λ b. Builds source.items (Some b)) }
 {
     code_is_short();
-    placing();
-    let coded = code_of(alloc, tree.variables.as_slice(), tree.body.as_slice())?;
+    names_are_identifiers();
+    let file = object_of(alloc, tree)?;
+    let object = write_obj(alloc, &file)?;
     Ok(Build {
         source,
         name: tree.name,
         command: tree.command,
-        variables: tree.variables.len() as u32,
-        code: coded.code,
-        positions: coded.positions,
+        object,
     })
 }
 

@@ -1,17 +1,20 @@
-ghost use Rattle.std.specs.Prelude.{◌≡◌, ◌++◌, ◌<◌, ◌≤◌, ◌+◌, true, false, length, vec_len, slice_get, slice_set, Some, None, OnOk, OnErr};
+ghost use Rattle.std.specs.Prelude.{◌≡◌, ◌++◌, ◌<◌, ◌≤◌, ◌+◌, [], ◌∷◌, true, false, length, vec_len, slice_get, slice_set, Some, None, IfOk, IfErr, OnOk, OnErr};
+ghost use Rattle.std.specs.List.{position_from};
 ghost use Rattle.std.specs.Str.{bytes_eq};
-ghost use Rattle.ob_machine.specs.Machine.{entered as image_entered, IsMachine, words_of_all};
+ghost use Rattle.ob_obj.specs.Images.{AreEnterable};
+ghost use Rattle.ob_scheme.specs.Object.{object_file};
 ghost use Rattle.ob_first.specs.Meaning.{first_values};
 ghost use Rattle.ob_shell.specs.ModuleOf.{module_of};
 ghost use Rattle.ob_shell.specs.Model.{World, Loaded, loaded, newest, runs, entered, enter_answer, again_answer, loaded_answer, command_answer};
-ghost use Rattle.ob_shell.specs.Does.{IsShop, Shows, IsBuilt, AnswerDoes, SinkCause, source_of, FoundAt};
+ghost use Rattle.ob_shell.specs.Does.{IsShop, Shows, IsBuilt, AnswerDoes, SinkCause, source_of, is_build, FoundAt, with_file};
 
 use crate::finding::{find_live, newest};
 use crate::printing::{refuse, refuse_name};
 use crate::running::run_live;
 use crate::shop::{Build, Shop, Stop};
 use ob_io::Sink;
-use ob_machine::Machine;
+use ob_obj::{ObjFault, ObjFile, read_obj};
+use ob_stack::Machine;
 use ob_tree::List;
 use std::alloc::{AllocError, Global};
 use std::rc::Rc;
@@ -25,18 +28,28 @@ fn has_command(build: &Build, command: &[u8]) -> bool
     build.command.as_bytes() == command
 }
 
-// Enters a build into the machine. An Err is a want of memory, and leaves the machine as it was.
-fn enter(alloc: Global, machine: &mut Machine, build: &Build) -> Result<(), AllocError>
-    requires build { IsBuilt build.now }
-    requires few { length machine.old.modules ≤ 254 }
-    requires room { words_of_all machine.old.modules ≤ 254000 }
-    ensures entered { OnOk result (machine.new ≡ image_entered machine.old build.now.name build.now.variables build.now.code build.now.positions) }
-    ensures machine { OnOk result (IsMachine machine.new) }
+// The object file of a build.
+fn file_of(alloc: Global, build: &Build) -> Result<ObjFile, Stop>
+    requires { IsBuilt build.now }
+    ensures is { IfOk result (λ f. (i : IsBuilt build.now) → f ≡ object_file i.what) }
+    ensures memory { IfErr result (λ stop. stop ≡ Stop.Memory) }
+{
+    match read_obj(alloc, build.object.as_slice()) {
+        Ok(file) => Ok(file),
+        Err(ObjFault::Memory) => Err(Stop::Memory),
+        Err(ObjFault::Damaged) => unreachable!(),
+    }
+}
+
+// Enters a file into the machine. An Err is a want of memory, and leaves the machine as it was.
+fn enter(alloc: Global, machine: &mut Machine, file: ObjFile) -> Result<(), AllocError>
+    requires { AreEnterable machine.old.image (file ∷ []) }
+    ensures entered { OnOk result (machine.new ≡ with_file machine.old file) }
     ensures same { OnErr result (machine.new ≡ machine.old) }
 {
-    let code = List::from_slice(alloc, build.code.as_slice())?;
-    let positions = List::from_slice(alloc, build.positions.as_slice())?;
-    match machine.enter(build.name, build.variables, code, positions) {
+    let mut files = List::new(alloc);
+    files.push(file)?;
+    match machine.enter(files) {
         Ok(_) => Ok(()),
         Err(error) => Err(error),
     }
@@ -52,6 +65,7 @@ fn load<O: Sink>(
     requires shop { IsShop shop.old }
     requires build { IsBuilt build.value }
     requires few { vec_len shop.old.live < 255 }
+    requires absent { position_from (is_build build.value.name) 0 shop.old.live.items ≡ None }
     ensures does { (w : World) (i : IsBuilt build.value) → Shows shop.old w → AnswerDoes (O.tells out.old) (O.taken out.old) (O.taken out.new) shop.new (entered w (source_of build) (runs i.what (first_values i.what.variables)) i.what) result }
     ensures told { O.tells out.new ≡ O.tells out.old }
     ensures cause { SinkCause (O.faults out.old) (O.faults out.new) result }
@@ -59,7 +73,10 @@ fn load<O: Sink>(
     if shop.live.reserve(1).is_err() {
         return Err(Stop::Memory);
     }
-    match enter(alloc, &mut shop.machine, &build) {
+    let Ok(file) = file_of(alloc, &build) else {
+        return Err(Stop::Memory);
+    };
+    match enter(alloc, &mut shop.machine, file) {
         Ok(()) => {
             let at = shop.live.len() as u32;
             shop.live.push_reserved(build);
@@ -80,6 +97,7 @@ fn first_time<O: Sink>(
 ) -> Result<bool, Stop>
     requires shop { IsShop shop.old }
     requires build { IsBuilt build.value }
+    requires absent { position_from (is_build build.value.name) 0 shop.old.live.items ≡ None }
     ensures does { (w : World) → IsBuilt build.value → Shows shop.old w → loaded name.now w.live ≡ None → AnswerDoes (O.tells out.old) (O.taken out.old) (O.taken out.new) shop.new (loaded_answer w (source_of build) name.now command.now (loaded name.now w.live)) result }
     ensures told { O.tells out.new ≡ O.tells out.old }
     ensures cause { SinkCause (O.faults out.old) (O.faults out.new) result }
@@ -124,6 +142,7 @@ fn run_build<O: Sink>(
 ) -> Result<bool, Stop>
     requires shop { IsShop shop.old }
     requires build { IsBuilt build.value }
+    requires named { bytes_eq build.value.name name.now ≡ true }
     ensures does { (w : World) → IsBuilt build.value → Shows shop.old w → AnswerDoes (O.tells out.old) (O.taken out.old) (O.taken out.new) shop.new (loaded_answer w (source_of build) name.now command.now (loaded name.now w.live)) result }
     ensures told { O.tells out.new ≡ O.tells out.old }
     ensures cause { SinkCause (O.faults out.old) (O.faults out.new) result }

@@ -1,9 +1,9 @@
 ghost use Rattle.std.specs.Prelude.{◌≡◌, ◌<◌, ◌++◌, true, List, Some, length, slice_get, codes, decimal};
 ghost use Rattle.std.specs.declared.rc.Rc.{Rc as Counted};
 ghost use Rattle.std.specs.declared.alloc.Global.{Global as Heap};
-ghost use Rattle.ob_machine.specs.Machine.{IsMachine};
+ghost use Rattle.ob_stack.specs.Machine.{IsEntry};
 ghost use Rattle.ob_first.specs.declared.tree.Module.{Module};
-ghost use Rattle.ob_first.specs.Law.{Simulation};
+ghost use Rattle.ob_scheme.specs.Law.{Simulation, command_of};
 ghost use Rattle.ob_shell.specs.declared.shop.Build.{Build as Built};
 ghost use Rattle.ob_shell.specs.ModuleOf.{module_of};
 ghost use Rattle.ob_shell.specs.Model.{Loaded, runs, place};
@@ -12,9 +12,9 @@ ghost use Rattle.ob_shell.specs.Does.{Holds, RunDoes, CommandDoes, PrintDoes, Si
 use crate::printing::tell;
 use crate::shop::Stop;
 use itoa::Buffer;
-use ob_first::simulation;
 use ob_io::Sink;
-use ob_machine::{Machine, Outcome};
+use ob_scheme::simulation;
+use ob_stack::{Machine, Outcome};
 use ob_tree::{Pos, ProcRef};
 
 /// The turns of a command.
@@ -32,20 +32,19 @@ fn is_cut(outcome: &Outcome) -> bool
     }
 }
 
-// Runs the module with this number, with the turns of a command.
+// Runs the command of the module with this number, with the turns of a command.
 #[tactic(auto, using(crate::proofs::Runs::run_whole, crate::proofs::Runs::run_cut, crate::proofs::Runs::cut_is))]
 fn run_module<O: Sink>(machine: &mut Machine, at: u32, out: &mut O) -> Result<Outcome, Stop>
-    requires { at < length machine.old.modules }
+    requires { IsEntry machine.old.image (command_of at) }
     ensures does { RunDoes (O.tells out.old) (O.taken out.old) (O.taken out.new) machine.old machine.new at result }
-    ensures modules { machine.new.modules ≡ machine.old.modules }
-    ensures machine { IsMachine machine.old → IsMachine machine.new }
+    ensures image { machine.new.image ≡ machine.old.image }
     ensures told { O.tells out.new ≡ O.tells out.old }
     ensures cause { SinkCause (O.faults out.old) (O.faults out.new) result }
 {
     let mut turns = TURNS;
     let entry = ProcRef {
         module: at,
-        proc: 0,
+        proc: 1,
     };
     let outcome = machine.run(entry, &mut turns, out);
     if is_cut(&outcome) {

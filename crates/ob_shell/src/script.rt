@@ -8,13 +8,13 @@ use crate::line::do_line;
 use crate::lines::next_line;
 use crate::shop::{Shop, Stop};
 use ob_io::{Folder, ReadFault, Sink, Source, read_all};
-use ob_machine::Machine;
+use ob_stack::Machine;
 use std::alloc::Global;
 
 /// The most bytes of a script.
 const MOST: usize = 1_048_576;
 
-/// The words of the machine's heap, which has no effect yet.
+/// The words of the machine's heap.
 const HEAP: u32 = 1_048_576;
 
 fn status_of(stop: Stop) -> u8
@@ -102,7 +102,6 @@ fn run_lines<F: Folder, O: Sink>(
 }
 
 // Does a script that begins with this text.
-#[tactic(auto, using(crate::proofs::Goings::starts))]
 fn run_script<F: Folder, O: Sink>(alloc: Global, text: &[u8], folder: &mut F, out: &mut O) -> u8
     requires { length text.now < 2 ^ 63 }
     ensures ends { (more : List ℕ) → Behind (length text.now) more → Ends ((F.tells folder.old ≡ true) × (O.tells out.old ≡ true)) (O.taken out.old) (O.taken out.new) (F.files folder.old) (text.now ++ more) result }

@@ -1,18 +1,14 @@
-use ob_machine::{Instr, Machine};
-use ob_tree::{List, Name, Pos};
+use ob_stack::Machine;
+use ob_tree::{Name, Text};
 use std::rc::Rc;
 
-/// A module that was compiled: its source, and what the machine gets of it.
+/// A module that was compiled: its source, and the bytes of its object file.
 #[derive(Drop)]
 pub struct Build {
     pub source: Vec<u8>,
     pub name: Name,
     pub command: Name,
-    /// How many variables it has.
-    pub variables: u32,
-    pub code: List<Instr>,
-    /// The positions of the instructions that can stop a run, by their indices in the code.
-    pub positions: List<(u32, Pos)>,
+    pub object: Text,
 }
 
 /// What a session keeps from line to line: the builds, the newest last, and the loaded ones, which are the machine's

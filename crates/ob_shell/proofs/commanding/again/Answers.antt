@@ -15,20 +15,20 @@ use Rattle.ob_shell.proofs.commanding.again.Goals as goal
 pub overflow_cast-at : goal.overflow_cast-at
 overflow_cast-at g c =
     let h = c.requires.shop.1.holds in
-    let n = as_many c.args.shop.now.live.items c.args.shop.now.machine.modules c.requires.shop.0.live 0 h.live in
-    omega (arith, n.0, h.is.few, c.requires.at, c.args.shop.now.live.ok.0)
+    let n = as_many c.args.shop.now.live.items c.args.shop.now.machine.image.modules c.requires.shop.0.live 0 h.live in
+    omega (arith, n.0, h.few, c.requires.at, c.args.shop.now.live.ok.0)
 
 pub run_live-requires : goal.run_live-requires
 run_live-requires g c =
     let w = c.requires.shop.0 in
     let h = c.requires.shop.1 in
     let f = c.requires.shop.2 in
-    let b = build_at c.args.shop.now.live.items c.args.shop.now.machine.modules w.live 0 c.args.at f.l c.index.result.now h.holds.live f.get in
+    let b = build_at c.args.shop.now.live.items c.args.shop.now.machine.image.modules w.live 0 c.args.at f.l c.index.result.now h.holds.live f.get in
     (c.args.shop.now.live.items, w.live, f.l, b.0.what, h.holds, f.get, ap module_of (sym b.1) ∙ b.0.is)
 
 pub returns-then-has_command-clause-does : goal.returns-then-has_command-clause-does
 returns-then-has_command-clause-does g c = λ w f h.
-    let b = build_at c.args.shop.now.live.items c.args.shop.now.machine.modules w.live 0 c.args.at f.l c.index.result.now h.holds.live f.get in
+    let b = build_at c.args.shop.now.live.items c.args.shop.now.machine.image.modules w.live 0 c.args.at f.l c.index.result.now h.holds.live f.get in
     let rc : Rc Build Global = c.index.result.now in
     let i = subst (λ (x : Rc Build Global). IsBuilt x.value) (sym c.index.ensures) b.0 in
     let e = ap (λ (x : Rc Build Global). x.value.source.items) c.index.ensures ∙ b.1 in
@@ -40,7 +40,7 @@ returns-then-has_command-clause-does g c = λ w f h.
 
 pub returns-clause-does : goal.returns-clause-does
 returns-clause-does g c = λ w f h.
-    let b = build_at c.args.shop.now.live.items c.args.shop.now.machine.modules w.live 0 c.args.at f.l c.index.result.now h.holds.live f.get in
+    let b = build_at c.args.shop.now.live.items c.args.shop.now.machine.image.modules w.live 0 c.args.at f.l c.index.result.now h.holds.live f.get in
     let rc : Rc Build Global = c.index.result.now in
     let i = subst (λ (x : Rc Build Global). IsBuilt x.value) (sym c.index.ensures) b.0 in
     let e = ap (λ (x : Rc Build Global). x.value.source.items) c.index.ensures ∙ b.1 in

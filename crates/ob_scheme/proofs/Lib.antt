@@ -1,0 +1,14 @@
+pub mod CodePuts
+pub mod LawEnds
+pub mod LawFits
+pub mod LawInstrs
+pub mod LawNames
+pub mod LawPlaces
+pub mod LawStand
+pub mod LawSteps
+pub mod LawStmts
+pub mod LawSums
+pub mod LawTry
+pub mod LawVariables
+pub mod LawWhole
+pub mod Short

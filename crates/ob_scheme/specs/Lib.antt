@@ -1,0 +1,4 @@
+pub mod Law
+pub mod Object
+pub mod Placing
+pub mod Scheme
