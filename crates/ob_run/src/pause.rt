@@ -1,0 +1,16 @@
+use ob_instr::Instr;
+
+/// Where the instructions of a call end, or are to go on in another one.
+#[derive(Clone, Copy, Debug, PartialEq, Eq, Drop)]
+pub enum Pause {
+    /// The next instruction is this call or return.
+    Calls(Instr),
+    /// A trap, with its kind and the number that it tells.
+    Traps { kind: u8, number: i32 },
+    /// No turn was left.
+    Spent,
+    /// The instruction cannot be executed, or there is none.
+    Illegal,
+    /// The sink failed: a front of the text was written.
+    SinkFault,
+}
