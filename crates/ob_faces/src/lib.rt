@@ -4,6 +4,8 @@
 
 #[cfg(test)]
 mod tests {
+    ghost use Rattle.std.specs.Prelude.{◌≤◌, length};
+
     use ob_desc::{read_desc, write_desc};
     use ob_sym::{SymFault, read_sym, write_sym};
     use ob_tree::{List, Name, ObjName, QName};
@@ -530,32 +532,44 @@ mod tests {
 
     // The interface of a module Lists, with what it hides.
     #[test]
-    fn texts_of_an_interface(rt: HostRuntime) -> Result<(), Fail> {
+    fn texts_of_a_list(rt: HostRuntime) -> Result<(), Fail> {
         let alloc = rt.alloc();
-        let list = Desc::Record(list(alloc)?);
-        let listed = shows(
+        let desc = Desc::Record(list(alloc)?);
+        let shown = shows(
             alloc,
             b"List",
-            &list,
+            &desc,
             "record Lists.List * NONE f n - 1 LONGINT p Add 0 v (=Lists.Node)NONE p All 1 v ()NONE",
             Some("layout Lists.List 2 2"),
         )?;
-        assert!(rt; listed, "List");
+        assert!(rt; shown, "List");
+        Ok(())
+    }
+
+    #[test]
+    fn text_of_a_pointer(rt: HostRuntime) -> Result<(), Fail> {
+        let alloc = rt.alloc();
         let target = in_lists(alloc, b"NodeDesc")?;
-        let node = Desc::Pointer(Mark::Full, target);
-        let pointed = shows(
+        let desc = Desc::Pointer(Mark::Full, target);
+        let shown = shows(
             alloc,
             b"Node",
-            &node,
+            &desc,
             "pointer Lists.Node * Lists.NodeDesc",
             None,
         )?;
-        assert!(rt; pointed, "Node");
-        let described = Desc::Record(node_desc(alloc)?);
+        assert!(rt; shown, "Node");
+        Ok(())
+    }
+
+    #[test]
+    fn texts_of_a_node(rt: HostRuntime) -> Result<(), Fail> {
+        let alloc = rt.alloc();
+        let desc = Desc::Record(node_desc(alloc)?);
         let shown = shows(
             alloc,
             b"NodeDesc",
-            &described,
+            &desc,
             "record Lists.NodeDesc * NONE p Print 0 p ()NONE",
             Some("layout Lists.NodeDesc 1 1"),
         )?;
