@@ -4,8 +4,6 @@
 
 #[cfg(test)]
 mod tests {
-    ghost use Rattle.std.specs.Prelude.{◌≤◌, length};
-
     use ob_desc::{read_desc, write_desc};
     use ob_sym::{SymFault, read_sym, write_sym};
     use ob_tree::{List, Name, ObjName, QName};
@@ -427,11 +425,14 @@ mod tests {
         }))
     }
 
-    fn method(name: &[u8], number: u32, receiver: Receiver, params: List<(Mode, TypeRef)>) -> Method
-        requires { length name.now ≤ 64 }
-    {
+    fn method(
+        name: Name,
+        number: u32,
+        receiver: Receiver,
+        params: List<(Mode, TypeRef)>,
+    ) -> Method {
         Method {
-            name: Name::new(name),
+            name,
             mark: Mark::Full,
             number,
             receiver,
@@ -462,8 +463,8 @@ mod tests {
         let passed = in_lists(alloc, b"Node")?;
         params.push((Mode::Value, passed))?;
         let mut methods = List::new(alloc);
-        methods.push(method(b"Add", 0, Receiver::Record, params))?;
-        methods.push(method(b"All", 1, Receiver::Record, List::new(alloc)))?;
+        methods.push(method(Name::new(b"Add"), 0, Receiver::Record, params))?;
+        methods.push(method(Name::new(b"All"), 1, Receiver::Record, List::new(alloc)))?;
         Ok(RecordDesc {
             mark: Mark::Full,
             base: None,
@@ -484,7 +485,7 @@ mod tests {
             of: node,
         })?;
         let mut methods = List::new(alloc);
-        methods.push(method(b"Print", 0, Receiver::Pointer, List::new(alloc)))?;
+        methods.push(method(Name::new(b"Print"), 0, Receiver::Pointer, List::new(alloc)))?;
         Ok(RecordDesc {
             mark: Mark::Full,
             base: None,
