@@ -425,11 +425,14 @@ mod tests {
         }))
     }
 
-    fn method(name: &[u8], number: u32, receiver: Receiver, params: List<(Mode, TypeRef)>) -> Method
-        requires { length name.now ≤ 64 }
-    {
+    fn method(
+        name: Name,
+        number: u32,
+        receiver: Receiver,
+        params: List<(Mode, TypeRef)>,
+    ) -> Method {
         Method {
-            name: Name::new(name),
+            name,
             mark: Mark::Full,
             number,
             receiver,
@@ -460,8 +463,8 @@ mod tests {
         let passed = in_lists(alloc, b"Node")?;
         params.push((Mode::Value, passed))?;
         let mut methods = List::new(alloc);
-        methods.push(method(b"Add", 0, Receiver::Record, params))?;
-        methods.push(method(b"All", 1, Receiver::Record, List::new(alloc)))?;
+        methods.push(method(Name::new(b"Add"), 0, Receiver::Record, params))?;
+        methods.push(method(Name::new(b"All"), 1, Receiver::Record, List::new(alloc)))?;
         Ok(RecordDesc {
             mark: Mark::Full,
             base: None,
@@ -482,7 +485,7 @@ mod tests {
             of: node,
         })?;
         let mut methods = List::new(alloc);
-        methods.push(method(b"Print", 0, Receiver::Pointer, List::new(alloc)))?;
+        methods.push(method(Name::new(b"Print"), 0, Receiver::Pointer, List::new(alloc)))?;
         Ok(RecordDesc {
             mark: Mark::Full,
             base: None,
@@ -530,32 +533,44 @@ mod tests {
 
     // The interface of a module Lists, with what it hides.
     #[test]
-    fn texts_of_an_interface(rt: HostRuntime) -> Result<(), Fail> {
+    fn texts_of_a_list(rt: HostRuntime) -> Result<(), Fail> {
         let alloc = rt.alloc();
-        let list = Desc::Record(list(alloc)?);
-        let listed = shows(
+        let desc = Desc::Record(list(alloc)?);
+        let shown = shows(
             alloc,
             b"List",
-            &list,
+            &desc,
             "record Lists.List * NONE f n - 1 LONGINT p Add 0 v (=Lists.Node)NONE p All 1 v ()NONE",
             Some("layout Lists.List 2 2"),
         )?;
-        assert!(rt; listed, "List");
+        assert!(rt; shown, "List");
+        Ok(())
+    }
+
+    #[test]
+    fn text_of_a_pointer(rt: HostRuntime) -> Result<(), Fail> {
+        let alloc = rt.alloc();
         let target = in_lists(alloc, b"NodeDesc")?;
-        let node = Desc::Pointer(Mark::Full, target);
-        let pointed = shows(
+        let desc = Desc::Pointer(Mark::Full, target);
+        let shown = shows(
             alloc,
             b"Node",
-            &node,
+            &desc,
             "pointer Lists.Node * Lists.NodeDesc",
             None,
         )?;
-        assert!(rt; pointed, "Node");
-        let described = Desc::Record(node_desc(alloc)?);
+        assert!(rt; shown, "Node");
+        Ok(())
+    }
+
+    #[test]
+    fn texts_of_a_node(rt: HostRuntime) -> Result<(), Fail> {
+        let alloc = rt.alloc();
+        let desc = Desc::Record(node_desc(alloc)?);
         let shown = shows(
             alloc,
             b"NodeDesc",
-            &described,
+            &desc,
             "record Lists.NodeDesc * NONE p Print 0 p ()NONE",
             Some("layout Lists.NodeDesc 1 1"),
         )?;
