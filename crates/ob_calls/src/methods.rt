@@ -27,7 +27,8 @@ fn start_of(len: usize, count: i32, more: usize) -> Option<usize>
     Some(len - count)
 }
 
-fn operand(operands: &[i32], at: usize) -> i32
+/// The operand at an index, the lowest at 0.
+pub fn operand(operands: &[i32], at: usize) -> i32
     requires { at < length operands.now }
     ensures { slice_get operands.now at ≡ Some result }
 {

@@ -1,13 +1,14 @@
-ghost use Rattle.std.specs.Prelude.{◌≡◌, ◌≤◌, ◌<◌, [], ◌∷◌, vec_len, vec_capacity, slice_get, option_map, if◌then◌else◌};
+ghost use Rattle.std.specs.Prelude.{◌≡◌, ◌≤◌, ◌<◌, [], ◌∷◌, vec_len, vec_capacity, slice_get, option_map, if◌then◌else◌, reverse, ℤ};
 ghost use Rattle.ob_instr.specs.Image.{Image as Modules};
-ghost use Rattle.ob_instr.specs.Rows.{Leave, Unable, on_found, on_one};
+ghost use Rattle.ob_instr.specs.Rows.{Effect, Leave, Unable, on_found, on_one};
 ghost use Rattle.ob_values.specs.Effects.{ops_of};
 ghost use Rattle.ob_calls.specs.Reached.{Comes};
 
 use crate::calling::Called;
 use crate::calls::{Calls, Place};
+use crate::methods::operand;
 use ob_image::Module;
-use ob_values::{State, put, take};
+use ob_values::{State, put};
 
 // A call ends without a result, and its words are free again.
 fn leave(here: &mut Place, waiting: &mut Calls, state: &mut State) -> Called
@@ -44,11 +45,13 @@ fn leave_with(here: &mut Place, waiting: &mut Calls, state: &mut State, given: i
     ensures first { 0 < here.new.first }
     ensures stack { 0 < state.new.stack }
 {
-    let called = leave(here, waiting, state);
-    if let Called::Goes = called {
-        put(&mut state.operands, given);
+    match leave(here, waiting, state) {
+        Called::Goes => {
+            put(&mut state.operands, given);
+            Called::Goes
+        }
+        called => called,
     }
-    called
 }
 
 // Whether a procedure of a module gives a result.
@@ -57,6 +60,16 @@ fn has_result(unit: &Module, procedure: u32) -> Option<bool>
 {
     let q = unit.procedures.get(procedure as usize)?;
     Some(q.has_result)
+}
+
+fn last(operands: &[i32]) -> Option<i32>
+    ensures { (k : ℤ → Effect) → on_one (reverse operands.now) (λ v rest. k v) ≡ on_found result k }
+{
+    let len = operands.len();
+    if len == 0 {
+        return None;
+    }
+    Some(operand(operands, len - 1))
 }
 
 /// A return without a result.
@@ -95,7 +108,7 @@ pub fn return_with(unit: &Module, here: &mut Place, waiting: &mut Calls, state: 
     let Some(has) = has_result(unit, here.procedure) else {
         return Called::Unable;
     };
-    let Some(given) = take(&mut state.operands) else {
+    let Some(given) = last(&state.operands) else {
         return Called::Unable;
     };
     if !has {
