@@ -1,5 +1,5 @@
 -- What a call or a return keeps: the turns and the waiting calls become less, and the modules are there.
-use Rattle.std.proofs.Common.{◌≡◌, ℕ, zero, suc, ◌+◌, ◌<◌, Bool, true, false, List, [], ◌∷◌, length, Option, Some, None, refl, sym, ap, ◌∙◌, subst, true≢false, ◌⊎◌, inl, inr, unit, arith}
+use Rattle.std.proofs.Common.{◌≡◌, ℕ, zero, suc, ◌+◌, ◌<◌, Bool, true, false, List, [], ◌∷◌, length, Option, Some, None, refl, sym, ap, ◌∙◌, subst, true≢false, ◌⊎◌, inl, inr, arith}
 use Rattle.std.specs.Prelude.{ℤ, pos, negsuc, if◌then◌else◌, nat_le, slice_get}
 use Rattle.std.specs.List.{AllByRecursion}
 use Rattle.std.proofs.lemmas.Option.{slice_get_within, none-some}
@@ -29,35 +29,35 @@ module _ (img : Image) (w : World) where
   IsCall e = Unit {0}
 
   found : {A : Type 0} (o : Option A) (k : A → Effect) → ((x : A) → o ≡ Some x → IsCall (k x)) → IsCall (on_found o k)
-  found None k h = unit
+  found None k h = tt
   found (Some x) k h = h x refl
 
   counted : (z : ℤ) (k : ℕ → Effect) → ((n : ℕ) → IsCall (k n)) → IsCall (on_count z k)
   counted (pos n) k h = h n
-  counted (negsuc n) k h = unit
+  counted (negsuc n) k h = tt
 
   either : (b : Bool) (d e : Effect) → IsCall d → IsCall e → IsCall (if b then d else e)
   either true d e hd he = hd
   either false d e hd he = he
 
   args_of : (n : ℕ) (ops : List ℤ) (k : List ℤ → List ℤ → Effect) → ((args rest : List ℤ) → IsCall (k args rest)) → IsCall (on_args n ops k)
-  args_of n ops k h = either (nat_le n (length ops)) _ Unable (h _ _) unit
+  args_of n ops k h = either (nat_le n (length ops)) _ Unable (h _ _) tt
 
   one : (ops : List ℤ) (k : ℤ → List ℤ → Effect) → ((x : ℤ) (rest : List ℤ) → IsCall (k x rest)) → IsCall (on_one ops k)
-  one [] k h = unit
+  one [] k h = tt
   one (x ∷ ops) k h = h x ops
 
   receiver : (args : List ℤ) (k : ℤ → Effect) → ((x : ℤ) → IsCall (k x)) → IsCall (on_receiver args k)
-  receiver [] k h = unit
+  receiver [] k h = tt
   receiver (x ∷ args) k h = h x
 
   tag_of : (args : List ℤ) (k : ℤ → Effect) → ((x : ℤ) → IsCall (k x)) → IsCall (on_tag args k)
-  tag_of [] k h = unit
-  tag_of (x ∷ []) k h = unit
+  tag_of [] k h = tt
+  tag_of (x ∷ []) k h = tt
   tag_of (x ∷ g ∷ args) k h = h g
 
   turned : (n : ℕ) (k : World → Effect) → ((m : ℕ) → n ≡ suc m → IsCall (k (record w { turns = m }))) → IsCall (turn_or n w k)
-  turned zero k h = unit
+  turned zero k h = tt
   turned (suc m) k h = h m refl
 
   module_there : (o : Option ModuleImage) (p : ℕ) (q : Procedure) → slice_get (procedures_of o) p ≡ Some q → (m : ℕ) → o ≡ slice_get img.modules m → m < length img.modules
@@ -76,12 +76,75 @@ module _ (img : Image) (w : World) where
   calls_row : (u : ModuleImage) (m p fb pc : ℕ) (o : Opcode) (a b : ℤ) (ops : List ℤ) → is_call o ≡ true → IsCall (row img u m p fb pc o a b ops w)
   calls_row u m p fb pc op.Call a b ops e = found (below (length u.procedures) a) _ (λ q eq. called_with _ ops)
   calls_row u m p fb pc op.CallX a b ops e = found (item u.procedure_links a) _ (λ r er. called_with r ops)
-  calls_row u m p fb pc op.CallV a b ops e = counted a _ (λ n. args_of n ops _ (λ args rest. one rest _ (λ v below. either (is_zero v) _ _ unit (found (proc_of_value v) _ (λ r er. called_by r args below)))))
-  calls_row u m p fb pc op.CallP a b ops e = counted b _ (λ n. args_of (suc n) ops _ (λ args rest. receiver args _ (λ x. either (is_zero x) _ _ unit (by_pointer x a _ (λ r. called_by r args rest)))))
+  calls_row u m p fb pc op.CallV a b ops e = counted a _ (λ n. args_of n ops _ (λ args rest. one rest _ (λ v below. either (is_zero v) (Traps 2 (pos 0) w) _ tt (found (proc_of_value v) _ (λ r er. called_by r args below)))))
+  calls_row u m p fb pc op.CallP a b ops e = counted b _ (λ n. args_of (suc n) ops _ (λ args rest. receiver args _ (λ x. either (is_zero x) (Traps 2 (pos 0) w) _ tt (by_pointer x a _ (λ r. called_by r args rest)))))
   calls_row u m p fb pc op.CallR a b ops e = counted b _ (λ n. args_of (suc (suc n)) ops _ (λ args rest. tag_of args _ (λ g. found (tag_method img g a) _ (λ r er. called_by r args rest))))
   calls_row u m p fb pc op.CallS a b ops e = found (item u.types a) _ (λ t et. found (method_at (slice_get img.types t) b) _ (λ r er. called_with r ops))
-  calls_row u m p fb pc op.Ret a b ops e = found (slice_get u.procedures p) _ (λ q eq. either q.has_result Unable (Leave [] w) unit refl)
-  calls_row u m p fb pc op.RetV a b ops e = found (slice_get u.procedures p) _ (λ q eq. one ops _ (λ v rest. either q.has_result (Leave (v ∷ []) w) Unable refl unit))
+  calls_row u m p fb pc op.Ret a b ops e = found (slice_get u.procedures p) _ (λ q eq. either q.has_result Unable (Leave [] w) tt refl)
+  calls_row u m p fb pc op.RetV a b ops e = found (slice_get u.procedures p) _ (λ q eq. one ops _ (λ v rest. either q.has_result (Leave (v ∷ []) w) Unable refl tt))
+  calls_row u m p fb pc op.Int a b ops e = absurd (true≢false (sym e))
+  calls_row u m p fb pc op.Local a b ops e = absurd (true≢false (sym e))
+  calls_row u m p fb pc op.Global a b ops e = absurd (true≢false (sym e))
+  calls_row u m p fb pc op.ExtVar a b ops e = absurd (true≢false (sym e))
+  calls_row u m p fb pc op.Load a b ops e = absurd (true≢false (sym e))
+  calls_row u m p fb pc op.Store a b ops e = absurd (true≢false (sym e))
+  calls_row u m p fb pc op.Copy a b ops e = absurd (true≢false (sym e))
+  calls_row u m p fb pc op.CopyRec a b ops e = absurd (true≢false (sym e))
+  calls_row u m p fb pc op.Offset a b ops e = absurd (true≢false (sym e))
+  calls_row u m p fb pc op.Index a b ops e = absurd (true≢false (sym e))
+  calls_row u m p fb pc op.IndexO a b ops e = absurd (true≢false (sym e))
+  calls_row u m p fb pc op.Deref a b ops e = absurd (true≢false (sym e))
+  calls_row u m p fb pc op.Tagged a b ops e = absurd (true≢false (sym e))
+  calls_row u m p fb pc op.Lenned a b ops e = absurd (true≢false (sym e))
+  calls_row u m p fb pc op.Tag a b ops e = absurd (true≢false (sym e))
+  calls_row u m p fb pc op.IsP a b ops e = absurd (true≢false (sym e))
+  calls_row u m p fb pc op.IsR a b ops e = absurd (true≢false (sym e))
+  calls_row u m p fb pc op.GuardAt a b ops e = absurd (true≢false (sym e))
+  calls_row u m p fb pc op.GuardR a b ops e = absurd (true≢false (sym e))
+  calls_row u m p fb pc op.Drop a b ops e = absurd (true≢false (sym e))
+  calls_row u m p fb pc op.Add a b ops e = absurd (true≢false (sym e))
+  calls_row u m p fb pc op.Sub a b ops e = absurd (true≢false (sym e))
+  calls_row u m p fb pc op.Mul a b ops e = absurd (true≢false (sym e))
+  calls_row u m p fb pc op.Div a b ops e = absurd (true≢false (sym e))
+  calls_row u m p fb pc op.Mod a b ops e = absurd (true≢false (sym e))
+  calls_row u m p fb pc op.Neg a b ops e = absurd (true≢false (sym e))
+  calls_row u m p fb pc op.Abs a b ops e = absurd (true≢false (sym e))
+  calls_row u m p fb pc op.Eq a b ops e = absurd (true≢false (sym e))
+  calls_row u m p fb pc op.Ne a b ops e = absurd (true≢false (sym e))
+  calls_row u m p fb pc op.Lt a b ops e = absurd (true≢false (sym e))
+  calls_row u m p fb pc op.Le a b ops e = absurd (true≢false (sym e))
+  calls_row u m p fb pc op.Gt a b ops e = absurd (true≢false (sym e))
+  calls_row u m p fb pc op.Ge a b ops e = absurd (true≢false (sym e))
+  calls_row u m p fb pc op.Not a b ops e = absurd (true≢false (sym e))
+  calls_row u m p fb pc op.Union a b ops e = absurd (true≢false (sym e))
+  calls_row u m p fb pc op.Minus a b ops e = absurd (true≢false (sym e))
+  calls_row u m p fb pc op.Meet a b ops e = absurd (true≢false (sym e))
+  calls_row u m p fb pc op.Xor a b ops e = absurd (true≢false (sym e))
+  calls_row u m p fb pc op.Compl a b ops e = absurd (true≢false (sym e))
+  calls_row u m p fb pc op.Bit a b ops e = absurd (true≢false (sym e))
+  calls_row u m p fb pc op.Bits a b ops e = absurd (true≢false (sym e))
+  calls_row u m p fb pc op.In a b ops e = absurd (true≢false (sym e))
+  calls_row u m p fb pc op.Incl a b ops e = absurd (true≢false (sym e))
+  calls_row u m p fb pc op.Excl a b ops e = absurd (true≢false (sym e))
+  calls_row u m p fb pc op.Range a b ops e = absurd (true≢false (sym e))
+  calls_row u m p fb pc op.Chr a b ops e = absurd (true≢false (sym e))
+  calls_row u m p fb pc op.Odd a b ops e = absurd (true≢false (sym e))
+  calls_row u m p fb pc op.Cap a b ops e = absurd (true≢false (sym e))
+  calls_row u m p fb pc op.Ash a b ops e = absurd (true≢false (sym e))
+  calls_row u m p fb pc op.Inc a b ops e = absurd (true≢false (sym e))
+  calls_row u m p fb pc op.Dec a b ops e = absurd (true≢false (sym e))
+  calls_row u m p fb pc op.StrRel a b ops e = absurd (true≢false (sym e))
+  calls_row u m p fb pc op.StrCopy a b ops e = absurd (true≢false (sym e))
+  calls_row u m p fb pc op.Jump a b ops e = absurd (true≢false (sym e))
+  calls_row u m p fb pc op.JumpF a b ops e = absurd (true≢false (sym e))
+  calls_row u m p fb pc op.Trap a b ops e = absurd (true≢false (sym e))
+  calls_row u m p fb pc op.Assert a b ops e = absurd (true≢false (sym e))
+  calls_row u m p fb pc op.NewR a b ops e = absurd (true≢false (sym e))
+  calls_row u m p fb pc op.NewA a b ops e = absurd (true≢false (sym e))
+  calls_row u m p fb pc op.NewO a b ops e = absurd (true≢false (sym e))
+  calls_row u m p fb pc op.Proc a b ops e = absurd (true≢false (sym e))
+  calls_row u m p fb pc op.ProcX a b ops e = absurd (true≢false (sym e))
+  calls_row u m p fb pc op.Out a b ops e = absurd (true≢false (sym e))
 
 -- WHERE IT GOES
 
@@ -108,7 +171,7 @@ IsLess img m acts turns x = ((turns_of x + 1 ≡ turns) ⊎ ((turns_of x ≡ tur
 
 entering : (img : Image) (u : ModuleImage) (m p fb : ℕ) (acts : List Act) (pc : ℕ) (w : World) (r : ProcRef) (q : Procedure) (args : List ℤ) (n : ℕ) (ops : List ℤ) (v : World) (b : Bool) → r.module < length img.modules → v.turns + 1 ≡ w.turns → has_room img.room (slots q.params + q.locals + n) acts v ≡ b → goes_on (come_to img u m p fb acts pc w (Enter r q args n ops v)) ≡ true → IsLess img m acts w.turns (come_to img u m p fb acts pc w (Enter r q args n ops v))
 entering img u m p fb acts pc w r q args n ops v true lt et eb g = rw eb (inl et, λ k ek lm all. (omega (arith, lt, ek), (lm, all)))
-entering img u m p fb acts pc w r q args n ops v false lt et eb g = absurd (rw eb at g)
+entering img u m p fb acts pc w r q args n ops v false lt et eb g = absurd (true≢false (sym (rw eb at g)))
 
 leaving : (img : Image) (fb m : ℕ) (acts : List Act) (given : List ℤ) (w : World) → goes_on (left fb acts given w) ≡ true → IsLess img m acts w.turns (left fb acts given w)
 leaving img fb m [] given w g = absurd (true≢false (sym g))
