@@ -1,5 +1,7 @@
 -- What the instruction of a call names.
-use Rattle.std.specs.Prelude.{◌≤◌, List, length, take, drop, reverse, ℤ, pos}
+use Rattle.std.specs.Prelude.{◌≤◌, Bool, true, false, List, length, take, drop, reverse, ℤ, pos}
+use Rattle.ob_instr.specs.declared.opcode.Opcode.{Opcode}
+use Rattle.ob_instr.specs.declared.opcode.Opcode.TheVariants as op
 use Rattle.ob_instr.specs.Image.{Image, World}
 use Rattle.ob_instr.specs.Rows.{Effect, Traps, Unable, calls, calls_with}
 use Rattle.ob_calls.specs.declared.callee.Callee.{Callee}
@@ -16,3 +18,13 @@ callee_effect img operands callee.Unable w = Unable
 abbrev pub IsWithin : List ℤ → Callee → Type 0
 IsWithin operands (callee.At r from below) = (from ≤ length operands) × (below ≤ from)
 IsWithin operands _ = Unit {0}
+
+-- a call, and no return
+abbrev pub is_procedure_call : Opcode → Bool
+is_procedure_call op.Call = true
+is_procedure_call op.CallX = true
+is_procedure_call op.CallV = true
+is_procedure_call op.CallP = true
+is_procedure_call op.CallR = true
+is_procedure_call op.CallS = true
+is_procedure_call o = false

@@ -3,3 +3,4 @@ pub mod Kept
 pub mod Copies
 pub mod Reached
 pub mod Callees
+pub mod Starts

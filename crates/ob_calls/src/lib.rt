@@ -6,11 +6,11 @@ mod callee;
 mod calling;
 mod calls;
 mod entering;
+mod instruction;
+mod methods;
 mod returns;
 mod rows;
 
-pub use callee::Callee;
 pub use calling::Called;
 pub use calls::{Calls, Place};
-pub use returns::leave;
-pub use rows::call_it;
+pub use instruction::call_or_return;

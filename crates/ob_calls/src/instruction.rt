@@ -1,0 +1,119 @@
+ghost use Rattle.std.specs.Prelude.{◌≡◌, ◌+◌, ◌≤◌, ◌<◌, ◌⊎◌, ℕ, true, length, reverse, slice_get, Some, vec_len, vec_capacity};
+ghost use Rattle.std.specs.List.{AllByRecursion};
+ghost use Rattle.ob_instr.specs.Image.{World};
+ghost use Rattle.ob_instr.specs.Table.{row};
+ghost use Rattle.ob_values.specs.Effects.{ops_of};
+ghost use Rattle.ob_effect.specs.Places.{is_call};
+ghost use Rattle.ob_calls.specs.Callees.{callee_effect, IsWithin, is_procedure_call};
+ghost use Rattle.ob_calls.specs.Reached.{Comes};
+
+use crate::callee::{Callee, linked, own};
+use crate::calling::Called;
+use crate::calls::{Calls, Place};
+use crate::methods::{of_pointer, of_record, of_type, of_value};
+use crate::returns::{return_with, return_without};
+use crate::rows::call_it;
+use ob_image::{Image, Module};
+use ob_instr::{Instr, Opcode};
+use ob_values::State;
+use ob_words::Words;
+
+// What the instruction of a call names.
+fn callee_of(
+    image: &Image,
+    unit: &Module,
+    number: u32,
+    words: &Words,
+    operands: &[i32],
+    instr: Instr,
+) -> Callee
+    ensures effect { is_procedure_call instr.op ≡ true → (p fb pc : ℕ) (w : World) → w.words ≡ words.now.words → row image.now unit.now number p fb pc instr.op instr.a instr.b (reverse operands.now) w ≡ callee_effect image.now operands.now result w }
+    ensures within { IsWithin operands.now result }
+{
+    match instr.op {
+        Opcode::Call => own(unit, number, instr, operands),
+        Opcode::CallX => linked(unit, instr, operands),
+        Opcode::CallV => of_value(instr, operands),
+        Opcode::CallP => of_pointer(image, words, instr, operands),
+        Opcode::CallR => of_record(image, instr, operands),
+        Opcode::CallS => of_type(image, unit, instr, operands),
+        _ => Callee::Unable,
+    }
+}
+
+fn call_by(
+    image: &Image,
+    unit: &Module,
+    here: &mut Place,
+    calls: &mut Calls,
+    state: &mut State,
+    instr: Instr,
+) -> Called
+    requires next { here.old.next < 262144 }
+    requires first { 0 < here.old.first }
+    requires stack { 0 < state.old.stack }
+    requires few { vec_len state.old.operands ≤ 256 }
+    ensures comes { is_procedure_call instr.op ≡ true → Comes image.now (row image.now unit.now here.old.unit here.old.procedure here.old.first here.old.next instr.op instr.a instr.b (ops_of state.old)) here.old here.new calls.old calls.new state.old state.new result }
+    ensures few { vec_len state.new.operands ≤ 256 }
+    ensures capacity { vec_capacity state.new.operands ≡ vec_capacity state.old.operands }
+    ensures first { 0 < here.new.first }
+    ensures stack { 0 < state.new.stack }
+{
+    let callee = callee_of(image, unit, here.unit, &state.words, &state.operands, instr);
+    call_it(image, here, calls, state, callee)
+}
+
+fn come_to(
+    image: &Image,
+    unit: &Module,
+    here: &mut Place,
+    calls: &mut Calls,
+    state: &mut State,
+    instr: Instr,
+) -> Called
+    requires next { here.old.next < 262144 }
+    requires first { 0 < here.old.first }
+    requires stack { 0 < state.old.stack }
+    requires few { vec_len state.old.operands ≤ 256 }
+    requires room { 257 ≤ vec_capacity state.old.operands }
+    requires call { is_call instr.op ≡ true }
+    ensures comes { Comes image.now (row image.now unit.now here.old.unit here.old.procedure here.old.first here.old.next instr.op instr.a instr.b (ops_of state.old)) here.old here.new calls.old calls.new state.old state.new result }
+    ensures few { vec_len state.new.operands ≤ 257 }
+    ensures capacity { 257 ≤ vec_capacity state.new.operands }
+    ensures first { 0 < here.new.first }
+    ensures stack { 0 < state.new.stack }
+{
+    match instr.op {
+        Opcode::Ret => return_without(unit, here, calls, state),
+        Opcode::RetV => return_with(unit, here, calls, state),
+        _ => call_by(image, unit, here, calls, state, instr),
+    }
+}
+
+/// Does a call or a return, by its row of the table. A call that begins spends a turn, and a return
+/// ends one of the calls that wait. After a return up to 257 operands stand. Takes no memory.
+pub fn call_or_return(
+    image: &Image,
+    unit: &Module,
+    here: &mut Place,
+    calls: &mut Calls,
+    state: &mut State,
+    instr: Instr,
+) -> Called
+    requires next { here.old.next < 262144 }
+    requires first { 0 < here.old.first }
+    requires stack { 0 < state.old.stack }
+    requires few { vec_len state.old.operands ≤ 256 }
+    requires room { 257 ≤ vec_capacity state.old.operands }
+    requires unit { slice_get image.now.modules here.old.unit ≡ Some unit.now }
+    requires call { is_call instr.op ≡ true }
+    ensures comes { Comes image.now (row image.now unit.now here.old.unit here.old.procedure here.old.first here.old.next instr.op instr.a instr.b (ops_of state.old)) here.old here.new calls.old calls.new state.old state.new result }
+    ensures less { result ≡ Called.Goes → (state.new.turns + 1 ≡ state.old.turns) ⊎ ((state.new.turns ≡ state.old.turns) × (length calls.new < length calls.old)) }
+    ensures units { result ≡ Called.Goes → (n : ℕ) → n ≡ length image.now.modules → here.old.unit < n → AllByRecursion (λ a. a.m < n) calls.old → (here.new.unit < n) × AllByRecursion (λ a. a.m < n) calls.new }
+    ensures few { vec_len state.new.operands ≤ 257 }
+    ensures capacity { 257 ≤ vec_capacity state.new.operands }
+    ensures first { 0 < here.new.first }
+    ensures stack { 0 < state.new.stack }
+{
+    come_to(image, unit, here, calls, state, instr)
+}
