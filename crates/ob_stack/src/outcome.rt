@@ -1,0 +1,28 @@
+use ob_tree::{Name, Pos};
+
+/// How a run ended.
+#[derive(Clone, Copy, Debug, PartialEq, Drop)]
+pub enum Outcome {
+    /// The procedure that the run began in returned.
+    Done,
+    /// An instruction of the module trapped, with this position. Kind 8 is a result outside the range
+    /// of its type, with the number 0.
+    Trap {
+        kind: u8,
+        number: i32,
+        module: Name,
+        pos: Pos,
+    },
+    /// An instruction of the module, with this position, was to spend a turn, and none was left.
+    TurnsSpent {
+        module: Name,
+        pos: Pos,
+    },
+    /// The instruction at this index of the module's code cannot be executed, or there is none.
+    Illegal {
+        module: Name,
+        at: u32,
+    },
+    /// The sink failed: a front of the text was written.
+    SinkFault,
+}
