@@ -60,7 +60,7 @@ module _ (img : Image) (xs : List ℤ) (w : World) where
   pub value_called : (a : ℤ) (from below : ℕ) (v : ℤ) (o : Option ProcRef) → Some from ≡ start_of (length xs) a 0 → from ≡ below + 1 → slice_get xs below ≡ Some v → (v ≡ pos 0 → ⊥) → o ≡ proc_of_value v → on_count a (λ n. on_args n (reverse xs) (λ args rest. on_one rest (λ v below. if is_zero v then Traps 2 (pos 0) w else on_found (proc_of_value v) (λ r. calls img r args below w)))) ≡ on_found o (λ r. calls img r (drop from xs) (reverse (take below xs)) w)
   value_called a from below v o e eb ev n eo = value_found a from below v e eb ev ∙ ap (λ b. if b then Traps 2 (pos 0) w else on_found (proc_of_value v) (λ r. calls img r (drop from xs) (reverse (take below xs)) w)) (not_zero v n) ∙ ap (λ o. on_found o (λ r. calls img r (drop from xs) (reverse (take below xs)) w)) (sym eo)
 
--- POINTERS
+  -- POINTERS
 
   abbrev pointer_part : ℤ → List ℤ → List ℤ → Effect
   pointer_part number args rest = on_receiver args (λ x. if is_zero x then Traps 2 (pos 0) w else pointer_method img w x number (λ r. calls img r args rest w))
@@ -75,7 +75,7 @@ module _ (img : Image) (xs : List ℤ) (w : World) where
   pub pointer_called : (b number : ℤ) (from : ℕ) (x : ℤ) (o : Option ProcRef) → Some from ≡ start_of (length xs) b 1 → slice_get xs from ≡ Some x → (x ≡ pos 0 → ⊥) → ((k : ProcRef → Effect) → pointer_method img w x number k ≡ on_found o k) → on_count b (λ n. on_args (suc n) (reverse xs) (λ args rest. on_receiver args (λ x. if is_zero x then Traps 2 (pos 0) w else pointer_method img w x number (λ r. calls img r args rest w)))) ≡ on_found o (λ r. calls img r (drop from xs) (reverse (take from xs)) w)
   pointer_called b number from x o e ex n eo = pointer_found b number from x e ex ∙ ap (λ b. if b then Traps 2 (pos 0) w else pointer_method img w x number (λ r. calls img r (drop from xs) (reverse (take from xs)) w)) (not_zero x n) ∙ eo (λ r. calls img r (drop from xs) (reverse (take from xs)) w)
 
--- RECORDS
+  -- RECORDS
 
   abbrev record_part : ℤ → List ℤ → List ℤ → Effect
   record_part number args rest = on_tag args (λ g. on_found (tag_method img g number) (λ r. calls img r args rest w))

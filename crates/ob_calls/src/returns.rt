@@ -73,7 +73,12 @@ fn last(operands: &[i32]) -> Option<i32>
 }
 
 /// A return without a result.
-pub fn return_without(unit: &Module, here: &mut Place, waiting: &mut Calls, state: &mut State) -> Called
+pub fn return_without(
+    unit: &Module,
+    here: &mut Place,
+    waiting: &mut Calls,
+    state: &mut State,
+) -> Called
     requires room { 257 ≤ vec_capacity state.old.operands }
     requires few { vec_len state.old.operands ≤ 256 }
     requires first { 0 < here.old.first }
@@ -94,7 +99,12 @@ pub fn return_without(unit: &Module, here: &mut Place, waiting: &mut Calls, stat
 }
 
 /// A return with a result.
-pub fn return_with(unit: &Module, here: &mut Place, waiting: &mut Calls, state: &mut State) -> Called
+pub fn return_with(
+    unit: &Module,
+    here: &mut Place,
+    waiting: &mut Calls,
+    state: &mut State,
+) -> Called
     requires room { 257 ≤ vec_capacity state.old.operands }
     requires few { vec_len state.old.operands ≤ 256 }
     requires first { 0 < here.old.first }

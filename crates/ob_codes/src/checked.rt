@@ -3,11 +3,11 @@
 ghost use Rattle.std.specs.Prelude.{◌≡◌, [], ◌∷◌, IfOk};
 ghost use Rattle.ob_obj.specs.Grammar.{file as file_form};
 ghost use Rattle.ob_obj.specs.Images.{AreEnterable};
-ghost use Rattle.ob_stack.specs.Machine.{made, IsEntry};
+ghost use Rattle.ob_machine.specs.Machine.{made, IsEntry};
 
 use ob_io::MemSink;
+use ob_machine::{Machine, Outcome};
 use ob_obj::{ObjFile, read_obj};
-use ob_stack::{Machine, Outcome};
 use ob_tree::{List, ProcRef};
 use std::alloc::{AllocError, Global};
 use std::test::Fail;
@@ -26,7 +26,9 @@ pub enum End {
 fn stands_alone(file: &ObjFile) -> bool
     ensures { result ≡ true → (file.now.links.variables ≡ []) × (file.now.links.procedures ≡ []) × (file.now.links.types ≡ []) }
 {
-    file.links.variables.is_empty() && file.links.procedures.is_empty() && file.links.types.is_empty()
+    file.links.variables.is_empty()
+        && file.links.procedures.is_empty()
+        && file.links.types.is_empty()
 }
 
 // A machine with the module alone.

@@ -1,10 +1,11 @@
 //! Makes a module of a code, runs it on a machine, and compares.
 
 use crate::checked::{End, run_file};
-use ob_io::MemSink;
 use ob_instr::{Instr, Opcode, Param, Position, Procedure};
+use ob_io::MemSink;
 use ob_obj::{
-    Base, Body, Command, Definition, Globals, Head, Links, ObjFile, RecordType, StringConst, write_obj,
+    Base, Body, Command, Definition, Globals, Head, Links, ObjFile, RecordType, StringConst,
+    write_obj,
 };
 use ob_tree::{List, Name, ObjName, Pos, Text};
 use std::alloc::{AllocError, Global};
@@ -120,8 +121,16 @@ fn put_code(code: &mut List<Instr>, text: &str) -> Result<(), Fail> {
     for row in text.split(';') {
         let row = row.trim();
         if row == "p" {
-            code.push(Instr { op: Opcode::Int, a: 0, b: 0 })?;
-            code.push(Instr { op: Opcode::Out, a: 3, b: 0 })?;
+            code.push(Instr {
+                op: Opcode::Int,
+                a: 0,
+                b: 0,
+            })?;
+            code.push(Instr {
+                op: Opcode::Out,
+                a: 3,
+                b: 0,
+            })?;
             continue;
         }
         let mut words = row.split(' ');
@@ -248,9 +257,15 @@ fn module_of(alloc: Global, text: &str) -> Result<ObjFile, Fail> {
     strings.push(string(alloc, b"AB".as_slice())?)?;
     strings.push(string(alloc, b"AC".as_slice())?)?;
     let mut types = List::new(alloc);
-    let first = Definition { number: 0, procedure: 6 };
+    let first = Definition {
+        number: 0,
+        procedure: 6,
+    };
     types.push(record_type(alloc, b"T".as_slice(), Base::None, 2, first)?)?;
-    let second = Definition { number: 1, procedure: 7 };
+    let second = Definition {
+        number: 1,
+        procedure: 7,
+    };
     types.push(record_type(alloc, b"U".as_slice(), Base::Own(0), 3, second)?)?;
     let positions = positions_of(alloc, code.as_slice())?;
     Ok(ObjFile {

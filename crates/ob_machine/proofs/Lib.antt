@@ -1,6 +1,2 @@
-pub mod Blanks
-pub mod Kept
-pub mod Grows
-pub mod Turns
+pub mod Legs
 pub mod Runs
-pub mod Texts

@@ -1,41 +1,83 @@
--- A run from a module's first instruction.
-use Rattle.std.proofs.Common.{◌≡◌, ℕ, List, [], ◌++◌, Some, Bool, true, sym, ap, ◌∙◌, subst}
-use Rattle.std.specs.Prelude.{slice_get, reverse}
+-- A run from a procedure's first instruction.
+use Rattle.std.proofs.Common.{◌≡◌, ℕ, suc, ◌+◌, ◌<◌, ◌≤◌, List, [], ◌∷◌, ◌++◌, length, replicate, pos, Some, None, Bool, true, false, refl, sym, ap, ◌∙◌, subst, arith, ⊎_elim}
+use Rattle.std.specs.Prelude.{ℤ, slice_get, reverse, unwrap_or, vec_len, vec_capacity}
+use Rattle.std.proofs.lemmas.Bool.{cases_lt}
+use Rattle.std.proofs.lemmas.Option.{slice_get_past}
 use Rattle.ob_io.specs.Io.{AddsFront}
 use Rattle.ob_io.specs.Fronts.{front_more}
-use Rattle.ob_machine.specs.declared.frame.Frame.{Frame}
+use Rattle.ob_tree.specs.declared.proc_ref.ProcRef.{ProcRef}
+use Rattle.ob_mem.specs.Words.{Held, cleared, with_words}
+use Rattle.ob_instr.specs.declared.procedure.Procedure.{Procedure}
+use Rattle.ob_instr.specs.declared.procedure.Param.{Param}
+use Rattle.ob_instr.specs.Image.{Image, ModuleImage, Act, End, World, Point, Go}
+use Rattle.ob_instr.specs.Parts.{slots}
+use Rattle.ob_instr.specs.Rows.{entered, with_copies, procedure_of, procedures_of}
+use Rattle.ob_instr.specs.Table.{begins, begun, start, run, Ends}
+use Rattle.ob_image.specs.Room.{room}
+use Rattle.ob_image.specs.WordLaws.{cleared_as}
+use Rattle.ob_values.specs.declared.state.State.{State}
+use Rattle.ob_values.specs.Effects.{ops_of, world_of}
+use Rattle.ob_calls.specs.declared.calls.Place.{Place}
+use Rattle.ob_calls.specs.Reached.{at_place}
 use Rattle.ob_machine.specs.declared.outcome.Outcome.{Outcome}
 use Rattle.ob_machine.specs.declared.outcome.Outcome.TheVariants as outcome
-use Rattle.ob_machine.specs.Table.{ModuleImage, Go, run}
-use Rattle.ob_machine.specs.Running.{Came, Runs, start}
-use Rattle.ob_machine.specs.Steps.{ops_of, world_of}
-use Rattle.ob_machine.specs.Turns.{IsBegun, Ends, TurnDoes, point_of}
+use Rattle.ob_machine.specs.Machine as machine
+use Rattle.ob_machine.specs.Machine.{IsEntry, Came, Runs}
+use Rattle.ob_machine.specs.Legs.{EndsAt, LegDoes, IsBegun, CanRun}
 
-begun_at : (m : ℕ) (old new : Frame) (turns : ℕ) → IsBegun old new turns → point_of m new [] ≡ start m old.globals.items turns
-begun_at m old new turns b =
-    ap (λ p. Go m p (ops_of new) (world_of new [])) b.pc
-    ∙ ap (λ o. Go m 0 (reverse o) (world_of new [])) b.empty
-    ∙ ap (λ g. Go m 0 [] (record { globals = g; turns = new.turns; out = [] })) b.globals
-    ∙ ap (λ n. Go m 0 [] (record { globals = old.globals.items; turns = n; out = [] })) b.full
+-- what a machine with this image and state holds
+abbrev pub held : Image → State → machine.Held
+held img s = record { image = img; words = s.words.words; heap = s.words.next }
 
-came : (t : Bool) (b now : List ℕ) (us : List ModuleImage) (m : ℕ) (f0 f1 f2 : Frame) (turns : ℕ) (r : Outcome) (text : List ℕ) → IsBegun f0 f1 turns → Ends us (point_of m f1 []) (world_of f2 text) r → (t ≡ true → now ≡ b ++ text) → Came t b now (record { modules = us; globals = f0.globals.items }) (record { modules = us; globals = f2.globals.items }) m turns f2.turns r
-came t b now us m f0 f1 f2 turns r text begun e w = record {
-  steps = e.steps;
+-- the place of a procedure's first instruction
+abbrev pub entry_place : ProcRef → Procedure → Place
+entry_place r q = record { unit = r.module; procedure = r.proc; first = 262145; next = q.entry }
+
+pub begun_at : (img : Image) (r : ProcRef) (q : Procedure) (old new : State) (turns : ℕ) → img.room ≡ room → procedure_of img r ≡ Some q → IsBegun old new q turns → start img r (machine.world_of (held img old) turns) ≡ at_place (entry_place r q) [] new []
+begun_at img r q old new turns er at b =
+    ap (λ o. begins o r (suc img.room.globals) (machine.world_of (held img old) turns)) at
+    ∙ ap (λ k. begun r q (suc k.globals) (machine.world_of (held img old) turns)) er
+    ∙ ap (λ h. Go r.module r.proc 262145 [] q.entry [] (record { words = h.words; stack = 262145 + (slots q.params + q.locals); heap = h.next; turns = turns; out = [] })) (sym b.words)
+    ∙ ap (λ n. Go r.module r.proc 262145 [] q.entry [] (record { words = new.words.words; stack = n; heap = new.words.next; turns = turns; out = [] })) (sym b.stack)
+    ∙ ap (λ n. Go r.module r.proc 262145 [] q.entry [] (record { words = new.words.words; stack = new.stack; heap = new.words.next; turns = n; out = [] })) (sym b.full)
+    ∙ ap (λ o. Go r.module r.proc 262145 [] q.entry (reverse o) (world_of new [])) (sym b.empty)
+
+came : (t : Bool) (b now : List ℕ) (img : Image) (r : ProcRef) (q : Procedure) (s0 s1 s2 : State) (turns : ℕ) (o : Outcome) (text : List ℕ) → img.room ≡ room → procedure_of img r ≡ Some q → IsBegun s0 s1 q turns → EndsAt img (at_place (entry_place r q) [] s1 []) (world_of s2 text) o → (t ≡ true → now ≡ b ++ text) → Came t b now (held img s0) (held img s2) r turns s2.turns o
+came t b now img r q s0 s1 s2 turns o text er at begun e w = record {
   end = e.end;
+  stack = s2.stack;
   text = text;
-  comes = ap (run us e.steps) (sym (begun_at m f0 f1 turns begun)) ∙ e.comes;
+  comes = record { count = e.steps; is = ap (run img e.steps) (begun_at img r q s0 s1 turns er at begun) ∙ e.comes };
   is = e.is;
   written = w;
 }
 
--- what a run by turns does, said of the machine
-pub runs : (t : Bool) (b now : List ℕ) (us : List ModuleImage) (u : ModuleImage) (m : ℕ) (f0 f1 f2 : Frame) (turns : ℕ) (r : Outcome) → slice_get us m ≡ Some u → IsBegun f0 f1 turns → TurnDoes t b now u f1 f2 (Some r) → Runs t b now (record { modules = us; globals = f0.globals.items }) (record { modules = us; globals = f2.globals.items }) m turns f2.turns r
-runs t b now us u m f0 f1 f2 turns outcome.SinkFault at begun d = record {
-  front = λ told steps end last e.
-      let more = (d.turn us m at []).more steps end last (ap (run us steps) (begun_at m f0 f1 turns begun) ∙ e) in
+-- what a run by legs does, said of the machine
+pub runs : (t : Bool) (b now : List ℕ) (img : Image) (r : ProcRef) (q : Procedure) (s0 s1 s2 : State) (new : Place) (last : List Act) (turns : ℕ) (o : Outcome) → img.room ≡ room → procedure_of img r ≡ Some q → IsBegun s0 s1 q turns → LegDoes t b now img (entry_place r q) new [] last s1 s2 (Some o) → Runs t b now (held img s0) (held img s2) r turns s2.turns o
+runs t b now img r q s0 s1 s2 new last turns outcome.SinkFault er at begun d = record {
+  front = λ told end w e.
+      let more = (d.leg []).more e.count end w (ap (run img e.count) (sym (begun_at img r q s0 s1 turns er at begun)) ∙ e.is) in
       subst (AddsFront b now) (sym more.1) (front_more b now d.piece more.0 (d.wrote told));
 }
-runs t b now us u m f0 f1 f2 turns outcome.Done at begun d = came t b now us m f0 f1 f2 turns outcome.Done d.piece begun (d.turn us m at []) d.wrote
-runs t b now us u m f0 f1 f2 turns (outcome.Trap k z n p) at begun d = came t b now us m f0 f1 f2 turns (outcome.Trap k z n p) d.piece begun (d.turn us m at []) d.wrote
-runs t b now us u m f0 f1 f2 turns (outcome.TurnsSpent n p) at begun d = came t b now us m f0 f1 f2 turns (outcome.TurnsSpent n p) d.piece begun (d.turn us m at []) d.wrote
-runs t b now us u m f0 f1 f2 turns (outcome.Illegal n p) at begun d = came t b now us m f0 f1 f2 turns (outcome.Illegal n p) d.piece begun (d.turn us m at []) d.wrote
+runs t b now img r q s0 s1 s2 new last turns outcome.Done er at begun d = came t b now img r q s0 s1 s2 turns outcome.Done d.piece er at begun (d.leg []) d.wrote
+runs t b now img r q s0 s1 s2 new last turns (outcome.Trap k z n p) er at begun d = came t b now img r q s0 s1 s2 turns (outcome.Trap k z n p) d.piece er at begun (d.leg []) d.wrote
+runs t b now img r q s0 s1 s2 new last turns (outcome.TurnsSpent n p) er at begun d = came t b now img r q s0 s1 s2 turns (outcome.TurnsSpent n p) d.piece er at begun (d.leg []) d.wrote
+runs t b now img r q s0 s1 s2 new last turns (outcome.Illegal n p) er at begun d = came t b now img r q s0 s1 s2 turns (outcome.Illegal n p) d.piece er at begun (d.leg []) d.wrote
+
+pub runs_over : (t : Bool) (b now : List ℕ) (img : Image) (r : ProcRef) (q : Procedure) (s0 s1 s2 : State) (new : Place) (acts last : List Act) (turns : ℕ) (o : Outcome) → img.room ≡ room → procedure_of img r ≡ Some q → IsBegun s0 s1 q turns → acts ≡ [] → LegDoes t b now img (entry_place r q) new acts last s1 s2 (Some o) → Runs t b now (held img s0) (held img s2) r turns s2.turns o
+runs_over t b now img r q s0 s1 s2 new acts last turns o er at begun e d = runs t b now img r q s0 s1 s2 new last turns o er at begun (subst (λ a. LegDoes t b now img (entry_place r q) new a last s1 s2 (Some o)) e d)
+
+-- a procedure without parameters has no copies
+no_copies : (words : List ℤ) (params : List Param) (slot next : ℕ) → params ≡ [] → with_copies words params [] slot next ≡ words
+no_copies words params slot next e = ap (λ p. with_copies words p [] slot next) e
+
+pub entered_none : (words : List ℤ) (q : Procedure) → q.params ≡ [] → 262145 + q.locals ≤ length words + 1 → unwrap_or (cleared words (pos 262145) q.locals) words ≡ entered words 262145 q []
+entered_none words q e le =
+    cleared_as words 262145 q.locals (omega arith) le
+    ∙ sym (no_copies (with_words words (pos 262145) (replicate q.locals (pos 0))) q.params 262145 (262145 + (slots q.params + q.locals)) e)
+
+pub begins_so : (h new : Held) (q : Procedure) → q.params ≡ [] → 262145 + q.locals ≤ length h.words + 1 → new ≡ record h { words = unwrap_or (cleared h.words (pos 262145) q.locals) h.words } → new ≡ record h { words = entered h.words 262145 q [] }
+begins_so h new q e le is = is ∙ ap (λ l. record h { words = l }) (entered_none h.words q e le)
+
+pub stack_so : (q : Procedure) → q.params ≡ [] → 262145 + q.locals ≡ 262145 + (slots q.params + q.locals)
+stack_so q e = let none : 262145 + q.locals ≡ 262145 + (0 + q.locals) = omega arith in none ∙ ap (λ p. 262145 + (slots p + q.locals)) (sym e)

@@ -1,7 +1,2 @@
-pub mod Table
-pub mod Held
 pub mod Machine
-pub mod Running
-pub mod Ends
-pub mod Steps
-pub mod Turns
+pub mod Legs

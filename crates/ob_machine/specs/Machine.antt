@@ -1,73 +1,81 @@
 -- What the calls on a machine do.
-use Rattle.std.specs.Prelude.{◌≡◌, ℕ, suc, ◌+◌, ◌<◌, ◌≤◌, List, [], ◌∷◌, ◌++◌, length, take, drop, replicate, ℤ, pos, int_lt, Bool, true, false, not, ◌||◌, nat_eq, Some, Result, Ok, Err, slice_get}
+use Rattle.std.specs.Prelude.{◌≡◌, ℕ, suc, ◌+◌, ◌≤◌, List, [], ◌∷◌, ◌++◌, length, replicate, ℤ, pos, Bool, true, false, Option, Some, None, slice_get, Result, Ok, Err}
 use Rattle.std.specs.declared.alloc.AllocError.{AllocError}
-use Rattle.ob_tree.specs.declared.pos.Pos.{Pos}
-use Rattle.ob_machine.specs.declared.instr.Opcode.{Opcode}
-use Rattle.ob_machine.specs.declared.instr.Opcode.TheVariants as op
-use Rattle.ob_machine.specs.declared.instr.Instr.{Instr}
+use Rattle.ob_tree.specs.declared.proc_ref.ProcRef.{ProcRef}
+use Rattle.ob_io.specs.Io.{AddsFront, Rose}
+use Rattle.ob_instr.specs.declared.procedure.Procedure.{Procedure}
+use Rattle.ob_instr.specs.Image as image
+use Rattle.ob_instr.specs.Image.{Image, ModuleImage, Room, World, End}
+use Rattle.ob_instr.specs.Rows.{procedure_of}
+use Rattle.ob_instr.specs.Table.{Ends}
+use Rattle.ob_obj.specs.declared.file.ObjFile.{ObjFile}
+use Rattle.ob_obj.specs.Images.{image_of, words_with}
 use Rattle.ob_machine.specs.declared.machine.Entered.{Entered}
-use Rattle.ob_machine.specs.Table.{ModuleImage}
-use Rattle.ob_machine.specs.Held.{Held}
+use Rattle.ob_machine.specs.declared.outcome.Outcome.{Outcome}
+use Rattle.ob_machine.specs.declared.outcome.Outcome.TheVariants as outcome
 
--- how many words the variables of all modules take
-abbrev pub words_of_all : List ModuleImage → ℕ
-words_of_all [] = 0
-words_of_all (u ∷ us) = u.words + words_of_all us
+-- What a machine holds: its modules and types, the words of the three areas, and the next free word of the heap.
+pub record Held : Type 0 where
+  pub image : Image
+  pub words : List ℤ
+  pub heap : ℕ
 
--- Each module's variables lie behind those of the modules before it, from this address on, and its code keeps its limit.
-abbrev pub ArePlaced : ℕ → List ModuleImage → Type 0
-ArePlaced first [] = Unit {0}
-ArePlaced first (u ∷ us) = (u.first ≡ first) × (length u.code ≤ 262144) × ArePlaced (first + u.words) us
+abbrev pub room : Room
+room = record { globals = 262144; stack = 1048576; activations = 4096; operands = 256 }
 
--- what is so of each machine
-pub record IsMachine (h : Held) : Type 0 where
-  pub sized : length h.globals ≡ 262144
-  pub few : length h.modules ≤ 255
-  pub fits : words_of_all h.modules ≤ 262144
-  pub placed : ArePlaced 1 h.modules
+-- a machine without modules, with so many words of heap
+abbrev pub made : ℕ → Held
+made heap = record { image = record { modules = []; types = []; next = 1; room = room }; words = replicate (1310720 + heap) (pos 0); heap = 1310721 }
 
--- POSITIONS
+-- The files are there with their numbers, or the machine is as it was.
+abbrev pub Enters : Held → Held → List ObjFile → Result Entered AllocError → Type 0
+Enters old new files (Ok e) = (e.first ≡ length old.image.modules) × (new ≡ record { image = image_of old.image files; words = words_with old.image files old.words; heap = old.heap })
+Enters old new files (Err e) = new ≡ old
 
--- an instruction at an index that can trap or spend a turn
-abbrev pub needs_position : Instr → ℕ → Bool
-needs_position i pc = needs i.op i.a
-  where
-    needs : Opcode → ℤ → Bool
-    needs op.Add a = true
-    needs op.Sub a = true
-    needs op.Out a = true
-    needs op.Jump a = not (int_lt (pos pc) a)
-    needs op.JumpF a = not (int_lt (pos pc) a)
-    needs o a = false
+-- a procedure without parameters and result
+pub record IsEntry (img : Image) (r : ProcRef) : Type 0 where
+  pub procedure : Procedure
+  pub there : procedure_of img r ≡ Some procedure
+  pub params : procedure.params ≡ []
+  pub no_result : procedure.has_result ≡ false
 
-abbrev pub has_index : List (ℕ × Pos) → ℕ → Bool
-has_index [] pc = false
-has_index (p ∷ ps) pc = nat_eq pc p.0 || has_index ps pc
+abbrev pub name_of : Option ModuleImage → List ℕ
+name_of None = []
+name_of (Some u) = u.name
 
--- the indices ascend, from one on, and lie below a limit
-abbrev pub Ascend : ℕ → ℕ → List (ℕ × Pos) → Type 0
-Ascend from limit [] = Unit {0}
-Ascend from limit (p ∷ ps) = (from ≤ p.0) × (p.0 < limit) × Ascend (suc p.0) limit ps
+-- the name that a module's number has
+abbrev pub name_in : Image → ℕ → List ℕ
+name_in img m = name_of (slice_get img.modules m)
 
--- positions as a module's code needs them
-pub record HasPositions (code : List Instr) (positions : List (ℕ × Pos)) : Type 0 where
-  pub ascend : Ascend 0 (length code) positions
-  pub each : (pc : ℕ) (i : Instr) → slice_get code pc ≡ Some i → needs_position i pc ≡ true → has_index positions pc ≡ true
+-- an end of the table, with the module by its name
+abbrev pub outcome_of : Image → End → Outcome
+outcome_of img image.Done = outcome.Done
+outcome_of img (image.Trapped kind number m at) = outcome.Trap kind number (name_in img m) at
+outcome_of img (image.Spent m at) = outcome.TurnsSpent (name_in img m) at
+outcome_of img (image.Illegal m at) = outcome.Illegal (name_in img m) at
 
--- ENTERING
+-- a machine that begins a run with so many turns: no call is on the stack, and nothing is written
+abbrev pub world_of : Held → ℕ → World
+world_of h turns = record { words = h.words; stack = 262145; heap = h.heap; turns = turns; out = [] }
 
--- so many words from an index on are 0, the others as before
-abbrev pub cleared : ℕ → ℕ → List ℤ → List ℤ
-cleared from words globals = take from globals ++ (replicate words (pos 0) ++ drop (from + words) globals)
+-- The run came to its end: the outcome tells it, the machine has the words, and what was written is the text.
+pub record Came (told : Bool) (before now : List ℕ) (old new : Held) (r : ProcRef) (turns left : ℕ) (result : Outcome) : Type 0 where
+  pub end : End
+  pub stack : ℕ
+  pub text : List ℕ
+  pub comes : Ends old.image r (world_of old turns) end (record { words = new.words; stack = stack; heap = new.heap; turns = left; out = text })
+  pub is : result ≡ outcome_of old.image end
+  pub written : told ≡ true → now ≡ before ++ text
 
--- the machine with one more module
-abbrev pub entered : Held → List ℕ → ℕ → List Instr → List (ℕ × Pos) → Held
-entered h name words code positions = record {
-  modules = h.modules ++ record { name = name; code = code; positions = positions; first = suc (words_of_all h.modules); words = words } ∷ [];
-  globals = cleared (words_of_all h.modules) words h.globals;
-}
+-- The sink failed: wherever the run comes to an end, what was written is a front of its text.
+pub record CutShort (told : Bool) (before now : List ℕ) (old : Held) (r : ProcRef) (turns : ℕ) : Type 0 where
+  pub front : told ≡ true → (end : End) (last : World) → Ends old.image r (world_of old turns) end last → AddsFront before now last.out
 
--- The module is there with its number, or the machine is as it was.
-abbrev pub Enters : Held → Held → List ℕ → ℕ → List Instr → List (ℕ × Pos) → Result Entered AllocError → Type 0
-Enters old new name words code positions (Ok e) = (e.first ≡ length old.modules) × (new ≡ entered old name words code positions)
-Enters old new name words code positions (Err e) = new ≡ old
+abbrev pub Runs : Bool → List ℕ → List ℕ → Held → Held → ProcRef → ℕ → ℕ → Outcome → Type 0
+Runs told before now old new r turns left outcome.SinkFault = CutShort told before now old r turns
+Runs told before now old new r turns left result = Came told before now old new r turns left result
+
+-- The fault of the sink is answered only where the count of its faults rose, and the count never falls.
+pub record RunHasCause (before now : ℕ) (result : Outcome) : Type 0 where
+  pub later : before ≤ now
+  pub failed : result ≡ outcome.SinkFault → Rose before now

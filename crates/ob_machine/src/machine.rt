@@ -1,167 +1,122 @@
-ghost use Rattle.std.specs.Prelude.{◌≡◌, ◌≤◌, ◌<◌, ◌+◌, [], length, take, replicate, pos, IfOk, vec_capacity};
-ghost use Rattle.ob_machine.specs.Machine.{IsMachine, HasPositions, Enters, ArePlaced, words_of_all, cleared};
-ghost use Rattle.ob_machine.specs.Running.{Runs, RunHasCause};
-ghost use Rattle.ob_machine.specs.Turns.{IsBegun};
+ghost use Rattle.std.specs.Prelude.{◌≡◌, ◌≤◌, length, IfOk};
+ghost use Rattle.ob_obj.specs.Images.{AreEnterable};
+ghost use Rattle.ob_image.specs.Cut.{cut_to};
+ghost use Rattle.ob_machine.specs.Machine.{made, Enters, IsEntry, Runs, RunHasCause};
 
-use crate::frame::{Frame, ROOM};
-use crate::image::Module;
-use crate::running::run_code;
-use crate::{Instr, Outcome};
+use crate::Outcome;
+use crate::running::{begin, entry_procedure, run_calls};
+use ob_calls::{Calls, Place};
+use ob_image::Image;
 use ob_io::Sink;
-use ob_tree::{List, Name, Pos, ProcRef};
+use ob_obj::ObjFile;
+use ob_tree::{List, ProcRef};
+use ob_values::State;
+use ob_words::Words;
 use std::alloc::{AllocError, Global};
 use std::marker::Model;
 
-// The words of the globals.
-const WORDS: usize = 262144;
-
-// How many modules there may be.
-const MODULES: usize = 255;
-
-/// A machine: at most 255 modules, by their numbers from 0 on, and the 262,144 words of the globals.
-/// The first word has the address 1, and the variables of each module lie behind those of the
-/// modules before it.
+/// A machine: at most 255 modules with 262,144 words of globals, 1,048,576 words of stack for at most
+/// 4,096 calls, each with at most 256 operands, and a heap.
 #[derive(Drop)]
 pub struct Machine {
-    modules: Vec<Module>,
-    frame: Frame,
+    image: Image,
+    state: State,
+    waiting: Calls,
 }
 
 impl Model for Machine {
     ghost use Rattle.std.specs.Prelude.{◌≤◌, vec_capacity};
-    ghost use Rattle.ob_machine.specs.Held.{Held};
+    ghost use Rattle.ob_machine.specs.Machine.{Held};
 
     ghost Value = { Held };
 
-    ghost use Rattle.ob_machine.specs.Machine.{IsMachine};
+    ghost view = { λ a. record { image = a.image; words = a.state.words.words; heap = a.state.words.next } };
 
-    ghost view = { λ a. record { modules = a.modules.items; globals = a.frame.globals.items } };
-
-    ghost invariant = { λ a. IsMachine (record { modules = a.modules.items; globals = a.frame.globals.items }) × (256 ≤ vec_capacity a.frame.operands) };
+    ghost invariant = { λ a. 257 ≤ vec_capacity a.state.operands };
 }
 
 /// What `Machine::enter` tells.
 #[derive(Clone, Copy, Debug, PartialEq, Eq, Drop)]
 pub struct Entered {
-    /// The number of the module that was entered.
+    /// The number of the first module that was entered.
     pub first: u32,
 }
 
-// The address behind the variables of all modules.
-fn next_address(modules: &[Module]) -> u32
-    requires placed { ArePlaced 1 modules.now }
-    requires fits { words_of_all modules.now ≤ 262144 }
-    ensures { result ≡ words_of_all modules.now + 1 }
-{
-    match modules.last() {
-        Some(unit) => unit.first + unit.words,
-        None => 1,
-    }
-}
-
-// Makes so many words from an index on 0.
-fn clear(frame: &mut Frame, from: usize, count: usize)
-    requires { from + count ≤ length frame.old.globals.items }
-    ensures words { frame.new.globals.items ≡ cleared from count frame.old.globals.items }
-    ensures room { vec_capacity frame.new.operands ≡ vec_capacity frame.old.operands }
-{
-    frame.globals[from..from + count].fill(0);
-}
-
-// Puts the machine before the first instruction of a module, with these turns.
-fn begin(frame: &mut Frame, turns: u32)
-    ensures { IsBegun frame.old frame.new turns }
-{
-    frame.pc = 0;
-    frame.operands.clear();
-    frame.turns = turns;
-}
-
 impl Machine {
-    /// A machine without modules, whose words are all 0. `heap` is from 1 to 4,194,304 words, and has
-    /// no effect yet. An `Err` is a want of memory.
+    /// A machine without modules, with so many words of heap, all words 0 and free. An `Err` is a want
+    /// of memory.
     pub fn new(alloc: Global, heap: u32) -> Result<Machine, AllocError>
         requires some { 1 ≤ heap }
         requires limit { heap ≤ 4194304 }
-        ensures made { IfOk result (λ m. m ≡ record { modules = []; globals = replicate 262144 (pos 0) }) }
-        ensures machine { IfOk result IsMachine }
+        ensures { IfOk result (λ m. m ≡ made heap) }
     {
-        let mut globals = Vec::new(alloc);
-        globals.resize(WORDS, 0)?;
+        let words = Words::new(alloc, heap)?;
+        let waiting = Calls::new(alloc)?;
+        let operands = Vec::with_capacity(alloc, 257)?;
         Ok(Machine {
-            modules: Vec::with_capacity(alloc, MODULES)?,
-            frame: Frame {
-                pc: 0,
-                operands: Vec::with_capacity(alloc, ROOM)?,
-                globals,
+            image: Image::new(alloc),
+            state: State {
+                words,
+                stack: 262_145,
+                operands,
                 turns: 0,
             },
+            waiting,
         })
     }
 
-    /// Puts a module behind those that are there, with 0 in the words of its variables, and tells its
-    /// number. The other words stay.
-    ///
-    /// The machine has at most 254 modules, the variables of all then take at most 262,144 words, and
-    /// the code has at most 262,144 instructions. The indices of the positions ascend strictly and lie
-    /// in the code, and each instruction that can trap or spend a turn has one. An `Err` is a want of
-    /// memory, and leaves the machine as it was.
-    pub fn enter(
-        &mut self,
-        module: Name,
-        words: u32,
-        code: List<Instr>,
-        positions: List<(u32, Pos)>,
-    ) -> Result<Entered, AllocError>
-        requires few { length self.old.modules ≤ 254 }
-        requires room { words_of_all self.old.modules + words ≤ 262144 }
-        requires short { length code ≤ 262144 }
-        requires positions { HasPositions code positions }
-        ensures enters { Enters self.old self.new «module» words code positions result }
-        ensures machine { IsMachine self.new }
+    /// Enters files behind the modules that are there, in order, and tells the number of the first. Each
+    /// file can be entered after those before it. The words of its globals are then its variables, all 0,
+    /// and its strings; the other words stay. An `Err` is a want of memory, and leaves the machine as it
+    /// was.
+    pub fn enter(&mut self, files: List<ObjFile>) -> Result<Entered, AllocError>
+        requires { AreEnterable self.old.image files }
+        ensures { Enters self.old self.new files result }
     {
-        let number = self.modules.len() as u32;
-        let first = next_address(&self.modules);
-        self.modules.push(Module {
-            name: module,
-            words,
-            first,
-            code,
-            positions,
-        })?;
-        clear(&mut self.frame, first as usize - 1, words as usize);
-        Ok(Entered { first: number })
+        let first = self.image.count();
+        self.image.enter(&mut self.state.words, files.as_slice())?;
+        Ok(Entered { first })
     }
 
-    /// Keeps the first so many modules, of which there are at least that many, and takes the others
-    /// out. All words stay as they are.
+    /// Keeps the image of the first modules, of which there are at least so many: the next free word of
+    /// the globals is then the one behind theirs. All words stay. Takes no memory.
     pub fn cut(&mut self, modules: u32)
-        requires { modules ≤ length self.old.modules }
-        ensures cut { self.new ≡ record { modules = take modules self.old.modules; globals = self.old.globals } }
-        ensures machine { IsMachine self.new }
+        requires { modules ≤ length self.old.image.modules }
+        ensures { self.new ≡ record self.old { image = cut_to modules self.old.image } }
     {
-        self.modules.truncate(modules as usize);
+        self.image.cut(modules);
     }
 
-    /// Runs a procedure to its end, by the table of the instructions: procedure 0 of a module, whose
-    /// code begins at instruction 0. It takes no memory, and the modules stay.
+    /// Runs a procedure without parameters and result to its end, by the table of the instructions. It takes
+    /// no memory, and the modules stay.
     ///
-    /// The globals and `turns` are then as the run left them, and the run's text was written. Only
-    /// where the sink failed the answer is `SinkFault`: then a front of the text was written, and nothing
-    /// is promised of the globals and `turns`.
+    /// The words and `turns` are then as the run left them, and the run's text was written. Only where the
+    /// sink failed the answer is `SinkFault`: then a front of the text was written, and nothing is promised of
+    /// the words and `turns`.
     pub fn run<S: Sink>(&mut self, entry: ProcRef, turns: &mut u32, out: &mut S) -> Outcome
-        requires there { entry.module < length self.old.modules }
-        requires body { entry.proc ≡ 0 }
-        ensures runs { Runs (S.tells out.old) (S.taken out.old) (S.taken out.new) self.old self.new entry.module turns.old turns.new result }
-        ensures modules { self.new.modules ≡ self.old.modules }
-        ensures machine { IsMachine self.new }
+        requires { IsEntry self.old.image entry }
+        ensures runs { Runs (S.tells out.old) (S.taken out.old) (S.taken out.new) self.old self.new entry turns.old turns.new result }
+        ensures image { self.new.image ≡ self.old.image }
         ensures told { S.tells out.new ≡ S.tells out.old }
         ensures cause { RunHasCause (S.faults out.old) (S.faults out.new) result }
     {
-        begin(&mut self.frame, *turns);
-        let unit = &self.modules[entry.module as usize];
-        let outcome = run_code(unit, &mut self.frame, out);
-        *turns = self.frame.turns;
+        let procedure = entry_procedure(&self.image, entry);
+        begin(&mut self.state, procedure, *turns);
+        self.waiting.clear();
+        let mut here = Place {
+            unit: entry.module,
+            procedure: entry.proc,
+            first: 262_145,
+            next: procedure.entry,
+        };
+        let outcome = run_calls(
+            &self.image,
+            &mut here,
+            &mut self.waiting,
+            &mut self.state,
+            out,
+        );
+        *turns = self.state.turns;
         outcome
     }
 }

@@ -6,7 +6,7 @@ pub enum Outcome {
     /// The procedure that the run began in returned.
     Done,
     /// An instruction of the module trapped, with this position. Kind 8 is a result outside the range
-    /// of its type, and kind 15 a text without its end, both with the number 0.
+    /// of its type, with the number 0.
     Trap {
         kind: u8,
         number: i32,

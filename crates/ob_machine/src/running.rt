@@ -1,40 +1,42 @@
-ghost use Rattle.std.specs.Prelude.{◌≡◌, ◌≤◌, ◌<◌, length, pos, vec_capacity, slice_get, None, Some};
-ghost use Rattle.ob_machine.specs.Table.{position_at};
-ghost use Rattle.ob_machine.specs.Steps.{Keeps};
-ghost use Rattle.ob_machine.specs.Turns.{TurnDoes, TurnHasCause, work};
+ghost use Rattle.std.specs.Prelude.{◌≡◌, ◌≤◌, ◌<◌, ◌^◌, [], length, vec_len, vec_capacity, slice_get, true, None, Some};
+ghost use Rattle.ob_instr.specs.Rows.{procedure_of};
+ghost use Rattle.ob_instr.specs.Table.{position_at};
+ghost use Rattle.ob_image.specs.Room.{room};
+ghost use Rattle.ob_effect.specs.Bases.{AreBelow};
+ghost use Rattle.ob_effect.specs.Places.{is_call};
+ghost use Rattle.ob_run.specs.Turns.{IsHere};
+ghost use Rattle.ob_machine.specs.Machine.{IsEntry};
+ghost use Rattle.ob_machine.specs.Legs.{LegDoes, LegHasCause, CallDoes, CanRun, IsBegun, left_of};
 
-use crate::frame::Frame;
-use crate::image::Module;
-use crate::print::{put_chars, put_padded};
-use crate::steps::{Step, act};
-use crate::{Instr, Outcome};
-use ob_io::{Sink, write_all};
-use ob_tree::Pos;
-
-fn fetch(unit: &Module, pc: u32) -> Option<Instr>
-    ensures { slice_get unit.now.code pc ≡ result }
-{
-    unit.code.get(pc as usize).copied()
-}
+use crate::Outcome;
+use ob_calls::{Called, Calls, Place, call_or_return};
+use ob_image::{Image, Module};
+use ob_instr::{Instr, Position, Procedure};
+use ob_io::Sink;
+use ob_run::{Pause, go};
+use ob_tree::{Pos, ProcRef};
+use ob_values::State;
 
 // The position of an instruction, where the list has it.
-fn position_at(positions: &[(u32, Pos)], pc: u32) -> Pos
+fn position_at(positions: &[Position], pc: u32) -> Pos
     ensures { result ≡ position_at positions.now pc }
 {
-    for (index, pos) in positions {
-        if *index == pc {
-            return *pos;
+    let mut rest = positions;
+    while let [position, more @ ..] = rest {
+        if position.at == pc {
+            return position.pos;
         }
+        rest = more;
     }
     Pos { line: 0, col: 0 }
 }
 
-fn trap(unit: &Module, pc: u32, kind: u8) -> Outcome
-    ensures { result ≡ Outcome.Trap kind (pos 0) unit.now.name (position_at unit.now.positions pc) }
+fn trap(unit: &Module, pc: u32, kind: u8, number: i32) -> Outcome
+    ensures { result ≡ Outcome.Trap kind number unit.now.name (position_at unit.now.positions pc) }
 {
     Outcome::Trap {
         kind,
-        number: 0,
+        number,
         module: unit.name,
         pos: position_at(unit.positions.as_slice(), pc),
     }
@@ -58,59 +60,173 @@ fn illegal(unit: &Module, pc: u32) -> Outcome
     }
 }
 
-// One instruction, with what it writes. None says that the run goes on.
-#[tactic(auto, using(crate::proofs::Turns::turns, crate::proofs::Turns::work_less))]
-fn turn<S: Sink>(unit: &Module, frame: &mut Frame, out: &mut S) -> Option<Outcome>
-    requires room { 256 ≤ vec_capacity frame.old.operands }
-    requires short { length unit.now.code ≤ 262144 }
-    ensures turn { TurnDoes (S.tells out.old) (S.taken out.old) (S.taken out.new) unit.now frame.old frame.new result }
-    ensures less { result ≡ None → work (length unit.now.code) frame.new < work (length unit.now.code) frame.old }
-    ensures keeps { Keeps frame.old frame.new }
-    ensures told { S.tells out.new ≡ S.tells out.old }
-    ensures cause { TurnHasCause (S.faults out.old) (S.faults out.new) result }
+/// The module of a number that there is.
+pub fn module_at(image: &Image, number: u32) -> &Module
+    requires { number < length image.now.modules }
+    ensures at { slice_get image.now.modules number ≡ Some result.now }
+    ensures short { length result.now.code ≤ 262144 }
+    ensures room { image.now.room ≡ room }
 {
-    let pc = frame.pc;
-    let Some(instr) = fetch(unit, pc) else {
-        return Some(illegal(unit, pc));
+    let _ = image.count();
+    let Some(unit) = image.module(number) else {
+        unreachable!();
     };
-    match act(unit, instr, frame) {
-        Step::Goes => None,
-        Step::Done => Some(Outcome::Done),
-        Step::Trap(kind) => Some(trap(unit, pc, kind)),
-        Step::Spent => Some(turns_spent(unit, pc)),
-        Step::Illegal => Some(illegal(unit, pc)),
-        Step::Char(byte) => match write_all(out, &[byte]) {
-            Ok(()) => None,
-            Err(_) => Some(Outcome::SinkFault),
-        },
-        Step::Text(index, count) => match put_chars(out, &frame.globals[index..index + count]) {
-            Ok(()) => None,
-            Err(_) => Some(Outcome::SinkFault),
-        },
-        Step::Number(number, width) => match put_padded(out, number, width) {
-            Ok(()) => None,
-            Err(_) => Some(Outcome::SinkFault),
-        },
-        Step::Line => match write_all(out, b"\n") {
-            Ok(()) => None,
-            Err(_) => Some(Outcome::SinkFault),
-        },
+    let _ = unit.code.len();
+    unit
+}
+
+// What the instructions of a call read.
+fn read_place<'a>(
+    image: &'a Image,
+    unit: &'a Module,
+    number: u32,
+    first: u32,
+) -> ob_effect::Place<'a>
+    requires at { slice_get image.now.modules number ≡ Some unit.now }
+    requires room { image.now.room ≡ room }
+    ensures here { IsHere result unit.now.code image.now unit.now }
+    ensures unit { result.«module» ≡ number }
+    ensures frame { result.frame ≡ first }
+    ensures count { result.count ≡ length result.descriptors.now.list }
+    ensures few { result.count < 2 ^ 31 }
+    ensures bases { AreBelow result.descriptors.now.list }
+{
+    let types = image.types();
+    ob_effect::Place {
+        module: number,
+        frame: first,
+        first: unit.first,
+        instructions: unit.code.len(),
+        procedures: unit.procedures.len(),
+        variable_links: unit.variable_links.as_slice(),
+        procedure_links: unit.procedure_links.as_slice(),
+        types: unit.types.as_slice(),
+        descriptors: types.table(),
+        count: types.count(),
     }
 }
 
-/// Runs the code of a module to its end, by the table.
-#[tactic(auto, using(crate::proofs::Turns::run_on_by, crate::proofs::Turns::run_start))]
-pub fn run_code<S: Sink>(unit: &Module, frame: &mut Frame, out: &mut S) -> Outcome
-    requires room { 256 ≤ vec_capacity frame.old.operands }
+// The call or the return at a place. None says that the machine goes on.
+#[tactic(auto, using(crate::proofs::Legs::calls))]
+fn call_at(
+    image: &Image,
+    unit: &Module,
+    here: &mut Place,
+    calls: &mut Calls,
+    state: &mut State,
+    instr: Instr,
+) -> Option<Outcome>
+    requires at { slice_get image.now.modules here.old.unit ≡ Some unit.now }
+    requires room { image.now.room ≡ room }
     requires short { length unit.now.code ≤ 262144 }
-    ensures does { TurnDoes (S.tells out.old) (S.taken out.old) (S.taken out.new) unit.now frame.old frame.new (Some result) }
-    ensures keeps { Keeps frame.old frame.new }
-    ensures told { S.tells out.new ≡ S.tells out.old }
-    ensures cause { TurnHasCause (S.faults out.old) (S.faults out.new) (Some result) }
+    requires instr { slice_get unit.now.code here.old.next ≡ Some instr }
+    requires call { is_call instr.op ≡ true }
+    requires can { CanRun (length image.now.modules) here.old calls.old state.old }
+    ensures does { CallDoes image.now here.old here.new calls.old calls.new state.old state.new result }
+    ensures less { result ≡ None → left_of state.new calls.new < left_of state.old calls.old }
+    ensures can { result ≡ None → CanRun (length image.now.modules) here.new calls.new state.new }
+    ensures room { 257 ≤ vec_capacity state.new.operands }
 {
-    'turns: loop {
-        if let Some(outcome) = turn(unit, frame, out) {
+    let pc = here.next;
+    match call_or_return(image, unit, here, calls, state, instr) {
+        Called::Goes => {
+            let _ = calls.len();
+            if state.operands.len() > 256 {
+                return Some(illegal(unit, pc));
+            }
+            None
+        }
+        Called::Done => Some(Outcome::Done),
+        Called::Traps(kind) => Some(trap(unit, pc, kind, 0)),
+        Called::Spends => Some(turns_spent(unit, pc)),
+        Called::Unable => Some(illegal(unit, pc)),
+    }
+}
+
+// The instructions of a call up to the next call or return, and this one. None says that the machine goes
+// on.
+#[tactic(auto, using(crate::proofs::Legs::legs))]
+fn leg<S: Sink>(
+    image: &Image,
+    here: &mut Place,
+    calls: &mut Calls,
+    state: &mut State,
+    out: &mut S,
+) -> Option<Outcome>
+    requires can { CanRun (length image.now.modules) here.old calls.old state.old }
+    ensures does { LegDoes (S.tells out.old) (S.taken out.old) (S.taken out.new) image.now here.old here.new calls.old calls.new state.old state.new result }
+    ensures less { result ≡ None → left_of state.new calls.new < left_of state.old calls.old }
+    ensures can { result ≡ None → CanRun (length image.now.modules) here.new calls.new state.new }
+    ensures room { 257 ≤ vec_capacity state.new.operands }
+    ensures told { S.tells out.new ≡ S.tells out.old }
+    ensures cause { LegHasCause (S.faults out.old) (S.faults out.new) result }
+{
+    let unit = module_at(image, here.unit);
+    let place = read_place(image, unit, here.unit, here.first);
+    let mut pc = here.next;
+    let pause = go(&place, unit.code.as_slice(), &mut pc, state, out);
+    here.next = pc;
+    match pause {
+        Pause::Calls(instr) => call_at(image, unit, here, calls, state, instr),
+        Pause::Traps { kind, number } => Some(trap(unit, pc, kind, number)),
+        Pause::Spent => Some(turns_spent(unit, pc)),
+        Pause::Illegal => Some(illegal(unit, pc)),
+        Pause::SinkFault => Some(Outcome::SinkFault),
+    }
+}
+
+/// Runs from a place to the end of the run, by the table. Takes no memory.
+#[tactic(auto, using(crate::proofs::Legs::run_on_by, crate::proofs::Legs::run_start))]
+pub fn run_calls<S: Sink>(
+    image: &Image,
+    here: &mut Place,
+    calls: &mut Calls,
+    state: &mut State,
+    out: &mut S,
+) -> Outcome
+    requires can { CanRun (length image.now.modules) here.old calls.old state.old }
+    ensures does { LegDoes (S.tells out.old) (S.taken out.old) (S.taken out.new) image.now here.old here.new calls.old calls.new state.old state.new (Some result) }
+    ensures room { 257 ≤ vec_capacity state.new.operands }
+    ensures told { S.tells out.new ≡ S.tells out.old }
+    ensures cause { LegHasCause (S.faults out.old) (S.faults out.new) (Some result) }
+{
+    'legs: loop {
+        if let Some(outcome) = leg(image, here, calls, state, out) {
             return outcome;
         }
     }
+}
+
+/// The procedure that a run begins in.
+pub fn entry_procedure(image: &Image, entry: ProcRef) -> &Procedure
+    requires { IsEntry image.now entry }
+    ensures there { procedure_of image.now entry ≡ Some result.now }
+    ensures params { result.now.params ≡ [] }
+    ensures locals { result.now.locals ≤ 1048576 }
+    ensures unit { entry.module < length image.now.modules }
+    ensures room { image.now.room ≡ room }
+{
+    let _ = image.count();
+    let Some(unit) = image.module(entry.module) else {
+        unreachable!();
+    };
+    let Some(procedure) = unit.procedures.get(entry.proc as usize) else {
+        unreachable!();
+    };
+    procedure
+}
+
+/// Puts the machine before the first instruction of a procedure without parameters, with these turns and no
+/// operands. Its locals are then 0.
+#[tactic(auto, using(crate::proofs::Runs::begins_so, crate::proofs::Runs::stack_so))]
+pub fn begin(state: &mut State, procedure: &Procedure, turns: u32)
+    requires params { procedure.now.params ≡ [] }
+    requires locals { procedure.now.locals ≤ 1048576 }
+    ensures { IsBegun state.old state.new procedure.now turns }
+{
+    let _ = state.words.len();
+    let _ = state.words.clear(262_145, procedure.locals);
+    state.stack = 262_145 + procedure.locals;
+    state.operands.clear();
+    state.turns = turns;
 }

@@ -13,7 +13,7 @@ use Rattle.ob_shell.specs.Model.{Files, World, Answer, start, answer}
 use Rattle.ob_shell.specs.Lines.{lines_of, line_of, text_from, refused_from, within, exceeds, done_lines, session_text}
 use Rattle.ob_shell.specs.Splits.{Stops, GoesOn}
 use Rattle.ob_shell.specs.Session.{Going, Goes, Ends, StatusIs, Behind, is_whole}
-use Rattle.ob_stack.specs.Machine.{Held, made}
+use Rattle.ob_machine.specs.Machine.{Held, made}
 use Rattle.ob_shell.specs.Does.{Shows, LineDoes, AllBuilt, AllLive, source_of}
 
 -- ONE LINE

@@ -7,12 +7,12 @@ use Rattle.std.proofs.lemmas.List.{append-nil, length-append}
 use Rattle.std.proofs.lemmas.Bool.{false≢true}
 use Rattle.ob_io.specs.Io.{AddsFront}
 use Rattle.ob_io.specs.Fronts.{front_later, front_more}
-use Rattle.ob_stack.specs.declared.outcome.Outcome.{Outcome}
-use Rattle.ob_stack.specs.declared.outcome.Outcome.TheVariants as outcome
+use Rattle.ob_machine.specs.declared.outcome.Outcome.{Outcome}
+use Rattle.ob_machine.specs.declared.outcome.Outcome.TheVariants as outcome
 use Rattle.ob_instr.specs.Image as image
 use Rattle.ob_instr.specs.Image.{Image, ModuleImage, Room, World, End, Point, Go, Over}
 use Rattle.ob_instr.specs.Table.{Ends}
-use Rattle.ob_stack.specs.Machine.{Held, outcome_of, name_of, name_in, world_of, Came, CutShort, Runs}
+use Rattle.ob_machine.specs.Machine.{Held, outcome_of, name_of, name_in, world_of, Came, CutShort, Runs}
 use Rattle.ob_first.specs.declared.tree.Module.{Module}
 use Rattle.ob_first.specs.View.{stmts_view}
 use Rattle.ob_first.specs.Meaning.{Trapped, Spent, Res, Gives, Stops, last}

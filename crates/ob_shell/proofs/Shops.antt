@@ -14,7 +14,7 @@ use Rattle.ob_instr.specs.Image.{ModuleImage, Room}
 use Rattle.ob_instr.specs.Rows.{procedures_of}
 use Rattle.ob_obj.specs.declared.file.ObjFile.{ObjFile}
 use Rattle.ob_obj.specs.Images.{same, module_from, module_of as image_module, AreEnterable}
-use Rattle.ob_stack.specs.Machine.{Held, IsEntry}
+use Rattle.ob_machine.specs.Machine.{Held, IsEntry}
 use Rattle.ob_first.specs.Meaning.{Variables, first_values}
 use Rattle.ob_scheme.specs.Object.{procedure_at, object_file}
 use Rattle.ob_scheme.specs.Law.{names_of, words_of, name_of, word_of, command_of}

@@ -5,13 +5,13 @@ use Rattle.std.specs.List.{All}
 use Rattle.std.specs.declared.rc.Rc.{Rc}
 use Rattle.std.specs.declared.alloc.Global.{Global}
 use Rattle.ob_io.specs.Io.{AddsFront, Rose}
-use Rattle.ob_stack.specs.declared.outcome.Outcome.{Outcome}
-use Rattle.ob_stack.specs.declared.outcome.Outcome.TheVariants as outcome
+use Rattle.ob_machine.specs.declared.outcome.Outcome.{Outcome}
+use Rattle.ob_machine.specs.declared.outcome.Outcome.TheVariants as outcome
 use Rattle.ob_instr.specs.Image.{ModuleImage}
 use Rattle.ob_obj.specs.declared.file.ObjFile.{ObjFile}
 use Rattle.ob_obj.specs.Grammar.{file}
 use Rattle.ob_obj.specs.Images.{image_of, words_with}
-use Rattle.ob_stack.specs.Machine.{Held, Runs, room}
+use Rattle.ob_machine.specs.Machine.{Held, Runs, room}
 use Rattle.ob_first.specs.declared.tree.Module.{Module}
 use Rattle.ob_first.specs.View.{stmts_view}
 use Rattle.ob_first.specs.Meaning.{Variables, Res, last}

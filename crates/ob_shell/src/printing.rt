@@ -7,7 +7,7 @@ ghost use Rattle.ob_shell.specs.Does.{PrintDoes, SinkCause, outcome_report};
 use crate::shop::Stop;
 use itoa::Buffer;
 use ob_io::{Failed, Sink, write_all};
-use ob_stack::Outcome;
+use ob_machine::Outcome;
 
 /// Prints texts, one behind the other. At a fault a front of them is printed.
 #[tactic(auto, using(ob_io::specs::Fronts::front_more, ob_io::specs::Fronts::front_later))]

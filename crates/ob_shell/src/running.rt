@@ -1,7 +1,7 @@
 ghost use Rattle.std.specs.Prelude.{◌≡◌, ◌<◌, ◌++◌, true, List, Some, length, slice_get, codes, decimal};
 ghost use Rattle.std.specs.declared.rc.Rc.{Rc as Counted};
 ghost use Rattle.std.specs.declared.alloc.Global.{Global as Heap};
-ghost use Rattle.ob_stack.specs.Machine.{IsEntry};
+ghost use Rattle.ob_machine.specs.Machine.{IsEntry};
 ghost use Rattle.ob_first.specs.declared.tree.Module.{Module};
 ghost use Rattle.ob_scheme.specs.Law.{Simulation, command_of};
 ghost use Rattle.ob_shell.specs.declared.shop.Build.{Build as Built};
@@ -13,8 +13,8 @@ use crate::printing::tell;
 use crate::shop::Stop;
 use itoa::Buffer;
 use ob_io::Sink;
+use ob_machine::{Machine, Outcome};
 use ob_scheme::simulation;
-use ob_stack::{Machine, Outcome};
 use ob_tree::{Pos, ProcRef};
 
 /// The turns of a command.

@@ -8,7 +8,7 @@ use crate::line::do_line;
 use crate::lines::next_line;
 use crate::shop::{Shop, Stop};
 use ob_io::{Folder, ReadFault, Sink, Source, read_all};
-use ob_stack::Machine;
+use ob_machine::Machine;
 use std::alloc::Global;
 
 /// The most bytes of a script.

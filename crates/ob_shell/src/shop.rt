@@ -1,4 +1,4 @@
-use ob_stack::Machine;
+use ob_machine::Machine;
 use ob_tree::{Name, Text};
 use std::rc::Rc;
 

@@ -13,9 +13,9 @@ returns-in-Goes-clause-comes c =
 
 pub returns-in_default : goal.returns-in_default
 returns-in_default c = record {
-    comes = λ img. kept img c.args.here.now c.leave.new.here c.args.waiting.now c.leave.new.waiting c.args.state.now c.leave.new.state c.args.given c.leave.result c.in_default.not-Goes (c.leave.ensures.comes img);
-    few = omega (arith, c.leave.ensures.few);
-    capacity = c.leave.ensures.capacity;
-    first = c.leave.ensures.first;
-    stack = c.leave.ensures.stack;
-  }
+  comes = λ img. kept img c.args.here.now c.leave.new.here c.args.waiting.now c.leave.new.waiting c.args.state.now c.leave.new.state c.args.given c.leave.result c.in_default.not-Goes (c.leave.ensures.comes img);
+  few = omega (arith, c.leave.ensures.few);
+  capacity = c.leave.ensures.capacity;
+  first = c.leave.ensures.first;
+  stack = c.leave.ensures.stack;
+}

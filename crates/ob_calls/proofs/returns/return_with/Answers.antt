@@ -16,9 +16,9 @@ returns-clause-comes c =
     let has : Some true ≡ option_map (λ q. q.has_result) (slice_get procedures here.procedure) = rw c.if-not-has.false at c.in-Some.ensures in
     let g : SFits w32 c.in-Some-last.given = search rules in
     λ img u out.
-      let w = world_of c.args.state.now out in
-      let ops = ops_of c.args.state.now in
-      ap (come_to img u here.unit here.procedure here.first c.args.waiting.now here.next w) (tested_one (slice_get procedures here.procedure) true ops (λ b v. if b then Leave (v ∷ []) w else Unable) has ∙ ap (λ l. on_one (reverse l) (λ v rest. Leave (v ∷ []) w)) (sym c.deref.ensures.value) ∙ c.in-Some-last.ensures (λ v. Leave (v ∷ []) w)) ∙ ap (λ v. come_to img u here.unit here.procedure here.first c.args.waiting.now here.next w (Leave (v ∷ []) w)) (sym (to_z-of_z w32 c.in-Some-last.given g)) ∙ c.leave_with.ensures.comes img u out
+    let w = world_of c.args.state.now out in
+    let ops = ops_of c.args.state.now in
+    ap (come_to img u here.unit here.procedure here.first c.args.waiting.now here.next w) (tested_one (slice_get procedures here.procedure) true ops (λ b v. if b then Leave (v ∷ []) w else Unable) has ∙ ap (λ l. on_one (reverse l) (λ v rest. Leave (v ∷ []) w)) (sym c.deref.ensures.value) ∙ c.in-Some-last.ensures (λ v. Leave (v ∷ []) w)) ∙ ap (λ v. come_to img u here.unit here.procedure here.first c.args.waiting.now here.next w (Leave (v ∷ []) w)) (sym (to_z-of_z w32 c.in-Some-last.given g)) ∙ c.leave_with.ensures.comes img u out
 
 pub returns-in_default-last-clause-comes : goal.returns-in_default-last-clause-comes
 returns-in_default-last-clause-comes c =
@@ -26,6 +26,6 @@ returns-in_default-last-clause-comes c =
     let procedures = c.args.unit.now.procedures in
     let has = c.in-Some.has in
     λ img u out.
-      let w = world_of c.args.state.now out in
-      let ops = ops_of c.args.state.now in
-      ap (come_to img u here.unit here.procedure here.first c.args.waiting.now here.next w) (tested_one (slice_get procedures here.procedure) has ops (λ b v. if b then Leave (v ∷ []) w else Unable) c.in-Some.ensures ∙ ap (λ l. on_one (reverse l) (λ v rest. if has then Leave (v ∷ []) w else Unable)) (sym c.deref.ensures.value) ∙ c.in_default-last.ensures (λ v. if has then Leave (v ∷ []) w else Unable))
+    let w = world_of c.args.state.now out in
+    let ops = ops_of c.args.state.now in
+    ap (come_to img u here.unit here.procedure here.first c.args.waiting.now here.next w) (tested_one (slice_get procedures here.procedure) has ops (λ b v. if b then Leave (v ∷ []) w else Unable) c.in-Some.ensures ∙ ap (λ l. on_one (reverse l) (λ v rest. if has then Leave (v ∷ []) w else Unable)) (sym c.deref.ensures.value) ∙ c.in_default-last.ensures (λ v. if has then Leave (v ∷ []) w else Unable))

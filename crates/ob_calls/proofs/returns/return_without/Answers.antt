@@ -12,5 +12,5 @@ returns-clause-comes c =
     let procedures = c.args.unit.now.procedures in
     let has : Some false ≡ option_map (λ q. q.has_result) (slice_get procedures here.procedure) = rw c.if-has.false at c.in-Some.ensures in
     λ img u out.
-      let w = world_of c.args.state.now out in
-      ap (come_to img u here.unit here.procedure here.first c.args.waiting.now here.next w) (tested (slice_get procedures here.procedure) false Unable (Leave [] w) has) ∙ c.leave.ensures.comes img u out
+    let w = world_of c.args.state.now out in
+    ap (come_to img u here.unit here.procedure here.first c.args.waiting.now here.next w) (tested (slice_get procedures here.procedure) false Unable (Leave [] w) has) ∙ c.leave.ensures.comes img u out

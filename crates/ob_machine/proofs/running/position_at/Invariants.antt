@@ -1,6 +1,9 @@
-use Rattle.std.proofs.Common.{◌≡◌, drop}
-use Rattle.ob_machine.specs.Table.{position_at}
+use Rattle.std.proofs.Common.{◌≡◌, length}
+use Rattle.ob_instr.specs.Table.{position_at}
 use Rattle.ob_machine.proofs.running.position_at.Given as goal
 
-abbrev pub invariant-loop-index : goal.invariant-loop-index
-invariant-loop-index l = position_at l.positions l.pc ≡ position_at (drop l.index-index l.positions) l.pc
+abbrev pub invariant-loop-rest : goal.invariant-loop-rest
+invariant-loop-rest l = position_at l.positions l.pc ≡ position_at l.rest l.pc
+
+abbrev pub decreases-loop-rest : goal.decreases-loop-rest
+decreases-loop-rest l = length l.rest

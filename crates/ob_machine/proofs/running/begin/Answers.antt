@@ -1,6 +1,6 @@
 use Rattle.std.proofs.Common.{◌≡◌, ◌+◌, ◌≤◌, length, refl, arith}
-use Rattle.ob_stack.proofs.Runs.{begins_so, stack_so}
-use Rattle.ob_stack.proofs.running.begin.Goals as goal
+use Rattle.ob_machine.proofs.Runs.{begins_so, stack_so}
+use Rattle.ob_machine.proofs.running.begin.Goals as goal
 
 pub returns : goal.returns
 returns c =

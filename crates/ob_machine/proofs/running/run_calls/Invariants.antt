@@ -1,6 +1,6 @@
 use Rattle.std.proofs.Common.{◌≡◌, ◌≤◌, length, None}
-use Rattle.ob_stack.specs.Legs.{LegDoes, CanRun, left_of}
-use Rattle.ob_stack.proofs.running.run_calls.Given as goal
+use Rattle.ob_machine.specs.Legs.{LegDoes, CanRun, left_of}
+use Rattle.ob_machine.proofs.running.run_calls.Given as goal
 
 abbrev pub invariant-legs : goal.invariant-legs
 invariant-legs g l = record {

@@ -1,7 +1,7 @@
 use Rattle.std.proofs.Common.{◌≡◌, ◌<◌, ◌≤◌, length, Some, ap, sym, subst, arith}
-use Rattle.ob_stack.specs.Legs.{CallDoes}
-use Rattle.ob_stack.proofs.Legs.{goes_on, has_many, traps, is_spent, is_unable}
-use Rattle.ob_stack.proofs.running.call_at.Goals as goal
+use Rattle.ob_machine.specs.Legs.{CallDoes}
+use Rattle.ob_machine.proofs.Legs.{goes_on, has_many, traps, is_spent, is_unable}
+use Rattle.ob_machine.proofs.running.call_at.Goals as goal
 
 pub returns-then-len-gt256-clause-does : goal.returns-then-len-gt256-clause-does
 returns-then-len-gt256-clause-does c =

@@ -25,10 +25,10 @@ use Rattle.ob_calls.specs.declared.calling.Called.{Called}
 use Rattle.ob_calls.specs.declared.calling.Called.TheVariants as called
 use Rattle.ob_calls.specs.Reached as reaching
 use Rattle.ob_calls.specs.Reached.{at_place, reached}
-use Rattle.ob_stack.specs.declared.outcome.Outcome.{Outcome}
-use Rattle.ob_stack.specs.declared.outcome.Outcome.TheVariants as outcome
-use Rattle.ob_stack.specs.Machine.{name_of, name_in, outcome_of}
-use Rattle.ob_stack.specs.Legs.{EndsAt, Leg, LegDoes, LegHasCause, Wrote, CallDoes, CanRun, left_of}
+use Rattle.ob_machine.specs.declared.outcome.Outcome.{Outcome}
+use Rattle.ob_machine.specs.declared.outcome.Outcome.TheVariants as outcome
+use Rattle.ob_machine.specs.Machine.{name_of, name_in, outcome_of}
+use Rattle.ob_machine.specs.Legs.{EndsAt, Leg, LegDoes, LegHasCause, Wrote, CallDoes, CanRun, left_of}
 
 nothing : (b : List ℕ) → b ≡ b ++ []
 nothing b = sym (append-nil b)

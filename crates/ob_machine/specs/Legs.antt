@@ -12,9 +12,9 @@ use Rattle.ob_values.specs.Effects.{world_of}
 use Rattle.ob_run.specs.Turns.{Begins, Comes}
 use Rattle.ob_calls.specs.declared.calls.Place.{Place}
 use Rattle.ob_calls.specs.Reached.{at_place}
-use Rattle.ob_stack.specs.declared.outcome.Outcome.{Outcome}
-use Rattle.ob_stack.specs.declared.outcome.Outcome.TheVariants as outcome
-use Rattle.ob_stack.specs.Machine.{outcome_of}
+use Rattle.ob_machine.specs.declared.outcome.Outcome.{Outcome}
+use Rattle.ob_machine.specs.declared.outcome.Outcome.TheVariants as outcome
+use Rattle.ob_machine.specs.Machine.{outcome_of}
 
 -- from a point the run comes to an end, in a world, and the outcome tells it
 pub record EndsAt (img : Image) (from : Point) (last : World) (result : Outcome) : Type 0 where
