@@ -250,7 +250,7 @@ fn module_of(alloc: Global, text: &str) -> Result<ObjFile, Fail> {
     let mut procedures = List::new(alloc);
     procedures.push(procedure(alloc, 0, "none")?)?;
     for (text, kind) in PROCEDURES {
-        procedures.push(procedure(alloc, code.len() as u32, kind)?)?;
+        procedures.push(procedure(alloc, code.len().min(1_000) as u32, kind)?)?;
         put_code(&mut code, text)?;
     }
     let mut strings = List::new(alloc);
@@ -299,16 +299,19 @@ fn module_of(alloc: Global, text: &str) -> Result<ObjFile, Fail> {
 fn end_of(text: &str) -> Result<End, Fail> {
     let mut words = text.split(' ');
     let kind = words.next().unwrap_or("");
-    let numbers: (i64, i64, i64) = (
-        words.next().unwrap_or("0").parse()?,
-        words.next().unwrap_or("0").parse()?,
-        words.next().unwrap_or("0").parse()?,
-    );
+    if kind == "trap" {
+        let trap: u8 = words.next().unwrap_or("").parse()?;
+        let number: i32 = words.next().unwrap_or("").parse()?;
+        let at: u32 = words.next().unwrap_or("").parse()?;
+        return Ok(End::Trap(trap, number, at));
+    }
+    if kind == "done" {
+        return Ok(End::Done);
+    }
+    let at: u32 = words.next().unwrap_or("").parse()?;
     match kind {
-        "done" => Ok(End::Done),
-        "trap" => Ok(End::Trap(numbers.0 as u8, numbers.1 as i32, numbers.2 as u32)),
-        "spent" => Ok(End::Spent(numbers.0 as u32)),
-        "illegal" => Ok(End::Illegal(numbers.0 as u32)),
+        "spent" => Ok(End::Spent(at)),
+        "illegal" => Ok(End::Illegal(at)),
         _ => Err("no end".into()),
     }
 }

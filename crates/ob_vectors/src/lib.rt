@@ -124,9 +124,9 @@ mod tests {
         for _ in 0..9 {
             put_number(&mut bytes, 0)?;
         }
-        put_number(&mut bytes, types.len() as u32)?;
+        put_number(&mut bytes, types.len().min(9) as u32)?;
         for name in types {
-            bytes.extend_from_slice(&(name.len() as u16).to_be_bytes())?;
+            bytes.extend_from_slice(&(name.len().min(99) as u16).to_be_bytes())?;
             bytes.extend_from_slice(name)?;
             // no base, one word, no bound procedures
             bytes.push(0)?;
@@ -145,7 +145,7 @@ mod tests {
             bytes.extend_from_slice(b"\x47\x00\x00\x00\x04\x00\x00\x00\x00".as_slice())?;
         }
         bytes.extend_from_slice(b"\x45\x00\x00\x00\x00\x00\x00\x00\x00".as_slice())?;
-        put_number(&mut bytes, positions.len() as u32)?;
+        put_number(&mut bytes, positions.len().min(9) as u32)?;
         for at in positions {
             put_number(&mut bytes, *at)?;
             put_number(&mut bytes, 1)?;
