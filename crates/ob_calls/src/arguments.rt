@@ -4,7 +4,7 @@ ghost use Rattle.ob_instr.specs.Rows.{copy_words};
 ghost use Rattle.ob_calls.specs.Copies.{array_size, copy_size};
 
 use ob_instr::Param;
-use ob_words::Words;
+use ob_store::Words;
 
 /// The words behind so many.
 pub fn behind(words: &[i32], count: usize) -> &[i32]

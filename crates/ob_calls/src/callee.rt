@@ -5,8 +5,8 @@ ghost use Rattle.ob_calls.specs.Callees.{callee_effect, IsWithin};
 
 use ob_image::{Image, Module};
 use ob_instr::Instr;
+use ob_store::Words;
 use ob_tree::ProcRef;
-use ob_words::Words;
 
 /// What the instruction of a call names.
 #[derive(Clone, Copy, Debug, PartialEq, Eq, Drop)]

@@ -9,9 +9,9 @@ use crate::calls::{Calls, Place};
 use crate::entering::enter_words;
 use ob_image::Image;
 use ob_instr::Procedure;
+use ob_store::Words;
 use ob_tree::ProcRef;
 use ob_values::State;
-use ob_words::Words;
 
 /// What a call or a return came to.
 #[derive(Clone, Copy, Debug, PartialEq, Eq, Drop)]

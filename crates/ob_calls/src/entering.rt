@@ -5,7 +5,7 @@ ghost use Rattle.ob_calls.specs.Copies.{copy_size, with_one};
 
 use crate::arguments::{behind, copy_of};
 use ob_instr::{Param, Procedure};
-use ob_words::Words;
+use ob_store::Words;
 
 // Copies so many words to an address, which is then put into a slot.
 fn put_copy(words: &mut Words, slot: u32, next: u32, from: i32, count: u32)

@@ -15,8 +15,8 @@ use crate::returns::{return_with, return_without};
 use crate::rows::call_it;
 use ob_image::{Image, Module};
 use ob_instr::{Instr, Opcode};
+use ob_store::Words;
 use ob_values::State;
-use ob_words::Words;
 
 // What the instruction of a call names.
 fn callee_of(

@@ -8,8 +8,8 @@ ghost use Rattle.ob_calls.specs.Starts.{start_of};
 use crate::callee::Callee;
 use ob_image::{Image, Module, Types};
 use ob_instr::Instr;
+use ob_store::Words;
 use ob_tree::ProcRef;
-use ob_words::Words;
 
 // How many operands stand below the last ones, so many and some more, where they are there.
 fn start_of(len: usize, count: i32, more: usize) -> Option<usize>

@@ -6,8 +6,8 @@ ghost use Rattle.ob_values.specs.Effects.{Does, Keeps};
 
 use crate::memory::copy_words;
 use crate::types::item_of;
+use ob_store::Words;
 use ob_values::{State, Step, take_three};
-use ob_words::Words;
 
 // Whether so many words can be copied.
 fn can_copy(words: &Words, to: i32, from: i32, count: u32) -> bool

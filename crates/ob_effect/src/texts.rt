@@ -4,8 +4,8 @@ ghost use Rattle.ob_values.specs.Effects.{Does, Keeps};
 ghost use Rattle.ob_effect.specs.Texts.{TextIs, TextIsFrom, IsOrder, text};
 
 use crate::jumps::below;
+use ob_store::Words;
 use ob_values::{State, Step, push, take_four};
-use ob_words::Words;
 use std::cmp::Ordering;
 
 /// How the text of a character array ends.

@@ -6,10 +6,10 @@ ghost use Rattle.ob_values.specs.Effects.{Does, Keeps};
 ghost use Rattle.ob_effect.specs.Bases.{AreBelow};
 
 use crate::jumps::below;
+use ob_store::Words;
 use ob_tdesc::{Descriptors, Steps};
 use ob_tree::ProcRef;
 use ob_values::{State, Step, push, push_word, take};
-use ob_words::Words;
 use std::marker::Brand;
 use std::sync::ledger::{Blank, Ledger};
 

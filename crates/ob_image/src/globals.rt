@@ -6,7 +6,7 @@ ghost use Rattle.ob_obj.specs.Images.{global_words, string_words};
 ghost use Rattle.ob_image.specs.Globals.{AreWithin, words_from};
 
 use ob_obj::{ObjFile, StringConst};
-use ob_words::Words;
+use ob_store::Words;
 
 /// The last address of the globals, and one more.
 pub const GLOBALS_END: u32 = 262_145;

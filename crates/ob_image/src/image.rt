@@ -14,8 +14,8 @@ use crate::places::{
 };
 use crate::types::Types;
 use ob_obj::{ObjFile, RecordType};
+use ob_store::Words;
 use ob_tree::List;
-use ob_words::Words;
 use std::alloc::{AllocError, Global};
 use std::marker::Model;
 

@@ -9,9 +9,9 @@ use ob_calls::{Calls, Place};
 use ob_image::Image;
 use ob_io::Sink;
 use ob_obj::ObjFile;
+use ob_store::Words;
 use ob_tree::{List, ProcRef};
 use ob_values::State;
-use ob_words::Words;
 use std::alloc::{AllocError, Global};
 use std::marker::Model;
 

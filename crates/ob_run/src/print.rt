@@ -5,7 +5,7 @@ ghost use Rattle.ob_instr.specs.Rows.{columns, padded, low_byte, low_bytes};
 use itoa::Buffer;
 use ob_effect::word_behind;
 use ob_io::{Failed, Sink, write_all};
-use ob_words::Words;
+use ob_store::Words;
 
 // Writes so many blanks.
 fn put_blanks<S: Sink>(out: &mut S, count: u32) -> Result<(), Failed>

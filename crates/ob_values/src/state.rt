@@ -1,4 +1,4 @@
-use ob_words::Words;
+use ob_store::Words;
 
 /// What the instructions change.
 #[derive(Drop)]

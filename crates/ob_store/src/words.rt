@@ -13,7 +13,7 @@ pub struct Words {
 
 impl Model for Words {
     ghost use Rattle.ob_mem.specs.Words.{Held};
-    ghost use Rattle.ob_words.specs.Kept.{IsKept};
+    ghost use Rattle.ob_store.specs.Kept.{IsKept};
 
     ghost Value = { Held };
 

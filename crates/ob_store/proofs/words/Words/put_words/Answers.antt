@@ -1,7 +1,7 @@
 use Rattle.std.proofs.Common.{rules, length, w64, arith}
 use Rattle.std.proofs.lemmas.Int.{ints, to_z-of_z}
-use Rattle.ob_words.proofs.Puts.{put_step, small_place}
-use Rattle.ob_words.proofs.words.Words.put_words.Goals as goal
+use Rattle.ob_store.proofs.Puts.{put_step, small_place}
+use Rattle.ob_store.proofs.words.Words.put_words.Goals as goal
 
 pub words-preserved : goal.words-preserved
 words-preserved c =

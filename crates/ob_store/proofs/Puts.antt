@@ -5,7 +5,7 @@ use Rattle.std.proofs.lemmas.Bool.Decides.{nat_tests}
 use Rattle.std.proofs.lemmas.List.{length-take-le, take-append-drop}
 use Rattle.std.proofs.Math.Seq.{drop-cons, take-suc, set-append_seam}
 use Rattle.ob_mem.specs.Words.{Held, are_there, before, with_words, stored}
-use Rattle.ob_words.proofs.Kept.{length_with}
+use Rattle.ob_store.proofs.Kept.{length_with}
 
 pub with_none : (words : List ℤ) (x : ℤ) → with_words words x [] ≡ words
 with_none words x = let e : before x + 0 ≡ before x = omega arith in rw e (take-append-drop (before x) words)

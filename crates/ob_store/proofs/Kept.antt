@@ -7,7 +7,7 @@ use Rattle.std.proofs.lemmas.Bool.Decides.{nat_tests}
 use Rattle.std.proofs.lemmas.List.{length-take-le, length-replicate, length-set}
 use Rattle.std.proofs.lemmas.List.Elements.{All-append, All-take, All-drop, All-replicate, All-set}
 use Rattle.ob_mem.specs.Words.{Held, are_there, before, words_at, with_words, stored, copied, cleared, heap_taken}
-use Rattle.ob_words.specs.Kept.{IsKept}
+use Rattle.ob_store.specs.Kept.{IsKept}
 
 abbrev Fits : List ℤ → Type 0
 Fits words = All (FitsSigned w32) words
