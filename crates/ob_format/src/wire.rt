@@ -4,6 +4,7 @@ ghost use Rattle.ob_format.specs.Format.{Format, IsExact, Adds, Gives, Finds, wo
 ghost use Rattle.ob_format.specs.Exact.{word32_exact, list_exact, optional_exact, byte_exact, int_exact};
 ghost use Rattle.ob_format.specs.Order.{rises, differ};
 ghost use Rattle.std.specs.List.{list_all};
+ghost use Rattle.std.specs.Result.{IfErr};
 ghost use Rattle.std.specs.Ordering.{is_eq};
 ghost use Rattle.std.specs.declared.cmp.Ordering.{Ordering};
 
@@ -149,7 +150,9 @@ impl Wire for i32 {
 /// What follows the fixed bytes `front`; `Damaged` exactly where the bytes do not begin with them.
 #[tactic(auto, unfolding(crate::specs::Format::skip_at))]
 pub fn skip<'a>(front: &[u8], bytes: &'a [u8]) -> Result<&'a [u8], Fault>
-    ensures { Gives (λ x. x.now) result (skip_at front.now bytes.now) }
+    ensures found { Gives (λ x. x.now) result (skip_at front.now bytes.now) }
+    // It takes no memory.
+    ensures damaged { IfErr result (λ fault. fault ≡ Fault.Damaged) }
 {
     let mut left = front;
     let mut rest = bytes;

@@ -28,117 +28,46 @@ fn shape_within<'a, T: Types>(types: &'a T, t: &'a TypeRef) -> Option<&'a Desc>
     shape_of(types, target_within(types, t))
 }
 
-fn is_open_array(desc: &Desc) -> bool
-    ensures { result ≡ is_open desc.now }
-{
-    match desc {
-        Desc::OpenArray(_, _) => true,
-        Desc::Const(_) => false,
-        Desc::Var(_, _) => false,
-        Desc::Proc(_) => false,
-        Desc::Alias(_, _) => false,
-        Desc::Array(_, _, _) => false,
-        Desc::Pointer(_, _) => false,
-        Desc::ProcType(_, _) => false,
-        Desc::Record(_) => false,
-    }
-}
-
-fn has_extensions(desc: &Desc) -> bool
-    ensures { result ≡ is_extensible desc.now }
-{
-    match desc {
-        Desc::Record(_) => true,
-        Desc::Pointer(_, _) => true,
-        Desc::Const(_) => false,
-        Desc::Var(_, _) => false,
-        Desc::Proc(_) => false,
-        Desc::Alias(_, _) => false,
-        Desc::Array(_, _, _) => false,
-        Desc::OpenArray(_, _) => false,
-        Desc::ProcType(_, _) => false,
-    }
-}
-
-fn may_be_nil(desc: &Desc) -> bool
-    ensures { result ≡ has_nil desc.now }
-{
-    match desc {
-        Desc::Pointer(_, _) => true,
-        Desc::ProcType(_, _) => true,
-        Desc::Const(_) => false,
-        Desc::Var(_, _) => false,
-        Desc::Proc(_) => false,
-        Desc::Alias(_, _) => false,
-        Desc::Array(_, _, _) => false,
-        Desc::OpenArray(_, _) => false,
-        Desc::Record(_) => false,
-    }
-}
-
 fn stands_for_open<T: Types>(types: &T, t: &TypeRef) -> bool
     ensures { result ≡ is_at (T.types types.now) is_open t.now }
 {
-    match shape_within(types, t) {
-        None => false,
-        Some(desc) => is_open_array(desc),
-    }
+    matches!(shape_within(types, t), Some(Desc::OpenArray(_, _)))
 }
 
 fn stands_for_extensible<T: Types>(types: &T, t: &TypeRef) -> bool
     ensures { result ≡ is_at (T.types types.now) is_extensible t.now }
 {
-    match shape_within(types, t) {
-        None => false,
-        Some(desc) => has_extensions(desc),
-    }
+    matches!(
+        shape_within(types, t),
+        Some(Desc::Record(_) | Desc::Pointer(_, _))
+    )
 }
 
 fn takes_nil<T: Types>(types: &T, t: &TypeRef) -> bool
     ensures { result ≡ is_at (T.types types.now) has_nil t.now }
 {
-    match shape_within(types, t) {
-        None => false,
-        Some(desc) => may_be_nil(desc),
-    }
+    matches!(
+        shape_within(types, t),
+        Some(Desc::Pointer(_, _) | Desc::ProcType(_, _))
+    )
 }
 
 fn does_include(wide: Basic, narrow: Basic) -> bool
     ensures { result ≡ includes wide narrow }
 {
     match wide {
-        Basic::LongInt => match narrow {
-            Basic::ShortInt => true,
-            Basic::Integer => true,
-            Basic::Boolean => false,
-            Basic::Char => false,
-            Basic::LongInt => false,
-            Basic::Set => false,
-        },
-        Basic::Integer => match narrow {
-            Basic::ShortInt => true,
-            Basic::Boolean => false,
-            Basic::Char => false,
-            Basic::Integer => false,
-            Basic::LongInt => false,
-            Basic::Set => false,
-        },
-        Basic::Boolean => false,
-        Basic::Char => false,
-        Basic::ShortInt => false,
-        Basic::Set => false,
+        Basic::LongInt => matches!(narrow, Basic::ShortInt | Basic::Integer),
+        Basic::Integer => matches!(narrow, Basic::ShortInt),
+        _ => false,
     }
 }
 
 fn is_wider(wide: &TypeRef, narrow: &TypeRef) -> bool
     ensures { result ≡ widens wide.now narrow.now }
 {
-    match wide {
-        TypeRef::Named(_) => false,
-        TypeRef::Basic(first) => match narrow {
-            TypeRef::Named(_) => false,
-            TypeRef::Basic(second) => does_include(*first, *second),
-        },
+    match (wide, narrow) {
+        (TypeRef::Basic(first), TypeRef::Basic(second)) => does_include(*first, *second),
+        _ => false,
     }
 }
 
@@ -175,14 +104,7 @@ fn holds_text<T: Types>(types: &T, desc: &Desc, count: usize) -> bool
 {
     match desc {
         Desc::Array(_, length, of) => count < *length as usize && is_char(types, of),
-        Desc::Const(_) => false,
-        Desc::Var(_, _) => false,
-        Desc::Proc(_) => false,
-        Desc::Alias(_, _) => false,
-        Desc::OpenArray(_, _) => false,
-        Desc::Pointer(_, _) => false,
-        Desc::ProcType(_, _) => false,
-        Desc::Record(_) => false,
+        _ => false,
     }
 }
 
@@ -231,17 +153,13 @@ fn basic_of_unary(op: Unary) -> Basic
     ensures { of_basic result ≡ unary_type op }
 {
     match op {
-        Unary::Negate(width) => basic_of(width),
-        Unary::Not => Basic::Boolean,
-        Unary::Complement => Basic::Set,
-        Unary::Abs(width) => basic_of(width),
-        Unary::Cap => Basic::Char,
-        Unary::Chr => Basic::Char,
-        Unary::Long(width) => basic_of(width),
-        Unary::Odd => Basic::Boolean,
+        Unary::Negate(width) | Unary::Abs(width) | Unary::Long(width) | Unary::Short(width) => {
+            basic_of(width)
+        }
+        Unary::Not | Unary::Odd => Basic::Boolean,
+        Unary::Complement | Unary::Element => Basic::Set,
+        Unary::Cap | Unary::Chr => Basic::Char,
         Unary::Ord => Basic::Integer,
-        Unary::Short(width) => basic_of(width),
-        Unary::Element => Basic::Set,
     }
 }
 
@@ -249,19 +167,18 @@ fn basic_of_binary(op: Binary) -> Basic
     ensures { of_basic result ≡ binary_type op }
 {
     match op {
-        Binary::Add(width) => basic_of(width),
-        Binary::Subtract(width) => basic_of(width),
-        Binary::Multiply(width) => basic_of(width),
-        Binary::Quotient(width) => basic_of(width),
-        Binary::Remainder(width) => basic_of(width),
-        Binary::Union => Basic::Set,
-        Binary::Difference => Basic::Set,
-        Binary::Intersection => Basic::Set,
-        Binary::SymmetricDifference => Basic::Set,
-        Binary::Range => Basic::Set,
-        Binary::In => Basic::Boolean,
+        Binary::Add(width)
+        | Binary::Subtract(width)
+        | Binary::Multiply(width)
+        | Binary::Quotient(width)
+        | Binary::Remainder(width) => basic_of(width),
+        Binary::Union
+        | Binary::Difference
+        | Binary::Intersection
+        | Binary::SymmetricDifference
+        | Binary::Range => Basic::Set,
+        Binary::In | Binary::Compare(_, _) => Basic::Boolean,
         Binary::Ash => Basic::LongInt,
-        Binary::Compare(_, _) => Basic::Boolean,
     }
 }
 
@@ -325,13 +242,14 @@ fn value_fits<T: Types>(types: &T, v: &TypeRef, value: &TypedExpr) -> bool
         TypedExpr::Procedure { name, signature } => procedure_fits(types, v, name, signature),
         TypedExpr::Unary { op, .. } => basic_fits(types, v, basic_of_unary(*op)),
         TypedExpr::Binary { op, .. } => basic_fits(types, v, basic_of_binary(*op)),
-        TypedExpr::Logical { .. } => basic_fits(types, v, Basic::Boolean),
-        TypedExpr::CompareTexts { .. } => basic_fits(types, v, Basic::Boolean),
-        TypedExpr::IsPointer { .. } => basic_fits(types, v, Basic::Boolean),
-        TypedExpr::IsRecord { .. } => basic_fits(types, v, Basic::Boolean),
+        TypedExpr::Logical { .. }
+        | TypedExpr::CompareTexts { .. }
+        | TypedExpr::IsPointer { .. }
+        | TypedExpr::IsRecord { .. } => basic_fits(types, v, Basic::Boolean),
         TypedExpr::Length(_) => basic_fits(types, v, Basic::LongInt),
-        TypedExpr::Call { result, .. } => result_fits(types, v, result),
-        TypedExpr::CallVariable { result, .. } => result_fits(types, v, result),
+        TypedExpr::Call { result, .. } | TypedExpr::CallVariable { result, .. } => {
+            result_fits(types, v, result)
+        }
     }
 }
 

@@ -14,31 +14,20 @@ const CHAIN: u32 = 201;
 fn number_of(basic: Basic) -> u32
     ensures { result ≡ basic_number basic }
 {
-    match basic {
-        Basic::Boolean => 0,
-        Basic::Char => 1,
-        Basic::ShortInt => 2,
-        Basic::Integer => 3,
-        Basic::LongInt => 4,
-        Basic::Set => 5,
-    }
+    basic as u32
 }
 
 fn is_one(a: &TypeRef, b: &TypeRef) -> bool
     ensures { result ≡ type_eq a.now b.now }
 {
-    match a {
-        TypeRef::Basic(basic) => match b {
-            TypeRef::Basic(another) => number_of(*basic) == number_of(*another),
-            TypeRef::Named(_) => false,
-        },
-        TypeRef::Named(name) => match b {
-            TypeRef::Basic(_) => false,
-            TypeRef::Named(another) => {
-                name.module.as_bytes() == another.module.as_bytes()
-                    && name.object.as_bytes() == another.object.as_bytes()
-            }
-        },
+    match (a, b) {
+        (TypeRef::Basic(basic), TypeRef::Basic(another)) => number_of(*basic)
+            == number_of(*another),
+        (TypeRef::Named(name), TypeRef::Named(another)) => {
+            name.module.as_bytes() == another.module.as_bytes()
+                && name.object.as_bytes() == another.object.as_bytes()
+        }
+        _ => false,
     }
 }
 
@@ -47,14 +36,7 @@ fn aliased(desc: &Desc) -> Option<&TypeRef>
 {
     match desc {
         Desc::Alias(_, of) => Some(of),
-        Desc::Const(_) => None,
-        Desc::Var(_, _) => None,
-        Desc::Proc(_) => None,
-        Desc::Array(_, _, _) => None,
-        Desc::OpenArray(_, _) => None,
-        Desc::Pointer(_, _) => None,
-        Desc::ProcType(_, _) => None,
-        Desc::Record(_) => None,
+        _ => None,
     }
 }
 
@@ -63,14 +45,7 @@ fn base(desc: &Desc) -> Option<&TypeRef>
 {
     match desc {
         Desc::Record(record) => record.base.as_ref(),
-        Desc::Const(_) => None,
-        Desc::Var(_, _) => None,
-        Desc::Proc(_) => None,
-        Desc::Alias(_, _) => None,
-        Desc::Array(_, _, _) => None,
-        Desc::OpenArray(_, _) => None,
-        Desc::Pointer(_, _) => None,
-        Desc::ProcType(_, _) => None,
+        _ => None,
     }
 }
 
@@ -79,14 +54,7 @@ fn pointed(desc: &Desc) -> Option<&TypeRef>
 {
     match desc {
         Desc::Pointer(_, of) => Some(of),
-        Desc::Const(_) => None,
-        Desc::Var(_, _) => None,
-        Desc::Proc(_) => None,
-        Desc::Alias(_, _) => None,
-        Desc::Array(_, _, _) => None,
-        Desc::OpenArray(_, _) => None,
-        Desc::ProcType(_, _) => None,
-        Desc::Record(_) => None,
+        _ => None,
     }
 }
 
@@ -106,10 +74,7 @@ fn alias_target<'a, T: Types>(types: &'a T, t: &TypeRef) -> Option<&'a TypeRef>
 {
     match t {
         TypeRef::Basic(_) => None,
-        TypeRef::Named(name) => match types.desc_of(name) {
-            None => None,
-            Some(desc) => aliased(desc),
-        },
+        TypeRef::Named(name) => aliased(types.desc_of(name)?),
     }
 }
 
@@ -138,20 +103,14 @@ pub fn is_same_at<T: Types>(types: &T, a: &TypeRef, b: &TypeRef) -> bool
 fn base_within<'a, T: Types>(types: &'a T, t: &'a TypeRef) -> Option<&'a TypeRef>
     ensures { option_copied result ≡ base_of (shape_at (T.types types.now) (target (T.types types.now) CHAIN t.now)) }
 {
-    match shape_of(types, target_within(types, t)) {
-        None => None,
-        Some(desc) => base(desc),
-    }
+    base(shape_of(types, target_within(types, t))?)
 }
 
 // What the pointer that t stands for points to.
 fn pointed_within<'a, T: Types>(types: &'a T, t: &'a TypeRef) -> Option<&'a TypeRef>
     ensures { option_copied result ≡ pointer_of (shape_at (T.types types.now) (target (T.types types.now) CHAIN t.now)) }
 {
-    match shape_of(types, target_within(types, t)) {
-        None => None,
-        Some(desc) => pointed(desc),
-    }
+    pointed(shape_of(types, target_within(types, t))?)
 }
 
 fn climbs_to<T: Types>(types: &T, a: &TypeRef, b: &TypeRef) -> bool
@@ -173,12 +132,9 @@ fn climbs_to<T: Types>(types: &T, a: &TypeRef, b: &TypeRef) -> bool
 fn pointers_climb<T: Types>(types: &T, a: Option<&TypeRef>, b: Option<&TypeRef>) -> bool
     ensures { result ≡ both (λ s t. climbs (T.types types.now) CHAIN s t) (option_copied a.entry) (option_copied b.entry) }
 {
-    match a {
-        None => false,
-        Some(first) => match b {
-            None => false,
-            Some(second) => climbs_to(types, first, second),
-        },
+    match (a, b) {
+        (Some(first), Some(second)) => climbs_to(types, first, second),
+        _ => false,
     }
 }
 
@@ -194,14 +150,8 @@ fn mode_is(a: Mode, b: Mode) -> bool
     ensures { result ≡ modes_alike a b }
 {
     match a {
-        Mode::Value => match b {
-            Mode::Value => true,
-            Mode::Var => false,
-        },
-        Mode::Var => match b {
-            Mode::Value => false,
-            Mode::Var => true,
-        },
+        Mode::Value => matches!(b, Mode::Value),
+        Mode::Var => matches!(b, Mode::Var),
     }
 }
 
@@ -210,14 +160,7 @@ fn element(desc: &Desc) -> Option<&TypeRef>
 {
     match desc {
         Desc::OpenArray(_, of) => Some(of),
-        Desc::Const(_) => None,
-        Desc::Var(_, _) => None,
-        Desc::Proc(_) => None,
-        Desc::Alias(_, _) => None,
-        Desc::Array(_, _, _) => None,
-        Desc::Pointer(_, _) => None,
-        Desc::ProcType(_, _) => None,
-        Desc::Record(_) => None,
+        _ => None,
     }
 }
 
@@ -226,14 +169,7 @@ fn signature(desc: &Desc) -> Option<&Signature>
 {
     match desc {
         Desc::ProcType(_, signature) => Some(signature),
-        Desc::Const(_) => None,
-        Desc::Var(_, _) => None,
-        Desc::Proc(_) => None,
-        Desc::Alias(_, _) => None,
-        Desc::Array(_, _, _) => None,
-        Desc::OpenArray(_, _) => None,
-        Desc::Pointer(_, _) => None,
-        Desc::Record(_) => None,
+        _ => None,
     }
 }
 
@@ -241,34 +177,23 @@ fn signature(desc: &Desc) -> Option<&Signature>
 fn element_within<'a, T: Types>(types: &'a T, t: &'a TypeRef) -> Option<&'a TypeRef>
     ensures { option_copied result ≡ element_of (shape_at (T.types types.now) (target (T.types types.now) CHAIN t.now)) }
 {
-    match shape_of(types, target_within(types, t)) {
-        None => None,
-        Some(desc) => element(desc),
-    }
+    element(shape_of(types, target_within(types, t))?)
 }
 
 // The signature of the procedure type that t stands for.
 pub fn signature_within<'a, T: Types>(types: &'a T, t: &'a TypeRef) -> Option<&'a Signature>
     ensures { option_copied result ≡ signature_of (shape_at (T.types types.now) (target (T.types types.now) CHAIN t.now)) }
 {
-    match shape_of(types, target_within(types, t)) {
-        None => None,
-        Some(desc) => signature(desc),
-    }
+    signature(shape_of(types, target_within(types, t))?)
 }
 
 fn results_same<T: Types>(types: &T, a: &Option<TypeRef>, b: &Option<TypeRef>) -> bool
     ensures { result ≡ results_alike (λ x y. same_at (T.types types.now) x y) a.now b.now }
 {
-    match a {
-        None => match b {
-            None => true,
-            Some(_) => false,
-        },
-        Some(first) => match b {
-            None => false,
-            Some(second) => is_same_at(types, first, second),
-        },
+    match (a, b) {
+        (None, None) => true,
+        (Some(first), Some(second)) => is_same_at(types, first, second),
+        _ => false,
     }
 }
 

@@ -1,4 +1,5 @@
 ghost use Rattle.std.specs.Prelude.{◌≡◌, OnOk};
+ghost use Rattle.std.specs.Result.{IfErr};
 ghost use Rattle.ob_format.specs.Format.{Adds, Gives};
 ghost use Rattle.ob_types.specs.Spelled.{aspect, aspect_number, print_form, use_form, by_object};
 ghost use Rattle.ob_types.specs.SpelledLaws.{aspect_exact, print_form_exact, use_exact};
@@ -12,7 +13,9 @@ use std::cmp::Ordering;
 /// The print at the front, and what follows it; `Damaged` where there are fewer than eight bytes.
 #[tactic(auto, unfolding(crate::specs::Spelled::print_form, ob_format::specs::Format::made_at, ob_format::specs::Format::fixed_at))]
 pub fn read_print(bytes: &[u8]) -> Result<(Print, &[u8]), Fault>
-    ensures { Gives (λ x. (x.0, x.1.now)) result (print_form.take bytes.now) }
+    ensures found { Gives (λ x. (x.0, x.1.now)) result (print_form.take bytes.now) }
+    // It takes no memory.
+    ensures damaged { IfErr result (λ fault. fault ≡ Fault.Damaged) }
 {
     let Some((front, rest)) = bytes_of(8, bytes) else {
         return Err(Fault::Damaged);

@@ -62,15 +62,10 @@ impl TypeRef {
     pub fn is_same(&self, other: &TypeRef) -> bool
         ensures { IsTrue result ↔ (self.now ≡ other.now) }
     {
-        match self {
-            TypeRef::Basic(basic) => match other {
-                TypeRef::Basic(another) => *basic == *another,
-                TypeRef::Named(_) => false,
-            },
-            TypeRef::Named(name) => match other {
-                TypeRef::Basic(_) => false,
-                TypeRef::Named(another) => name.is_same(another),
-            },
+        match (self, other) {
+            (TypeRef::Basic(basic), TypeRef::Basic(another)) => *basic == *another,
+            (TypeRef::Named(name), TypeRef::Named(another)) => name.is_same(another),
+            _ => false,
         }
     }
 }
