@@ -4,3 +4,4 @@ pub mod Kept
 pub mod New
 pub mod Going
 pub mod Read
+pub mod Cut

@@ -1,5 +1,6 @@
-ghost use Rattle.std.specs.Prelude.{◌≡◌, ◌+◌, ◌-◌, ◌≤◌, ◌<◌, ◌^◌, ◌∷◌, ◌++◌, [], max, length, take, slice_get, IfOk, IfSome, OnOk, OnErr, Some, if◌then◌else◌};
+ghost use Rattle.std.specs.Prelude.{◌≡◌, ◌+◌, ◌-◌, ◌≤◌, ◌<◌, ◌^◌, ◌∷◌, ◌++◌, [], max, length, take, drop, slice_get, IfOk, IfSome, OnOk, OnErr, Some, if◌then◌else◌};
 ghost use Rattle.ob_tdesc.specs.Bases.{is_or_has_base, level_of, method_of};
+ghost use Rattle.ob_tdesc.specs.Described.{table_entries};
 ghost use Rattle.ob_tdesc.specs.Entries.{level_above, ancestors_above, with_own};
 
 use crate::descriptor::Descriptor;
@@ -184,12 +185,13 @@ impl Descriptors {
         number
     }
 
-    /// Keeps the first descriptors, so many, and gives the room of the others back. Takes no memory.
+    /// Keeps the first descriptors, so many, and gives the room of the others and of their procedure
+    /// tables back. Takes no memory.
     pub fn cut(&mut self, types: u32)
         requires { types ≤ length self.old.list }
         ensures list { self.new.list ≡ take types self.old.list }
         ensures types { self.new.types_room ≡ self.old.types_room + (length self.old.list - types) }
-        ensures methods { self.old.methods_room ≤ self.new.methods_room }
+        ensures methods { self.new.methods_room ≡ self.old.methods_room + table_entries (drop types self.old.list) }
     {
         let types = types as usize;
         let len = self.entries.len();

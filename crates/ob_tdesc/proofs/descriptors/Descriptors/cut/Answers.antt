@@ -1,6 +1,8 @@
-use Rattle.std.proofs.Common.{◌≡◌, ◌<◌, ◌≤◌, length, take, Some, ap, sym, ◌∙◌, refl, arith}
+use Rattle.std.proofs.Common.{◌≡◌, ◌+◌, ◌<◌, ◌≤◌, length, take, drop, Some, ap, sym, ◌∙◌, refl, arith}
 use Rattle.std.specs.Prelude.{slice_get}
+use Rattle.ob_tdesc.specs.Described.{table_entries}
 use Rattle.ob_tdesc.specs.Entries.{described}
+use Rattle.ob_tdesc.proofs.Cut.{methods_cut}
 use Rattle.ob_tdesc.proofs.Kept.{kept_cut, list_cut, tile_within, length_map}
 use Rattle.std.proofs.lemmas.Option.{slice_get_read}
 use Rattle.ob_tdesc.proofs.descriptors.Descriptors.cut.Goals as goal
@@ -34,3 +36,15 @@ returns-clause-list c =
     let lt : c.args.types < length d.entries.items = omega arith in
     let at : slice_get d.entries.items c.args.types ≡ Some c.index.result.now = slice_get_read d.entries.items (length d.entries.items) c.args.types c.index.result.now refl lt c.index.ensures in
     rw (c.truncate-2.ensures.items, c.truncate.ensures.items) (list_cut d.methods.items d.entries.items c.args.types c.index.result.now c.self.invariant.tiles at ∙ ap (take c.args.types) is)
+
+pub returns-clause-methods : goal.returns-clause-methods
+returns-clause-methods c =
+    let d = c.self.inside in
+    let is = ap (λ v. v.list) c.self.view_is in
+    let room : d.methods_room ≡ c.args.self.now.methods_room = ap (λ v. v.methods_room) c.self.view_is in
+    let len : length c.args.self.now.list ≡ length d.entries.items = ap length (sym is) ∙ length_map (described d.methods.items) d.entries.items in
+    let le : c.args.types ≤ length c.args.self.now.list = c.requires in
+    let lt : c.args.types < length d.entries.items = omega arith in
+    let at : slice_get d.entries.items c.args.types ≡ Some c.index.result.now = slice_get_read d.entries.items (length d.entries.items) c.args.types c.index.result.now refl lt c.index.ensures in
+    let rest : c.index.result.now.first + table_entries (drop c.args.types c.args.self.now.list) ≡ length d.methods.items = rw (sym is) (methods_cut d.methods.items d.entries.items c.args.types c.index.result.now c.self.invariant.tiles at) in
+    omega arith
