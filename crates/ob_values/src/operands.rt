@@ -9,20 +9,23 @@ pub fn put(operands: &mut Vec<i32>, word: i32)
     operands.push_reserved(word);
 }
 
-/// Takes the last operand.
+/// Takes the last operand. `None` exactly where there is none.
 pub fn take(operands: &mut Vec<i32>) -> Option<i32>
     ensures some { IfSome result (λ x. reverse operands.old.items ≡ x ∷ reverse operands.new.items) }
     ensures none { IfNone result (reverse operands.old.items ≡ []) }
+    ensures left { IfNone result (operands.new.items ≡ []) }
     ensures fewer { IfSome result (λ x. vec_len operands.new + 1 ≡ vec_len operands.old) }
     ensures room { vec_capacity operands.new ≡ vec_capacity operands.old }
 {
     operands.pop()
 }
 
-/// Takes the last two operands, the lower one first.
+/// Takes the last two operands, the lower one first. `None` exactly where there are fewer, and then none
+/// is left.
 pub fn take_two(operands: &mut Vec<i32>) -> Option<(i32, i32)>
     ensures some { IfSome result (λ p. reverse operands.old.items ≡ p.1 ∷ p.0 ∷ reverse operands.new.items) }
     ensures none { IfNone result (length (reverse operands.old.items) < 2) }
+    ensures left { IfNone result (operands.new.items ≡ []) }
     ensures fewer { IfSome result (λ x. vec_len operands.new + 2 ≡ vec_len operands.old) }
     ensures room { vec_capacity operands.new ≡ vec_capacity operands.old }
 {
@@ -31,10 +34,12 @@ pub fn take_two(operands: &mut Vec<i32>) -> Option<(i32, i32)>
     Some((x, y))
 }
 
-/// Takes the last three operands, the lowest first.
+/// Takes the last three operands, the lowest first. `None` exactly where there are fewer, and then none
+/// is left.
 pub fn take_three(operands: &mut Vec<i32>) -> Option<(i32, i32, i32)>
     ensures some { IfSome result (λ p. reverse operands.old.items ≡ p.2 ∷ p.1 ∷ p.0 ∷ reverse operands.new.items) }
     ensures none { IfNone result (length (reverse operands.old.items) < 3) }
+    ensures left { IfNone result (operands.new.items ≡ []) }
     ensures fewer { IfSome result (λ x. vec_len operands.new + 3 ≡ vec_len operands.old) }
     ensures room { vec_capacity operands.new ≡ vec_capacity operands.old }
 {
@@ -43,10 +48,12 @@ pub fn take_three(operands: &mut Vec<i32>) -> Option<(i32, i32, i32)>
     Some((x, y, z))
 }
 
-/// Takes the last four operands, the lowest first.
+/// Takes the last four operands, the lowest first. `None` exactly where there are fewer, and then none is
+/// left.
 pub fn take_four(operands: &mut Vec<i32>) -> Option<(i32, i32, i32, i32)>
     ensures some { IfSome result (λ p. reverse operands.old.items ≡ p.3 ∷ p.2 ∷ p.1 ∷ p.0 ∷ reverse operands.new.items) }
     ensures none { IfNone result (length (reverse operands.old.items) < 4) }
+    ensures left { IfNone result (operands.new.items ≡ []) }
     ensures fewer { IfSome result (λ x. vec_len operands.new + 4 ≡ vec_len operands.old) }
     ensures room { vec_capacity operands.new ≡ vec_capacity operands.old }
 {
