@@ -1,4 +1,4 @@
-ghost use Rattle.std.specs.Prelude.{◌≡◌, ◌≤◌, true, IfOk};
+ghost use Rattle.std.specs.Prelude.{◌≡◌, ◌≤◌, ◌↔◌, true, IfOk};
 ghost use Rattle.ob_obj.specs.Grammar.{file as file_form};
 ghost use Rattle.ob_machine.specs.Machine.{IsEntry};
 ghost use Rattle.ob_codes.specs.Alone.{HasNoLinks, with_module};
@@ -19,7 +19,6 @@ pub fn stands_alone(file: &ObjFile) -> bool
 
 /// A machine with so many words of heap and with the file's module alone. Its body can be run. An `Err` is a
 /// want of memory.
-#[tactic(auto, using(crate::proofs::Alone::alone, crate::proofs::Alone::entry))]
 pub fn machine_of(alloc: Global, heap: u32, file: ObjFile) -> Result<Machine, AllocError>
     requires some { 1 ≤ heap }
     requires limit { heap ≤ 4194304 }

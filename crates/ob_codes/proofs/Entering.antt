@@ -14,6 +14,7 @@ use Rattle.ob_obj.specs.declared.file.ObjFile.{ObjFile}
 use Rattle.ob_obj.specs.Grammar.{file, globals, body, words_of, begins_with_body, IsSound}
 use Rattle.ob_obj.specs.Images.{image_of, linked_variable, linked_procedure, linked_type, IsEnterable, AreEnterable}
 use Rattle.ob_machine.specs.Machine.{made, IsEntry}
+use Rattle.ob_codes.specs.Alone.{HasNoLinks}
 
 sound : (f : ObjFile) → file.fits f → IsSound f
 unfolding file
@@ -27,14 +28,14 @@ few_types : (f : ObjFile) → file.fits f → length f.body.types ≤ 1048576
 unfolding file body
 few_types f fits = fits.0.1.1.1.0.1.0
 
-pub alone : (heap : ℕ) (f : ObjFile) → file.fits f → f.links.variables ≡ [] → f.links.procedures ≡ [] → f.links.types ≡ [] → AreEnterable (made heap).image (f ∷ [])
-alone heap f fits v p t = (
+pub alone : (heap : ℕ) (f : ObjFile) → file.fits f → HasNoLinks f → AreEnterable (made heap).image (f ∷ [])
+alone heap f fits n = (
   record {
     fits = fits;
     new = refl;
-    variables = subst (AllByRecursion (λ l. IsSome (linked_variable [] l))) (sym v) tt;
-    procedures = subst (AllByRecursion (λ l. IsSome (linked_procedure [] l))) (sym p) tt;
-    types = subst (AllByRecursion (λ q. IsSome (linked_type [] q))) (sym t) tt;
+    variables = subst (AllByRecursion (λ l. IsSome (linked_variable [] l))) (sym n.variables) tt;
+    procedures = subst (AllByRecursion (λ l. IsSome (linked_procedure [] l))) (sym n.procedures) tt;
+    types = subst (AllByRecursion (λ q. IsSome (linked_type [] q))) (sym n.types) tt;
     room = omega (arith, few_words f fits);
     few = omega arith;
     few_types = omega (arith, few_types f fits);
