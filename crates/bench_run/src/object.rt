@@ -1,85 +1,88 @@
-use ob_instr::{Instr, Opcode, put_instr};
 use std::alloc::Global;
 
-fn operation(name: &str) -> Option<Opcode> {
-    match name {
-        "Int" => Some(Opcode::Int),
-        "Local" => Some(Opcode::Local),
-        "Global" => Some(Opcode::Global),
-        "Load" => Some(Opcode::Load),
-        "Store" => Some(Opcode::Store),
-        "Index" => Some(Opcode::Index),
-        "Add" => Some(Opcode::Add),
-        "Sub" => Some(Opcode::Sub),
-        "Lt" => Some(Opcode::Lt),
-        "Jump" => Some(Opcode::Jump),
-        "JumpF" => Some(Opcode::JumpF),
-        "Call" => Some(Opcode::Call),
-        "Ret" => Some(Opcode::Ret),
-        "RetV" => Some(Opcode::RetV),
-        "Out" => Some(Opcode::Out),
-        _ => None,
+// The operations of the codes, each behind its number.
+const OPERATIONS: &str =
+    "1 Int 2 Local 3 Global 5 Load 6 Store 10 Index 21 Add 22 Sub 30 Lt 54 Jump 55 JumpF 63 Call 69 Ret 70 RetV 71 Out";
+
+// Those that can trap or spend a turn. A jump can where it goes to its own index or a lower one.
+const WITH_POSITION: &str = "Index Add Sub Call Out";
+
+fn is_among(operation: &str, list: &str) -> bool {
+    for other in list.split(' ') {
+        if other == operation {
+            return true;
+        }
     }
+    false
 }
 
-fn instruction(text: &str) -> anyhow::Result<Instr> {
+fn number_of(operation: &str) -> anyhow::Result<u8> {
+    let mut before = "";
+    for word in OPERATIONS.split(' ') {
+        if word == operation {
+            let number: u8 = before.parse()?;
+            return Ok(number);
+        }
+        before = word;
+    }
+    anyhow::bail!("no operation")
+}
+
+fn put_number(bytes: &mut Vec<u8>, number: u32) -> anyhow::Result<()> {
+    bytes.extend_from_slice(&number.to_be_bytes())?;
+    Ok(())
+}
+
+// Puts an instruction, and tells whether it can trap or spend a turn at its index.
+fn put_instruction(bytes: &mut Vec<u8>, text: &str, at: u32) -> anyhow::Result<bool> {
     let mut words = text.split(' ');
-    let name = words.next().unwrap_or("");
+    let operation = words.next().unwrap_or("");
     let a: i32 = words.next().unwrap_or("0").parse()?;
     let b: i32 = words.next().unwrap_or("0").parse()?;
-    let Some(op) = operation(name) else {
-        anyhow::bail!("no operation");
-    };
-    Ok(Instr { op, a, b })
+    bytes.push(number_of(operation)?)?;
+    bytes.extend_from_slice(&a.to_be_bytes())?;
+    bytes.extend_from_slice(&b.to_be_bytes())?;
+    let is_jump = operation == "Jump" || operation == "JumpF";
+    let jumps_back = is_jump && i64::from(a) <= i64::from(at);
+    Ok(jumps_back || is_among(operation, WITH_POSITION))
 }
 
-// Whether the instruction of an index can trap or spend a turn.
-fn has_position(instr: Instr, at: u32) -> bool {
-    match instr.op {
-        Opcode::Index | Opcode::Add | Opcode::Sub | Opcode::Call | Opcode::Out => true,
-        Opcode::Jump | Opcode::JumpF => i64::from(instr.a) <= i64::from(at),
-        _ => false,
+// Puts the instructions that a text spells, and their positions, each list behind its length.
+fn put_code(alloc: Global, bytes: &mut Vec<u8>, text: &str) -> anyhow::Result<()> {
+    let mut code = Vec::new(alloc);
+    let mut positions = Vec::new(alloc);
+    let mut count = 0u32;
+    let mut placed = 0u32;
+    for part in text.split(';') {
+        let next = count.saturating_add(1);
+        if put_instruction(&mut code, part.trim(), count)? {
+            put_number(&mut positions, count)?;
+            put_number(&mut positions, 1)?;
+            put_number(&mut positions, next)?;
+            placed = placed.saturating_add(1);
+        }
+        count = next;
     }
-}
-
-fn put_numbers(bytes: &mut Vec<u8>, numbers: &[u32]) -> anyhow::Result<()> {
-    for number in numbers {
-        bytes.extend_from_slice(&number.to_be_bytes())?;
-    }
+    put_number(bytes, count)?;
+    bytes.extend_from_slice(&code)?;
+    put_number(bytes, placed)?;
+    bytes.extend_from_slice(&positions)?;
     Ok(())
 }
 
 /// The bytes of an object file of a module whose body is the code that a text spells, with so many words of
 /// variables. Its procedure 1 has a number as its parameter and a result, and begins at the instruction 6.
 pub fn object_file(alloc: Global, text: &str, words: u32) -> anyhow::Result<Vec<u8>> {
-    let mut code = Vec::new(alloc);
-    let mut positions = Vec::new(alloc);
-    let mut count = 0u32;
-    let mut placed = 0u32;
-    for part in text.split(';') {
-        let instr = instruction(part.trim())?;
-        code.extend_from_slice(&put_instr(instr))?;
-        let next = count.saturating_add(1);
-        if has_position(instr, count) {
-            put_numbers(&mut positions, &[count, 1, next])?;
-            placed = placed.saturating_add(1);
-        }
-        count = next;
-    }
-    let mut bytes = Vec::from_slice(alloc, b"OOBJ\x01\x00\x01M".as_slice())?;
-    // no imports, exports and uses; the words of the variables; no strings, exported variables and links
-    put_numbers(&mut bytes, &[0, 0, 0, words, 0, 0, 0, 0, 0])?;
-    // no types; two procedures: the body, and procedure 1 with its parameter
-    put_numbers(&mut bytes, &[0, 2, 0, 0, 0])?;
-    bytes.push(0)?;
-    put_numbers(&mut bytes, &[6, 1])?;
-    bytes.push(0)?;
-    put_numbers(&mut bytes, &[0, 0])?;
-    bytes.push(1)?;
-    // no exported procedures; the code; the positions
-    put_numbers(&mut bytes, &[0, count])?;
-    bytes.append(&mut code)?;
-    put_numbers(&mut bytes, &[placed])?;
-    bytes.append(&mut positions)?;
+    let mut bytes = Vec::new(alloc);
+    bytes.extend_from_slice(b"OOBJ\x01\0\x01M".as_slice())?;
+    // no imports, exports and uses; the words of the variables; no strings and exported variables; no links
+    bytes.extend_from_slice(b"\0\0\0\0\0\0\0\0\0\0\0\0".as_slice())?;
+    put_number(&mut bytes, words)?;
+    bytes.extend_from_slice(b"\0\0\0\0\0\0\0\0\0\0\0\0\0\0\0\0\0\0\0\0".as_slice())?;
+    // no types; two procedures: the body, and the one with a parameter; no exported procedures
+    bytes.extend_from_slice(b"\0\0\0\0\0\0\0\x02\0\0\0\0\0\0\0\0\0\0\0\0\0".as_slice())?;
+    bytes.extend_from_slice(b"\0\0\0\x06\0\0\0\x01\0\0\0\0\0\0\0\0\0\x01".as_slice())?;
+    bytes.extend_from_slice(b"\0\0\0\0".as_slice())?;
+    put_code(alloc, &mut bytes, text)?;
     Ok(bytes)
 }
