@@ -18,6 +18,9 @@ use object::object_file;
 use std::alloc::Global;
 use std::env;
 
+/// More turns than the codes need at the sizes that are timed.
+const TURNS: u32 = 1_000_000_000;
+
 // A machine with the module of the bytes.
 fn machine_with(alloc: Global, bytes: &[u8]) -> anyhow::Result<Machine>
     ensures { IfOk result (λ m. IsEntry m.image (record { «module» = 0; proc = 0 })) }
@@ -31,12 +34,12 @@ fn machine_with(alloc: Global, bytes: &[u8]) -> anyhow::Result<Machine>
     Ok(machine_of(alloc, 1, file)?)
 }
 
-// Runs the module's body, with turns enough.
-fn run_body(machine: &mut Machine, out: &mut MemSink) -> bool
+// Runs the module's body with so many turns, and tells whether it came to its end.
+fn run_body(machine: &mut Machine, turns: u32, out: &mut MemSink) -> bool
     requires { IsEntry machine.old.image (record { «module» = 0; proc = 0 }) }
 {
-    let mut turns = 1_000_000_000;
-    let outcome = machine.run(ProcRef { module: 0, proc: 0 }, &mut turns, out);
+    let mut left = turns;
+    let outcome = machine.run(ProcRef { module: 0, proc: 0 }, &mut left, out);
     matches!(outcome, Outcome::Done)
 }
 
@@ -44,7 +47,7 @@ fn run_body(machine: &mut Machine, out: &mut MemSink) -> bool
 fn written_by(alloc: Global, bytes: &[u8]) -> anyhow::Result<String> {
     let mut machine = machine_with(alloc, bytes)?;
     let mut out = MemSink::new(alloc, 1000, Vec::new(alloc))?;
-    if !run_body(&mut machine, &mut out) {
+    if !run_body(&mut machine, TURNS, &mut out) {
         anyhow::bail!("the run did not come to its end");
     }
     let written = str::from_utf8(out.bytes())?;
