@@ -1,0 +1,96 @@
+//! Runs three codes on the machine, and prints what they write. With no words: each at a small size. With the
+//! words `count`, `calls` or `sieve` and a size: that one, so that it can be timed from outside.
+#![tactic(auto)]
+
+ghost use Rattle.std.specs.Prelude.{IfOk};
+ghost use Rattle.ob_machine.specs.Machine.{IsEntry};
+
+mod codes;
+mod object;
+
+use codes::Work;
+use ob_codes::{machine_of, stands_alone};
+use ob_io::MemSink;
+use ob_machine::{Machine, Outcome};
+use ob_obj::read_obj;
+use ob_tree::ProcRef;
+use object::object_file;
+use std::alloc::Global;
+use std::env;
+
+/// More turns than the codes need at the sizes that are timed.
+const TURNS: u32 = 1_000_000_000;
+
+// A machine with the module of the bytes.
+fn machine_with(alloc: Global, bytes: &[u8]) -> anyhow::Result<Machine>
+    ensures { IfOk result (λ m. IsEntry m.image (record { «module» = 0; proc = 0 })) }
+{
+    let Ok(file) = read_obj(alloc, bytes) else {
+        anyhow::bail!("no object file");
+    };
+    if !stands_alone(&file) {
+        anyhow::bail!("the file has links");
+    }
+    Ok(machine_of(alloc, 1, file)?)
+}
+
+// Runs the module's body with so many turns, and tells whether it came to its end.
+fn run_body(machine: &mut Machine, turns: u32, out: &mut MemSink) -> bool
+    requires { IsEntry machine.old.image (record { «module» = 0; proc = 0 }) }
+{
+    let mut left = turns;
+    let outcome = machine.run(ProcRef { module: 0, proc: 0 }, &mut left, out);
+    matches!(outcome, Outcome::Done)
+}
+
+// What the body of the module of the bytes writes.
+fn written_by(alloc: Global, bytes: &[u8]) -> anyhow::Result<String> {
+    let mut machine = machine_with(alloc, bytes)?;
+    let mut out = MemSink::new(alloc, 1000, Vec::new(alloc))?;
+    if !run_body(&mut machine, TURNS, &mut out) {
+        anyhow::bail!("the run did not come to its end");
+    }
+    let written = str::from_utf8(out.bytes())?;
+    Ok(String::from_str(alloc, written.trim_end())?)
+}
+
+// What a code of a size writes.
+fn result_of(alloc: Global, work: Work, size: u32) -> anyhow::Result<String> {
+    let text = work.text(alloc, size)?;
+    let bytes = object_file(alloc, &text, work.words(size))?;
+    written_by(alloc, &bytes)
+}
+
+fn small_results(alloc: Global) -> anyhow::Result<String> {
+    let count = result_of(alloc, Work::Count, 1000)?;
+    let calls = result_of(alloc, Work::Calls, 10)?;
+    let sieve = result_of(alloc, Work::Sieve, 100)?;
+    Ok(format!(in alloc; "{count}\n{calls}\n{sieve}")?)
+}
+
+fn one_result(alloc: Global, name: &str, size: &str) -> anyhow::Result<String> {
+    let Some(work) = Work::named(name) else {
+        anyhow::bail!("the word is count, calls or sieve");
+    };
+    let size: u32 = size.parse()?;
+    result_of(alloc, work, size)
+}
+
+fn results(alloc: Global, words: &[String]) -> anyhow::Result<String> {
+    match words {
+        [] => small_results(alloc),
+        [name, size] => one_result(alloc, name, size),
+        _ => anyhow::bail!("two words are wanted: a code and a size"),
+    }
+}
+
+fn main(rt: HostRuntime) -> anyhow::Result<()> {
+    let alloc = rt.alloc();
+    let mut words = Vec::new(alloc);
+    for word in env::args(&rt)?.skip(1) {
+        words.push(word)?;
+    }
+    let text = results(alloc, words.as_slice())?;
+    println!(rt; "{text}")?;
+    Ok(())
+}
