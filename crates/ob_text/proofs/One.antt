@@ -6,9 +6,9 @@ use Rattle.ob_tree.specs.declared.pos.Pos.{Pos}
 use Rattle.ob_tree.specs.declared.decl.Module.{Module}
 use Rattle.ob_scan.specs.declared.fault.ScanFault.{ScanFault}
 use Rattle.ob_scan.specs.declared.fault.ScanFault.TheVariants as scanning
-use Rattle.ob_scan.specs.Scanning.{Input, Lexeme, lexeme_of, Step, Gives, Faults, step, Leads, Scans}
+use Rattle.ob_scan.specs.Scanning.{Input, Lexeme, lexeme_of, Gives, Faults, step, Leads, Scans}
 use Rattle.ob_grammar.specs.Phrase.{Tokens}
-use Rattle.ob_grammar.specs.Reading.{Fault, Wrong, Deep, Read, Found, Fails}
+use Rattle.ob_grammar.specs.Reading.{Wrong, Deep, Read, Found, Fails}
 use Rattle.ob_grammar.specs.Declarations.{«module»}
 use Rattle.ob_grammar.specs.Grammar.{reads}
 use Rattle.ob_pexpr.specs.Contract.{IsAt}

@@ -13,7 +13,6 @@ use Rattle.ob_grammar.specs.Phrase.{Tokens, same}
 use Rattle.ob_grammar.specs.Reading.{Fault, Read, Found, Fails}
 use Rattle.ob_grammar.specs.Declarations.{«module»}
 use Rattle.ob_grammar.specs.Grammar.{reads}
-use Rattle.ob_grammar.proofs.Basics.{found_value}
 use Rattle.ob_pexpr.specs.Contract.{IsAt}
 use Rattle.ob_pexpr.specs.Left.{token_of, tokens_in, tokens_of}
 use Rattle.ob_pexpr.proofs.Texts.{scans_these, step_whole, same_bound}
@@ -21,7 +20,7 @@ use Rattle.ob_pexpr.specs.declared.fault.ParseFault.{ParseFault}
 use Rattle.ob_pexpr.specs.declared.fault.ParseFault.TheVariants as parsing
 use Rattle.ob_parse.specs.Parsed.{EndsOnce, Says, limit}
 use Rattle.ob_text.specs.Answers.{Parses, HasTokens}
-use Rattle.ob_text.proofs.Bare.{bare, bares, seen, module_read}
+use Rattle.ob_text.proofs.Bare.{bares, seen, module_read}
 
 front_ends : (i : Input) (front : Tokens) (t : Token) (j : Input) → Leads i front j → t.symbol ≡ s.End → EndsOnce (front ++ t ∷ [])
 front_ends i [] t j h e = e

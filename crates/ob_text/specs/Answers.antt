@@ -1,5 +1,5 @@
 -- What an answer says of a text.
-use Rattle.std.specs.Prelude.{◌≡◌, List, Result, Ok, Err}
+use Rattle.std.specs.Prelude.{◌≡◌, Result, Ok, Err}
 use Rattle.ob_tree.specs.declared.decl.Module.{Module}
 use Rattle.ob_scan.specs.declared.fault.ScanFault.{ScanFault}
 use Rattle.ob_scan.specs.declared.fault.ScanFault.TheVariants as scanning
