@@ -1,5 +1,5 @@
 -- A module leaves no token.
-use Rattle.std.proofs.Common.{◌≡◌, refl, sym, ap, subst, ◌∙◌, [], ◌∷◌, ◌++◌, Result, Ok, Err, append_assoc}
+use Rattle.std.proofs.Common.{◌≡◌, refl, sym, ap, subst, ◌∙◌, [], ◌∷◌, ◌++◌, Result, Ok, Err, IfOk, append_assoc}
 use Rattle.ob_tree.specs.declared.symbol.Symbol.TheVariants as s
 use Rattle.ob_tree.specs.declared.token.Token.{Token}
 use Rattle.ob_tree.specs.declared.decl.Module.{Module}
@@ -55,3 +55,7 @@ says ts (Ok m) new once h = h ∙ ap (λ w. Found m w) (none_left ts m new once 
 says ts (Err fault.Memory) new once h = tt
 says ts (Err (fault.Syntax pos)) new once h = h
 says ts (Err (fault.TooDeep pos)) new once h = h
+
+pub leaves_none : (ts : Tokens) (r : Result Module ParseFault) (new : Tokens) → EndsOnce ts → Reads (reads limit «module» ts) r new → IfOk r (λ m. new ≡ [])
+leaves_none ts (Ok m) new once h = none_left ts m new once h
+leaves_none ts (Err f) new once h = tt

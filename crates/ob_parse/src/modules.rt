@@ -1,6 +1,6 @@
 //! Modules.
 
-ghost use Rattle.std.specs.Prelude.{◌≡◌};
+ghost use Rattle.std.specs.Prelude.{◌≡◌, [], IfOk};
 ghost use Rattle.ob_grammar.specs.Declarations.{«module»};
 ghost use Rattle.ob_grammar.specs.Grammar.{reads};
 ghost use Rattle.ob_pexpr.specs.Contract.{Reads};
@@ -45,7 +45,10 @@ fn whole(alloc: Global, tokens: &mut Cursor<'_>, levels: usize) -> Result<Module
 /// `parse`.
 pub fn parse_from(alloc: Global, tokens: &mut Cursor<'_>) -> Result<Module, ParseFault>
     requires { EndsOnce tokens.old }
-    ensures { Says result tokens.old }
+    ensures answer { Says result tokens.old }
+
+    // Behind a module no token is left.
+    ensures behind { IfOk result (λ m. tokens.new ≡ []) }
 {
     whole(alloc, tokens, nest_limit())
 }

@@ -1,1 +1,3 @@
+mod Bare
+mod One
 pub mod Tokens

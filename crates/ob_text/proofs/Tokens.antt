@@ -1,19 +1,26 @@
 -- The tokens of a text end once.
-use Rattle.std.proofs.Common.{◌≡◌, sym, subst, true, [], ◌∷◌, ◌++◌, Result, Ok, Err}
+use Rattle.std.proofs.Common.{◌≡◌, refl, sym, ap, subst, ◌∙◌, suc, ◌<◌, Bool, true, false, [], ◌∷◌, ◌++◌, length, Result, Ok, Err, arith}
 use Rattle.ob_tree.specs.declared.symbol.Symbol.TheVariants as s
 use Rattle.std.specs.Result.{IsErrAnd}
-use denote.Enum.Bare.{sameb, same_true}
+use denote.Enum.Bare.{sameb, same_true, true_same}
 use Rattle.ob_tree.specs.contracts.symbol.Symbol.{the_type}
 use Rattle.ob_tree.specs.declared.token.Token.{Token}
+use Rattle.ob_tree.specs.declared.pos.Pos.{Pos}
 use Rattle.ob_tree.specs.declared.decl.Module.{Module}
 use Rattle.ob_scan.specs.declared.fault.ScanFault.{ScanFault}
-use Rattle.ob_scan.specs.Scanning.{Input, Leads, Scans}
-use Rattle.ob_grammar.specs.Phrase.{Tokens}
-use Rattle.ob_pexpr.specs.Left.{tokens_of}
-use Rattle.ob_pexpr.proofs.Texts.{scans_these}
+use Rattle.ob_scan.specs.Scanning.{Input, lexeme_of, Gives, step, Leads, Scans}
+use Rattle.ob_grammar.specs.Phrase.{Tokens, same}
+use Rattle.ob_grammar.specs.Reading.{Fault, Read, Found, Fails}
+use Rattle.ob_grammar.specs.Declarations.{«module»}
+use Rattle.ob_grammar.specs.Grammar.{reads}
+use Rattle.ob_pexpr.specs.Contract.{IsAt}
+use Rattle.ob_pexpr.specs.Left.{token_of, tokens_in, tokens_of}
+use Rattle.ob_pexpr.proofs.Texts.{scans_these, step_whole, same_bound}
 use Rattle.ob_pexpr.specs.declared.fault.ParseFault.{ParseFault}
-use Rattle.ob_parse.specs.Parsed.{EndsOnce, Says}
+use Rattle.ob_pexpr.specs.declared.fault.ParseFault.TheVariants as parsing
+use Rattle.ob_parse.specs.Parsed.{EndsOnce, Says, limit}
 use Rattle.ob_text.specs.Answers.{Parses, HasTokens}
+use Rattle.ob_text.proofs.Bare.{bares, seen, module_read}
 
 front_ends : (i : Input) (front : Tokens) (t : Token) (j : Input) → Leads i front j → t.symbol ≡ s.End → EndsOnce (front ++ t ∷ [])
 front_ends i [] t j h e = e
@@ -35,6 +42,64 @@ pub fault_is : (i : Input) (f : ScanFault) (r : Result (Unit {0}) ScanFault) →
 fault_is i f (Ok u) h q = absurd q
 fault_is i f (Err g) h q = let P : ScanFault → Type 0 = λ e. Scans i (Err e) in subst P (sym q) h
 
--- the tokens that the text's cursor shows are those of its scan
+-- ---- of whatever tokens are scanned
+
+-- the text's cursor shows them bare
+front_bare : (i : Input) (front : Tokens) (t : Token) (j k : Input) → Leads i front j → step j ≡ Gives (lexeme_of t) k → t.symbol ≡ s.End → tokens_of i ≡ bares (front ++ t ∷ [])
+front_bare i [] t j k h g e =
+    let at : step i ≡ Gives (lexeme_of t) k = ap step h ∙ g in
+    let last : same t.symbol s.End ≡ true = true_same the_type t.symbol s.End e in
+    rw (at, last) refl
+front_bare i (u ∷ us) t j k h g e = by_rest (front_bare h.0 us t j k h.3 g e)
+  where
+    not_last : (b : Bool) → same u.symbol s.End ≡ b → same u.symbol s.End ≡ false
+    not_last true q = absurd (h.2 (same_true the_type tt u.symbol s.End q))
+    not_last false q = q
+
+    by_rest : tokens_of h.0 ≡ bares (us ++ t ∷ []) → tokens_of i ≡ bares (u ∷ (us ++ t ∷ []))
+    by_rest r =
+        let more : same u.symbol s.End ≡ false = not_last (same u.symbol s.End) refl in
+        let less = (step_whole i (lexeme_of u) h.0 h.1).0 more in
+        let own : length h.0.text < suc (length h.0.text) = omega arith in
+        let rest : tokens_in (length i.text) h.0 ≡ tokens_of h.0 = same_bound (length i.text) (suc (length h.0.text)) h.0 less own in
+        rw (h.1, more, rest) (ap (λ w. token_of (lexeme_of u) ∷ w) r)
+
+pub scanned_bare : (i : Input) (ts : Tokens) → Scans i (Ok ts) → tokens_of i ≡ bares ts
+scanned_bare i ts h = front_bare i h.0 h.1 h.2 h.3 h.5 h.6 h.7 ∙ ap bares (sym h.4)
+
+found_bare : (u : Read Module) (m : Module) → seen (λ x. x) u ≡ Found m [] → u ≡ Found m []
+found_bare (Found x []) m e = e
+found_bare (Found x (t ∷ r)) m e = let none : ⊥ = cc in absurd none
+found_bare (Fails k r) m e = let none : ⊥ = cc in absurd none
+
+at_bare : (r : Tokens) (pos : Pos) → IsAt (bares r) pos → IsAt r pos
+at_bare [] pos h = h
+at_bare (t ∷ r) pos h = h
+
+abbrev failing : Fault → Tokens → Read Module
+failing k r = Fails k r
+
+fails_bare : (u : Read Module) (k : Fault) (r : Tokens) (pos : Pos) → seen (λ x. x) u ≡ Fails k r → IsAt r pos → (w : Tokens) × (u ≡ Fails k w) × IsAt w pos
+fails_bare (Found x w) k r pos e h = let none : ⊥ = cc in absurd none
+fails_bare (Fails l w) k r pos e h =
+    let K : Tokens → Type 0 = λ v. IsAt v pos in
+    (w, ap (λ m. Fails m w) (kind l k (bares w) r e), at_bare w pos (subst K (sym (rest l k (bares w) r e)) h))
+  where
+    kind : (l k : Fault) (v r : Tokens) → failing l v ≡ failing k r → l ≡ k
+    kind l k v r e = cc
+
+    rest : (l k : Fault) (v r : Tokens) → failing l v ≡ failing k r → v ≡ r
+    rest l k v r e = cc
+
+-- what parsing answers of bare tokens it answers of any like them
+says_bare : (ts : Tokens) (r : Result Module ParseFault) → Says r (bares ts) → Says r ts
+says_bare ts (Ok m) h = found_bare (reads limit «module» ts) m (sym (module_read limit ts) ∙ h)
+says_bare ts (Err parsing.Memory) h = tt
+says_bare ts (Err (parsing.Syntax pos)) h = fails_bare (reads limit «module» ts) _ h.0 pos (sym (module_read limit ts) ∙ h.1) h.2
+says_bare ts (Err (parsing.TooDeep pos)) h = fails_bare (reads limit «module» ts) _ h.0 pos (sym (module_read limit ts) ∙ h.1) h.2
+
+-- what parsing the text's cursor answers it answers of whatever tokens are scanned
 pub parses : (i : Input) (ts : Tokens) (r : Result Module ParseFault) (us : Tokens) → Scans i (Ok ts) → us ≡ tokens_of i → Says r us → Parses i r
-parses i ts r us h e q = let P : Tokens → Type 0 = λ w. Says r w in (tokens_of i, scans_these i ts h, subst P e q)
+parses i ts r us h e q =
+    let P : Tokens → Type 0 = λ w. Says r w in
+    (ts, h, λ ws g. says_bare ws r (subst P (e ∙ scanned_bare i ws g) q))

@@ -1,5 +1,5 @@
 -- What an answer says of a text.
-use Rattle.std.specs.Prelude.{◌≡◌, List, Result, Ok, Err}
+use Rattle.std.specs.Prelude.{◌≡◌, Result, Ok, Err}
 use Rattle.ob_tree.specs.declared.decl.Module.{Module}
 use Rattle.ob_scan.specs.declared.fault.ScanFault.{ScanFault}
 use Rattle.ob_scan.specs.declared.fault.ScanFault.TheVariants as scanning
@@ -11,9 +11,9 @@ use Rattle.ob_parse.specs.Parsed.{Says}
 use Rattle.ob_text.specs.declared.fault.TextFault.{TextFault}
 use Rattle.ob_text.specs.declared.fault.TextFault.TheVariants as fault
 
--- the text has tokens, and this is what parsing them answers
+-- the text has tokens, and of each list of them this is what parsing it answers
 abbrev pub Parses : Input → Result Module ParseFault → Type 0
-Parses i r = (ts : Tokens) × Scans i (Ok ts) × Says r ts
+Parses i r = (ts : Tokens) × Scans i (Ok ts) × ((us : Tokens) → Scans i (Ok us) → Says r us)
 
 -- where scanning has a fault, it is the answer; else the answer is that of parsing the tokens
 abbrev pub Answers : Input → Result Module TextFault → Type 0
@@ -26,3 +26,7 @@ Answers i (Err fault.Memory) = Unit {0}
 abbrev pub HasTokens : Input → Result (Unit {0}) ScanFault → Type 0
 HasTokens i (Ok u) = (ts : Tokens) × Scans i (Ok ts)
 HasTokens i (Err f) = Scans i (Err f)
+
+-- two answers of which none is for want of memory are one
+abbrev pub AreOne : Input → Result Module TextFault → Result Module TextFault → Type 0
+AreOne i r q = Answers i r → Answers i q → (r ≡ Err fault.Memory → ⊥) → (q ≡ Err fault.Memory → ⊥) → r ≡ q

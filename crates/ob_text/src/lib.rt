@@ -2,7 +2,9 @@
 #![tactic(auto)]
 
 mod fault;
+mod law;
 mod text;
 
 pub use fault::TextFault;
+pub use law::answers_are_one;
 pub use text::parse_text;

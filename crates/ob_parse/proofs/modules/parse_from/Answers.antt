@@ -1,5 +1,8 @@
-use Rattle.ob_parse.proofs.Ends.{says}
+use Rattle.ob_parse.proofs.Ends.{says, leaves_none}
 use Rattle.ob_parse.proofs.modules.parse_from.Goals as goal
 
-pub returns : goal.returns
-returns c = says c.args.tokens.now c.whole.result c.whole.new.tokens c.requires (rw (← c.nest_limit.ensures) c.whole.ensures)
+pub returns-clause-answer : goal.returns-clause-answer
+returns-clause-answer c = says c.args.tokens.now c.whole.result c.whole.new.tokens c.requires (rw (← c.nest_limit.ensures) c.whole.ensures)
+
+pub returns-clause-behind : goal.returns-clause-behind
+returns-clause-behind c = leaves_none c.args.tokens.now c.whole.result c.whole.new.tokens c.requires (rw (← c.nest_limit.ensures) c.whole.ensures)

@@ -1,4 +1,4 @@
-use Rattle.std.proofs.Common.{◌∙◌, sym, refl, [], ◌∷◌, ◌++◌}
+use Rattle.std.proofs.Common.{◌∙◌, sym, [], ◌∷◌, ◌++◌}
 use Rattle.ob_scan.specs.Scanning.{start_of}
 use Rattle.ob_scan.proofs.Leads.{leads_on, scans_all, scans_fault, not_end}
 use Rattle.ob_text.proofs.Tokens.{is_end, fault_is}
