@@ -2,7 +2,7 @@ use std::alloc::Global;
 
 // The operations of the codes, each behind its number.
 const OPERATIONS: &str =
-    "1 Int 2 Local 3 Global 5 Load 6 Store 10 Index 21 Add 22 Sub 30 Lt 54 Jump 55 JumpF 63 Call 69 Ret 70 RetV 71 Out";
+    "1 Int;2 Local;3 Global;5 Load;6 Store;10 Index;21 Add;22 Sub;30 Lt;54 Jump;55 JumpF;63 Call;69 Ret;70 RetV;71 Out";
 
 // Those that can trap or spend a turn. A jump can where it goes to its own index or a lower one.
 const WITH_POSITION: &str = "Index Add Sub Call Out";
@@ -17,13 +17,13 @@ fn is_among(operation: &str, list: &str) -> bool {
 }
 
 fn number_of(operation: &str) -> anyhow::Result<u8> {
-    let mut before = "";
-    for word in OPERATIONS.split(' ') {
-        if word == operation {
-            let number: u8 = before.parse()?;
-            return Ok(number);
+    for entry in OPERATIONS.split(';') {
+        let mut words = entry.split(' ');
+        let number = words.next().unwrap_or("");
+        let name = words.next().unwrap_or("");
+        if name == operation {
+            return Ok(number.parse::<u8>()?);
         }
-        before = word;
     }
     anyhow::bail!("no operation")
 }
