@@ -30,4 +30,11 @@ pub returns-in_ok-insert-in-None-clause-ok : goal.returns-in_ok-insert-in-None-c
 returns-in_ok-insert-in-None-clause-ok c =
     let old = c.args.self.now.modules in
     let name = c.args.name.now in
-    ?
+    let inner = c.new-numbers.result in
+    let after = c.put_number-in-None.new.numbers in
+    let new = c.insert.new.self in
+    let put : Puts inner after name.object (Some c.args.number) = subst (λ l. Puts inner after l (Some c.args.number)) c.as_bytes-in-None.ensures c.in_ok-put_number-in-None.ensures.ok in
+    let bytes : c.in_ok-key-in-None.key.items ≡ name.«module» = c.in_ok-key-in-None.ensures.items ∙ c.as_bytes-in-None-2.ensures in
+    let inserted = puts_at c.in_ok-key-in-None.key.items name.«module» c.get_mut.follows.lender-at-none new (Some after) bytes c.in_ok-insert-in-None.ensures.updates in
+    let outer : Puts old new name.«module» (Some after) = subst (λ m. Puts m new name.«module» (Some after)) c.get_mut.follows.holds-at-none inserted in
+    put_in old new name inner after (Some c.args.number) outer put (λ n. was_empty old c.as_bytes.result.now name.«module» n inner c.as_bytes.ensures c.in-None.ensures.value c.new-numbers.ensures.empty)
