@@ -1,12 +1,12 @@
 -- The index of types when a descriptor is added or taken out.
-use Rattle.std.proofs.Common.{◌≡◌, ◌≢◌, ℕ, zero, suc, ◌+◌, ◌-◌, ◌<◌, ◌≤◌, Bool, true, false, List, [], ◌∷◌, ◌++◌, length, take, get_or, map, Option, Some, None, refl, sym, ap, subst, ◌∙◌, arith}
+use Rattle.std.proofs.Common.{◌≡◌, ℕ, zero, suc, ◌+◌, ◌≤◌, Bool, true, false, List, [], ◌∷◌, ◌++◌, length, take, get_or, map, Option, Some, None, refl, sym, ap, subst, ◌∙◌, arith}
 use Rattle.std.specs.Prelude.{◌&&◌, if◌then◌else◌}
 use Rattle.std.specs.Option.{option_or}
 use Rattle.ob_tree.specs.declared.names.QName.{QName}
 use Rattle.ob_tdesc.specs.declared.descriptor.Descriptor.{Descriptor}
 use Rattle.ob_obj.specs.Images.{same, type_from}
 use Rattle.ob_image.specs.Names.{name_of}
-use Rattle.ob_image.specs.Index.{Modules, number_of, same_type, Notes, Forgets, IsAsBefore, IsIndexed, without}
+use Rattle.ob_image.specs.Index.{Modules, number_of, same_type, Notes, Forgets, IsIndexed, without}
 use Rattle.ob_image.proofs.Maps.{none_else, this_one, another}
 use Rattle.ob_image.proofs.Standing.{Below, type_below}
 
@@ -26,9 +26,6 @@ type_behind n (x ∷ types) d q k e = one_before (same q.«module» x.«module»
 
 pub indexed_more : (old new : Modules) (types : List Descriptor) (d : Descriptor) → IsIndexed old types → Notes old new (name_of d) (length types) → IsIndexed new (types ++ d ∷ [])
 indexed_more old new types d is notes q = notes q ∙ ap (λ o. option_or o (last_one q d (length types))) (is q) ∙ sym (type_behind 0 types d q (length types) (omega arith))
-
-pub indexed_same : (old new : Modules) (types : List Descriptor) → IsIndexed old types → IsAsBefore old new → IsIndexed new types
-indexed_same old new types is before q = before q ∙ is q
 
 pub names_more : (types : List Descriptor) (d : Descriptor) → map name_of (types ++ d ∷ []) ≡ map name_of types ++ name_of d ∷ []
 names_more [] d = refl

@@ -1,4 +1,4 @@
-use Rattle.std.proofs.Common.{◌≡◌, Some, sym, ◌∙◌, subst}
+use Rattle.std.proofs.Common.{◌≡◌, Some, sym, subst}
 use Rattle.ob_image.specs.Index.{number_of}
 use Rattle.ob_image.proofs.Maps.{forgets_it, forgets_another, forgets_nothing}
 use Rattle.ob_image.proofs.index.TypeIndex.forget.Goals as goal
