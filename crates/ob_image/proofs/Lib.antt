@@ -5,3 +5,6 @@ pub mod Placing
 pub mod Entering
 pub mod Whole
 pub mod Bases
+pub mod Search
+pub mod Maps
+pub mod Indexing

@@ -11,12 +11,11 @@ use Rattle.ob_obj.specs.declared.parts.Base.TheVariants as base
 use Rattle.ob_obj.specs.declared.parts.RecordType.{RecordType}
 use Rattle.ob_obj.specs.Grammar.{base_stands, bases_stand}
 use Rattle.ob_obj.specs.Images.{same, type_from, linked_type, or_zero, base_number, descriptor_of, with_types}
-use Rattle.ob_image.specs.Names.{name_of, name_from}
 use Rattle.ob_image.specs.Standing.{BasesStand}
 
 -- LINKS
 
-abbrev Below : ℕ → Option ℕ → Type 0
+abbrev pub Below : ℕ → Option ℕ → Type 0
 Below n o = IfSome o (λ k. k < n)
 
 below_more : (m n : ℕ) (o : Option ℕ) → m ≤ n → Below m o → Below n o
@@ -27,7 +26,7 @@ found : (b : Bool) (n len : ℕ) (o : Option ℕ) → n < len → Below len o �
 found true n len o lt h = lt
 found false n len o lt h = h
 
-type_below : (n : ℕ) (types : List Descriptor) (q : QName) → Below (n + length types) (type_from n types q)
+pub type_below : (n : ℕ) (types : List Descriptor) (q : QName) → Below (n + length types) (type_from n types q)
 type_below n [] q = tt
 type_below n (d ∷ types) q =
     let rest = below_more (suc n + length types) (n + length (d ∷ types)) (type_from (suc n) types q) (omega arith) (type_below (suc n) types q) in
@@ -95,9 +94,3 @@ with_types_length module_name first links m types (t ∷ own) =
     let d = descriptor_of module_name first links types m t in
     let long = length-append types (d ∷ []) in
     with_types_length module_name first links m (types ++ d ∷ []) own ∙ omega arith
-
--- NAMES
-
-pub names_agree : (n : ℕ) (types : List Descriptor) (q : QName) → name_from n (map name_of types) q ≡ type_from n types q
-names_agree n [] q = refl
-names_agree n (d ∷ types) q = ap (λ o. if same q.«module» d.«module» && same q.object d.name then Some n else o) (names_agree (suc n) types q)

@@ -157,7 +157,7 @@ entered_types img f is can few k = ⊎_elim last front (cases_lt (length img.mod
 
 -- CUTTING
 
-taken_twice : {A : Type 0} (j n : ℕ) (xs : List A) → j ≤ n → take j (take n xs) ≡ take j xs
+pub taken_twice : {A : Type 0} (j n : ℕ) (xs : List A) → j ≤ n → take j (take n xs) ≡ take j xs
 taken_twice zero n xs le = refl
 taken_twice (suc j) zero xs le = absurd (omega arith)
 taken_twice (suc j) (suc n) [] le = refl

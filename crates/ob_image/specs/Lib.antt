@@ -1,4 +1,5 @@
 pub mod Names
+pub mod Index
 pub mod Globals
 pub mod Room
 pub mod Standing

@@ -4,6 +4,7 @@
 mod describing;
 mod globals;
 mod image;
+mod index;
 mod links;
 mod loaded;
 mod places;

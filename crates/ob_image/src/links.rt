@@ -1,43 +1,51 @@
 ghost use Rattle.std.specs.Prelude.{◌≡◌, ◌≤◌, length};
+ghost use Rattle.std.specs.List.Sorted.{IsStrictlySortedBy};
+ghost use Rattle.ob_obj.specs.Grammar.{by_name};
 ghost use Rattle.ob_obj.specs.Images.{same, named, module_from, linked_variable, linked_procedure};
 ghost use Rattle.ob_image.specs.Cut.{has};
+ghost use Rattle.ob_image.specs.Whole.{by_entry};
 
 use crate::loaded::Module;
 use ob_obj::Link;
 use ob_tree::{Name, ProcRef};
 use std::cmp::Ordering;
 
-/// Whether two names are the same.
-pub fn is_same(a: &[u8], b: &[u8]) -> bool
+// The order of two names.
+fn compare(a: &[u8], b: &[u8]) -> Ordering
+    ensures { result ≡ by_name a.now b.now }
+{
+    a.cmp(b)
+}
+
+// Whether two names are the same.
+fn is_same(a: &[u8], b: &[u8]) -> bool
     ensures { result ≡ same a.now b.now }
 {
     a.cmp(b) == Ordering::Equal
 }
 
+// The address of the variable of a name.
 fn variable_at(variables: &[(Name, u64)], name: &Name) -> Option<u64>
+    requires { IsStrictlySortedBy by_entry variables.now }
     ensures { result ≡ named variables.now name.now }
 {
-    let mut rest = variables;
-    while let [variable, more @ ..] = rest {
-        if is_same(name.as_bytes(), variable.0.as_bytes()) {
-            return Some(variable.1);
-        }
-        rest = more;
+    match variables.binary_search_by(|variable| {
+        compare(variable.0.as_bytes(), name.as_bytes())
+    }) {
+        Ok(place) => Some(variables[place].1),
+        Err(_) => None,
     }
-    None
 }
 
+// The number of the command of a name.
 fn command_at(commands: &[(Name, u32)], name: &Name) -> Option<u32>
+    requires { IsStrictlySortedBy by_entry commands.now }
     ensures { result ≡ named commands.now name.now }
 {
-    let mut rest = commands;
-    while let [command, more @ ..] = rest {
-        if is_same(name.as_bytes(), command.0.as_bytes()) {
-            return Some(command.1);
-        }
-        rest = more;
+    match commands.binary_search_by(|command| { compare(command.0.as_bytes(), name.as_bytes()) }) {
+        Ok(place) => Some(commands[place].1),
+        Err(_) => None,
     }
-    None
 }
 
 /// Whether there is a module of the name.

@@ -1,12 +1,13 @@
-ghost use Rattle.std.specs.Prelude.{◌≡◌, ◌+◌, ◌≤◌, ◌<◌, ◌^◌, ◌∷◌, ◌++◌, [], length, map, take, IfOk, IfSome, OnOk, OnErr};
+ghost use Rattle.std.specs.Prelude.{◌≡◌, ◌+◌, ◌-◌, ◌≤◌, ◌<◌, ◌^◌, ◌∷◌, ◌++◌, [], length, map, take, IfOk, IfSome, OnOk, OnErr};
 ghost use Rattle.ob_obj.specs.Images.{linked_type, or_zero, with_types, base_number, descriptor_of};
-ghost use Rattle.ob_image.specs.Names.{name_from, names_in};
+ghost use Rattle.ob_image.specs.Names.{names_in};
 ghost use Rattle.ob_image.specs.Cut.{types_of};
 ghost use Rattle.ob_image.specs.Standing.{BasesStand};
 ghost use Rattle.ob_image.specs.Whole.{BasesBefore};
 
 use crate::describing::describe;
-use crate::links::{has_module, is_same};
+use crate::index::TypeIndex;
+use crate::links::has_module;
 use crate::loaded::Module;
 use ob_obj::RecordType;
 use ob_tdesc::{Descriptor, Descriptors};
@@ -19,37 +20,21 @@ use std::marker::Model;
 pub struct Types {
     table: Descriptors,
     names: Vec<QName>,
+    index: TypeIndex,
 }
 
 impl Model for Types {
     ghost use Rattle.std.specs.Prelude.{List, ◌≡◌, ◌<◌, ◌^◌, map, length};
     ghost use Rattle.ob_tdesc.specs.declared.descriptor.Descriptor.{Descriptor as Described};
     ghost use Rattle.ob_image.specs.Names.{name_of};
+    ghost use Rattle.ob_image.specs.Index.{IsIndexed};
     ghost use Rattle.ob_image.specs.Whole.{BasesBefore};
 
     ghost Value = { List Described };
 
     ghost view = { λ t. t.table.list };
 
-    ghost invariant = { λ t. (t.names.items ≡ map name_of t.table.list) × (length t.table.list < 2 ^ 32) × BasesBefore t.table.list };
-}
-
-fn name_number(names: &[QName], name: &QName) -> Option<u32>
-    requires { length names.now < 2 ^ 32 }
-    ensures { result ≡ name_from 0 names.now name.now }
-{
-    let mut number = 0;
-    let mut rest = names;
-    while let [other, more @ ..] = rest {
-        if is_same(name.module.as_bytes(), other.module.as_bytes())
-            && is_same(name.object.as_bytes(), other.object.as_bytes())
-        {
-            return Some(number);
-        }
-        number += 1;
-        rest = more;
-    }
-    None
+    ghost invariant = { λ t. (t.names.items ≡ map name_of t.table.list) × (length t.table.list < 2 ^ 32) × BasesBefore t.table.list × IsIndexed t.index.modules t.table.list };
 }
 
 // How many names, from the first on, are of types of these modules.
@@ -86,6 +71,7 @@ impl Types {
         Types {
             table: Descriptors::new(alloc),
             names: Vec::new(alloc),
+            index: TypeIndex::new(alloc),
         }
     }
 
@@ -109,7 +95,7 @@ impl Types {
     pub fn linked(&self, name: &QName) -> Option<u32>
         ensures { result ≡ linked_type self.now name.now }
     {
-        name_number(&self.names, name)
+        self.index.get(name)
     }
 
     /// The numbers of the types that links name.
@@ -148,7 +134,9 @@ impl Types {
             object,
         };
         self.table.reserve(1, d.methods.len() as u32)?;
-        self.names.push(name)?;
+        self.names.reserve(1)?;
+        self.index.note(alloc, &name, self.names.len() as u32)?;
+        let _ = self.names.push(name);
         let _ = self.table.add(d);
         Ok(())
     }
@@ -201,12 +189,26 @@ impl Types {
         Ok(())
     }
 
+    // Takes out the last one.
+    fn cut_last(&mut self)
+        requires { 0 < length self.old }
+        ensures { self.new ≡ take (length self.old - 1) self.old }
+    {
+        let last = self.names.len() - 1;
+        self.index.forget(&self.names[last], last as u32);
+        self.names.truncate(last);
+        self.table.cut(last as u32);
+    }
+
     /// Keeps the first descriptors, so many.
     pub fn cut(&mut self, types: u32)
         requires { types ≤ length self.old }
         ensures { self.new ≡ take types self.old }
     {
-        self.table.cut(types);
-        self.names.truncate(types as usize);
+        let mut count = self.count();
+        while count > types {
+            self.cut_last();
+            count -= 1;
+        }
     }
 }

@@ -1,6 +1,6 @@
 use Rattle.std.proofs.Common.{◌≡◌, ◌+◌, ◌++◌, length, map, ap, refl, ◌∙◌}
 use Rattle.ob_obj.specs.Images.{string_places, linked_variable, linked_procedure, or_zero, or_first, numbers, type_links}
-use Rattle.ob_image.proofs.Fits.{sound, short}
+use Rattle.ob_image.proofs.Fits.{sound, short, variables_rise, commands_rise}
 use Rattle.ob_image.proofs.Entering.{made}
 use Rattle.ob_image.proofs.image.Image.module_of.Goals as goal
 
@@ -27,10 +27,14 @@ invariant_of-result c =
     let f = c.args.file.now in
     let e1 : c.in_ok-code.code ≡ f.body.code = c.in_ok-code.ensures ∙ c.as_slice.ensures in
     let e3 : c.in_ok-procedures.procedures ≡ f.body.procedures = c.in_ok-procedures.ensures ∙ c.as_slice-3.ensures in
+    let e5 : c.in_ok-variables.variables ≡ map (λ v. (v.name, c.self.inside.next + v.place)) f.globals.variables = c.in_ok-variables.ensures ∙ rw (c.as_slice-4.ensures) refl in
+    let e6 : c.in_ok-commands.commands ≡ map (λ k. (k.name, k.procedure)) f.body.commands = c.in_ok-commands.ensures ∙ rw (c.as_slice-5.ensures) refl in
     record {
       some = c.self.invariant.some;
       within = c.self.invariant.within;
       short = rw e1 (sound f c.requires.can.fits).few_instructions;
       few = rw e3 (sound f c.requires.can.fits).few_procedures;
       words = rw e3 (short f c.requires.can.fits);
+      variables = rw e5 (variables_rise c.self.inside.next f c.requires.can.fits);
+      commands = rw e6 (commands_rise f c.requires.can.fits);
     }

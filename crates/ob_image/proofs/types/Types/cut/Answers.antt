@@ -1,12 +1,21 @@
-use Rattle.std.proofs.Common.{take, ap, sym, ◌∙◌, arith}
-use Rattle.std.specs.Prelude.{map}
-use Rattle.std.proofs.lemmas.List.{take-map, length-take}
-use Rattle.ob_image.specs.Names.{name_of}
-use Rattle.ob_image.proofs.Bases.{bases_cut}
+use Rattle.std.proofs.Common.{◌≡◌, ◌-◌, length, take, sym, ◌∙◌, arith}
+use Rattle.std.proofs.lemmas.List.{length-take, take_all}
+use Rattle.ob_image.proofs.Whole.{taken_twice}
 use Rattle.ob_image.proofs.types.Types.cut.Goals as goal
 
-pub invariant_of-self : goal.invariant_of-self
-invariant_of-self c =
-    let t = c.self.inside in
-    let short = length-take c.args.types t.table.list in
-    (c.truncate.ensures.items ∙ ap (take c.args.types) c.self.invariant.0 ∙ take-map name_of c.args.types t.table.list ∙ ap (map name_of) (sym c.cut.ensures.list), rw c.cut.ensures.list (omega (arith, c.self.invariant.1)), rw c.cut.ensures.list (bases_cut c.args.types t.table.list c.self.invariant.2))
+pub loop-count-preserved : goal.loop-count-preserved
+loop-count-preserved c =
+    let s = c.loop-count.self in
+    let i = c.loop-count.invariant in
+    let e : c.cut_last.new.self ≡ take (length s - 1) s = c.cut_last.ensures in
+    let n = length-take (length s - 1) s in (
+      rw e (omega (arith, i.0, i.2, c.loop-count-test.true)),
+      rw e (taken_twice c.args.types (length s - 1) s (omega (arith, i.0, i.2, c.loop-count-test.true)) ∙ i.1),
+      omega (arith, i.0, i.2, c.loop-count-test.true),
+    )
+
+pub returns : goal.returns
+returns c =
+    let s = c.loop-count.self in
+    let i = c.loop-count.invariant in
+    sym (take_all c.args.types s (omega (arith, i.0, i.2, c.loop-count-test.false))) ∙ i.1
