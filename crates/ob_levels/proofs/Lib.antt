@@ -1,0 +1,5 @@
+mod Places
+mod Opens
+mod Deeper
+mod Modules
+mod Once
