@@ -13,13 +13,15 @@ use Rattle.ob_grammar.specs.Phrase.{Tokens, Nest, AnExpr, AType, Statements, Neg
 use Rattle.ob_grammar.specs.Reading.{Fails, Deep, Set, starts, first}
 use Rattle.ob_grammar.specs.Grammar.{rule, spells, read, reads, read_void, first_of, empty_of, is_full, IsVoid}
 use Rattle.ob_grammar.specs.Declarations.{«module»}
-use Rattle.ob_grammar.specs.Laws.{IsModule}
+use Rattle.ob_grammar.specs.Laws.{IsModule, SameNext}
+use Rattle.ob_grammar.proofs.Local.{SameHead}
 use Rattle.ob_grammar.proofs.Basics.{chosen, false_not_true}
 use Rattle.ob_grammar.proofs.Fine.{every, within, within_starts}
 use Rattle.ob_grammar.proofs.Whole.{good_read, more_of, agrees, none_left, module_fine}
 use Rattle.ob_grammar.proofs.Alive.{sample_easy, Sample, fails, fails_rest, found_not}
-use Rattle.ob_levels.specs.Levels.{token_of, tokens_of, places, IsPlaced, IsFirstTooDeep, IsSpelled, HasPlaces, NextGoesOn}
+use Rattle.ob_levels.specs.Levels.{token_of, tokens_of, places, IsPlaced, IsFirstTooDeep, IsSpelled, HasPlaces, NextGoesOn, NoneIsEarlier}
 use Rattle.ob_levels.proofs.Places.{Places, within_as, lower_as, lower}
+use Rattle.ob_levels.proofs.Shared.{front_places}
 use Rattle.ob_levels.proofs.Opens.{Sampled, Void, Opens, opens_as}
 use Rattle.ob_levels.proofs.Deeper.{Deeper, deeper_as, wrong_not_deep}
 
@@ -186,3 +188,17 @@ next_goes_on d ts r h =
     let K : Tokens → Type 0 = λ z. IsModule (enough d) w.tree z in
     let go = subst K e (spelled (enough d) w.tree (w.before ++ (w.level, w.token) ∷ w.behind) w.placed) in
     (tokens_of w.before, w.token, w.rest, w.front ∙ ap (λ z. tokens_of w.before ++ z) w.next, w.next, (enough d, tokens_of w.behind, w.tree, go))
+
+same_head : (t : Token) (c d r r' : Tokens) → r ≡ t ∷ d → SameNext r r' → SameHead (t ∷ c) r'
+same_head t c d r [] e h = let K : Tokens → Type 0 = λ z. SameNext z [] in subst K e h
+same_head t c d r (u ∷ r') e h = let K : Tokens → Type 0 = λ z. SameNext z (u ∷ r') in subst K e h
+
+pub none_is_earlier : (d : ℕ) (ts r : Tokens) → reads d «module» ts ≡ Fails Deep r → NoneIsEarlier d ts r
+none_is_earlier d ts r h =
+    let w = whole_deeper d ts r h in (
+      tokens_of w.before,
+      w.front,
+      λ j m us r' s e n.
+          let q = front_places (enough d) j w.tree m w.before w.level w.token w.behind us r' w.placed s e (same_head w.token (tokens_of w.behind) w.rest r r' w.next n) in
+          (w.before, q.0, q.1, refl, w.within),
+    )

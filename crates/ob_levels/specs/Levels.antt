@@ -5,7 +5,7 @@ use Rattle.ob_tree.specs.declared.decl.Module.{Module}
 use Rattle.ob_grammar.specs.Phrase.{Tokens, Nest, Tree, Phrase, word, both, made, maybe, many, either, nest, fork}
 use Rattle.ob_grammar.specs.Grammar.{rule, IsVoid}
 use Rattle.ob_grammar.specs.Declarations.{«module»}
-use Rattle.ob_grammar.specs.Laws.{IsModule, CanGoOn}
+use Rattle.ob_grammar.specs.Laws.{IsModule, CanGoOn, SameNext}
 
 -- r is the end of ts, and some module begins with what is before it and its first token
 abbrev pub NextGoesOn : Tokens → Tokens → Type 0
@@ -67,6 +67,13 @@ abbrev pub IsFirstTooDeep : ℕ → Tokens → Tokens → Type 0
 IsFirstTooDeep d ts r =
     (a : List Placed) × (k : ℕ) × (t : Token) × (c : List Placed) × (r' : Tokens) × (j : ℕ) × (m : Module)
     × (ts ≡ tokens_of a ++ r) × (r ≡ t ∷ r') × AllWithin d a × (d < k) × IsPlaced j m (a ++ (k, t) ∷ c)
+
+-- r is the end of ts; in each module that begins with what is before it and its first token, each token before is inside
+-- d levels at most
+abbrev pub NoneIsEarlier : ℕ → Tokens → Tokens → Type 0
+NoneIsEarlier d ts r =
+    (a : Tokens) × (ts ≡ a ++ r) × ((j : ℕ) (m : Module) (us : List Placed) (r' : Tokens) → IsPlaced j m us → tokens_of us ≡ a ++ r' → SameNext r r'
+    → (b : List Placed) × (c : List Placed) × (us ≡ b ++ c) × (tokens_of b ≡ a) × AllWithin d b)
 
 -- tokens that are placed so spell the module
 abbrev pub IsSpelled : ℕ → Module → Type 0

@@ -1,5 +1,5 @@
 use Rattle.ob_levels.proofs.Modules.{spelled, has_places}
-use Rattle.ob_levels.proofs.Once.{placed_once}
+use Rattle.ob_levels.proofs.Shared.{placed_once}
 use Rattle.ob_levels.proofs.places_are_levels.Goals as goal
 
 pub returns-clause-spelled : goal.returns-clause-spelled
