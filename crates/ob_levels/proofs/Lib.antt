@@ -1,0 +1,5 @@
+mod Places
+mod Shared
+mod Opens
+mod Deeper
+mod Modules
