@@ -9,13 +9,11 @@
 
 mod fault;
 mod names;
-mod texts;
 mod wire;
 mod words;
 
 pub use fault::Fault;
 pub use names::{is_name, is_object_name};
-pub use texts::{Piece, to_end};
 pub use wire::{
     Ranked, Wire, bytes_of, few_list, i32_at, is_distinct, is_rising, put_bytes, read_text,
     read_whole, rising_list, skip, text_at, u16_at, u32_at, write_text, write_whole,
