@@ -203,7 +203,7 @@ pub fn entry_procedure(image: &Image, entry: ProcRef) -> &Procedure
     ensures there { procedure_of image.now entry ≡ Some result.now }
     ensures params { result.now.params ≡ [] }
     ensures locals { result.now.locals ≤ 1048576 }
-    ensures unit { entry.module < length image.now.modules }
+    ensures unit { entry.«module» < length image.now.modules }
     ensures room { image.now.room ≡ room }
 {
     let _ = image.count();
