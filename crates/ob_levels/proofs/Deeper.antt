@@ -97,7 +97,7 @@ before_more D P Q ts r w us y q =
       placed = subst K (append_assoc w.before ((w.level, w.token) ∷ w.behind) us) q;
     }
 
-abbrev places_made : {A B : Type 0} → (A → B) → Placing A → Placing B
+abbrev pub places_made : {A B : Type 0} → (A → B) → Placing A → Placing B
 places_made {A} f P y us = (x : A) × (f x ≡ y) × P x us
 
 deeper_made : {A B : Type 0} (D : ℕ) (f : A → B) (P : Placing A) (R : Reader A) → Deeper D P R → Deeper D (places_made f P) (λ ts. R ts >>= λ x rest. Found (f x) rest)
@@ -107,10 +107,10 @@ deeper_made {A} {B} D f P R L ts r h = by_cases (deep_cases (R ts) (λ x rest. F
     by_cases (inl u) = found_not (f u.0) u.1 r Deep u.3
     by_cases (inr u) = let w = L ts r u in moved D P (places_made f P) ts r w (f w.tree) (w.tree, refl, w.placed)
 
-abbrev pairs : {A B : Type 0} → Reader B → A → Reader (A × B)
+abbrev pub pairs : {A B : Type 0} → Reader B → A → Reader (A × B)
 pairs {A} {B} Q x ts = Q ts >>= λ y rest. found {A = A × B} (x, y) rest
 
-abbrev places_both : {A B : Type 0} → Placing A → Placing B → Placing (A × B)
+abbrev pub places_both : {A B : Type 0} → Placing A → Placing B → Placing (A × B)
 places_both P Q x us = (a : List Placed) × (b : List Placed) × (us ≡ a ++ b) × P x.0 a × Q x.1 b
 
 deeper_both : {A B : Type 0} (D : ℕ) (P : Placing A) (R : Reader A) (Q : Placing B) (T : Reader B) → Deeper D P R → Shallow D P R → Deeper D Q T → Sampled Q
@@ -170,7 +170,7 @@ word_not_deep {G} x (t ∷ ts) r h = by_test (chosen (same t.symbol x) _ _ (Fail
     by_test (inl u) = found_not t ts r Deep u.1
     by_test (inr u) = wrong_not_deep {A = Token} (t ∷ ts) r u.1
 
-abbrev places_fork : {A : Type 0} → ℕ → Symbol → Placing A → Placing A → Placing A
+abbrev pub places_fork : {A : Type 0} → ℕ → Symbol → Placing A → Placing A → Placing A
 places_fork k x P Q y us = (t : Token) × (b : List Placed) × (t.symbol ≡ x) × (((us ≡ (k, t) ∷ b) × P y b) ⊎ ((us ≡ (suc k, t) ∷ b) × Q y b))
 
 -- a symbol that is too deep goes on with what is nested
@@ -209,11 +209,11 @@ module _ {A : Type 0} (D k : ℕ) (x : Symbol) (f : Set) (full : Bool) (P : Plac
       by_word (inl u) = by_test u.0 u.1 (word_taken x ts u.0 u.1 u.2) (chosen (starts f u.1) _ _ (Fails Deep r) u.3)
       by_word (inr u) = word_not_deep x ts r u
 
-module _ (first_of : Nest → Set) (empty_of : Nest → Bool) (more_of : Nest → Set) (t₀ : Token) (full : Bool)
+module _ (first_of : Nest → Set) (empty_of : Nest → Bool) (more_of : Nest → Set) (full : Bool)
     (S : (n : Nest) → Spelling (Tree n)) (R : (n : Nest) → Reader (Tree n)) (nested : (n : Nest) → Good (S n) (R n) (first_of n) (empty_of n) (more_of n))
     (none_left : (n : Nest) → full ≡ true → empty_of n ≡ false → (x : Tree n) (ts : Tokens) → S n x ts → ⊥)
-    (P : (n : Nest) → Placing (Tree n)) (k D : ℕ) (room : k ≤ D) (at_bound : full ≡ true → D ≤ k) (more_room : full ≡ false → suc k ≤ D)
-    (placed : (n : Nest) → Places D (P n) (S n)) (sample : (n : Nest) → Sampled (P n)) (deeper : (n : Nest) → Deeper D (P n) (R n)) where
+    (P : (n : Nest) → Placing (Tree n)) (k D : ℕ) (room : k ≤ D) (more_room : full ≡ false → suc k ≤ D)
+    (placed : (n : Nest) → Places D (P n) (S n)) where
   room_for : (n : Nest) → empty_of n ≡ false → (x : Tree n) (ts : Tokens) → S n x ts → suc k ≤ D
   room_for n e x ts s = by_full full refl
     where
@@ -221,24 +221,32 @@ module _ (first_of : Nest → Set) (empty_of : Nest → Bool) (more_of : Nest �
       by_full true q = absurd (none_left n q e x ts s)
       by_full false q = more_room q
 
-  shallow : {A : Type 0} (p : Phrase A) → fine first_of empty_of more_of p ≡ true → Shallow D (places_as P k p) (read_as first_of empty_of full R p)
+  pub shallow : {A : Type 0} (p : Phrase A) → fine first_of empty_of more_of p ≡ true → Shallow D (places_as P k p) (read_as first_of empty_of full R p)
   shallow p h ts x r e =
       let s = (good first_of empty_of more_of full S R nested none_left p h).sound ts x r e in
       let w = within_as first_of empty_of more_of S P k D room placed room_for p h x s.0 s.2 in
       (w.0, s.1 ∙ ap (λ z. z ++ r) w.1, w.2, w.3)
 
+module _ (first_of : Nest → Set) (empty_of : Nest → Bool) (more_of : Nest → Set) (t₀ : Token) (full : Bool)
+    (S : (n : Nest) → Spelling (Tree n)) (R : (n : Nest) → Reader (Tree n)) (nested : (n : Nest) → Good (S n) (R n) (first_of n) (empty_of n) (more_of n))
+    (none_left : (n : Nest) → full ≡ true → empty_of n ≡ false → (x : Tree n) (ts : Tokens) → S n x ts → ⊥)
+    (P : (n : Nest) → Placing (Tree n)) (k D : ℕ) (room : k ≤ D) (at_bound : full ≡ true → D ≤ k) (more_room : full ≡ false → suc k ≤ D)
+    (placed : (n : Nest) → Places D (P n) (S n)) (sample : (n : Nest) → Sampled (P n)) (deeper : (n : Nest) → Deeper D (P n) (R n)) where
+  near : {A : Type 0} (p : Phrase A) → fine first_of empty_of more_of p ≡ true → Shallow D (places_as P k p) (read_as first_of empty_of full R p)
+  near p h = shallow first_of empty_of more_of full S R nested none_left P k D room more_room placed p h
+
   pub deeper_as : {A : Type 0} (p : Phrase A) → fine first_of empty_of more_of p ≡ true → Deeper D (places_as P k p) (read_as first_of empty_of full R p)
   deeper_as (word x) h ts r e = word_not_deep x ts r e
   deeper_as (both p q) h ts r e =
       let u = and_parts _ _ h in let v = and_parts _ _ u.1 in
-      deeper_both D (places_as P k p) (read_as first_of empty_of full R p) (places_as P k q) (read_as first_of empty_of full R q) (λ us w g. deeper_as p u.0 us w g) (shallow p u.0) (λ us w g. deeper_as q v.0 us w g)
+      deeper_both D (places_as P k p) (read_as first_of empty_of full R p) (places_as P k q) (read_as first_of empty_of full R q) (λ us w g. deeper_as p u.0 us w g) (near p u.0) (λ us w g. deeper_as q v.0 us w g)
       (sampled_as t₀ P k sample q) ts r e
   deeper_as (made f p) h ts r e = deeper_made D f (places_as P k p) (read_as first_of empty_of full R p) (λ us w g. deeper_as p h us w g) ts r e
   deeper_as (maybe p) h ts r e =
       let u = and_parts _ _ h in deeper_maybe D (first first_of empty_of p) (places_as P k p) (read_as first_of empty_of full R p) (λ us w g. deeper_as p u.0 us w g) ts r e
   deeper_as (many p) h ts r e =
       let u = and_parts _ _ h in
-      deeper_many D (first first_of empty_of p) (places_as P k p) (read_as first_of empty_of full R p) (λ us w g. deeper_as p u.0 us w g) (shallow p u.0) (length ts) ts r e
+      deeper_many D (first first_of empty_of p) (places_as P k p) (read_as first_of empty_of full R p) (λ us w g. deeper_as p u.0 us w g) (near p u.0) (length ts) ts r e
   deeper_as (either p q) h ts r e =
       let u = and_parts _ _ h in let v = and_parts _ _ u.1 in
       ⊎_elim

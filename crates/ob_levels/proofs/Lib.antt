@@ -2,4 +2,5 @@ mod Places
 mod Shared
 mod Opens
 mod Deeper
+mod Stops
 mod Modules

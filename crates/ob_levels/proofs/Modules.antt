@@ -10,7 +10,7 @@ use Rattle.ob_tree.specs.declared.stmt.Stmt.TheVariants as st
 use Rattle.ob_tree.specs.declared.decl.Decl.{Decl}
 use Rattle.ob_tree.specs.declared.decl.Module.{Module}
 use Rattle.ob_grammar.specs.Phrase.{Tokens, Nest, AnExpr, AType, Statements, Negated, Procedure, Tree}
-use Rattle.ob_grammar.specs.Reading.{Fails, Deep, Set, starts, first}
+use Rattle.ob_grammar.specs.Reading.{Fails, Deep, Wrong, Set, starts, first}
 use Rattle.ob_grammar.specs.Grammar.{rule, spells, read, reads, read_void, first_of, empty_of, is_full, IsVoid}
 use Rattle.ob_grammar.specs.Declarations.{«module»}
 use Rattle.ob_grammar.specs.Laws.{IsModule, SameNext}
@@ -19,11 +19,12 @@ use Rattle.ob_grammar.proofs.Basics.{chosen, false_not_true}
 use Rattle.ob_grammar.proofs.Fine.{every, within, within_starts}
 use Rattle.ob_grammar.proofs.Whole.{good_read, more_of, agrees, none_left, module_fine}
 use Rattle.ob_grammar.proofs.Alive.{sample_easy, Sample, fails, fails_rest, found_not}
-use Rattle.ob_levels.specs.Levels.{token_of, tokens_of, places, IsPlaced, IsFirstTooDeep, IsSpelled, HasPlaces, NextGoesOn, NoneIsEarlier}
+use Rattle.ob_levels.specs.Levels.{token_of, tokens_of, places, IsPlaced, IsFirstTooDeep, IsSpelled, HasPlaces, NextGoesOn, NoneIsEarlier, IsInside}
 use Rattle.ob_levels.proofs.Places.{Places, within_as, lower_as, lower}
 use Rattle.ob_levels.proofs.Shared.{front_places}
 use Rattle.ob_levels.proofs.Opens.{Sampled, Void, Opens, opens_as}
 use Rattle.ob_levels.proofs.Deeper.{Deeper, deeper_as, wrong_not_deep}
+use Rattle.ob_levels.proofs.Stops.{Stops, at_front, deep_not_wrong, stops_as}
 
 t₀ : Token
 t₀ = record { symbol = s.End; text = record { ref_ptr = (0, 0); now = [] }; pos = record { line = 0; col = 0 } }
@@ -202,3 +203,32 @@ none_is_earlier d ts r h =
           let q = front_places (enough d) j w.tree m w.before w.level w.token w.behind us r' w.placed s e (same_head w.token (tokens_of w.behind) w.rest r r' w.next n) in
           (w.before, q.0, q.1, refl, w.within),
     )
+
+-- ---- a wrong token
+
+void_wrong : (n : Nest) (ts r : Tokens) → read_void n ts ≡ fails Wrong r → ts ≡ r
+void_wrong AnExpr ts r h = fails_rest {A = Expr} Wrong Wrong ts r h
+void_wrong AType ts r h = fails_rest {A = TypeNode} Wrong Wrong ts r h
+void_wrong Statements ts r h = found_not (st.Empty ∷ []) ts r Wrong h
+void_wrong Negated ts r h = fails_rest {A = Expr} Wrong Wrong ts r h
+void_wrong Procedure ts r h = fails_rest {A = Decl} Wrong Wrong ts r h
+
+read_stops : (d k D : ℕ) → d + k ≡ D → (n : Nest) → Stops D (places (enough d) k n) (read d n)
+read_stops zero k D q n [] r h = at_front D (places (enough zero) k n) [] r (sample_enough zero k n) (void_wrong n [] r h)
+read_stops zero k D q n (t ∷ ts) r h =
+    ⊎_elim
+    (λ (c : (starts (first_of n) (t ∷ ts) ≡ true) × (fails {A = Tree n} Deep (t ∷ ts) ≡ Fails Wrong r)). deep_not_wrong {A = Tree n} (t ∷ ts) r c.1)
+    (λ c. at_front D (places (enough zero) k n) (t ∷ ts) r (sample_enough zero k n) (void_wrong n (t ∷ ts) r c.1)) (chosen (starts (first_of n) (t ∷ ts)) _ _ (Fails Wrong r) h)
+read_stops (suc d) k D q n ts r h =
+    let near : suc k ≤ D = omega arith in let far : d + suc k ≤ D = omega arith in let same : d + suc k ≡ D = omega arith in
+    stops_as first_of empty_of more_of t₀ (is_full d) (spells d) (read d) (good_read d) (none_left d) (places (enough d) (suc k)) (suc k) D near
+    (more_room d (suc k) D same) (place (suc (suc (suc zero))) d (suc k) D far) (sample_enough d (suc k)) (read_stops d (suc k) D same)
+    (rule n) (agrees n).one_ahead ts r h
+
+pub wrong_inside : (d : ℕ) (ts r : Tokens) → reads d «module» ts ≡ Fails Wrong r → IsInside d ts r
+wrong_inside d ts r h =
+    let near : zero ≤ d = omega arith in let far : d + zero ≤ d = omega arith in let same : d + zero ≡ d = omega arith in
+    let w = stops_as first_of empty_of more_of t₀ (is_full d) (spells d) (read d) (good_read d) (none_left d) (places (enough d) zero) zero d near
+    (more_room d zero d same) (place (suc (suc (suc zero))) d zero d far) (sample_enough d zero) (read_stops d zero d same)
+    «module» module_fine ts r h in
+    (w.before, w.behind, enough d, w.tree, w.front, w.within, w.placed)

@@ -75,6 +75,11 @@ NoneIsEarlier d ts r =
     (a : Tokens) × (ts ≡ a ++ r) × ((j : ℕ) (m : Module) (us : List Placed) (r' : Tokens) → IsPlaced j m us → tokens_of us ≡ a ++ r' → SameNext r r'
     → (b : List Placed) × (c : List Placed) × (us ≡ b ++ c) × (tokens_of b ≡ a) × AllWithin d b)
 
+-- r is the end of ts, and some module begins with what is before it, of which each token is inside d levels at most
+abbrev pub IsInside : ℕ → Tokens → Tokens → Type 0
+IsInside d ts r =
+    (a : List Placed) × (c : List Placed) × (j : ℕ) × (m : Module) × (ts ≡ tokens_of a ++ r) × AllWithin d a × IsPlaced j m (a ++ c)
+
 -- tokens that are placed so spell the module
 abbrev pub IsSpelled : ℕ → Module → Type 0
 IsSpelled j m = (us : List Placed) → IsPlaced j m us → IsModule j m (tokens_of us)

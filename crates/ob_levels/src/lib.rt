@@ -5,10 +5,10 @@
 ghost use Rattle.std.specs.Prelude.{◌≡◌, ℕ, List};
 ghost use Rattle.ob_tree.specs.declared.decl.Module.{Module};
 ghost use Rattle.ob_grammar.specs.Phrase.{Tokens};
-ghost use Rattle.ob_grammar.specs.Reading.{Fails, Deep};
+ghost use Rattle.ob_grammar.specs.Reading.{Fails, Deep, Wrong};
 ghost use Rattle.ob_grammar.specs.Grammar.{reads};
 ghost use Rattle.ob_grammar.specs.Declarations.{«module»};
-ghost use Rattle.ob_levels.specs.Levels.{Placed, tokens_of, IsPlaced, NextGoesOn, IsFirstTooDeep, NoneIsEarlier, IsSpelled, HasPlaces};
+ghost use Rattle.ob_levels.specs.Levels.{Placed, tokens_of, IsPlaced, NextGoesOn, IsFirstTooDeep, NoneIsEarlier, IsInside, IsSpelled, HasPlaces};
 
 /// A law, with nothing to run. Where the reading of a module within any number of levels finds a
 /// token too deep, some module, of more levels, begins with the front and this very token: so the
@@ -18,6 +18,13 @@ pub fn too_deep_alone()
     ensures next { (d : ℕ) (ts r : Tokens) → reads d «module» ts ≡ Fails Deep r → NextGoesOn ts r }
     ensures first { (d : ℕ) (ts r : Tokens) → reads d «module» ts ≡ Fails Deep r → IsFirstTooDeep d ts r }
     ensures before { (d : ℕ) (ts r : Tokens) → reads d «module» ts ≡ Fails Deep r → NoneIsEarlier d ts r }
+{}
+
+/// A law, with nothing to run. Where the reading of a module within any number of levels finds a
+/// token wrong, some module begins with what is before it, and of that each token is inside these
+/// levels: so none before it is too deep.
+pub fn wrong_alone()
+    ensures { (d : ℕ) (ts r : Tokens) → reads d «module» ts ≡ Fails Wrong r → IsInside d ts r }
 {}
 
 /// A law, with nothing to run. Tokens with their places in a module spell it. Tokens that spell a
