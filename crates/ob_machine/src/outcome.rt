@@ -5,8 +5,9 @@ use ob_tree::{Name, Pos};
 pub enum Outcome {
     /// The procedure that the run began in returned.
     Done,
-    /// An instruction of the module trapped, with this position. Kind 8 is a result outside the range
-    /// of its type, with the number 0.
+    /// An instruction of the module trapped, with this position. The kind is from 1 to 16, by the table;
+    /// the number is the operand that a `Trap` or an `Assert` of the code has for it, and 0 in every other
+    /// trap.
     Trap {
         kind: u8,
         number: i32,
