@@ -161,7 +161,7 @@ fn two_hundred_levels(rt: HostRuntime) -> Result<(), Fail> {
 fn long_chains(rt: HostRuntime) -> Result<(), Fail> {
     let alloc = rt.alloc();
     for (front, count, middle, end) in [
-        ("MODULE M; BEGIN x := a", 20_000, " + a", " END M."),
+        ("MODULE M; BEGIN x := a", 20_000, " - a", " END M."),
         ("MODULE M; BEGIN x := a", 20_000, "*a", " END M."),
         ("MODULE M; BEGIN x", 20_000, ".x^", " END M."),
         ("MODULE M; BEGIN ", 100_000, "x;", " END M."),
@@ -189,6 +189,20 @@ fn long_chains(rt: HostRuntime) -> Result<(), Fail> {
             "{count} of {middle}"
         );
     }
+    Ok(())
+}
+
+#[test]
+fn a_million_operators(rt: HostRuntime) -> Result<(), Fail> {
+    let alloc = rt.alloc();
+    let text = repeated(
+        alloc,
+        "MODULE M; BEGIN x := a",
+        1_000_000,
+        " + a",
+        " END M.",
+    )?;
+    assert_eq!(rt; verdict_of(alloc, &text), Verdict::Module);
     Ok(())
 }
 

@@ -1,6 +1,6 @@
 //! Faulty texts, each with its first fault and where that stands.
 
-use crate::verdict::{Verdict, at, verdict_of};
+use crate::verdict::{Verdict, at, verdict_of, verdict_of_bytes};
 
 #[test]
 fn texts_without_tokens(rt: HostRuntime) {
@@ -8,6 +8,8 @@ fn texts_without_tokens(rt: HostRuntime) {
         ("MODULE M; CONST c = 1.5; END M.", Verdict::Real(at(1, 21))),
         ("MODULE M; CONST c = 1.; END M.", Verdict::Real(at(1, 21))),
         ("MODULE M; CONST c = 7.", Verdict::Real(at(1, 21))),
+        ("MODULE M; CONST c = 1.a; END M.", Verdict::Real(at(1, 21))),
+        ("MODULE M; CONST c = 1.E5; END M.", Verdict::Real(at(1, 21))),
         ("MODULE M; CONST c = !; END M.", Verdict::Symbol(at(1, 21))),
         (
             "MODULE M; CONST c = \"abc\n\"; END M.",
@@ -33,6 +35,55 @@ fn texts_without_tokens(rt: HostRuntime) {
     }
 }
 
+// One byte in a string, in a comment and between symbols.
+#[test]
+fn single_bytes(rt: HostRuntime) {
+    for (name, text, fault) in [
+        (
+            "127 in a string",
+            b"MODULE M; CONST c = '\x7f'; END M.".as_slice(),
+            Verdict::Module,
+        ),
+        (
+            "128 in a string",
+            b"MODULE M; CONST c = '\x80'; END M.".as_slice(),
+            Verdict::Symbol(at(1, 21)),
+        ),
+        (
+            "128 behind others in a string",
+            b"MODULE M; CONST c = \"abc\x80\"; END M.".as_slice(),
+            Verdict::Symbol(at(1, 21)),
+        ),
+        (
+            "255 in a string",
+            b"MODULE M; CONST c = '\xff'; END M.".as_slice(),
+            Verdict::Symbol(at(1, 21)),
+        ),
+        (
+            "10 in a string",
+            b"MODULE M; CONST c = '\x0a'; END M.".as_slice(),
+            Verdict::Symbol(at(1, 21)),
+        ),
+        (
+            "128 in a comment",
+            b"MODULE M; (* \x80 *) END M.".as_slice(),
+            Verdict::Module,
+        ),
+        (
+            "127 between symbols",
+            b"MODULE M; \x7f END M.".as_slice(),
+            Verdict::Symbol(at(1, 11)),
+        ),
+        (
+            "128 between symbols",
+            b"MODULE M; \x80 END M.".as_slice(),
+            Verdict::Symbol(at(1, 11)),
+        ),
+    ] {
+        assert_eq!(rt; verdict_of_bytes(rt.alloc(), text), fault, "{name}");
+    }
+}
+
 #[test]
 fn declarations(rt: HostRuntime) {
     for (text, fault) in [
@@ -52,6 +103,18 @@ fn declarations(rt: HostRuntime) {
         ("MODULE M; x END M.", Verdict::Syntax(at(1, 11))),
         ("MODULE M; CONST c := 1; END M.", Verdict::Syntax(at(1, 19))),
         ("MODULE M; CONST c = ; END M.", Verdict::Syntax(at(1, 21))),
+        (
+            "MODULE M; CONST c = 1..5; END M.",
+            Verdict::Syntax(at(1, 22)),
+        ),
+        (
+            "MODULE M; CONST c = 5DO; END M.",
+            Verdict::Syntax(at(1, 22)),
+        ),
+        (
+            "MODULE M; CONST c = 12H.5; END M.",
+            Verdict::Syntax(at(1, 24)),
+        ),
         ("MODULE M; TYPE T = 5; END M.", Verdict::Syntax(at(1, 20))),
         (
             "MODULE M; VAR x = INTEGER; END M.",

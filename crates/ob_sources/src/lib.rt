@@ -9,6 +9,8 @@ mod faults;
 #[cfg(test)]
 mod lists;
 #[cfg(test)]
+mod nodes;
+#[cfg(test)]
 mod places;
 #[cfg(test)]
 mod sources;

@@ -41,7 +41,11 @@ fn of_parsing(fault: ParseFault) -> Verdict {
 }
 
 pub fn verdict_of(alloc: Global, text: &str) -> Verdict {
-    let bytes = text.as_bytes();
+    verdict_of_bytes(alloc, text.as_bytes())
+}
+
+/// The same of bytes that need be no text.
+pub fn verdict_of_bytes(alloc: Global, bytes: &[u8]) -> Verdict {
     if bytes.len() >= 1_000_000_000 {
         return Verdict::TooLong;
     }

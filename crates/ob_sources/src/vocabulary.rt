@@ -1,4 +1,4 @@
-//! Each symbol of the vocabulary, alone in a text.
+//! Each symbol of the vocabulary, alone in a text, and texts in which one ends where the next begins.
 
 use ob_scan::scan;
 use ob_tree::{Pos, Symbol};
@@ -21,6 +21,22 @@ fn is_one(rt: &impl Abort, alloc: Global, text: &str, symbol: Symbol) {
     assert!(rt; only.text == bytes, "{text}");
     assert_eq!(rt; only.pos, Pos { line: 1, col: 1 }, "{text}");
     assert_eq!(rt; end.symbol, Symbol::End, "{text}");
+}
+
+// The text is these tokens, each with its own text and its column.
+fn are(rt: &impl Abort, alloc: Global, text: &str, parts: &[(&str, Symbol, u32)]) {
+    let bytes = text.as_bytes();
+    assert!(rt; bytes.len() < 1_000, "{text}");
+    let Ok(tokens) = scan(alloc, bytes) else {
+        assert!(rt; false, "{text}");
+        return;
+    };
+    assert_eq!(rt; tokens.len(), parts.len(), "{text}");
+    for (token, (part, symbol, col)) in tokens.as_slice().iter().zip(parts.iter()) {
+        assert_eq!(rt; token.symbol, *symbol, "{text}");
+        assert!(rt; token.text == part.as_bytes(), "{text}");
+        assert_eq!(rt; token.pos, Pos { line: 1, col: *col }, "{text}");
+    }
 }
 
 #[test]
@@ -115,14 +131,88 @@ fn words_and_constants(rt: HostRuntime) {
         ("007", Symbol::Int),
         ("0FFH", Symbol::Int),
         ("9H", Symbol::Int),
+        ("12H", Symbol::Int),
         ("0X", Symbol::Char),
         ("41X", Symbol::Char),
         ("0ABX", Symbol::Char),
+        ("0FFX", Symbol::Char),
+        ("0100X", Symbol::Char),
         ("''", Symbol::Str),
         ("\"it's\"", Symbol::Str),
         ("'(* \" *)'", Symbol::Str),
+        ("'\0'", Symbol::Str),
         ("'\t'", Symbol::Str),
+        ("'\r'", Symbol::Str),
+        ("'\x7f'", Symbol::Str),
     ] {
         is_one(&rt, rt.alloc(), text, symbol);
     }
+}
+
+#[test]
+fn numbers_before_others(rt: HostRuntime) {
+    let alloc = rt.alloc();
+    are(
+        &rt,
+        alloc,
+        "1..5",
+        &[
+            ("1", Symbol::Int, 1),
+            ("..", Symbol::DotDot, 2),
+            ("5", Symbol::Int, 4),
+            ("", Symbol::End, 5),
+        ],
+    );
+    are(
+        &rt,
+        alloc,
+        "1...",
+        &[
+            ("1", Symbol::Int, 1),
+            ("..", Symbol::DotDot, 2),
+            (".", Symbol::Dot, 4),
+            ("", Symbol::End, 5),
+        ],
+    );
+    are(
+        &rt,
+        alloc,
+        "12H.5",
+        &[
+            ("12H", Symbol::Int, 1),
+            (".", Symbol::Dot, 4),
+            ("5", Symbol::Int, 5),
+            ("", Symbol::End, 6),
+        ],
+    );
+    are(
+        &rt,
+        alloc,
+        "5DO",
+        &[
+            ("5", Symbol::Int, 1),
+            ("DO", Symbol::KwDo, 2),
+            ("", Symbol::End, 4),
+        ],
+    );
+    are(
+        &rt,
+        alloc,
+        "0FG",
+        &[
+            ("0", Symbol::Int, 1),
+            ("FG", Symbol::Ident, 2),
+            ("", Symbol::End, 4),
+        ],
+    );
+    are(
+        &rt,
+        alloc,
+        "0FFXH",
+        &[
+            ("0FFX", Symbol::Char, 1),
+            ("H", Symbol::Ident, 5),
+            ("", Symbol::End, 6),
+        ],
+    );
 }
