@@ -1,4 +1,4 @@
-use std::alloc::{AllocError, Global};
+use std::alloc::{AllocError, AllocFailed, Global};
 use std::num::{ParseIntError, TryFromIntError};
 use thiserror::Error;
 
@@ -26,6 +26,12 @@ pub enum Misspelt {
 
 impl From<AllocError> for Misspelt {
     fn from(_: AllocError) -> Misspelt {
+        Misspelt::Memory
+    }
+}
+
+impl<T: Drop> From<AllocFailed<T>> for Misspelt {
+    fn from(_: AllocFailed<T>) -> Misspelt {
         Misspelt::Memory
     }
 }
