@@ -1,3 +1,4 @@
+use ob_codes::Procedure;
 use std::alloc::{AllocError, Global};
 
 const COUNT: &str = "Global 0; Int 0; Store; \
@@ -5,12 +6,19 @@ const COUNT: &str = "Global 0; Int 0; Store; \
     Global 0; Global 0; Load; Int 1; Add 4; Store; Jump 3; \
     Global 0; Load; Int 0; Out 3; Out 4; Ret";
 
-const CALLS: &str = "Int size; Call 1; Int 0; Out 3; Out 4; Ret; \
-    Local 0; Load; Int 2; Lt; JumpF 14; \
-    Local 0; Load; RetV; \
-    Local 0; Load; Int 1; Sub 4; Call 1; \
-    Local 0; Load; Int 2; Sub 4; Call 1; \
-    Add 4; RetV";
+const CALLS: &str = "Int size; Call 1; Int 0; Out 3; Out 4; Ret";
+
+// F, which begins at the instruction 6.
+const RECURSIVE: [Procedure; 1] = [Procedure {
+    code: "Local 0; Load; Int 2; Lt; JumpF 14; \
+        Local 0; Load; RetV; \
+        Local 0; Load; Int 1; Sub 4; Call 1; \
+        Local 0; Load; Int 2; Sub 4; Call 1; \
+        Add 4; RetV",
+    param: Some((0, 0)),
+    locals: 0,
+    has_result: true,
+}];
 
 // The first four words are the count of primes, two indices and the count of sieves; the marks stand behind.
 const SIEVE: &str = "Global 3; Int 0; Store; \
@@ -70,8 +78,16 @@ impl Work {
         }
     }
 
-    /// The code of a size. Where it calls the procedure 1, that begins at the instruction 6.
-    pub fn text(self, alloc: Global, size: u32) -> Result<String, AllocError> {
+    /// The procedures that the code calls.
+    pub fn procedures(self) -> &'static [Procedure] {
+        match self {
+            Work::Calls => &RECURSIVE,
+            _ => &[],
+        }
+    }
+
+    /// The code of a size, of the module's body.
+    pub fn body(self, alloc: Global, size: u32) -> Result<String, AllocError> {
         let digits = format!(in alloc; "{size}")?;
         self.pattern().replace(alloc, "size", &digits)
     }

@@ -6,15 +6,13 @@ ghost use Rattle.std.specs.Prelude.{IfOk};
 ghost use Rattle.ob_machine.specs.Machine.{IsEntry};
 
 mod codes;
-mod object;
 
 use codes::Work;
-use ob_codes::{machine_of, stands_alone};
+use ob_codes::{Module, assemble, machine_of, stands_alone};
 use ob_io::MemSink;
 use ob_machine::{Machine, Outcome};
 use ob_obj::read_obj;
 use ob_tree::ProcRef;
-use object::object_file;
 use std::alloc::Global;
 use std::env;
 
@@ -56,8 +54,15 @@ fn written_by(alloc: Global, bytes: &[u8]) -> anyhow::Result<String> {
 
 // What a code of a size writes.
 fn result_of(alloc: Global, work: Work, size: u32) -> anyhow::Result<String> {
-    let text = work.text(alloc, size)?;
-    let bytes = object_file(alloc, &text, work.words(size))?;
+    let body = work.body(alloc, size)?;
+    let module = Module {
+        body: &body,
+        words: work.words(size),
+        strings: &[],
+        types: &[],
+        procedures: work.procedures(),
+    };
+    let bytes = assemble(alloc, &module)?;
     written_by(alloc, &bytes)
 }
 

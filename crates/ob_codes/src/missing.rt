@@ -3,7 +3,7 @@
 use crate::runs::{Times, expect_all};
 use std::test::Fail;
 
-// Each operation with one operand less than it takes.
+// Each operation that takes operands, but CallX, with one less than it takes, and each kind of parameter.
 const MISSING_OPERANDS: &str = "
 Load; Ret | illegal 0 |
 Deref; Ret | illegal 0 |
@@ -27,6 +27,13 @@ NewR 0; Ret | illegal 0 |
 NewA 1; Ret | illegal 0 |
 CallP 1 0; Ret | illegal 0 |
 CallV 0; Ret | illegal 0 |
+Offset 1 | illegal 0 |
+Drop; Ret | illegal 0 |
+Out 1; Ret | illegal 0 |
+JumpF 1; Ret | illegal 0 |
+Call 1; Ret | illegal 0 |
+Call 3; Ret | illegal 0 |
+Call 11; Ret | illegal 0 |
 Int 1; Copy 1; Ret | illegal 1 |
 Int 1; Index 3 4; Ret | illegal 1 |
 Int 1; Mul 4; Ret | illegal 1 |
@@ -51,9 +58,22 @@ Int 1; CallR 0 0; Ret | illegal 1 |
 Int 1; CallS 0 0; Ret | illegal 1 |
 Int 1; Out 2; Ret | illegal 1 |
 Int 1; Out 3; Ret | illegal 1 |
+Int 1; Store; Ret | illegal 1 |
+Int 1; Sub 4; Ret | illegal 1 |
+Int 1; Eq; Ret | illegal 1 |
+Int 1; Meet; Ret | illegal 1 |
+Int 1; Ash; Ret | illegal 1 |
+Int 1; Add 4; Ret | illegal 1 |
+Global 0; Call 4; Ret | illegal 1 |
+Int 4; Call 12; Ret | illegal 1 |
+Proc 1; CallV 1; Ret | illegal 1 |
 Int 1; Int 1; CopyRec 1 0; Ret | illegal 2 |
 Int 1; Int 1; Int 1; StrRel 0; Ret | illegal 3 |
 Int 1; Int 1; Int 1; StrCopy; Ret | illegal 3 |
+Int 3; Int 2; IndexO 4; Ret | illegal 2 |
+Global 0; NewR 1; Global 0; Load; CallP 1 1; Ret | illegal 4 |
+Global 0; Tag 1; CallR 0 1; Ret | illegal 2 |
+Call 10; Ret | illegal 50 |
 ";
 
 #[test]

@@ -7,11 +7,9 @@ use std::test::Fail;
 const VALUES: &str = "
 Int 5; p; Ret | done | 5
 Int -2147483648; p; Ret | done | -2147483648
-Offset 1 | illegal 0 |
 Int 5; Offset 3; p; Ret | done | 8
 Int 2147483647; Offset 1; Ret | illegal 1 |
 Int 1; Int 2; Drop; p; Ret | done | 1
-Drop; Ret | illegal 0 |
 Int 127; Int 1; Add 1; Ret | trap 8 0 2 |
 Int 126; Int 1; Add 1; p; Ret | done | 127
 Int -128; Int 1; Sub 1; Ret | trap 8 0 2 |
@@ -28,7 +26,6 @@ Int -2147483648; Int 1; Sub 4; Ret | trap 8 0 2 |
 Int -2147483648; Neg 4; Ret | trap 8 0 1 |
 Int -2147483648; Abs 4; Ret | trap 8 0 1 |
 Int 1; Int 2; Add 3; Ret | illegal 2 |
-Int 1; Sub 4; Ret | illegal 1 |
 Int 3; Int 5; Sub 4; p; Ret | done | -2
 Int 46341; Int 46341; Mul 4; Ret | trap 8 0 2 |
 Int -7; Int 6; Mul 4; p; Ret | done | -42
@@ -46,7 +43,6 @@ Int 1; Int 2; Lt; p; Int 2; Int 2; Lt; p; Int 3; Int 2; Lt; p; Ret | done | 100
 Int 1; Int 2; Le; p; Int 2; Int 2; Le; p; Int 3; Int 2; Le; p; Ret | done | 110
 Int 1; Int 2; Gt; p; Int 2; Int 2; Gt; p; Int 3; Int 2; Gt; p; Ret | done | 001
 Int 1; Int 2; Ge; p; Int 2; Int 2; Ge; p; Int 3; Int 2; Ge; p; Ret | done | 011
-Int 1; Eq; Ret | illegal 1 |
 Int 0; Not; p; Int 5; Not; p; Ret | done | 10
 Int 127; Range 1; p; Int -32768; Range 2; p; Ret | done | 127-32768
 Int 128; Range 1; Ret | trap 8 0 1 |
@@ -59,7 +55,6 @@ Int -3; Odd; p; Int 4; Odd; p; Ret | done | 10
 Int 97; Cap; p; Int 122; Cap; p; Int 123; Cap; p; Int 65; Cap; p; Ret | done | 659012365
 Int 1; Int 4; Ash; p; Int -7; Int -1; Ash; p; Int -1; Int 31; Ash; p; Int 0; Int 100; Ash; p; Int 5; Int -100; Ash; p; Ret | done | 16-4-214748364800
 Int 1; Int 31; Ash; Ret | trap 8 0 2 |
-Int 1; Ash; Ret | illegal 1 |
 ";
 
 #[test]
@@ -70,7 +65,6 @@ fn values(rt: HostRuntime) -> Result<(), Fail> {
 // Sets.
 const SETS: &str = "
 Int 12; Int 10; Union; p; Int 12; Int 10; Minus; p; Int 12; Int 10; Meet; p; Int 12; Int 10; Xor; p; Ret | done | 14486
-Int 1; Meet; Ret | illegal 1 |
 Int 0; Compl; p; Ret | done | -1
 Int 3; Bit; p; Int 31; Bit; p; Ret | done | 8-2147483648
 Int 32; Bit; Ret | trap 9 0 1 |

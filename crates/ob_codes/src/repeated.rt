@@ -3,12 +3,17 @@
 use crate::runs::{Times, expect_all};
 use std::test::Fail;
 
-// With no turn left: a turn is spent behind trap 2, and before trap 15.
+// With no turn left: a turn is spent behind trap 2, and before the traps 13 and 15.
 const WITHOUT_TURNS: &str = "
 Int 0; CallP 1 0; Ret | trap 2 0 1 |
 Int 0; CallV 0; Ret | trap 2 0 1 |
 Call 2; Ret | spent 0 |
 Proc 2; CallV 0; Ret | spent 1 |
+Global 0; NewR 1; Global 0; Load; CallP 1 0; Ret | spent 4 |
+Global 0; Tag 1; CallR 0 0; Ret | spent 2 |
+Global 0; Tag 0; CallS 0 0; Ret | spent 2 |
+Int 1; Int 1048575; Call 4; Ret | spent 2 |
+Int 0; Call 3; Ret | illegal 1 |
 Global 10; Int 2; Out 2; Ret | spent 2 |
 Int 0; Int 2; Out 2; Ret | illegal 2 |
 Int 65; Out 1; Ret | spent 1 |
