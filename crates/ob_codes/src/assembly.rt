@@ -254,11 +254,7 @@ fn put_globals(bytes: &mut Vec<u8>, module: &Module<'_>) -> Result<(), Misspelt>
 }
 
 // The body and the procedures; no exported procedures; and the code.
-fn put_procedures(
-    alloc: Global,
-    bytes: &mut Vec<u8>,
-    module: &Module<'_>,
-) -> Result<(), Misspelt> {
+fn put_procedures(alloc: Global, bytes: &mut Vec<u8>, module: &Module<'_>) -> Result<(), Misspelt> {
     let mut code = Vec::new(alloc);
     put_code(&mut code, module.body)?;
     put_length(bytes, module.procedures.len().saturating_add(1))?;
