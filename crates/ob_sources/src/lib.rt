@@ -9,10 +9,6 @@ mod faults;
 #[cfg(test)]
 mod lists;
 #[cfg(test)]
-mod nodes;
-#[cfg(test)]
-mod places;
-#[cfg(test)]
 mod sources;
 #[cfg(test)]
 mod verdict;

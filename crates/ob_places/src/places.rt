@@ -1,7 +1,6 @@
 //! Where the nodes of a tree stand.
 
-use crate::nodes::{place_of, place_of_statement, places_of_module};
-use crate::verdict::at;
+use crate::nodes::{at, place_of, place_of_statement, places_of_module};
 use ob_text::parse_text;
 use ob_tree::{Module, Pos, Stmt};
 use std::alloc::{AllocError, Global};

@@ -1,11 +1,14 @@
 //! The places that the nodes of a tree have, in the order of the text.
 
-use crate::verdict::at;
 use ob_tree::{
     Decl, Designator, Element, Expr, FormalPars, Heading, IdentDef, Import, Module, Pos, Qualident,
     Selector, Stmt, TypeNode,
 };
 use std::alloc::{AllocError, Global};
+
+pub fn at(line: u32, col: u32) -> Pos {
+    Pos { line, col }
+}
 
 /// Where a statement stands.
 pub fn place_of_statement(statement: &Stmt) -> Pos {
