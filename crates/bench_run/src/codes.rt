@@ -1,4 +1,5 @@
 use ob_codes::Procedure;
+use ob_instr::Param;
 use std::alloc::{AllocError, Global};
 
 const COUNT: &str = "Global 0; Int 0; Store; \
@@ -15,7 +16,7 @@ const RECURSIVE: [Procedure; 1] = [Procedure {
         Local 0; Load; Int 1; Sub 4; Call 1; \
         Local 0; Load; Int 2; Sub 4; Call 1; \
         Add 4; RetV",
-    param: Some((0, 0)),
+    param: Some(Param::Scalar),
     locals: 0,
     has_result: true,
 }];

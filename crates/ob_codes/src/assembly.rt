@@ -1,3 +1,4 @@
+use ob_instr::Param;
 use std::alloc::{AllocError, AllocFailed, Global};
 use std::num::{ParseIntError, TryFromIntError};
 use thiserror::Error;
@@ -53,8 +54,7 @@ impl From<TryFromIntError> for Misspelt {
 pub struct Procedure {
     /// Its instructions, as the body's.
     pub code: &'static str,
-    /// The kind and the words of the parameter.
-    pub param: Option<(u8, u32)>,
+    pub param: Option<Param>,
     /// The words of the locals.
     pub locals: u32,
     pub has_result: bool,
@@ -192,16 +192,29 @@ fn put_type(bytes: &mut Vec<u8>, record: &RecordType) -> Result<(), Misspelt> {
     put_number(bytes, record.procedure)
 }
 
+// The number of a parameter's kind, and its words.
+fn kind_of(param: Param) -> (u8, u32) {
+    match param {
+        Param::Scalar => (0, 0),
+        Param::Var => (1, 0),
+        Param::VarRecord => (2, 0),
+        Param::VarArray => (3, 0),
+        Param::Value(words) => (4, words),
+        Param::ValueArray(words) => (5, words),
+    }
+}
+
 fn put_procedure(
     bytes: &mut Vec<u8>,
     entry: usize,
-    param: Option<(u8, u32)>,
+    param: Option<Param>,
     locals: u32,
     has_result: bool,
 ) -> Result<(), Misspelt> {
     put_length(bytes, entry)?;
     match param {
-        Some((kind, words)) => {
+        Some(param) => {
+            let (kind, words) = kind_of(param);
             put_number(bytes, 1)?;
             bytes.push(kind)?;
             put_number(bytes, words)?;

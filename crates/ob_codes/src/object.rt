@@ -1,6 +1,7 @@
 //! The module of the small codes.
 
 use crate::assembly::{Misspelt, Module, Procedure, RecordType, assemble};
+use ob_instr::Param;
 use std::alloc::Global;
 
 const TYPES: [RecordType; 2] = [
@@ -33,7 +34,7 @@ const TYPES: [RecordType; 2] = [
 const PROCEDURES: [Procedure; 14] = [
     Procedure {
         code: "Local 0; Load; Int 2; Mul 4; RetV",
-        param: Some((0, 0)),
+        param: Some(Param::Scalar),
         locals: 0,
         has_result: true,
     },
@@ -45,13 +46,13 @@ const PROCEDURES: [Procedure; 14] = [
     },
     Procedure {
         code: "Local 0; Load; Local 0; Load; Load; Int 2; Mul 4; Store; Local 0; Load; Load; p; Ret",
-        param: Some((4, 2)),
+        param: Some(Param::Value(2)),
         locals: 0,
         has_result: false,
     },
     Procedure {
         code: "Local 1; Load; p; Ret",
-        param: Some((5, 1)),
+        param: Some(Param::ValueArray(1)),
         locals: 0,
         has_result: false,
     },
@@ -63,13 +64,13 @@ const PROCEDURES: [Procedure; 14] = [
     },
     Procedure {
         code: "Local 1; Load; p; Ret",
-        param: Some((2, 0)),
+        param: Some(Param::VarRecord),
         locals: 0,
         has_result: false,
     },
     Procedure {
         code: "Local 0; Load; Load; p; Ret",
-        param: Some((0, 0)),
+        param: Some(Param::Scalar),
         locals: 0,
         has_result: false,
     },
@@ -93,13 +94,13 @@ const PROCEDURES: [Procedure; 14] = [
     },
     Procedure {
         code: "Local 0; Load; Int 9; Store; Ret",
-        param: Some((1, 0)),
+        param: Some(Param::Var),
         locals: 0,
         has_result: false,
     },
     Procedure {
         code: "Local 1; Load; p; Local 0; Load; Int 9; Store; Ret",
-        param: Some((3, 0)),
+        param: Some(Param::VarArray),
         locals: 0,
         has_result: false,
     },
