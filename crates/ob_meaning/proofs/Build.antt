@@ -200,7 +200,7 @@ unit_of m types vars procs body = record {
   variables = vars;
   procedures = procs;
   body = block body;
-  mentioned = record { objects = []; types = [] };
+  mentioned = record { objects = []; types = []; lengths = [] };
 }
 
 -- RUNS

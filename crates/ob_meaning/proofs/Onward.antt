@@ -267,7 +267,7 @@ module _ (u : Around) (c : CallsKeep u) where
     keep_exec (Assert e number at) = keep_bind (keep_value u c e) (λ v. keep_choose _ (keep_give _) (keep_stop _))
     keep_exec (Halt number at) = keep_stop _
     keep_exec (If branches otherwise) = keep_branches branches (keep_execs otherwise)
-    keep_exec (Case e cases otherwise at) = keep_bind (keep_value u c e) (λ v. keep_bind (keep_keep at v) (λ x. keep_cases cases (values.integer_of v) (keep_else otherwise (keep_stop (Trapped 4 (pos 0) u.unit at)))))
+    keep_exec (Case e cases otherwise at) = keep_bind (keep_value u c e) (λ v. keep_bind (keep_keep at (Integer (values.integer_of v))) (λ x. keep_cases cases (values.integer_of v) (keep_else otherwise (keep_stop (Trapped 4 (pos 0) u.unit at)))))
     keep_exec (While e body at) = keep_loop u.bound u.unit at (keep_bind (keep_value u c e) (λ v. keep_choose _ (keep_bind (keep_execs body) (λ f. keep_after f (keep_give Again))) (keep_give _)))
     keep_exec (Repeat body e at) = keep_loop u.bound u.unit at (keep_bind (keep_execs body) (λ f. keep_after f (keep_bind (keep_value u c e) (λ v. keep_choose _ (keep_give _) (keep_give _)))))
     keep_exec (For v w start end step body at) =

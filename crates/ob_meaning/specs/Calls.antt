@@ -65,9 +65,9 @@ abbrev pub held_parameter : List ℕ → Passing → Form → Store → Passed �
 held_parameter x passing.Scalar t g a = Own x t
 held_parameter x passing.Structure t g a = Copied x 1 t
 held_parameter x passing.OpenArray t g a = Copied x 2 (ArrayForm (passed_length g a) (element_form t))
-held_parameter x passing.Variable t g a = Referred x 1
-held_parameter x passing.VariableRecord t g a = Referred x 2
-held_parameter x passing.VariableOpenArray t g a = Referred x 2
+held_parameter x passing.Variable t g a = Referred x 1 t
+held_parameter x passing.VariableRecord t g a = Referred x 2 t
+held_parameter x passing.VariableOpenArray t g a = Referred x 2 t
 
 abbrev pub held_parameters : Program → List TypedParameter → Store → List Passed → List Held
 held_parameters program [] g xs = []
@@ -109,7 +109,7 @@ with_parameters program (p ∷ ps) g (x ∷ xs) values = changed (with_parameter
 abbrev pub first_values : List Held → List ℕ → Value
 first_values [] = λ x. Nil
 first_values (Own x t ∷ hs) = changed (first_values hs) x (first t)
-first_values (Referred x n ∷ hs) = first_values hs
+first_values (Referred x n t ∷ hs) = first_values hs
 first_values (Copied x n t ∷ hs) = changed (first_values hs) x (first t)
 
 -- the places of the parameters by VAR
@@ -122,7 +122,7 @@ places_for (p ∷ ps) (x ∷ xs) = changed (places_for ps xs) p.name (passed_pla
 
 abbrev pub cost_of_held : Held → ℕ
 cost_of_held (Own x t) = words t
-cost_of_held (Referred x n) = n
+cost_of_held (Referred x n t) = n
 cost_of_held (Copied x n t) = n + words t
 
 abbrev pub cost_of_all : List Held → ℕ

@@ -430,7 +430,7 @@ abbrev mutual
   exec (Assert e number at) u = value e u >>= λ v. choose (truth_of v) (give Done) (stop (Trapped 10 number u.unit at))
   exec (Halt number at) u = stop (Trapped 11 number u.unit at)
   exec (If branches otherwise) u = exec_branches branches u (execs otherwise u)
-  exec (Case e cases otherwise at) u = value e u >>= λ v. keep at v >>= λ x. exec_cases cases (integer_of v) u (exec_else otherwise u (trap 4 u at))
+  exec (Case e cases otherwise at) u = value e u >>= λ v. keep at (Integer (integer_of v)) >>= λ x. exec_cases cases (integer_of v) u (exec_else otherwise u (trap 4 u at))
   exec (While e body at) u = loops u at (value e u >>= λ v. choose (truth_of v) (execs body u >>= λ f. after_body f (give Again)) (give (Leave Done)))
   exec (Repeat body e at) u = loops u at (execs body u >>= λ f. after_body f (value e u >>= λ v. choose (truth_of v) (give (Leave Done)) (give Again)))
   exec (For v w start end step body at) u =

@@ -5,6 +5,7 @@ use Rattle.ob_types.specs.declared.types.Basic.{Basic}
 use Rattle.ob_types.specs.declared.types.Basic.TheVariants as basic
 use Rattle.ob_types.specs.declared.types.TypeRef.{TypeRef}
 use Rattle.ob_types.specs.declared.types.TypeRef.TheVariants as ref
+use Rattle.ob_types.specs.declared.types.Signature.{Signature}
 use Rattle.ob_types.specs.declared.desc.Desc.{Desc}
 use Rattle.ob_types.specs.declared.desc.Desc.TheVariants as desc
 use Rattle.ob_types.specs.declared.desc.Field.{Field}
@@ -52,13 +53,13 @@ number_of_types (m ∷ ms) = length m.types + number_of_types ms
 
 -- WHAT A TYPE IS
 
--- a basic type, a pointer, a procedure type, an array of so many elements, an open array, or a record: itself and its bases,
+-- a basic type, a pointer with what it points to, a procedure type, an array of so many elements, an open array, or a record: itself and its bases,
 -- the nearest first, and its fields, those of the farthest base first
 mutual
   pub data Form : Type 0 where
     BasicForm : (b : Basic) → Form
-    PointerForm : Form
-    ProcedureForm : Form
+    PointerForm : (base : TypeRef) → Form
+    ProcedureForm : (signature : Signature) → Form
     ArrayForm : (n : ℕ) → (element : Form) → Form
     OpenForm : (element : Form) → Form
     RecordForm : (line : List QName) → (fields : Fields) → Form
@@ -91,19 +92,20 @@ abbrev pub base_fields : (TypeRef → Form) → Option TypeRef → Fields
 base_fields form None = NoField
 base_fields form (Some t) = fields_of (form t)
 
--- what its declaration says, the types in it being known: a pointer where it says nothing else
+-- what its declaration says, the types in it being known: BOOLEAN where it says nothing else
 abbrev pub described : (TypeRef → Form) → QName → Option Desc → Form
 described form q (Some (desc.Alias m t)) = form t
 described form q (Some (desc.Array m n t)) = ArrayForm n (form t)
 described form q (Some (desc.OpenArray m t)) = OpenForm (form t)
-described form q (Some (desc.ProcType m s)) = ProcedureForm
+described form q (Some (desc.Pointer m t)) = PointerForm t
+described form q (Some (desc.ProcType m s)) = ProcedureForm s
 described form q (Some (desc.Record r)) = RecordForm (q ∷ base_line form r.base) (joined (base_fields form r.base) (own_fields form q r.fields))
-described form q d = PointerForm
+described form q d = BasicForm basic.Boolean
 
 -- a type that stands on at most n others, one on the next, pointers standing on none
 abbrev pub form_within : (QName → Option Desc) → ℕ → TypeRef → Form
 form_within types zero (ref.Basic b) = BasicForm b
-form_within types zero (ref.Named q) = PointerForm
+form_within types zero (ref.Named q) = BasicForm basic.Boolean
 form_within types (suc n) (ref.Basic b) = BasicForm b
 form_within types (suc n) (ref.Named q) = described (form_within types n) q (types q)
 
@@ -127,8 +129,8 @@ is_among (t ∷ ts) q = same_name q t || is_among ts q
 abbrev mutual
   pub words : Form → ℕ
   words (BasicForm b) = 1
-  words PointerForm = 1
-  words ProcedureForm = 1
+  words (PointerForm t) = 1
+  words (ProcedureForm sig) = 1
   words (ArrayForm n t) = n * words t
   words (OpenForm t) = 0
   words (RecordForm line fs) = fields_words fs
@@ -169,8 +171,8 @@ record_of (q ∷ qs) fields = Record q fields
 abbrev mutual
   pub first : Form → Value
   first (BasicForm b) = first_basic b
-  first PointerForm = Nil
-  first ProcedureForm = Nil
+  first (PointerForm t) = Nil
+  first (ProcedureForm sig) = Nil
   first (ArrayForm n t) = Elements n (λ i. first t)
   first (OpenForm t) = Elements 0 (λ i. first t)
   first (RecordForm line fs) = record_of line (firsts fs)
@@ -278,11 +280,11 @@ with_value_at g (At root path) v = with_root g root (with_part (at_root g root) 
 
 -- STATES
 
--- a variable of an active call, with the type that it has there: one of its own, a parameter by VAR, or a structured parameter by
+-- a variable of an active call, with the type that it has there: one of its own, a parameter by VAR with its declared type, or a structured parameter by
 -- value, with its own copy
 pub data Held : Type 0 where
   Own : (name : List ℕ) → (form : Form) → Held
-  Referred : (name : List ℕ) → (slots : ℕ) → Held
+  Referred : (name : List ℕ) → (slots : ℕ) → (form : Form) → Held
   Copied : (name : List ℕ) → (slots : ℕ) → (form : Form) → Held
 
 -- an active call: its procedure, its variables, and the places of its parameters by VAR

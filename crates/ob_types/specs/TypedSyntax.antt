@@ -25,7 +25,6 @@ use Rattle.ob_types.specs.declared.typed.TypedType.{TypedType}
 use Rattle.ob_types.specs.declared.typed.TypedVariable.{TypedVariable}
 use Rattle.ob_types.specs.declared.typed.TypedParameter.{TypedParameter}
 use Rattle.ob_types.specs.declared.typed.Binding.{Binding}
-use Rattle.ob_types.specs.declared.typed.Mentioned.{Mentioned}
 
 -- designators, expressions and actual parameters
 mutual
@@ -101,6 +100,12 @@ pub record Procedure : Type 0 where
   pub locals : List TypedVariable
   pub body : Stmts
 
+-- what the text names and the tree has nothing of
+pub record Mentions : Type 0 where
+  pub objects : List QName
+  pub types : List TypeRef
+  pub lengths : List Desig
+
 pub record Module : Type 0 where
   pub name : List ℕ
   pub imports : List (List ℕ)
@@ -109,4 +114,4 @@ pub record Module : Type 0 where
   pub variables : List TypedVariable
   pub procedures : List Procedure
   pub body : Stmts
-  pub mentioned : Mentioned
+  pub mentioned : Mentions

@@ -15,8 +15,9 @@ use Rattle.ob_types.specs.declared.typed.TypedBranch.{TypedBranch}
 use Rattle.ob_types.specs.declared.typed.TypedCase.{TypedCase}
 use Rattle.ob_types.specs.declared.typed.Label.{Label}
 use Rattle.ob_types.specs.declared.typed.TypedProcedure.{TypedProcedure}
+use Rattle.ob_types.specs.declared.typed.Mentioned.{Mentioned}
 use Rattle.ob_types.specs.declared.typed.TypedModule.{TypedModule}
-use Rattle.ob_types.specs.TypedSyntax.{Desig, OfVariable, Field, Index, Deref, Guard, Expr, Constant, ValueOf, ProcedureValue, Monadic, Dyadic, Logical, CompareTexts, IsPointer, IsRecord, Length, Call, CallVariable, Actuals, NoActual, AnActual, Stmt, Assign, CallProper, Updated, Copy, New, NewOpenArray, Assert, Halt, If, Case, While, Repeat, For, Loop, Exit, Return, With, Stmts, Nothing, Then, Branches, NoBranch, Branch, Cases, NoCase, OneCase, Otherwise, NoElse, Else, Procedure, Module}
+use Rattle.ob_types.specs.TypedSyntax.{Desig, OfVariable, Field, Index, Deref, Guard, Expr, Constant, ValueOf, ProcedureValue, Monadic, Dyadic, Logical, CompareTexts, IsPointer, IsRecord, Length, Call, CallVariable, Actuals, NoActual, AnActual, Stmt, Assign, CallProper, Updated, Copy, New, NewOpenArray, Assert, Halt, If, Case, While, Repeat, For, Loop, Exit, Return, With, Stmts, Nothing, Then, Branches, NoBranch, Branch, Cases, NoCase, OneCase, Otherwise, NoElse, Else, Procedure, Mentions, Module}
 
 -- an actual parameter of a list
 pub record OneActual : Type 0 where
@@ -148,6 +149,9 @@ procedure_view p = record {
   body = stmts_view p.body;
 }
 
+abbrev pub mentioned_view : Mentioned → Mentions
+mentioned_view x = record { objects = x.objects; types = x.types; lengths = map designator_view x.lengths }
+
 abbrev pub module_view : TypedModule → Module
 module_view m = record {
   name = m.name;
@@ -157,5 +161,5 @@ module_view m = record {
   variables = m.variables;
   procedures = map procedure_view m.procedures;
   body = stmts_view m.body;
-  mentioned = m.mentioned;
+  mentioned = mentioned_view m.mentioned;
 }

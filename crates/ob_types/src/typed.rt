@@ -519,12 +519,13 @@ pub struct TypedProcedure {
 
 /// What the text of a module names, where constants, lengths and tests have left nothing of it in
 /// the tree: each object of another module that the text names anywhere, in the order of the
-/// text, doubles too; and the types of the designators in LEN and of their prefixes, and those
-/// that MAX and MIN name.
+/// text, doubles too; the types that MAX and MIN name; and the designators of each LEN that is a
+/// constant, which are not evaluated.
 #[derive(Debug, Drop)]
 pub struct Mentioned {
     pub objects: List<QName>,
     pub types: List<TypeRef>,
+    pub lengths: List<Designator>,
 }
 
 /// A checked module. `imports` are the imported modules in the order of the text, each once,
