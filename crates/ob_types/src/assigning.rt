@@ -43,7 +43,8 @@ fn stands_for_extensible<T: Types>(types: &T, t: &TypeRef) -> bool
     )
 }
 
-fn takes_nil<T: Types>(types: &T, t: &TypeRef) -> bool
+/// Whether a variable of the type takes NIL. Over any map. Takes no memory.
+pub fn takes_nil<T: Types>(types: &T, t: &TypeRef) -> bool
     ensures { result ≡ is_at (T.types types.now) has_nil t.now }
 {
     matches!(
@@ -71,9 +72,10 @@ fn is_wider(wide: &TypeRef, narrow: &TypeRef) -> bool
     }
 }
 
-// Whether a variable of the type v takes a value of the type t.
+/// Whether a variable of the type `v` takes a value of the type `t`. Over any map. Takes no
+/// memory.
 #[tactic(auto, unfolding(crate::specs::AssigningTests::takes_type))]
-fn type_fits<T: Types>(types: &T, v: &TypeRef, t: &TypeRef) -> bool
+pub fn type_fits<T: Types>(types: &T, v: &TypeRef, t: &TypeRef) -> bool
     ensures { result ≡ takes_type (T.types types.now) v.now t.now }
 {
     if is_same_at(types, t, v) && !stands_for_open(types, v) {
@@ -119,7 +121,8 @@ fn text_fits<T: Types>(types: &T, v: &TypeRef, count: usize) -> bool
     }
 }
 
-fn is_plain(name: &QName) -> bool
+/// Whether a procedure of that name may be a value: one of module level, not of Out.
+pub fn is_plain(name: &QName) -> bool
     ensures { result ≡ is_value name.now }
 {
     is_name(name.object.as_bytes()) && name.module.as_bytes() != b"Out".as_slice()
@@ -139,7 +142,8 @@ fn procedure_fits<T: Types>(types: &T, v: &TypeRef, name: &QName, signature: &Si
     }
 }
 
-fn basic_of(width: Width) -> Basic
+/// The basic type of integers of that width.
+pub fn basic_of(width: Width) -> Basic
     ensures { of_basic result ≡ of_width width }
 {
     match width {
@@ -149,7 +153,8 @@ fn basic_of(width: Width) -> Basic
     }
 }
 
-fn basic_of_unary(op: Unary) -> Basic
+/// The basic type that the operation gives.
+pub fn basic_of_unary(op: Unary) -> Basic
     ensures { of_basic result ≡ unary_type op }
 {
     match op {
@@ -163,7 +168,8 @@ fn basic_of_unary(op: Unary) -> Basic
     }
 }
 
-fn basic_of_binary(op: Binary) -> Basic
+/// The basic type that the operation gives.
+pub fn basic_of_binary(op: Binary) -> Basic
     ensures { of_basic result ≡ binary_type op }
 {
     match op {
@@ -195,7 +201,8 @@ fn integer_fits<T: Types>(types: &T, v: &TypeRef, value: i32) -> bool
     }
 }
 
-fn constant_fits<T: Types>(types: &T, v: &TypeRef, value: &Value) -> bool
+/// Whether a variable of the type `v` takes the constant. Over any map. Takes no memory.
+pub fn constant_fits<T: Types>(types: &T, v: &TypeRef, value: &Value) -> bool
     ensures { result ≡ takes_constant (T.types types.now) v.now value.now }
 {
     match value {

@@ -11,11 +11,17 @@ mod typed;
 mod types;
 mod value;
 
-pub use assigning::assignable;
+pub use assigning::{
+    assignable, basic_of, basic_of_binary, basic_of_unary, constant_fits, is_plain, takes_nil,
+    type_fits,
+};
 pub use desc::{Desc, Field, Method, Receiver, RecordDesc};
 pub use face::{Aspect, Interface, Object, Use};
 pub use ob_tree::Mark;
-pub use relations::{equal, extends, matches, same, stands_for};
+pub use relations::{
+    element_within, equal, equal_within, extends, extends_within, is_same_at, matches, same,
+    shape_of, signature_within, signatures_match, stands_for, target_within,
+};
 pub use spelled::{read_print, write_print};
 pub use typed::{
     Actual, Assigned, Binary, Binding, Callee, Compared, Comparison, Connective, Designator,

@@ -58,7 +58,7 @@ fn pointed(desc: &Desc) -> Option<&TypeRef>
     }
 }
 
-// What the map has of the type.
+/// What the map has of the type: none of a basic one. Takes no memory.
 pub fn shape_of<'a, T: Types>(types: &'a T, t: &TypeRef) -> Option<&'a Desc>
     ensures { option_copied result ≡ shape_at (T.types types.now) t.now }
 {
@@ -78,7 +78,8 @@ fn alias_target<'a, T: Types>(types: &'a T, t: &TypeRef) -> Option<&'a TypeRef>
     }
 }
 
-// The type that t stands for.
+/// The type that `t` is equated to, at most 201 equations on; over a grounded map the type that
+/// it stands for. Takes no memory.
 pub fn target_within<'a, T: Types>(types: &'a T, t: &'a TypeRef) -> &'a TypeRef
     ensures { result.now ≡ target (T.types types.now) CHAIN t.now }
 {
@@ -92,6 +93,7 @@ pub fn target_within<'a, T: Types>(types: &'a T, t: &'a TypeRef) -> &'a TypeRef
     current
 }
 
+/// Whether both types are equated to one. Over any map, a grounded one or not. Takes no memory.
 #[tactic(auto, unfolding(crate::specs::Tests::same_at))]
 pub fn is_same_at<T: Types>(types: &T, a: &TypeRef, b: &TypeRef) -> bool
     ensures { result ≡ same_at (T.types types.now) a.now b.now }
@@ -138,6 +140,7 @@ fn pointers_climb<T: Types>(types: &T, a: Option<&TypeRef>, b: Option<&TypeRef>)
     }
 }
 
+/// Whether `a` extends `b`, in at most 201 steps up the bases. Over any map. Takes no memory.
 #[tactic(auto, unfolding(crate::specs::Tests::extends_at))]
 pub fn extends_within<T: Types>(types: &T, a: &TypeRef, b: &TypeRef) -> bool
     ensures { result ≡ extends_at (T.types types.now) a.now b.now }
@@ -173,14 +176,16 @@ fn signature(desc: &Desc) -> Option<&Signature>
     }
 }
 
-// The elements of the open array that t stands for.
-fn element_within<'a, T: Types>(types: &'a T, t: &'a TypeRef) -> Option<&'a TypeRef>
+/// The elements of the open array that `t` stands for; none where it is none. Over any map.
+/// Takes no memory.
+pub fn element_within<'a, T: Types>(types: &'a T, t: &'a TypeRef) -> Option<&'a TypeRef>
     ensures { option_copied result ≡ element_of (shape_at (T.types types.now) (target (T.types types.now) CHAIN t.now)) }
 {
     element(shape_of(types, target_within(types, t))?)
 }
 
-// The signature of the procedure type that t stands for.
+/// The signature of the procedure type that `t` stands for; none where it is none. Over any map.
+/// Takes no memory.
 pub fn signature_within<'a, T: Types>(types: &'a T, t: &'a TypeRef) -> Option<&'a Signature>
     ensures { option_copied result ≡ signature_of (shape_at (T.types types.now) (target (T.types types.now) CHAIN t.now)) }
 {
@@ -197,9 +202,10 @@ fn results_same<T: Types>(types: &T, a: &Option<TypeRef>, b: &Option<TypeRef>) -
     }
 }
 
+/// Whether two types are equal, in at most `left` steps into them. Over any map. Takes no memory.
 #[cycle(equal)]
 #[tactic(auto, unfolding(crate::specs::Tests::equal_at))]
-fn equal_within<T: Types>(types: &T, left: u32, a: &TypeRef, b: &TypeRef) -> bool
+pub fn equal_within<T: Types>(types: &T, left: u32, a: &TypeRef, b: &TypeRef) -> bool
     ensures { result ≡ equal_at (T.types types.now) left a.now b.now }
 {
     if is_same_at(types, a, b) {
@@ -291,6 +297,8 @@ pub fn extends<T: Types>(types: &T, a: &TypeRef, b: &TypeRef) -> bool
     extends_within(types, a, b)
 }
 
+/// Whether two parameter lists match, in at most 201 steps into types. Over any map. Takes no
+/// memory.
 pub fn signatures_match<T: Types>(types: &T, a: &Signature, b: &Signature) -> bool
     ensures { result ≡ signatures_alike (λ x y. equal_at (T.types types.now) CHAIN x y) (λ x y. same_at (T.types types.now) x y) a.now b.now }
 {
