@@ -1,3 +1,4 @@
 mod Words
 mod Split
 mod Limits
+mod Names

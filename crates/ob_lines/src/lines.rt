@@ -10,9 +10,9 @@ use ob_tree::Name;
 #[derive(Clone, Copy)]
 pub enum LineWords<'a> {
     /// Compiles a file.
-    Compile(&'a [u8]),
+    Compile(&'a str),
     /// Compares two symbol files.
-    Compare(&'a [u8], &'a [u8]),
+    Compare(&'a str, &'a str),
     /// Compares the uses of a module with the present interfaces.
     Check(Name),
     /// Shows the interface of a module.
@@ -141,11 +141,23 @@ fn is_file_name(word: &[u8]) -> bool
 
 // WHAT A LINE SAYS
 
+// The name of a file as a text.
+#[tactic(auto, using(crate::proofs::Names::name_utf8))]
+fn text_of(file: &[u8]) -> &str
+    requires { is_file_name file.now ≡ true }
+    ensures { result.now ≡ file.now }
+{
+    match str::from_utf8(file) {
+        Ok(name) => name,
+        Err(_) => unreachable!(),
+    }
+}
+
 fn compile_words(file: &[u8]) -> LineWords<'_>
     ensures { line_view result ≡ when (is_file_name file.now) (Compile file.now) }
 {
     if is_file_name(file) {
-        LineWords::Compile(file)
+        LineWords::Compile(text_of(file))
     } else {
         LineWords::Unknown
     }
@@ -155,7 +167,7 @@ fn compare_words<'a>(old: &'a [u8], new: &'a [u8]) -> LineWords<'a>
     ensures { line_view result ≡ when (is_file_name old.now && is_file_name new.now) (Compare old.now new.now) }
 {
     if is_file_name(old) && is_file_name(new) {
-        LineWords::Compare(old, new)
+        LineWords::Compare(text_of(old), text_of(new))
     } else {
         LineWords::Unknown
     }
