@@ -1,11 +1,9 @@
 //! The program: it does the lines of a script from standard input, over the files of the folder that it runs in.
 #![tactic(auto)]
 
-mod real;
-
+use ob_real::{RealFolder, RealSink, RealSource};
 use ob_shell::session;
-use real::{RealFolder, RealSink, RealSource};
-use std::io::ErrorKind;
+use std::io::{BufWriter, ErrorKind};
 use std::process::ExitCode;
 use std::{env, io};
 
@@ -29,12 +27,15 @@ fn main(rt: HostRuntime) -> io::Result<ExitCode> {
             return Ok(ExitCode::from(5));
         }
     }
+    let Ok(writer) = BufWriter::new(alloc, io::writer(&rt)) else {
+        return Ok(ExitCode::from(5));
+    };
     let mut script = RealSource {
         inner: rt.reader(),
         faults: 0,
     };
     let mut out = RealSink {
-        inner: io::writer(&rt),
+        inner: writer,
         faults: 0,
     };
     let mut folder = RealFolder {

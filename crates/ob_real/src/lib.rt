@@ -1,3 +1,7 @@
+//! The script, the output and the folder of the machine. They tell nothing of what they hold, and
+//! count their faults.
+#![tactic(auto)]
+
 ghost use Rattle.std.specs.Prelude.{[], None, false};
 
 use ob_io::{Failed, Folder, FolderFault, Shelf, Sink, Source};
