@@ -1,10 +1,12 @@
 -- What a command does, over the modules that are loaded and those that it brings in.
-use Rattle.std.specs.Prelude.{ℕ, List, [], ◌∷◌, ◌++◌, Option, Some, None}
+use Rattle.std.specs.Prelude.{ℕ, List, [], ◌∷◌, ◌++◌, Bool, true, false, not, ◌&&◌, if◌then◌else◌, Option, Some, None, is_none}
 use Rattle.ob_tree.specs.declared.names.QName.{QName}
+use Rattle.ob_tree.specs.declared.ident.Mark.{Mark}
 use Rattle.ob_tree.specs.declared.ident.Mark.TheVariants as mark
+use Rattle.ob_format.specs.Names.{is_identifier}
 use Rattle.ob_types.specs.declared.typed.TypedVariable.{TypedVariable}
 use Rattle.ob_types.specs.TypedSyntax.{Procedure, Module}
-use Rattle.ob_meaning.specs.Values.{changed, Program, procedure_of, form_in, Value, Nil, first, Store, State, AnObject}
+use Rattle.ob_meaning.specs.Values.{changed, Program, procedure_named, procedure_of, form_in, Value, Nil, first, Store, State, AnObject}
 use Rattle.ob_meaning.specs.Results.{M, Res, Gives, Stops, Why}
 use Rattle.ob_meaning.specs.Meaning.{Flow, execs}
 use Rattle.ob_meaning.specs.Calls.{begun, around, calling}
@@ -66,6 +68,26 @@ abbrev pub at_rest : State → State
 at_rest s = record s { calls = [] }
 
 -- COMMANDS
+
+abbrev pub is_hidden : Mark → Bool
+is_hidden mark.Hidden = true
+is_hidden m = false
+
+abbrev pub is_none_of : {A : Type 0} → List A → Bool
+is_none_of [] = true
+is_none_of (x ∷ xs) = false
+
+-- exported, of module level, without parameters and without a result
+abbrev pub is_command : Procedure → Bool
+is_command p = not (is_hidden p.mark) && (is_identifier p.name && (is_none p.binding && (is_none_of p.parameters && is_none p.result)))
+
+abbrev pub when_command : Option Procedure → Option Procedure
+when_command None = None
+when_command (Some p) = if is_command p then Some p else None
+
+-- the command of that name of a module
+abbrev pub command_named : Module → List ℕ → Option Procedure
+command_named m x = when_command (procedure_named m.procedures x)
 
 abbrev pub end_with : Option Why → Program → State → Ended
 end_with why program s = record { why = why; system = record { program = program; store = s.store; made = s.made }; turns = s.turns; out = s.out }

@@ -1,3 +1,4 @@
+pub mod Traps
 pub mod Values
 pub mod Results
 pub mod Operators

@@ -17,6 +17,7 @@ use Rattle.ob_types.specs.declared.typed.Binary.TheVariants as binary
 use Rattle.ob_types.specs.declared.typed.Update.{Update}
 use Rattle.ob_types.specs.declared.typed.Update.TheVariants as update
 use Rattle.ob_meaning.specs.Values.{Value, Truth, Character, Integer, SetOf, Nil, Object, ProcedureAt, Elements, truth_of, character_of, integer_of, set_of, same_name}
+use Rattle.ob_meaning.specs.Traps as traps
 
 -- a value, or a trap of some kind
 pub data Computed : Type 0 where
@@ -42,9 +43,9 @@ is_below limit (negsuc n) = nat_lt n limit
 abbrev pub is_in : Width → ℤ → Bool
 is_in w z = is_below (2 ^ bits_but_one w) z
 
--- a result outside its type is trap 8
+-- a result outside its type traps
 abbrev pub integer_in : Width → ℤ → Computed
-integer_in w z = unless (is_in w z) 8 (Integer z)
+integer_in w z = unless (is_in w z) traps.overflow (Integer z)
 
 abbrev pub is_positive : ℤ → Bool
 is_positive z = int_lt (pos 0) z
@@ -70,18 +71,18 @@ capital c = if (nat_le 97 c && nat_le c 122) then c - 32 else c
 
 -- SETS
 
--- an element is a number from 0 to 31, else trap 9
+-- an element is a number from 0 to 31, else it traps
 abbrev pub element_in : ℤ → Option ℕ
 element_in (pos n) = if nat_lt n 32 then Some n else None
 element_in (negsuc n) = None
 
 abbrev pub with_element_in : Option ℕ → (ℕ → Value) → Computed
-with_element_in None v = Traps 9
+with_element_in None v = Traps traps.no_element
 with_element_in (Some i) v = Is (v i)
 
 abbrev pub with_elements_in : Option ℕ → Option ℕ → (ℕ → ℕ → Value) → Computed
-with_elements_in None j v = Traps 9
-with_elements_in (Some i) None v = Traps 9
+with_elements_in None j v = Traps traps.no_element
+with_elements_in (Some i) None v = Traps traps.no_element
 with_elements_in (Some i) (Some j) v = Is (v i j)
 
 -- the first n of the numbers are in both sets or in neither
@@ -139,7 +140,7 @@ compute unary.Not v = Is (Truth (not (truth_of v)))
 compute unary.Complement v = Is (SetOf (λ i. nat_lt i 32 && not (set_of v i)))
 compute (unary.Abs w) v = integer_in w (pos (unsigned_abs (integer_of v)))
 compute unary.Cap v = Is (Character (capital (character_of v)))
-compute unary.Chr v = unless (is_positive (integer_of v +ℤ pos 1) && int_lt (integer_of v) (pos 256)) 8 (Character (unsigned_abs (integer_of v)))
+compute unary.Chr v = unless (is_positive (integer_of v +ℤ pos 1) && int_lt (integer_of v) (pos 256)) traps.overflow (Character (unsigned_abs (integer_of v)))
 compute (unary.Long w) v = Is v
 compute unary.Odd v = Is (Truth (is_odd (integer_of v)))
 compute unary.Ord v = Is (Integer (pos (character_of v)))
@@ -152,8 +153,8 @@ abbrev pub compute_both : Binary → Value → Value → Computed
 compute_both (binary.Add w) a b = integer_in w (integer_of a +ℤ integer_of b)
 compute_both (binary.Subtract w) a b = integer_in w (integer_of a -ℤ integer_of b)
 compute_both (binary.Multiply w) a b = integer_in w (integer_of a *ℤ integer_of b)
-compute_both (binary.Quotient w) a b = unless (is_positive (integer_of b)) 7 (Integer (quotient (integer_of a) (unsigned_abs (integer_of b))))
-compute_both (binary.Remainder w) a b = unless (is_positive (integer_of b)) 7 (Integer (remainder (integer_of a) (unsigned_abs (integer_of b))))
+compute_both (binary.Quotient w) a b = unless (is_positive (integer_of b)) traps.no_divisor (Integer (quotient (integer_of a) (unsigned_abs (integer_of b))))
+compute_both (binary.Remainder w) a b = unless (is_positive (integer_of b)) traps.no_divisor (Integer (remainder (integer_of a) (unsigned_abs (integer_of b))))
 compute_both binary.Union a b = Is (SetOf (λ i. set_of a i || set_of b i))
 compute_both binary.Difference a b = Is (SetOf (λ i. set_of a i && not (set_of b i)))
 compute_both binary.Intersection a b = Is (SetOf (λ i. set_of a i && set_of b i))

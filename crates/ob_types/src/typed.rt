@@ -2,6 +2,10 @@
 //! constants are folded.
 //!
 //! They have no place, number or width in words. What a type is, is asked by its name.
+//!
+//! Where a record type is named that declares a field, is guarded or tested for, is a base, or that
+//! a procedure is bound to, it is named by its own name and by none that is equated to it. The types
+//! `of` designators and parameters are named as the text has them.
 
 use crate::desc::{Desc, Receiver};
 use crate::types::{Basic, Signature, TypeRef};
@@ -109,7 +113,8 @@ pub enum Unary {
 }
 
 /// An operation on two values, both of which are computed. A set that is no constant is the
-/// union of what stands before, at first the empty set, with each of its elements in turn.
+/// union of what stands before, at first the empty set, with each of its elements in turn; each
+/// such union has the position of its element.
 #[derive(Clone, Copy, Debug, PartialEq, Eq)]
 pub enum Binary {
     /// `+` of integers; outside the type it traps.
@@ -196,7 +201,7 @@ pub enum Designator {
         of: TypeRef,
     },
     /// The field `name` that the record type `owner` declares: the type of the record itself,
-    /// or a base of it.
+    /// or a base of it, by its own name.
     Field {
         inner: Boxed<Designator>,
         owner: QName,
@@ -299,6 +304,10 @@ pub enum TypedExpr {
 
 /// An actual parameter: how it is passed, the type of the formal parameter, and the value or
 /// the variable. Where it is passed by VAR, `value` is a `Designator`.
+///
+/// A receiver has no formal parameter here: of a pointer, `formal` is the pointer's own type, and
+/// of a record the record type that the call is selected of. That of `Out.String` is an open array
+/// of CHAR which no module declares, by the name `String(1` of Out.
 #[cycle(typed)]
 #[derive(Debug, Drop)]
 pub struct Actual {
@@ -470,7 +479,8 @@ pub struct TypedConstant {
 }
 
 /// A declared type, or one without a name of its own under its derived name: its name in the
-/// module, and what it is. A record's fields and bound procedures are all there.
+/// module, and what it is. A record's fields and bound procedures are all there, in the order of
+/// the text and with places, numbers and words 0, until the module is laid out.
 #[derive(Debug, Drop)]
 pub struct TypedType {
     pub name: ObjName,
@@ -530,7 +540,8 @@ pub struct Mentioned {
 
 /// A checked module. `imports` are the imported modules in the order of the text, each once,
 /// without Out. The types are in the order in which they begin in the text, those of procedures
-/// too; the procedures in the order of their names in the text, inner ones too.
+/// too, an inner array behind the one that it is the element of; the procedures in the order of
+/// their names in the text, inner ones too.
 #[derive(Debug, Drop)]
 pub struct TypedModule {
     pub name: Name,

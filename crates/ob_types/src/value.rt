@@ -10,7 +10,8 @@ pub enum Value {
     Int(i32),
     /// A set: bit i stands for the element i.
     Set(u32),
-    /// A string's characters, without an end mark. A string of one character is a `Char`.
+    /// A string's characters, without an end mark. A string of one character is a `Char`, but in a
+    /// checked tree where it serves as an array.
     Str(Text),
     Nil,
 }
