@@ -1,0 +1,43 @@
+-- What the law says: a run by the table ends as the meaning ends, and the words left stand for the state left.
+use Rattle.std.specs.Prelude.{◌≡◌, [], None}
+use Rattle.ob_tree.specs.declared.names.QName.{QName}
+use Rattle.ob_tree.specs.declared.proc_ref.ProcRef.{ProcRef}
+use Rattle.ob_types.specs.TypedSyntax.{Procedure, Module}
+use Rattle.std.specs.Prelude.{Some}
+use Rattle.ob_instr.specs.Image as image
+use Rattle.ob_instr.specs.Image.{World, End}
+use Rattle.ob_instr.specs.Table.{Ends}
+use Rattle.ob_meaning.specs.Values as values
+use Rattle.ob_meaning.specs.Values.{State}
+use Rattle.ob_meaning.specs.Results.{Res, Gives, Stops}
+use Rattle.ob_meaning.specs.Meaning.{Flow}
+use Rattle.ob_meaning.specs.Commands.{run_first, at_rest, body_name, body_procedure}
+use Rattle.ob_simulation.specs.Layout.{module_number}
+use Rattle.ob_simulation.specs.Relation.{number_of, call_start}
+use Rattle.ob_simulation.specs.Setting.{Setting, StandIn, stopped, has_of}
+use Rattle.ob_simulation.specs.Linked.{Linked, ProcedureStands, TypesStand}
+use Rattle.ob_simulation.specs.Slice.{InStmts, AllIn}
+
+module _ (c : Setting) where
+  -- the words with no activation
+  abbrev pub idle : World → World
+  idle w = record w { stack = call_start c.program (has_of c) c.img [] }
+
+  -- the same end, and the words left stand for the state left
+  abbrev pub Same : Res Flow → End → World → Type 0
+  Same (Gives f s) end w = (end ≡ image.Done) × StandIn c [] (at_rest s) (idle w)
+  Same (Stops y s) end w = (end ≡ stopped c y) × StandIn c [] (at_rest s) (idle w)
+
+  pub record Simulates (r : ProcRef) (w : World) (result : Res Flow) : Type 0 where
+    pub end : End
+    pub after : World
+    pub run_ends : Ends c.img r w end after
+    pub same : Same result end after
+
+-- of a proper command without parameters, over any state without active calls and any words that stand for it
+abbrev pub CommandsSimulate : Type 0
+CommandsSimulate = (c : Setting) → Linked c → TypesStand c → AllIn c → (q : QName) (p : Procedure) → values.procedure_of c.program q ≡ Some p → p.parameters ≡ [] → p.result ≡ None → (s : State) (w : World) → s.calls ≡ [] → StandIn c s.calls s w → Simulates c (number_of c.program (has_of c) c.img q) w (run_first c.program c.heap q p s)
+
+-- of a module's body, which is its procedure 0
+abbrev pub BodiesSimulate : Type 0
+BodiesSimulate = (c : Setting) → Linked c → TypesStand c → AllIn c → (m : Module) → ProcedureStands c (body_name m) (body_procedure m) → InStmts m.body → (s : State) (w : World) → s.calls ≡ [] → StandIn c s.calls s w → Simulates c (record { «module» = module_number c.program m.name; proc = 0 }) w (run_first c.program c.heap (body_name m) (body_procedure m) s)
