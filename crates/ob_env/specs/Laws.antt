@@ -12,28 +12,28 @@ use Rattle.ob_types.specs.Maps.{IsFinite}
 use Rattle.ob_env.specs.Faces.{Face, face_of, object_named, face_named, described}
 use Rattle.ob_env.specs.Found.{object_by_name, interface_by_name, object_found}
 
-Has : {X : Type 0} → X → List X → Type 0
+unfoldable pub Has : {X : Type 0} → X → List X → Type 0
 Has x [] = ⊥
 Has x (y ∷ ys) = (x ≡ y) ⊎ Has x ys
 
-contains : {X : Type 0} (xs : List X) (x : X) → Has x xs → Contains xs x
+pub contains : {X : Type 0} (xs : List X) (x : X) → Has x xs → Contains xs x
 unfolding Has
 contains [] x h = absurd h
 contains (y ∷ ys) x (inl e) = (0, omega arith, sym e)
 contains (y ∷ ys) x (inr h) = let c = contains ys x h in (suc c.0, omega (arith, c.1), c.2)
 
-has_left : {X : Type 0} (x : X) (xs ys : List X) → Has x xs → Has x (xs ++ ys)
+pub has_left : {X : Type 0} (x : X) (xs ys : List X) → Has x xs → Has x (xs ++ ys)
 unfolding Has
 has_left x [] ys h = absurd h
 has_left x (y ∷ xs) ys (inl e) = inl e
 has_left x (y ∷ xs) ys (inr h) = inr (has_left x xs ys h)
 
-has_right : {X : Type 0} (x : X) (xs ys : List X) → Has x ys → Has x (xs ++ ys)
+pub has_right : {X : Type 0} (x : X) (xs ys : List X) → Has x ys → Has x (xs ++ ys)
 unfolding Has
 has_right x [] ys h = h
 has_right x (y ∷ xs) ys h = inr (has_right x xs ys h)
 
-either : {A B C D : Type 0} → (A → C) → (B → D) → A ⊎ B → C ⊎ D
+pub either : {A B C D : Type 0} → (A → C) → (B → D) → A ⊎ B → C ⊎ D
 either f g (inl a) = inl (f a)
 either f g (inr b) = inr (g b)
 
@@ -55,7 +55,7 @@ object_among m (o ∷ os) x = go (bytes_eq x o.0) refl (object_among m os x)
     go true e h = let q : QName = record { «module» = m; object = x } in let r : QName = qualified m o in let same : q ≡ r = ap (λ (l : List ℕ). let s : QName = record { «module» = m; object = l } in s) ((bytes_decides x o.0).0 e) in inr (inl same)
     go false e h = either (λ n. n) (λ k. inr k) h
 
-among : {K : Type 0} (fs : List (Face K)) (q : QName) → (described fs q ≡ None) ⊎ Has q (names_of fs)
+pub among : {K : Type 0} (fs : List (Face K)) (q : QName) → (described fs q ≡ None) ⊎ Has q (names_of fs)
 among [] q = inl refl
 among {K = K} (f ∷ fs) q = go (bytes_eq q.«module» f.«module») refl (among fs q)
   where
