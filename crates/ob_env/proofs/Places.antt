@@ -1,5 +1,5 @@
 -- What stands at a position.
-use Rattle.std.proofs.Common.{◌≡◌, ℕ, zero, suc, ◌+◌, ◌-◌, ◌≤◌, Bool, true, false, cond, List, [], ◌∷◌, length, map, Option, Some, None, refl, sym, ap, subst, ◌∙◌, arith}
+use Rattle.std.proofs.Common.{◌≡◌, ℕ, zero, suc, ◌+◌, ◌-◌, ◌≤◌, ◌<◌, Bool, true, false, cond, List, [], ◌∷◌, ◌++◌, length, map, append_assoc, append-nil, Option, Some, None, refl, sym, ap, subst, ◌∙◌, arith}
 use Rattle.std.specs.Prelude.{bytes_eq, slice_get}
 use Rattle.ob_format.specs.Format.{◌>>=◌}
 use Rattle.ob_tree.specs.declared.names.QName.{QName}
@@ -47,3 +47,22 @@ pub found_at : (is : List Interface) (m : Positions) (q : QName) (bytes name : L
 found_at is m q bytes name k r e n index some placed =
     let f = by_index (λ i. i.«module») m is bytes k index some in
     placed ∙ ap (λ (l : List ℕ). object_placed is k l) n ∙ sym (ap (λ (o : Option Interface). o >>= λ i. object_by_name i.objects q.object) (ap (λ (l : List ℕ). first_by (λ i. i.«module») is l) (sym e) ∙ f))
+
+-- ---- tables one by one
+
+-- the tables of the interfaces before the rest
+abbrev pub AreTablesUpTo : List NameIndex → List Interface → List Interface → Type 0
+AreTablesUpTo ts rest is = (us : List NameIndex) → AreTables us rest → AreTables (ts ++ us) is
+
+pub tables_none : (is : List Interface) → AreTablesUpTo [] is is
+tables_none is us are = are
+
+pub tables_more : (ts : List NameIndex) (t : NameIndex) (i : Interface) (rest is : List Interface) → AreTablesUpTo ts (i ∷ rest) is → IsIndexOf t.positions (object_names i.objects) → AreTablesUpTo (ts ++ t ∷ []) rest is
+tables_more ts t i rest is so_far index us are = subst (λ (l : List NameIndex). AreTables l is) (sym (append_assoc ts (t ∷ []) us)) (so_far (t ∷ us) (index, are))
+
+pub tables_all : (ts : List NameIndex) (is : List Interface) → AreTablesUpTo ts [] is → AreTables ts is
+tables_all ts is so_far = subst (λ (l : List NameIndex). AreTables l is) (append-nil ts) (so_far [] tt)
+
+pub none_left : {A : Type 0} (xs : List A) → length xs < 1 → xs ≡ []
+none_left [] l = refl
+none_left (x ∷ xs) l = absurd (omega (arith, l))

@@ -1,6 +1,8 @@
 -- What is found of a name in a list of interfaces.
 use Rattle.std.specs.Prelude.{ℕ, Bool, cond, List, [], ◌∷◌, map as each, Option, Some, None, bytes_eq, slice_get}
+use Rattle.std.specs.List.{AllByRecursion}
 use Rattle.ob_format.specs.Format.{◌>>=◌}
+use Rattle.ob_sym.specs.Grammar.{IsObjectOf}
 use Rattle.ob_layout.specs.Index.{first_by}
 use Rattle.ob_tree.specs.declared.names.QName.{QName}
 use Rattle.ob_tree.specs.declared.print.Print.{Print}
@@ -33,3 +35,7 @@ module_names is = each (λ i. i.«module») is
 
 abbrev pub object_names : List Object → List (List ℕ)
 object_names os = each (λ o. o.name) os
+
+-- each object carries the prints of its texts
+abbrev pub CarryPrints : List Interface → Type 0
+CarryPrints is = AllByRecursion (λ i. AllByRecursion (λ o. IsObjectOf i.«module» o) i.objects) is

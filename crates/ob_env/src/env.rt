@@ -1,11 +1,20 @@
-ghost use Rattle.std.specs.Prelude.{◌≡◌};
+ghost use Rattle.std.specs.Prelude.{◌≡◌, IfOk};
 ghost use Rattle.std.specs.Option.{option_copied};
-ghost use Rattle.ob_env.specs.Found.{object_found};
+ghost use Rattle.ob_env.specs.Faces.{print_in};
+ghost use Rattle.ob_env.specs.Found.{object_found, module_names, carried_print, CarryPrints};
+ghost use Rattle.ob_env.specs.Tables.{AreTables};
+ghost use Rattle.ob_env.specs.Walking.{faces_of};
+ghost use Rattle.ob_env.specs.Building.{Builds};
+ghost use Rattle.ob_layout.specs.Index.{IsIndexOf};
 
-use crate::found::placed;
+use crate::fault::EnvFault;
+use crate::fit::check_fit;
+use crate::found::{modules_of, placed, tables_of};
+use crate::stale::check_uses;
 use ob_layout::NameIndex;
-use ob_tree::{List, QName};
-use ob_types::{Interface, Object};
+use ob_tree::{List, Print, QName};
+use ob_types::{Aspect, Interface, Object};
+use std::alloc::Global;
 use std::marker::Model;
 
 /// Interfaces that are closed, coherent and fit. Contracts see it as the list of them, in the
@@ -23,14 +32,14 @@ impl Model for Env {
     ghost use Rattle.std.specs.Coded.{coded_list};
     ghost use Rattle.ob_types.specs.declared.face.Interface.{Interface as Face};
     ghost use Rattle.ob_layout.specs.Index.{IsIndexOf};
-    ghost use Rattle.ob_env.specs.Found.{module_names};
+    ghost use Rattle.ob_env.specs.Found.{module_names, CarryPrints};
     ghost use Rattle.ob_env.specs.Tables.{AreTables};
 
     ghost Value = { Listed Face };
 
     ghost view = { λ e. e.faces };
 
-    ghost invariant = { λ e. IsIndexOf e.modules.positions (module_names e.faces) × AreTables e.objects.items e.faces };
+    ghost invariant = { λ e. IsIndexOf e.modules.positions (module_names e.faces) × AreTables e.objects.items e.faces × CarryPrints e.faces };
 }
 
 impl Drop for Env {
@@ -43,10 +52,43 @@ impl Drop for Env {
     }
 }
 
+// The print of an aspect.
+fn carried(object: &Object, aspect: Aspect) -> Option<Print>
+    ensures { result ≡ carried_print object.now aspect }
+{
+    match aspect {
+        Aspect::Shape => Some(object.shape),
+        Aspect::Layout => object.layout,
+    }
+}
+
 impl Env {
+    /// The environment of the interfaces of a whole walk, each object of which carries the prints
+    /// of its texts; or the first use that is not met, or else the first object that does not fit.
+    pub fn build(alloc: Global, faces: List<Interface>) -> Result<Env, EnvFault>
+        requires { CarryPrints faces }
+        ensures { Builds faces result }
+    {
+        let Ok(modules) = modules_of(alloc, faces.as_slice()) else {
+            return Err(EnvFault::Memory);
+        };
+        let Ok(objects) = tables_of(alloc, faces.as_slice()) else {
+            return Err(EnvFault::Memory);
+        };
+        let env = Env {
+            faces,
+            modules,
+            objects,
+        };
+        check_uses(&env, env.faces())?;
+        check_fit(alloc, &env)?;
+        Ok(env)
+    }
+
     /// The interfaces, in the order in which the walk left their modules.
     pub fn faces(&self) -> &[Interface]
-        ensures { result.now ≡ self.now }
+        ensures faces { result.now ≡ self.now }
+        ensures prints { CarryPrints self.now }
     {
         self.faces.as_slice()
     }
@@ -64,6 +106,18 @@ impl Env {
                 at,
                 name.object.as_bytes(),
             ),
+        }
+    }
+
+    /// The print of an object's aspect; none exactly where no module of the walk has the object
+    /// with that aspect. Takes no memory.
+    pub fn print_of(&self, name: &QName, aspect: Aspect) -> Option<Print>
+        ensures { result ≡ print_in (faces_of self.now) name.now aspect }
+    {
+        let _ = self.faces();
+        match self.lookup(name) {
+            None => None,
+            Some(object) => carried(object, aspect),
         }
     }
 }

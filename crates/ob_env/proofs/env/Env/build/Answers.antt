@@ -1,0 +1,24 @@
+use Rattle.std.proofs.Common.{◌≡◌, None, List, refl, sym, ap, ◌∙◌, subst}
+use Rattle.std.proofs.lemmas.Result.{err_from_is_err_and}
+use Rattle.ob_types.specs.declared.face.Interface.{Interface}
+use Rattle.ob_env.specs.Stale.{first_among}
+use Rattle.ob_env.specs.Building.{Named, uses_answer, stale_answer}
+use Rattle.ob_env.proofs.Stales.{stale_named, unfit_named, all_stand}
+use Rattle.ob_env.proofs.env.Env.build.Goals as goal
+
+pub returns-in_err-check_uses : goal.returns-in_err-check_uses
+returns-in_err-check_uses c =
+    let p = err_from_is_err_and c.from_residual.result c.from_residual.ensures.1 in
+    let named = subst (λ (l : List Interface). Named (first_among (uses_answer c.args.faces) l) c.in_err-check_uses.field-0.0) c.faces-2.ensures.faces c.in_err-check_uses.ensures in
+    rw (p.1, p.2) (stale_named c.args.faces c.in_err-check_uses.field-0.0 named)
+
+pub returns-in_err-check_fit : goal.returns-in_err-check_fit
+returns-in_err-check_fit c =
+    let p = err_from_is_err_and c.from_residual-in_err-check_fit.result c.from_residual-in_err-check_fit.ensures.1 in
+    let none : stale_answer c.args.faces ≡ None = subst (λ (l : List Interface). first_among (uses_answer c.args.faces) l ≡ None) c.faces-2.ensures.faces c.in_ok-check_uses.ensures in
+    rw (p.1, p.2) (unfit_named c.args.faces c.in_err-check_fit.field-0.0 none c.in_err-check_fit.ensures)
+
+pub returns : goal.returns
+returns c =
+    let none : stale_answer c.args.faces ≡ None = subst (λ (l : List Interface). first_among (uses_answer c.args.faces) l ≡ None) c.faces-2.ensures.faces c.in_ok-check_uses.ensures in
+    (all_stand c.args.faces none c.in_ok-check_fit.ensures, refl)
