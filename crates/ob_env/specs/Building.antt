@@ -3,12 +3,14 @@ use Rattle.std.specs.Prelude.{◌≡◌, ℕ, List, Option, Some, None, Result, 
 use Rattle.std.specs.Option.{option_map}
 use Rattle.ob_tree.specs.declared.print.Print.{Print}
 use Rattle.ob_types.specs.declared.face.Interface.{Interface}
+use Rattle.ob_types.specs.declared.face.Object.{Object}
 use Rattle.ob_types.specs.declared.face.Use.{Use}
 use Rattle.ob_env.specs.declared.fault.EnvFault.{EnvFault}
 use Rattle.ob_env.specs.declared.fault.EnvFault.TheVariants as fault
 use Rattle.ob_env.specs.Faces.{Wanted, wanted_of, print_in}
 use Rattle.ob_env.specs.Stale.{Found, AsWanted, IsAbsent, IsChanged, StaleUse, prints_agree, found_as, first_among}
-use Rattle.ob_env.specs.Fit.{first_unfit}
+use Rattle.ob_env.specs.Fit.{misfit, first_unfit}
+use Rattle.ob_env.specs.Mapped.{map_of}
 use Rattle.ob_env.specs.Answer.{Standing, Stands, Stopped, Stale, Unfit, standing}
 use Rattle.ob_env.specs.Walking.{faces_of}
 
@@ -63,3 +65,10 @@ stale_answer is = first_among (uses_answer is) is
 
 abbrev pub unfit_answer : List Interface → Option EnvFault
 unfit_answer is = option_map fault.Unfit (first_unfit (faces_of is))
+
+-- the fault of an object that does not fit
+abbrev pub object_answer : List Interface → (steps : ℕ) → List ℕ → Object → Option EnvFault
+object_answer is steps m o = option_map fault.Unfit (misfit (map_of is) steps m (o.name, o.desc))
+
+abbrev pub objects_answer : List Interface → (steps : ℕ) → Interface → Option EnvFault
+objects_answer is steps i = first_among (object_answer is steps i.«module») i.objects

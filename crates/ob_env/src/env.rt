@@ -4,12 +4,13 @@ ghost use Rattle.ob_env.specs.Faces.{print_in};
 ghost use Rattle.ob_env.specs.Found.{object_found, module_names, carried_print, CarryPrints};
 ghost use Rattle.ob_env.specs.Tables.{AreTables};
 ghost use Rattle.ob_env.specs.Walking.{faces_of};
+ghost use Rattle.ob_env.specs.Marks.{place_of};
 ghost use Rattle.ob_env.specs.Building.{Builds};
 ghost use Rattle.ob_layout.specs.Index.{IsIndexOf};
 
 use crate::fault::EnvFault;
 use crate::fit::check_fit;
-use crate::found::{modules_of, placed, tables_of};
+use crate::found::{modules_of, placed, position_placed, tables_of};
 use crate::stale::check_uses;
 use ob_layout::NameIndex;
 use ob_tree::{List, Print, QName};
@@ -106,6 +107,25 @@ impl Env {
                 at,
                 name.object.as_bytes(),
             ),
+        }
+    }
+
+    /// The position of a name's module among the interfaces, and that of its object there; none
+    /// exactly where no module of the walk has it. Takes no memory.
+    pub fn place(&self, name: &QName) -> Option<(usize, usize)>
+        ensures { result ≡ place_of self.now name.now }
+    {
+        match self.modules.get(name.module.as_bytes()) {
+            None => None,
+            Some(at) => match position_placed(
+                self.faces.as_slice(),
+                self.objects.as_slice(),
+                at,
+                name.object.as_bytes(),
+            ) {
+                None => None,
+                Some(position) => Some((at, position)),
+            },
         }
     }
 

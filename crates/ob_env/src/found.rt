@@ -1,6 +1,7 @@
 ghost use Rattle.std.specs.Prelude.{◌≡◌, IfOk};
 ghost use Rattle.std.specs.Option.{option_copied};
-ghost use Rattle.ob_layout.specs.Index.{IsIndexOf};
+ghost use Rattle.ob_layout.specs.Index.{IsIndexOf, position_from};
+ghost use Rattle.ob_env.specs.Marks.{place_in};
 ghost use Rattle.ob_env.specs.Found.{object_by_name, object_names, module_names, object_placed};
 ghost use Rattle.ob_env.specs.Tables.{AreTables};
 
@@ -34,6 +35,34 @@ pub fn placed<'a>(
         Some(face) => match item_at(tables, at) {
             None => None,
             Some(names) => object_at(face.objects.as_slice(), names, name),
+        },
+    }
+}
+
+// The position of a name.
+fn position_at(objects: &[Object], names: &NameIndex, name: &[u8]) -> Option<usize>
+    requires { IsIndexOf names.now.positions (object_names objects.now) }
+    ensures { result ≡ position_from 0 name.now (object_names objects.now) }
+{
+    let _ = objects;
+    names.get(name)
+}
+
+/// The position of a name in the interface at a position.
+pub fn position_placed(
+    faces: &[Interface],
+    tables: &[NameIndex],
+    at: usize,
+    name: &[u8],
+) -> Option<usize>
+    requires { AreTables tables.now faces.now }
+    ensures { result ≡ place_in faces.now at name.now }
+{
+    match item_at(faces, at) {
+        None => None,
+        Some(face) => match item_at(tables, at) {
+            None => None,
+            Some(names) => position_at(face.objects.as_slice(), names, name),
         },
     }
 }

@@ -21,16 +21,6 @@ fn again(name: &QName) -> Option<QName>
     }
 }
 
-/// The object does not fit.
-pub fn unfit(object: &QName) -> EnvFault
-    ensures { Named (Some (fault.Unfit object.now)) result }
-{
-    match again(object) {
-        None => EnvFault::Memory,
-        Some(object) => EnvFault::Unfit { object },
-    }
-}
-
 fn absent(client: &Name, object: &QName) -> EnvFault
     ensures { Named (Some (fault.Absent client.now object.now)) result }
 {

@@ -116,14 +116,20 @@ from_position name n [] x None h = refl
 from_position name n [] x (Some k) h = absurd cc
 from_position name n (a ∷ xs) x o h = step_position n a xs (position_from (suc n) x (map name xs)) (first_by name xs x) (λ o h. from_position name (suc n) xs x o h) (bytes_eq x (name a)) o h
 
--- what an index finds
-pub by_index : {A : Type 0} (name : A → List ℕ) (m : Positions) (xs : List A) (x : List ℕ) (k : ℕ) → IsIndexOf m (map name xs) → Some k ≡ at_name m x → first_by name xs x ≡ slice_get xs k
+pub first_at : {A : Type 0} (name : A → List ℕ) (xs : List A) (x : List ℕ) (k : ℕ) → position_from 0 x (map name xs) ≡ Some k → first_by name xs x ≡ slice_get xs k
 unfolding AtPosition
-by_index name m xs x k is found =
-    let r = from_position name 0 xs x (Some k) (sym (is x) ∙ sym found) in
+first_at name xs x k e =
+    let r = from_position name 0 xs x (Some k) e in
     let z : k - 0 ≡ k = omega arith in
     r.1 ∙ ap (λ (i : ℕ). slice_get xs i) z
 
-pub by_index_none : {A : Type 0} (name : A → List ℕ) (m : Positions) (xs : List A) (x : List ℕ) → IsIndexOf m (map name xs) → None ≡ at_name m x → first_by name xs x ≡ None
+pub first_none : {A : Type 0} (name : A → List ℕ) (xs : List A) (x : List ℕ) → position_from 0 x (map name xs) ≡ None → first_by name xs x ≡ None
 unfolding AtPosition
-by_index_none name m xs x is found = from_position name 0 xs x None (sym (is x) ∙ sym found)
+first_none name xs x e = from_position name 0 xs x None e
+
+-- what an index finds
+pub by_index : {A : Type 0} (name : A → List ℕ) (m : Positions) (xs : List A) (x : List ℕ) (k : ℕ) → IsIndexOf m (map name xs) → Some k ≡ at_name m x → first_by name xs x ≡ slice_get xs k
+by_index name m xs x k is found = first_at name xs x k (sym (is x) ∙ sym found)
+
+pub by_index_none : {A : Type 0} (name : A → List ℕ) (m : Positions) (xs : List A) (x : List ℕ) → IsIndexOf m (map name xs) → None ≡ at_name m x → first_by name xs x ≡ None
+by_index_none name m xs x is found = first_none name xs x (sym (is x) ∙ sym found)
