@@ -9,7 +9,7 @@ use Rattle.ob_env.specs.declared.fault.EnvFault.{EnvFault}
 use Rattle.ob_env.specs.declared.fault.EnvFault.TheVariants as fault
 use Rattle.ob_env.specs.Faces.{face_of}
 use Rattle.ob_env.specs.Stale.{first_among}
-use Rattle.ob_env.specs.Fit.{misfit, count_of, first_unfit}
+use Rattle.ob_env.specs.Fit.{misfit, steps_of, first_unfit}
 use Rattle.ob_env.specs.Mapped.{map_of}
 use Rattle.ob_env.specs.Walking.{faces_of}
 use Rattle.ob_env.specs.Building.{object_answer, objects_answer, unfit_answer}
@@ -29,5 +29,5 @@ faces_unfit is (j ∷ js) steps =
     ∙ ap (λ o. or_else o (option_map fault.Unfit (first_among (λ f. first_among (misfit (map_of is) steps f.«module») f.objects) (map face_of js)))) (objects_unfit is steps j.«module» j.objects)
     ∙ ap (or_else (objects_answer is steps j)) (faces_unfit is js steps)
 
-pub unfit_is : (is faces : List Interface) (steps : ℕ) → faces ≡ is → steps ≡ count_of (faces_of is) → first_among (objects_answer is steps) faces ≡ unfit_answer is
-unfit_is is faces steps same e = ap (first_among (objects_answer is steps)) same ∙ ap (λ n. first_among (objects_answer is n) is) e ∙ sym (faces_unfit is is (count_of (faces_of is)))
+pub unfit_is : (is faces : List Interface) (steps : ℕ) → faces ≡ is → steps ≡ steps_of (faces_of is) → first_among (objects_answer is steps) faces ≡ unfit_answer is
+unfit_is is faces steps same e = ap (first_among (objects_answer is steps)) same ∙ ap (λ n. first_among (objects_answer is n) is) e ∙ sym (faces_unfit is is (steps_of (faces_of is)))

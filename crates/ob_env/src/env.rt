@@ -5,6 +5,8 @@ ghost use Rattle.ob_env.specs.Found.{object_found, module_names, carried_print, 
 ghost use Rattle.ob_env.specs.Tables.{AreTables};
 ghost use Rattle.ob_env.specs.Walking.{faces_of};
 ghost use Rattle.ob_env.specs.Marks.{place_of};
+ghost use Rattle.ob_types.specs.Relations.{IsGrounded};
+ghost use Rattle.ob_env.specs.Mapped.{map_of};
 ghost use Rattle.ob_env.specs.Building.{Builds};
 ghost use Rattle.ob_layout.specs.Index.{IsIndexOf};
 
@@ -65,10 +67,12 @@ fn carried(object: &Object, aspect: Aspect) -> Option<Print>
 
 impl Env {
     /// The environment of the interfaces of a whole walk, each object of which carries the prints
-    /// of its texts; or the first use that is not met, or else the first object that does not fit.
+    /// of its texts; or the first use that is not met, or else the first object that does not fit. The types
+    /// of what it accepts are grounded.
     pub fn build(alloc: Global, faces: List<Interface>) -> Result<Env, EnvFault>
         requires { CarryPrints faces }
-        ensures { Builds faces result }
+        ensures answer { Builds faces result }
+        ensures grounded { IfOk result (λ env. IsGrounded (map_of env)) }
     {
         let Ok(modules) = modules_of(alloc, faces.as_slice()) else {
             return Err(EnvFault::Memory);

@@ -1,6 +1,6 @@
 ghost use Rattle.std.specs.Prelude.{◌≡◌, IfOk, IfSome};
 ghost use Rattle.ob_env.specs.Stale.{first_among};
-ghost use Rattle.ob_env.specs.Fit.{is_sound_record, fits, count_of, stands as stands_well};
+ghost use Rattle.ob_env.specs.Fit.{is_sound_record, fits, steps_of, stands as stands_well};
 ghost use Rattle.ob_env.specs.Mapped.{map_of};
 ghost use Rattle.ob_env.specs.Marks.{SayWithin};
 ghost use Rattle.ob_env.specs.Walking.{faces_of};
@@ -17,11 +17,11 @@ use ob_tree::{List, Name, QName};
 use ob_types::{Desc, Interface, Object};
 use std::alloc::{AllocError, Global};
 
-// The number of objects; none where it does not fit.
-fn count(faces: &[Interface]) -> Option<usize>
-    ensures { IfSome result (λ n. n ≡ count_of (faces_of faces.now)) }
+// More steps than any chain of aliases that comes to an end; none where they do not fit.
+fn steps_for(faces: &[Interface]) -> Option<usize>
+    ensures { IfSome result (λ n. n ≡ steps_of (faces_of faces.now)) }
 {
-    let mut total: usize = 0;
+    let mut total: usize = 201;
     let mut rest = faces;
     while let [first, more @ ..] = rest {
         total = total.checked_add(first.objects.len())?;
@@ -152,7 +152,7 @@ fn check_faces(
 pub fn check_fit(alloc: Global, env: &Env) -> Result<(), EnvFault>
     ensures { Checks (unfit_answer env.now) result }
 {
-    let Some(steps) = count(env.faces()) else {
+    let Some(steps) = steps_for(env.faces()) else {
         return Err(EnvFault::Memory);
     };
     match within_marks(alloc, env) {

@@ -49,7 +49,9 @@ fn hidden_of_stmt(s: &TypedStmt) -> u64
             hidden_in(otherwise.as_slice()),
         ),
         TypedStmt::Case {
-            cases, otherwise, ..
+            cases,
+            otherwise,
+            ..
         } => plus(
             1,
             plus(

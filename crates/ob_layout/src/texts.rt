@@ -60,11 +60,7 @@ fn written(e: &TypedExpr) -> Option<&Text>
 }
 
 #[tactic(auto, using(crate::proofs::UsedTexts::no_text, crate::proofs::UsedTexts::own_text))]
-fn texts_in_value(
-    alloc: Global,
-    out: &mut List<UsedText>,
-    value: &Value,
-) -> Result<(), AllocError>
+fn texts_in_value(alloc: Global, out: &mut List<UsedText>, value: &Value) -> Result<(), AllocError>
     ensures { OnOk result (used out.new ≡ used out.old ++ texts_of_value value.now) }
 {
     match text_in(value) {

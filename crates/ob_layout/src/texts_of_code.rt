@@ -26,7 +26,9 @@ fn texts_in_stmt<T: Types>(
         }
         TypedStmt::Call(call) => texts_of_expression(alloc, types, out, call),
         TypedStmt::Update {
-            target, operand, ..
+            target,
+            operand,
+            ..
         } => {
             texts_of_place(alloc, types, out, target)?;
             texts_of_expression(alloc, types, out, operand)
@@ -71,7 +73,10 @@ fn texts_in_stmt<T: Types>(
             texts_of_expression(alloc, types, out, test)
         }
         TypedStmt::For {
-            start, end, body, ..
+            start,
+            end,
+            body,
+            ..
         } => {
             texts_of_expression(alloc, types, out, end)?;
             texts_of_expression(alloc, types, out, start)?;

@@ -1,6 +1,4 @@
-use Rattle.std.proofs.Common.{Some, OnOk, ◌≡◌}
-use Rattle.ob_layout.specs.Index.{Notes, Puts}
-use Rattle.ob_layout.proofs.Names.{notes_new, notes_none}
+use Rattle.ob_layout.proofs.Names.{notes_none}
 use Rattle.ob_layout.proofs.index.NameIndex.note.Goals as goal
 
 pub returns-in-Some : goal.returns-in-Some
