@@ -1,15 +1,14 @@
 -- Objects that do not fit.
-use Rattle.std.proofs.Common.{◌≡◌, ℕ, List, [], ◌∷◌, Option, Some, None, Bool, true, false, not, refl, sym, ap, ◌∙◌}
-use Rattle.std.specs.Prelude.{map, ◌||◌}
+use Rattle.std.proofs.Common.{◌≡◌, ℕ, List, [], ◌∷◌, Option, Some, None, refl, sym, ap, ◌∙◌}
+use Rattle.std.specs.Prelude.{map}
 use Rattle.std.specs.Option.{option_map}
 use Rattle.ob_types.specs.declared.face.Object.{Object}
 use Rattle.ob_types.specs.declared.face.Interface.{Interface}
 use Rattle.ob_layout.specs.Lists.{or_else}
-use Rattle.ob_env.specs.declared.fault.EnvFault.{EnvFault}
 use Rattle.ob_env.specs.declared.fault.EnvFault.TheVariants as fault
 use Rattle.ob_env.specs.Faces.{face_of}
 use Rattle.ob_env.specs.Stale.{first_among}
-use Rattle.ob_env.specs.Fit.{misfit, steps_of, first_unfit}
+use Rattle.ob_env.specs.Fit.{misfit, steps_of}
 use Rattle.ob_env.specs.Mapped.{map_of}
 use Rattle.ob_env.specs.Walking.{faces_of}
 use Rattle.ob_env.specs.Building.{object_answer, objects_answer, unfit_answer}

@@ -1,5 +1,5 @@
 -- Interfaces that fit have a grounded map.
-use Rattle.std.proofs.Common.{◌≡◌, ℕ, zero, suc, ◌+◌, ◌≤◌, Bool, true, false, cond, not, List, [], ◌∷◌, ◌++◌, Option, Some, None, refl, sym, ap, subst, ◌∙◌, arith}
+use Rattle.std.proofs.Common.{◌≡◌, ℕ, zero, suc, ◌≤◌, Bool, true, false, cond, not, List, [], ◌∷◌, ◌++◌, Option, Some, None, refl, sym, subst, arith}
 use Rattle.std.specs.Prelude.{◌&&◌, ◌||◌, map as each, bytes_eq, MatchOption, IfSome, IsTrue}
 use Rattle.std.specs.Option.{option_map}
 use Rattle.std.specs.List.{list_all, flat_map, AllByRecursion}
@@ -21,11 +21,10 @@ use Rattle.ob_types.specs.Tests.{target, shape_at}
 use Rattle.ob_types.specs.AssigningTests.{described as is_described}
 use Rattle.ob_types.proofs.Targets.{unique, is_target}
 use Rattle.ob_layout.specs.Lists.{or_else}
-use Rattle.ob_env.specs.declared.fault.EnvFault.{EnvFault}
 use Rattle.ob_env.specs.declared.fault.EnvFault.TheVariants as fault
-use Rattle.ob_env.specs.Faces.{Face, object_named, face_named, described}
+use Rattle.ob_env.specs.Faces.{Face, object_named, face_named}
 use Rattle.ob_env.specs.Stale.{first_among}
-use Rattle.ob_env.specs.Fit.{chain_described, is_within, is as is_kind, is_held, names_types, stands, has_bases, has_plain_result, is_closed_field, is_plain_method, keeps_places, has_few_words, is_sound_record, fits, steps_of, unless, misfit, first_unfit, if_some}
+use Rattle.ob_env.specs.Fit.{chain_described, is_within, is as is_kind, is_held, names_types, stands, has_bases, has_plain_result, is_closed_field, is_plain_method, keeps_places, fits, steps_of, unless, misfit, first_unfit, if_some}
 use Rattle.ob_env.specs.Mapped.{map_of}
 use Rattle.ob_env.specs.Walking.{faces_of}
 use Rattle.ob_env.specs.Building.{unfit_answer}
@@ -167,10 +166,13 @@ keeps map steps all (desc.OpenArray m t) h b e = never map steps all is_open t h
 keeps map steps all (desc.Pointer m t) h b e = ever map steps all is_structure t h.0 b
 keeps map steps all (desc.ProcType m s) h b e = plain_result map steps all s h e
 keeps map steps all (desc.Record r) h b e =
-    let front = all_left (λ t. IsHeld map t) (listed r.base ++ each (λ f. f.of) r.fields) (flat_map (λ m. signature_types m.signature) r.methods) h in
-    (base_is map steps all r.base (all_left (λ t. IsHeld map t) (listed r.base) (each (λ f. f.of) r.fields) front) b,
-     (fields_closed map steps all r.fields (all_right (λ t. IsHeld map t) (listed r.base) (each (λ f. f.of) r.fields) front) (left_of (list_all (is_closed_field map steps) r.fields) (list_all (is_plain_method map steps) r.methods) e),
-      methods_plain map steps all r.methods (all_right (λ t. IsHeld map t) (listed r.base ++ each (λ f. f.of) r.fields) (flat_map (λ m. signature_types m.signature) r.methods) h) (right_of (list_all (is_closed_field map steps) r.fields) (list_all (is_plain_method map steps) r.methods) e)))
+    let front = all_left (λ t. IsHeld map t) (listed r.base ++ each (λ f. f.of) r.fields) (flat_map (λ m. signature_types m.signature) r.methods) h in (
+      base_is map steps all r.base (all_left (λ t. IsHeld map t) (listed r.base) (each (λ f. f.of) r.fields) front) b,
+      (
+        fields_closed map steps all r.fields (all_right (λ t. IsHeld map t) (listed r.base) (each (λ f. f.of) r.fields) front) (left_of (list_all (is_closed_field map steps) r.fields) (list_all (is_plain_method map steps) r.methods) e),
+        methods_plain map steps all r.methods (all_right (λ t. IsHeld map t) (listed r.base ++ each (λ f. f.of) r.fields) (flat_map (λ m. signature_types m.signature) r.methods) h) (right_of (list_all (is_closed_field map steps) r.fields) (list_all (is_plain_method map steps) r.methods) e),
+      ),
+    )
 
 keeps_in : (map : QName → Option Desc) (steps : ℕ) → AllFit map steps → (q : QName) (d : Desc) → map q ≡ Some d → Keeps map d
 keeps_in map steps all q d e =

@@ -1,5 +1,5 @@
 -- The print that an object carries is that of its text.
-use Rattle.std.proofs.Common.{◌≡◌, ℕ, Bool, true, false, cond, List, [], ◌∷◌, Option, Some, None, refl, sym, ap, subst, ◌∙◌}
+use Rattle.std.proofs.Common.{◌≡◌, ℕ, Bool, true, false, cond, List, [], ◌∷◌, Option, Some, None, refl, sym, ap, ◌∙◌}
 use Rattle.std.specs.Prelude.{bytes_eq}
 use Rattle.std.specs.Option.{option_map}
 use Rattle.std.specs.List.{AllByRecursion}
@@ -16,7 +16,7 @@ use Rattle.ob_desc.specs.Grammar.{shape_text, text_of}
 use Rattle.ob_fprint.specs.Print.{print_from}
 use Rattle.ob_sym.specs.Grammar.{IsObjectOf, object_of}
 use Rattle.ob_sym.proofs.Seen.{seen_is}
-use Rattle.ob_env.specs.Faces.{described, print_in}
+use Rattle.ob_env.specs.Faces.{print_in}
 use Rattle.ob_env.specs.Found.{object_by_name, interface_by_name, object_found, carried_print, CarryPrints}
 use Rattle.ob_env.specs.Walking.{faces_of}
 use Rattle.ob_env.specs.Laws.{described_found}

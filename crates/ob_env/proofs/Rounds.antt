@@ -1,5 +1,5 @@
 -- Rounds of marks.
-use Rattle.std.proofs.Common.{◌≡◌, ℕ, zero, suc, ◌+◌, ◌-◌, ◌≤◌, ◌<◌, Bool, true, false, List, [], ◌∷◌, Option, Some, None, refl, sym, ap, subst, ◌∙◌, arith}
+use Rattle.std.proofs.Common.{◌≡◌, ℕ, zero, suc, ◌+◌, ◌-◌, ◌≤◌, Bool, true, false, List, [], ◌∷◌, Option, Some, None, refl, sym, ap, subst, ◌∙◌, arith}
 use Rattle.std.specs.Prelude.{◌&&◌, map, slice_get, unwrap_or}
 use Rattle.std.specs.Option.{option_map}
 use Rattle.std.specs.List.{list_all}
@@ -12,9 +12,9 @@ use Rattle.ob_types.specs.declared.desc.Desc.{Desc}
 use Rattle.ob_types.specs.declared.face.Object.{Object}
 use Rattle.ob_types.specs.declared.face.Interface.{Interface}
 use Rattle.ob_types.specs.Maps.{stands_on}
-use Rattle.ob_layout.specs.Index.{position_from, first_by}
+use Rattle.ob_layout.specs.Index.{position_from}
 use Rattle.ob_layout.proofs.Names.{first_at, first_none}
-use Rattle.ob_env.specs.Found.{object_by_name, interface_by_name, object_found, module_names, object_names}
+use Rattle.ob_env.specs.Found.{object_by_name, object_found, module_names, object_names}
 use Rattle.ob_env.specs.Mapped.{map_of}
 use Rattle.ob_env.specs.Laws.{described_found}
 use Rattle.ob_env.specs.Fit.{chain_described, is_within}

@@ -1,5 +1,5 @@
 -- Sizes that are counted up to 2^32.
-use Rattle.std.proofs.Common.{◌≡◌, ℕ, ◌+◌, ◌<◌, ◌≤◌, Bool, true, false, refl, sym, ap, ◌∙◌, arith}
+use Rattle.std.proofs.Common.{◌≡◌, ℕ, ◌+◌, ◌<◌, arith}
 use Rattle.std.specs.Prelude.{min, nat_le}
 use Rattle.std.proofs.lemmas.Bool.Decides.{nat_tests}
 

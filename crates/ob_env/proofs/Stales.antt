@@ -1,5 +1,5 @@
 -- Uses that are not met.
-use Rattle.std.proofs.Common.{◌≡◌, ℕ, Bool, true, false, List, [], ◌∷◌, Option, Some, None, Result, Ok, Err, refl, sym, ap, subst, ◌∙◌}
+use Rattle.std.proofs.Common.{◌≡◌, ℕ, List, [], ◌∷◌, Option, Some, None, refl, sym, ap, subst, ◌∙◌}
 use Rattle.std.specs.Prelude.{map}
 use Rattle.std.specs.Option.{option_map}
 use Rattle.ob_tree.specs.declared.names.QName.{QName}
@@ -11,10 +11,10 @@ use Rattle.ob_env.specs.declared.fault.EnvFault.{EnvFault}
 use Rattle.ob_env.specs.declared.fault.EnvFault.TheVariants as fault
 use Rattle.ob_env.specs.Faces.{Face, Wanted, wanted_of, face_of, print_in}
 use Rattle.ob_env.specs.Stale.{Found, AsWanted, IsAbsent, IsChanged, StaleUse, prints_agree, found_as, unmet, first_among, first_stale}
-use Rattle.ob_env.specs.Answer.{Standing, Stands, Stale, Unfit, if_fit, if_coherent, standing}
+use Rattle.ob_env.specs.Answer.{Stands, if_fit, if_coherent}
 use Rattle.ob_env.specs.Fit.{first_unfit}
 use Rattle.ob_env.specs.Walking.{faces_of}
-use Rattle.ob_env.specs.Building.{use_fault, stale_fault, fault_of, Named, Builds, stands_as, use_answer, uses_answer, stale_answer, unfit_answer}
+use Rattle.ob_env.specs.Building.{use_fault, stale_fault, fault_of, Named, stands_as, use_answer, uses_answer, stale_answer, unfit_answer}
 
 -- ---- a step of a list
 

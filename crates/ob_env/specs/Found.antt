@@ -1,5 +1,5 @@
 -- What is found of a name in a list of interfaces.
-use Rattle.std.specs.Prelude.{ℕ, Bool, cond, List, [], ◌∷◌, map as each, Option, Some, None, bytes_eq, slice_get}
+use Rattle.std.specs.Prelude.{ℕ, List, map as each, Option, Some, slice_get}
 use Rattle.std.specs.List.{AllByRecursion}
 use Rattle.ob_format.specs.Format.{◌>>=◌}
 use Rattle.ob_sym.specs.Grammar.{IsObjectOf}

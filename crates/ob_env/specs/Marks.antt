@@ -1,5 +1,5 @@
 -- Which objects stand on no chain that is too long: a mark for each object of each interface.
-use Rattle.std.specs.Prelude.{◌≡◌, ℕ, Bool, true, false, List, map as each, Option, Some, None, slice_get, unwrap_or}
+use Rattle.std.specs.Prelude.{◌≡◌, ℕ, Bool, true, false, List, map as each, Option, Some, slice_get, unwrap_or}
 use Rattle.std.specs.List.{list_all}
 use Rattle.ob_format.specs.Format.{◌>>=◌}
 use Rattle.ob_tree.specs.declared.names.QName.{QName}

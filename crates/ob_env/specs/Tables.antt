@@ -1,5 +1,5 @@
 -- The tables of an environment: an index of the objects for each of its interfaces.
-use Rattle.std.specs.Prelude.{ℕ, List, [], ◌∷◌}
+use Rattle.std.specs.Prelude.{List, [], ◌∷◌}
 use Rattle.ob_types.specs.declared.face.Interface.{Interface}
 use Rattle.ob_layout.specs.declared.index.NameIndex.{NameIndex}
 use Rattle.ob_layout.specs.Index.{IsIndexOf}

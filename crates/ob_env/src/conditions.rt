@@ -152,8 +152,7 @@ fn procedures_before(base: Option<&RecordDesc>) -> u32
 fn is_inside(env: &Env, before: u32, words: u32, field: &Field) -> bool
     ensures { result ≡ fit.is_inside (map_of env.now) before words field.now }
 {
-    before <= field.place
-        && field.place as u64 + counted_words(env, &field.of) <= words as u64
+    before <= field.place && field.place as u64 + counted_words(env, &field.of) <= words as u64
 }
 
 fn all_inside(env: &Env, before: u32, words: u32, fields: &[Field]) -> bool
@@ -199,9 +198,5 @@ pub fn has_sound_sizes(env: &Env, steps: usize, r: &RecordDesc) -> bool
         return false;
     }
     all_inside(env, words_before(base), r.words, r.fields.as_slice())
-        && all_numbered(
-            procedures_before(base),
-            r.procedures,
-            r.methods.as_slice(),
-        )
+        && all_numbered(procedures_before(base), r.procedures, r.methods.as_slice())
 }

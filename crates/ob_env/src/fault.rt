@@ -9,7 +9,10 @@ use thiserror::Error;
 pub enum EnvFault {
     /// No module of the walk has the object with the aspect that the client uses.
     #[error("absent")]
-    Absent { client: Name, object: QName },
+    Absent {
+        client: Name,
+        object: QName,
+    },
     /// The client was compiled against another print of the object.
     #[error("changed")]
     Changed {
@@ -21,7 +24,9 @@ pub enum EnvFault {
     },
     /// The object does not fit together with the others.
     #[error("unfit")]
-    Unfit { object: QName },
+    Unfit {
+        object: QName,
+    },
     /// Memory was wanting. It says nothing of the interfaces.
     #[error("no memory")]
     Memory,

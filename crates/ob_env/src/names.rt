@@ -44,12 +44,7 @@ fn push_own(names: &mut Vec<Name>, r: &RecordDesc) -> Result<(), AllocError>
 }
 
 // The names that a record and its bases show.
-fn visible(
-    alloc: Global,
-    env: &Env,
-    steps: usize,
-    r: &RecordDesc,
-) -> Result<Vec<Name>, AllocError>
+fn visible(alloc: Global, env: &Env, steps: usize, r: &RecordDesc) -> Result<Vec<Name>, AllocError>
     ensures { IfOk result (λ v. v.items ≡ visible_names (map_of env.now) steps CHAIN r.now) }
 {
     let mut names = Vec::new(alloc);

@@ -60,11 +60,7 @@ fn own_type<'a>(types: &'a [TypedType], own: &NameIndex, name: &[u8]) -> Option<
 
 impl<'a> View<'a> {
     /// The view from a module over its environment.
-    pub fn new(
-        alloc: Global,
-        module: &'a TypedModule,
-        env: &'a Env,
-    ) -> Result<View<'a>, AllocError>
+    pub fn new(alloc: Global, module: &'a TypedModule, env: &'a Env) -> Result<View<'a>, AllocError>
         ensures { IfOk result (λ v. (v.«module».now ≡ «module».now) × (v.env.now ≡ env.now)) }
     {
         let own = index_of(alloc, module.types.as_slice())?;

@@ -1,4 +1,4 @@
-use Rattle.std.proofs.Common.{◌≡◌, List, Option, sym, ap, subst, ◌∙◌}
+use Rattle.std.proofs.Common.{◌≡◌, List, Option, ap, subst, ◌∙◌}
 use Rattle.ob_types.specs.declared.face.Interface.{Interface}
 use Rattle.ob_env.specs.declared.fault.EnvFault.{EnvFault}
 use Rattle.ob_env.specs.Fit.{steps_of}

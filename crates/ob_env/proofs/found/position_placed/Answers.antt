@@ -1,4 +1,4 @@
-use Rattle.std.proofs.Common.{◌≡◌, ℕ, List, sym, ap, ◌∙◌, subst}
+use Rattle.std.proofs.Common.{List, sym, subst}
 use Rattle.ob_types.specs.declared.face.Object.{Object}
 use Rattle.ob_layout.specs.Index.{IsIndexOf}
 use Rattle.ob_env.specs.Found.{object_names}

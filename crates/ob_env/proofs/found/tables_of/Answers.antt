@@ -1,4 +1,4 @@
-use Rattle.std.proofs.Common.{◌≡◌, List, [], length, arith, subst}
+use Rattle.std.proofs.Common.{List, subst}
 use Rattle.ob_types.specs.declared.face.Interface.{Interface}
 use Rattle.ob_env.proofs.Places.{AreTablesUpTo, tables_all, none_left}
 use Rattle.ob_env.proofs.found.tables_of.Goals as goal

@@ -1,4 +1,4 @@
-use Rattle.std.proofs.Common.{◌≡◌, ◌++◌, length}
+use Rattle.std.proofs.Common.{length}
 use Rattle.ob_env.proofs.Places.{AreTablesUpTo}
 use Rattle.ob_env.proofs.found.tables_of.Given as goal
 

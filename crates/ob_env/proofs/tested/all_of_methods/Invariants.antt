@@ -1,5 +1,4 @@
 use Rattle.std.proofs.Common.{◌≡◌, length}
-use Rattle.std.specs.Prelude.{map as each}
 use Rattle.std.specs.List.{list_all, flat_map}
 use Rattle.ob_types.specs.Maps.{signature_types}
 use Rattle.ob_env.proofs.tested.all_of_methods.Given as goal

@@ -1,6 +1,5 @@
 use Rattle.std.proofs.Common.{◌≡◌, length}
 use Rattle.std.specs.List.{list_all}
-use Rattle.ob_env.specs.Marks.{are_all}
 use Rattle.ob_env.proofs.within.row_is_all.Given as goal
 
 abbrev pub invariant-loop-rest : goal.invariant-loop-rest

@@ -1,5 +1,4 @@
 use Rattle.std.proofs.Common.{◌≡◌, length}
-use Rattle.std.specs.List.{list_all}
 use Rattle.ob_env.specs.Marks.{are_all}
 use Rattle.ob_env.proofs.within.rows_are_all.Given as goal
 

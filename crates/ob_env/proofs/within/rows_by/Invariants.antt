@@ -1,7 +1,4 @@
 use Rattle.std.proofs.Common.{◌≡◌, ◌++◌, length}
-use Rattle.std.specs.Prelude.{map as each}
-use Rattle.std.specs.List.{list_all}
-use Rattle.ob_types.specs.Maps.{stands_on}
 use Rattle.ob_env.specs.Marks.{marks_by}
 use Rattle.ob_env.proofs.within.rows_by.Given as goal
 

@@ -1,5 +1,5 @@
 use Rattle.std.proofs.Common.{◌≡◌, ℕ, ◌≤◌, Bool, true, List, sym, ap, ◌∙◌, subst, arith}
-use Rattle.ob_env.specs.Marks.{marks_by, is_basic, is_marked, are_all, SayWithin}
+use Rattle.ob_env.specs.Marks.{marks_by, is_basic, are_all, SayWithin}
 use Rattle.ob_env.proofs.Rounds.{first_round, next_round, all_rounds}
 use Rattle.ob_env.proofs.within.within_marks.Goals as goal
 

@@ -1,4 +1,3 @@
-use Rattle.std.proofs.Common.{◌≤◌}
 use Rattle.ob_env.specs.Marks.{SayWithin}
 use Rattle.ob_env.proofs.within.within_marks.Given as goal
 

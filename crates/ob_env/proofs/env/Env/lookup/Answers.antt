@@ -1,4 +1,4 @@
-use Rattle.std.proofs.Common.{◌≡◌, None, sym, ◌∙◌, subst}
+use Rattle.std.proofs.Common.{◌≡◌, None, subst}
 use Rattle.std.specs.Option.{option_copied}
 use Rattle.ob_types.specs.declared.face.Interface.{Interface}
 use Rattle.std.proofs.Common.{List}
