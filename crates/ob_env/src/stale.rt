@@ -1,0 +1,89 @@
+ghost use Rattle.std.specs.Prelude.{◌≡◌, Some, IfSome};
+ghost use Rattle.ob_env.specs.declared.fault.EnvFault.TheVariants as fault;
+ghost use Rattle.ob_env.specs.Stale.{first_among};
+ghost use Rattle.ob_env.specs.Building.{Named, Checks, use_answer, uses_answer};
+
+use crate::env::Env;
+use crate::fault::EnvFault;
+use ob_tree::{Name, Print, QName};
+use ob_types::{Interface, Use};
+
+// The same name, where there is memory for it.
+fn again(name: &QName) -> Option<QName>
+    ensures { IfSome result (λ q. q ≡ name.now) }
+{
+    match name.object.clone() {
+        Ok(object) => Some(QName {
+            module: name.module,
+            object,
+        }),
+        Err(_) => None,
+    }
+}
+
+fn absent(client: &Name, object: &QName) -> EnvFault
+    ensures { Named (Some (fault.Absent client.now object.now)) result }
+{
+    match again(object) {
+        None => EnvFault::Memory,
+        Some(object) => EnvFault::Absent {
+            client: *client,
+            object,
+        },
+    }
+}
+
+fn changed(client: &Name, used: &Use, found: Print) -> EnvFault
+    ensures { Named (Some (fault.Changed client.now used.now.object used.now.aspect used.now.print found)) result }
+{
+    match again(&used.object) {
+        None => EnvFault::Memory,
+        Some(object) => EnvFault::Changed {
+            client: *client,
+            object,
+            aspect: used.aspect,
+            wanted: used.print,
+            found,
+        },
+    }
+}
+
+// A use of a client.
+fn check_use(env: &Env, client: &Name, used: &Use) -> Result<(), EnvFault>
+    ensures { Checks (use_answer env.now client.now used.now) result }
+{
+    match env.print_of(&used.object, used.aspect) {
+        None => Err(absent(client, &used.object)),
+        Some(found) => {
+            if used.print.agrees(&found) {
+                Ok(())
+            } else {
+                Err(changed(client, used, found))
+            }
+        }
+    }
+}
+
+// The uses of a client in order.
+fn check_client(env: &Env, client: &Name, uses: &[Use]) -> Result<(), EnvFault>
+    ensures { Checks (first_among (use_answer env.now client.now) uses.now) result }
+{
+    let mut rest = uses;
+    while let [first, more @ ..] = rest {
+        check_use(env, client, first)?;
+        rest = more;
+    }
+    Ok(())
+}
+
+/// The uses of each interface in order.
+pub fn check_uses(env: &Env, faces: &[Interface]) -> Result<(), EnvFault>
+    ensures { Checks (first_among (uses_answer env.now) faces.now) result }
+{
+    let mut rest = faces;
+    while let [first, more @ ..] = rest {
+        check_client(env, &first.module, first.uses.as_slice())?;
+        rest = more;
+    }
+    Ok(())
+}
