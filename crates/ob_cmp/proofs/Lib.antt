@@ -1,0 +1,4 @@
+pub mod Merging
+pub mod Adding
+pub mod Filed
+pub mod Stepping
