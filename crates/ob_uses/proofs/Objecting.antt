@@ -173,8 +173,8 @@ types_are m map has starts begin ps r =
     let s : AreReached (leads_by way.Shown map m.name) (first_shown m) Shape ps = subst (λ (l : List QName). AreReached (leads_by way.Shown map m.name) l Shape ps) begin r in
     filter_same (λ t. has_pair ps (paired Shape (own_name m t))) (λ t. is_among (reached_types m) (own_name m t)) m.types
     (λ t. let q : QName = own_name m t in both_ways (has_pair ps (paired Shape q)) (is_among (reached_types m) q)
-      (λ e. (reached_exactly m q).1 (alike m map (own_map m) has q (s.right (paired Shape q) e).1))
-      (λ e. s.whole q (alike m (own_map m) map (λ p o. sym (has p o)) q ((reached_exactly m q).0 e))))
+    (λ e. (reached_exactly m q).1 (alike m map (own_map m) has q (s.right (paired Shape q) e).1))
+    (λ e. s.whole q (alike m (own_map m) map (λ p o. sym (has p o)) q ((reached_exactly m q).0 e))))
 
 -- ---- all objects
 
@@ -192,8 +192,8 @@ objects_are m types has starts begin ps r found is =
     let ts : List (List ℕ × Desc) = map type_object (types_among m (reached_types m)) in
     let f : List ℕ × Desc → Entry = entry_of m.name in
     let whole : found ≡ map f (((cs ++ vs) ++ qs) ++ ts) =
-      is ∙ ap (λ l. ((map f cs ++ map f vs) ++ map f qs) ++ map f (map type_object l)) (types_are m types has starts begin ps r)
-      ∙ ap (λ l. (l ++ map f qs) ++ map f ts) (sym (map_join f cs vs)) ∙ ap (λ l. l ++ map f ts) (sym (map_join f (cs ++ vs) qs)) ∙ sym (map_join f ((cs ++ vs) ++ qs) ts) in
+    is ∙ ap (λ l. ((map f cs ++ map f vs) ++ map f qs) ++ map f (map type_object l)) (types_are m types has starts begin ps r)
+    ∙ ap (λ l. (l ++ map f qs) ++ map f ts) (sym (map_join f cs vs)) ∙ ap (λ l. l ++ map f ts) (sym (map_join f (cs ++ vs) qs)) ∙ sym (map_join f ((cs ++ vs) ++ qs) ts) in
     ap (λ l. map (λ e. e.object) (in_order by_entry l)) whole
     ∙ ap (map (λ e. e.object)) (order_each by_name by_entry f (λ x y. refl) (((cs ++ vs) ++ qs) ++ ts))
     ∙ map_twice f (λ (e : Entry). e.object) (in_order by_name (((cs ++ vs) ++ qs) ++ ts))

@@ -223,10 +223,13 @@ apart_parts (x ∷ xs) ys q d e = not_either (same_object q x) (is_among xs q) (
 
 with_new : (x : QName) (xs : List QName) → is_among xs x ≡ false → IsDistinct same_object xs → IsDistinct same_object (x ∷ xs)
 unfolding IsDistinct
-with_new x xs new d = (all_apart x xs (λ y e. elim (known (same_object x y)) as (λ _. same_object x y ≡ false) [
-  | inl same ↦ absurd (no_both (is_among xs x) (subst (λ (z : QName). is_among xs z ≡ true) (sym ((object_decides x y).0 same)) e) new)
-  | inr other ↦ other
-]), d)
+with_new x xs new d = (
+  all_apart x xs (λ y e. elim (known (same_object x y)) as (λ _. same_object x y ≡ false) [
+    | inl same ↦ absurd (no_both (is_among xs x) (subst (λ (z : QName). is_among xs z ≡ true) (sym ((object_decides x y).0 same)) e) new)
+    | inr other ↦ other
+  ]),
+  d,
+)
 
 -- ---- the search
 

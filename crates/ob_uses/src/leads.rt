@@ -31,12 +31,7 @@ pub fn shows(mark: Mark) -> bool
 }
 
 #[tactic(auto, using(crate::proofs::Leading::names_none))]
-fn add_name(
-    left: &mut Vec<QName>,
-    alone: bool,
-    own: &Name,
-    name: &QName,
-) -> Result<(), AllocError>
+fn add_name(left: &mut Vec<QName>, alone: bool, own: &Name, name: &QName) -> Result<(), AllocError>
     ensures { OnOk result (left.new.items ≡ left.old.items ++ type_names alone own.now (ref.Named name.now ∷ [])) }
 {
     if alone && !is_own(name, own) {
@@ -176,12 +171,7 @@ fn add_shown_methods(
     Ok(())
 }
 
-fn add_near(
-    left: &mut Vec<QName>,
-    alone: bool,
-    own: &Name,
-    desc: &Desc,
-) -> Result<(), AllocError>
+fn add_near(left: &mut Vec<QName>, alone: bool, own: &Name, desc: &Desc) -> Result<(), AllocError>
     ensures { OnOk result (left.new.items ≡ left.old.items ++ type_names alone own.now (near_types desc.now)) }
 {
     match desc {
@@ -250,12 +240,7 @@ fn add_shown_record(
     add_shown_methods(left, alone, own, found.methods.as_slice())
 }
 
-fn add_shown(
-    left: &mut Vec<QName>,
-    alone: bool,
-    own: &Name,
-    desc: &Desc,
-) -> Result<(), AllocError>
+fn add_shown(left: &mut Vec<QName>, alone: bool, own: &Name, desc: &Desc) -> Result<(), AllocError>
     ensures { OnOk result (left.new.items ≡ left.old.items ++ type_names alone own.now (shown_types desc.now)) }
 {
     match desc {

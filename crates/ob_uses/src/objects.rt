@@ -56,12 +56,7 @@ fn layout_print(
 }
 
 // The object with the prints of its texts.
-fn entry(
-    alloc: Global,
-    module: &Name,
-    name: ObjName,
-    desc: Desc,
-) -> Result<Entry, AllocError>
+fn entry(alloc: Global, module: &Name, name: ObjName, desc: Desc) -> Result<Entry, AllocError>
     requires { seen desc ≡ desc }
     ensures { IfOk result (λ e. e ≡ entry_of «module».now (name, desc)) }
 {

@@ -107,7 +107,14 @@ pub fn pairs_of<T: Types>(
     let shapes = noted.shapes.as_slice();
     let layouts = noted.layouts.as_slice();
     let near = search(alloc, types, Way::Near, Aspect::Shape, &module.name, shapes)?;
-    let flat = search(alloc, types, Way::Flat, Aspect::Layout, &module.name, layouts)?;
+    let flat = search(
+        alloc,
+        types,
+        Way::Flat,
+        Aspect::Layout,
+        &module.name,
+        layouts,
+    )?;
     let mut found = Vec::new(alloc);
     keep_shapes(&mut found, &module.name, near)?;
     keep_layouts(&mut found, types, &module.name, flat)?;

@@ -10,9 +10,7 @@ ghost use Rattle.ob_uses.specs.Ways.{type_names};
 
 use crate::leads::{add_optional, add_type, shows};
 use ob_tree::{Name, QName};
-use ob_types::{
-    Desc, TypedModule, TypedParameter, TypedProcedure, TypedType, TypedVariable,
-};
+use ob_types::{Desc, TypedModule, TypedParameter, TypedProcedure, TypedType, TypedVariable};
 use std::alloc::{AllocError, Global};
 
 /// Whether other modules may write an object with this description.
@@ -42,11 +40,7 @@ pub fn exported(procedure: &TypedProcedure) -> bool
     }
 }
 
-fn start_type(
-    left: &mut Vec<QName>,
-    module: &TypedModule,
-    t: &TypedType,
-) -> Result<(), AllocError>
+fn start_type(left: &mut Vec<QName>, module: &TypedModule, t: &TypedType) -> Result<(), AllocError>
     ensures { OnOk result (left.new.items ≡ left.old.items ++ each (own_name (module_view «module».now)) (filter (λ t. is_visible t.desc) (t.now ∷ []))) }
 {
     if !visible(&t.desc) {
