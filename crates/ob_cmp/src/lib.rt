@@ -3,10 +3,12 @@
 
 mod check;
 mod comparing;
+mod lookup;
 mod showing;
 mod verdict;
 
 pub use check::{CheckFault, check_client};
 pub use comparing::compare;
+pub use lookup::find_object;
 pub use showing::show;
 pub use verdict::{Kind, Stale, Verdict};
