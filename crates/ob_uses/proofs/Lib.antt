@@ -9,3 +9,4 @@ pub mod Looping
 pub mod Starting
 pub mod Objecting
 pub mod Interfacing
+pub mod Holding

@@ -76,7 +76,7 @@ right_true : (a b : Bool) → (a && b) ≡ true → b ≡ true
 right_true true b e = e
 right_true false b e = absurd cc
 
-both_true : (a b : Bool) → a ≡ true → b ≡ true → (a && b) ≡ true
+pub both_true : (a b : Bool) → a ≡ true → b ≡ true → (a && b) ≡ true
 both_true true b e h = h
 both_true false b e h = e
 
@@ -126,7 +126,7 @@ alike m a b same q (onward {p} r l) =
 abbrev own_map : Module → QName → Option Desc
 own_map m q = type_named m.types q.object
 
-full_name : (m : Module) (q : QName) → is_own m q ≡ true → q ≡ record { «module» = m.name; object = q.object }
+pub full_name : (m : Module) (q : QName) → is_own m q ≡ true → q ≡ record { «module» = m.name; object = q.object }
 full_name m q e = (object_decides q (record { «module» = m.name; object = q.object })).0 (both_true (bytes_eq q.«module» m.name) (bytes_eq q.object q.object) e (right_true (bytes_eq q.«module» q.«module») (bytes_eq q.object q.object) (itself q)))
 
 -- a name that has a description is that of a type of the module
@@ -134,7 +134,7 @@ named_step : (m : Module) (x : List ℕ) (t : TypedType) (ts : List TypedType) (
 named_step m x t ts true is g d e = left_of (same_object (record { «module» = m.name; object = x }) (own_name m t)) (is_among (map (own_name m) ts) (record { «module» = m.name; object = x })) (both_true (bytes_eq m.name m.name) (bytes_eq x t.name) (bytes_itself (own_name m t)) is)
 named_step m x t ts false is g d e = right_of (same_object (record { «module» = m.name; object = x }) (own_name m t)) (is_among (map (own_name m) ts) (record { «module» = m.name; object = x })) (g d e)
 
-named_there : (m : Module) (x : List ℕ) (ts : List TypedType) (d : Desc) → type_named ts x ≡ Some d → is_among (map (own_name m) ts) (record { «module» = m.name; object = x }) ≡ true
+pub named_there : (m : Module) (x : List ℕ) (ts : List TypedType) (d : Desc) → type_named ts x ≡ Some d → is_among (map (own_name m) ts) (record { «module» = m.name; object = x }) ≡ true
 named_there m x [] d e = absurd cc
 named_there m x (t ∷ ts) d e = named_step m x t ts (bytes_eq x t.name) refl (named_there m x ts) d e
 
@@ -157,7 +157,7 @@ filter_same : {X : Type 0} (f g : X → Bool) (xs : List X) → ((x : X) → f x
 filter_same f g [] h = refl
 filter_same f g (x ∷ xs) h = ap (λ b. cond b (x ∷ filter f xs) (filter f xs)) (h x) ∙ ap (λ l. cond (g x) (x ∷ l) l) (filter_same f g xs h)
 
-length_each : {X Y : Type 0} (f : X → Y) (xs : List X) → length (map f xs) ≡ length xs
+pub length_each : {X Y : Type 0} (f : X → Y) (xs : List X) → length (map f xs) ≡ length xs
 length_each f [] = refl
 length_each f (x ∷ xs) = ap suc (length_each f xs)
 

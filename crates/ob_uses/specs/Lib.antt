@@ -6,3 +6,4 @@ pub mod Entries
 pub mod Uses
 pub mod Ways
 pub mod Made
+pub mod Held

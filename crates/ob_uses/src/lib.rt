@@ -18,7 +18,7 @@ mod uses;
 mod way;
 
 pub use interface::interface_of;
-pub use laws::reaching_is_exact;
+pub use laws::{reaching_is_exact, view_is_held};
 pub use objects::objects_of;
 pub use pair::Pair;
 pub use pairs::pairs_of;
