@@ -1,0 +1,5 @@
+pub mod Merging
+pub mod Adding
+pub mod Filed
+pub mod Stepping
+pub mod Halving

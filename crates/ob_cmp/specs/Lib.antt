@@ -1,0 +1,5 @@
+pub mod Verdicts
+pub mod Check
+pub mod Checking
+pub mod Rising
+pub mod Show

@@ -1,0 +1,12 @@
+pub mod Sorting
+pub mod SamePairs
+pub mod Searching
+pub mod Leading
+pub mod Going
+pub mod Pairing
+pub mod Putting
+pub mod Looping
+pub mod Starting
+pub mod Objecting
+pub mod Interfacing
+pub mod Holding
