@@ -1,0 +1,6 @@
+pub mod Index
+pub mod Walk
+pub mod Plan
+pub mod Files
+pub mod Members
+pub mod Contract
