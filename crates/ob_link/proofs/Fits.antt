@@ -51,7 +51,7 @@ rising_map procedures [] rises = tt
 rising_map procedures (x ∷ l) rises = (below_each procedures x l rises.0, rising_map procedures l rises.1)
 
 pub fits_member : (f : ObjFile) → file.fits f → IsMember (member_of f)
-fits_member f fits = record { exports = exports_fit f fits; variables = variables_fit f fits; procedures = rising_map f.body.procedures f.body.commands (commands_fit f fits) }
+fits_member f fits = record { exports = exports_fit f fits; variables = variables_fit f fits; procedures = rising_map f.body.procedures f.body.commands (commands_fit f fits); few = few_words f fits }
 
 pub member_is : (f : ObjFile) (exports : List Export) (variables : List Variable) (procedures : List Exported) (types : List (List ℕ)) (words : ℕ) → exports ≡ f.head.exports → variables ≡ f.globals.variables → procedures ≡ map (exported f.body.procedures) f.body.commands → types ≡ map (λ t. t.name) f.body.types → words ≡ global_words f → record { name = f.head.«module»; exports = exports; variables = variables; procedures = procedures; types = types; words = words } ≡ member_of f
 member_is f exports variables procedures types words e1 e2 e3 e4 e5 = rw (e1, e2, e3, e4, e5) refl

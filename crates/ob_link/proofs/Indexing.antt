@@ -12,7 +12,7 @@ abbrev last_one : List ℕ → List ℕ → ℕ → Option ℕ
 last_one n x k = if same n x then Some k else None
 
 -- with what the rest of the list finds, and where the last one stands
-one_before : (b : Bool) (n : ℕ) (rest front last : Option ℕ) → rest ≡ option_or front last → (if b then Some n else rest) ≡ option_or (if b then Some n else front) last
+pub one_before : {A : Type 0} (b : Bool) (n : A) (rest front last : Option A) → rest ≡ option_or front last → (if b then Some n else rest) ≡ option_or (if b then Some n else front) last
 one_before true n rest front last e = refl
 one_before false n rest front last e = e
 
@@ -25,7 +25,7 @@ indexed_more old new names x k e is notes n = notes n ∙ ap (λ o. option_or o 
 
 -- ONE NAME LESS
 
-abbrev Below : ℕ → Option ℕ → Type 0
+abbrev pub Below : ℕ → Option ℕ → Type 0
 Below k None = Unit {0}
 Below k (Some n) = n < k
 

@@ -4,3 +4,6 @@ pub mod Indexing
 pub mod Search
 pub mod Fits
 pub mod Places
+pub mod Resume
+pub mod Bridges
+pub mod Steps

@@ -1,5 +1,5 @@
 -- What is known of the modules that are loaded or planned.
-use Rattle.std.specs.Prelude.{◌≡◌, ℕ, zero, suc, ◌+◌, List, [], ◌∷◌, ◌++◌, Bool, true, false, if◌then◌else◌, length, map, slice_get, Option, Some, None, Result, Ok, Err, bytes_eq}
+use Rattle.std.specs.Prelude.{◌≡◌, ℕ, zero, suc, ◌+◌, ◌≤◌, List, [], ◌∷◌, ◌++◌, Bool, true, false, if◌then◌else◌, length, map, slice_get, Option, Some, None, Result, Ok, Err, bytes_eq}
 use Rattle.std.specs.List.Sorted.{IsStrictlySortedBy}
 use Rattle.std.specs.Ordering.{nat_cmp, ordering_then}
 use Rattle.std.specs.declared.alloc.AllocError.{AllocError}
@@ -55,11 +55,12 @@ abbrev pub procedure_named : List ℕ → List Exported → Option Exported
 procedure_named name [] = None
 procedure_named name (x ∷ xs) = if bytes_eq name x.name then Some x else procedure_named name xs
 
--- what is exported rises by its names
+-- what is exported rises by its names, and there are few words
 pub record IsMember (k : Known) : Type 0 where
   pub exports : IsStrictlySortedBy by_export k.exports
   pub variables : IsStrictlySortedBy by_variable k.variables
   pub procedures : IsStrictlySortedBy by_exported k.procedures
+  pub few : k.words ≤ 262144
 
 -- the module of a name
 abbrev pub member_named : List ℕ → List Known → Option Known

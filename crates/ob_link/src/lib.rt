@@ -5,11 +5,13 @@ mod exported;
 mod fault;
 mod finding;
 mod index;
+mod judging;
 mod loaded;
 mod member;
 mod names;
 mod planning;
 mod shape;
+mod walking;
 
 pub use exported::Exported;
 pub use fault::{LoadFault, LoadRefusal};

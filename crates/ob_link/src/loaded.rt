@@ -1,7 +1,8 @@
-ghost use Rattle.std.specs.Prelude.{◌≡◌, ◌≤◌, ◌<◌, ◌^◌, ◌-◌, ◌+◌, ◌++◌, ◌∷◌, [], map, length, take, slice_get, OnOk, OnErr};
+ghost use Rattle.std.specs.Prelude.{◌≡◌, ◌≤◌, ◌<◌, ◌-◌, ◌+◌, ◌++◌, ◌∷◌, [], map, length, take, slice_get, IfSome, OnOk, OnErr};
 ghost use Rattle.std.specs.List.{AllByRecursion};
 ghost use Rattle.std.specs.Option.{option_copied};
 ghost use Rattle.ob_obj.specs.Grammar.{file as file_form};
+ghost use Rattle.ob_link.specs.Index.{place_from};
 ghost use Rattle.ob_link.specs.Members.{member_of, member_named, AddsAll};
 
 use crate::member::Member;
@@ -20,14 +21,14 @@ pub struct Loaded {
 }
 
 impl Model for Loaded {
-    ghost use Rattle.std.specs.Prelude.{List, map, ◌≡◌};
+    ghost use Rattle.std.specs.Prelude.{List, map, length, ◌≡◌, ◌≤◌};
     ghost use Rattle.ob_link.specs.Members.{Known};
 
     ghost Value = { List Known };
 
     ghost view = { λ l. l.members.items };
 
-    ghost invariant = { λ l. l.names ≡ map (λ m. m.name) l.members.items };
+    ghost invariant = { λ l. (l.names ≡ map (λ m. m.name) l.members.items) × (length l.members.items ≤ 255) };
 }
 
 fn member_at(members: &[Member], place: usize) -> Option<&Member>
@@ -48,10 +49,10 @@ impl Loaded {
         }
     }
 
-    /// How many are loaded. Takes no memory.
+    /// How many are loaded: at most 255. Takes no memory.
     pub fn count(&self) -> u32
-        requires { length self.now < 2 ^ 32 }
-        ensures { result ≡ length self.now }
+        ensures count { result ≡ length self.now }
+        ensures most { result ≤ 255 }
     {
         self.members.len() as u32
     }
@@ -61,6 +62,15 @@ impl Loaded {
         ensures { result.now ≡ self.now }
     {
         &self.members
+    }
+
+    /// The number of the module of a name. Takes no memory.
+    pub fn place(&self, name: &Name) -> Option<u32>
+        ensures place { result ≡ place_from 0 (map (λ m. m.name) self.now) name.now }
+        ensures few { IfSome result (λ n. n < 255) }
+    {
+        let place = self.names.place(name.as_bytes())?;
+        Some(place as u32)
     }
 
     /// The module of a name. Takes no memory.
@@ -73,7 +83,8 @@ impl Loaded {
 
     /// Adds the module of a file at the end. An `Err` is a want of memory, and leaves the list as it was.
     pub fn push(&mut self, file: &ObjFile) -> Result<(), AllocError>
-        requires { file_form.fits file.now }
+        requires fits { file_form.fits file.now }
+        requires few { length self.old < 255 }
         ensures ok { OnOk result (self.new ≡ self.old ++ member_of file.now ∷ []) }
         ensures err { OnErr result (self.new ≡ self.old) }
     {
@@ -109,7 +120,7 @@ impl Loaded {
     /// Adds modules at the end. An `Err` is a want of memory, and leaves the list as it was.
     pub fn add(&mut self, files: &List<ObjFile>) -> Result<(), AllocError>
         requires fits { AllByRecursion (λ f. file_form.fits f) files.now }
-        requires few { length self.old + length files.now < 2 ^ 32 }
+        requires few { length self.old + length files.now ≤ 255 }
         ensures { AddsAll self.old self.new files.now result }
     {
         let count = self.members.len() as u32;

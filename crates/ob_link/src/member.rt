@@ -1,4 +1,4 @@
-ghost use Rattle.std.specs.Prelude.{◌≡◌, ◌+◌, ◌<◌, ◌^◌, map, slice_get, length, IfOk};
+ghost use Rattle.std.specs.Prelude.{◌≡◌, ◌+◌, ◌<◌, ◌≤◌, ◌^◌, map, slice_get, length, IfOk};
 ghost use Rattle.std.specs.Option.{option_copied};
 ghost use Rattle.ob_obj.specs.Grammar.{file as file_form, words_of};
 ghost use Rattle.ob_obj.specs.Images.{global_words as words_of_file};
@@ -166,7 +166,8 @@ impl Member {
 
     /// The words of its globals.
     pub fn words(&self) -> u32
-        ensures { result ≡ self.now.words }
+        ensures words { result ≡ self.now.words }
+        ensures few { result ≤ 262144 }
     {
         self.words
     }
