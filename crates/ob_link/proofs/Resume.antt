@@ -8,7 +8,7 @@ use Rattle.ob_link.specs.Walk.{Steps, visit, has, enters, all_in_turn, and_then,
 use Rattle.ob_link.specs.Plan.{Refusal}
 use Rattle.ob_link.specs.Walking.{Opened, open_of, stack_on, stack, path_of, Visited, resume, visits}
 
-abbrev Step : Type 0
+abbrev pub Step : Type 0
 Step = Steps ObjFile (Refusal Print)
 
 pub chained : {A B C R : Type 0} (x : Result A R) (f : A → Result B R) (g : B → Result C R) → and_then (and_then x f) g ≡ and_then x (λ a. and_then (f a) g)

@@ -3,7 +3,7 @@ use Rattle.std.proofs.Common.{◌≡◌, ℕ, zero, suc, ◌+◌, ◌-◌, ◌<�
 use Rattle.std.specs.Prelude.{if◌then◌else◌, bytes_eq, ◌||◌, codes, nat_le}
 use Rattle.std.specs.Option.{option_map, option_or}
 use Rattle.std.specs.List.{AllByRecursion}
-use Rattle.std.proofs.lemmas.List.{length-append, length-map, take_at}
+use Rattle.std.proofs.lemmas.List.{length-append, append-nil, length-map, take_at}
 use Rattle.std.proofs.lemmas.Bool.{false≢true}
 use Rattle.std.proofs.lemmas.Map.Text.{is_eq-slice_cmp}
 use Rattle.std.proofs.lemmas.Slice.Eq.{bytes_eq-Decides}
@@ -18,17 +18,17 @@ use Rattle.ob_link.specs.declared.fault.LoadRefusal.{LoadRefusal}
 use Rattle.ob_link.specs.declared.fault.LoadRefusal.TheVariants as refusal
 use Rattle.ob_link.specs.Index.{place_from}
 use Rattle.ob_format.specs.Exact.{le_decides}
-use Rattle.ob_link.specs.Walk.{Steps, has, most_deep, or_first, first_of}
+use Rattle.ob_link.specs.Walk.{Steps, visit, has, and_then, most_deep, or_first, first_of}
 use Rattle.ob_link.specs.Plan as plan
 use Rattle.ob_link.specs.Plan.{Entry, Missing, TooLong, Junk, Holds, Refusal, steps, is_there, named, newest, fails, entered, absent, too_many}
 use Rattle.ob_link.specs.Files.{Files, asks, object_entry, answered}
 use Rattle.ob_link.specs.Members.{Known, member_of, member_named, empty_image}
 use Rattle.ob_link.specs.Contract.{AreLoaded}
 use Rattle.ob_link.specs.Judging.{is_passed, breaks, use_break, missing}
-use Rattle.ob_link.specs.Walking.{Opened, open_of, stack_on, stack, path_of, names_on, Visited, resume, visits, Stops, Goes, Visits, Advances, Apart, IsWalk}
+use Rattle.ob_link.specs.Walking.{Opened, open_of, stack_on, stack, path_of, names_on, Visited, resume, visits, Stops, Goes, Visits, Advances, Apart, IsWalk, Begins}
 use Rattle.ob_link.proofs.Places.{member_or}
 use Rattle.ob_link.proofs.Indexing.{ending}
-use Rattle.ob_link.proofs.Resume.{passed, circled, refused, opened, goes_on, left_by, stopped, stack_more, stack_length}
+use Rattle.ob_link.proofs.Resume.{passed, circled, refused, opened, goes_on, left_by, stopped, over, Step, stack_more, stack_length}
 use Rattle.ob_link.proofs.Bridges.{map_both, all_known, passes_so, breaks_so}
 
 -- NAMES ON THE PATH
@@ -242,3 +242,33 @@ advance_stopped files loaded planned frames f on left new now s w done because f
 pub none_answered : (o : Option (Refusal Print)) → None ≡ option_map answered o → o ≡ None
 none_answered None e = refl
 none_answered (Some r) e = absurd cc
+
+-- A WHOLE WALK
+
+pub walk_begins : (loaded : List Known) (frames : List Frame) (on : List (List ℕ)) (left : List ObjFile) (planned : List Known) → length loaded ≤ 255 → frames ≡ [] → on ≡ [] → left ≡ [] → planned ≡ [] → IsWalk loaded frames on left planned
+walk_begins loaded frames on left planned few e1 e2 e3 e4 =
+    let now : IsWalk loaded [] [] [] [] = record { known = refl; names = refl; fits = tt; apart = tt; short = omega arith; few = subst (λ (l : List Known). length l ≤ 255) (sym (append-nil loaded)) few } in
+    rw (e1, e2, e3, e4) now
+
+and_ok : (s : Step) (d : ℕ) (v : Visited) → and_then v (resume s d []) ≡ v
+and_ok s d (Ok left) = over s d left
+and_ok s d (Err r) = refl
+
+pub begun : (s : Step) (deep : ℕ) (frames : List Frame) (left : List ObjFile) (name : List ℕ) → frames ≡ [] → left ≡ [] → visits s deep (stack frames) name left ≡ visit s deep [] name []
+begun s deep frames left name e h = ap (λ (fs : List Frame). visits s deep (stack fs) name left) e ∙ ap (visits s deep [] name) h ∙ and_ok s deep (visit s (deep - 0) [] name []) ∙ (let z : deep - 0 ≡ deep = omega arith in ap (λ d. visit s d [] name []) z)
+
+-- what comes of a walk's part is what comes of the whole
+pub part_stops : (v w after : Visited) (e : LoadFault) → v ≡ w → Goes w after (Err e) → Goes v after (Err e)
+part_stops v w after e same h = subst (λ x. Goes x after (Err e)) (sym same) h
+
+pub begins_err : (st : Step) (deep : ℕ) (v after : Visited) (e : LoadFault) → Goes v after (Err e) → Begins st deep v (Err e)
+begins_err st deep v after (fault.Refused s) h = h
+begins_err st deep v after fault.Folder h = tt
+begins_err st deep v after fault.Memory h = tt
+
+pub none_left : (frames : List Frame) (n : ℕ) → n ≡ length frames → n ≡ 0 → frames ≡ []
+none_left [] n e z = refl
+none_left (f ∷ frames) n e z = absurd (omega arith)
+
+pub walked_off : (s : Step) (deep : ℕ) (frames : List Frame) (left : List ObjFile) → frames ≡ [] → resume s deep (stack frames) left ≡ Ok left
+walked_off s deep frames left e = ap (λ (fs : List Frame). resume s deep (stack fs) left) e ∙ over s deep left

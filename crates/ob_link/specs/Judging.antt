@@ -1,7 +1,8 @@
 -- What refuses a file behind modules of which this is known.
-use Rattle.std.specs.Prelude.{ℕ, ◌+◌, List, [], ◌∷◌, Bool, true, false, ◌||◌, length, Option, Some, None, bytes_eq, codes, if◌then◌else◌}
+use Rattle.std.specs.Prelude.{ℕ, ◌+◌, List, [], ◌∷◌, Bool, true, false, ◌||◌, length, map, Option, Some, None, bytes_eq, codes, if◌then◌else◌}
 use Rattle.ob_tree.specs.declared.names.QName.{QName}
 use Rattle.ob_tree.specs.declared.print.Print.{Print}
+use Rattle.ob_tree.specs.declared.proc_ref.ProcRef.{ProcRef}
 use Rattle.ob_types.specs.declared.face.Aspect.{Aspect}
 use Rattle.ob_types.specs.declared.face.Use.{Use}
 use Rattle.ob_env.specs.Faces.{wanted_of}
@@ -71,3 +72,12 @@ command_of (Some x) = if x.is_command then Some x.procedure else None
 abbrev pub command_in : Option Known → List ℕ → Option ℕ
 command_in None command = None
 command_in (Some k) command = command_of (procedure_named command k.procedures)
+
+abbrev pub ref_with : Option ℕ → Option ℕ → Option ProcRef
+ref_with None m = None
+ref_with (Some p) None = None
+ref_with (Some p) (Some m) = Some (record { «module» = m; proc = p })
+
+-- the procedure of a module's command
+abbrev pub command_ref : List Known → List ℕ → List ℕ → Option ProcRef
+command_ref ks name command = ref_with (command_in (member_named name ks) command) (place_from 0 (map (λ k. k.name) ks) name)

@@ -9,6 +9,7 @@ use Rattle.ob_link.specs.declared.fault.LoadFault.{LoadFault}
 use Rattle.ob_link.specs.declared.fault.LoadFault.TheVariants as fault
 use Rattle.ob_link.specs.declared.fault.LoadRefusal.{LoadRefusal}
 use Rattle.ob_link.specs.declared.walking.Frame.{Frame}
+use Rattle.ob_link.specs.declared.walking.Walk.{Walk}
 use Rattle.ob_link.specs.declared.walking.Looked.{Looked}
 use Rattle.ob_link.specs.declared.walking.Looked.TheVariants as looked
 use Rattle.ob_link.specs.Walk.{Steps, visit, has, all_in_turn, and_then, leaves, most_deep}
@@ -110,3 +111,17 @@ pub record IsWalk (loaded : List Known) (frames : List Frame) (on_path : List (L
   pub apart : Apart (loaded ++ new) (path_of (stack frames))
   pub short : length frames ≤ 65536
   pub few : length (loaded ++ new) ≤ 255
+
+-- the begin of a walk
+abbrev pub Begins : Steps ObjFile (Refusal Print) → ℕ → Visited → Result Walk LoadFault → Type 0
+Begins steps deep v (Ok w) = v ≡ resume steps deep (stack w.path.items) w.files
+Begins steps deep v (Err (fault.Refused s)) = Stops v s
+Begins steps deep v (Err fault.Folder) = Unit {0}
+Begins steps deep v (Err fault.Memory) = Unit {0}
+
+-- a whole walk
+abbrev pub Walks : Visited → Result Walk LoadFault → Type 0
+Walks v (Ok w) = v ≡ Ok w.files
+Walks v (Err (fault.Refused s)) = Stops v s
+Walks v (Err fault.Folder) = Unit {0}
+Walks v (Err fault.Memory) = Unit {0}

@@ -4,13 +4,13 @@ ghost use Rattle.ob_link.specs.Walk.{first_of};
 ghost use Rattle.ob_link.specs.Index.{place_from};
 ghost use Rattle.ob_link.specs.Files.{answered, linked as linked_as};
 ghost use Rattle.ob_link.specs.Members.{member_named};
-ghost use Rattle.ob_link.specs.Judging.{kept_of, use_break as use_break_of, variable_in, procedure_in, type_in, missing_variable, missing_procedure, missing_type, missing as missing_of, breaks, is_passed as is_passed_of, words_of as words_of_all, command_in as command_in_of};
+ghost use Rattle.ob_link.specs.Judging.{kept_of, use_break as use_break_of, variable_in, procedure_in, type_in, missing_variable, missing_procedure, missing_type, missing as missing_of, breaks, is_passed as is_passed_of, words_of as words_of_all, command_in as command_in_of, command_ref as command_ref_of};
 
 use crate::fault::LoadRefusal;
 use crate::loaded::Loaded;
 use crate::member::Member;
 use ob_obj::{Link, Links, ObjFile};
-use ob_tree::{Name, ObjName, Print, QName};
+use ob_tree::{Name, ObjName, Print, ProcRef, QName};
 use ob_types::Use;
 use std::alloc::{AllocError, Global};
 
@@ -27,8 +27,8 @@ fn find<'a>(loaded: &'a Loaded, new: &'a Loaded, name: &Name) -> Option<&'a Memb
     }
 }
 
-/// The number of the loaded or planned module of a name.
-pub fn number_of(loaded: &Loaded, new: &Loaded, name: &Name) -> Option<u32>
+// The number of the loaded or planned module of a name.
+fn number_of(loaded: &Loaded, new: &Loaded, name: &Name) -> Option<u32>
     ensures { result ≡ place_from 0 (map (λ k. k.name) (loaded.now ++ new.now)) name.now }
 {
     match loaded.place(name) {
@@ -259,8 +259,8 @@ pub fn words_of(members: &[Member]) -> u32
     words
 }
 
-/// The procedure of a command of a loaded or planned module.
-pub fn command_in(loaded: &Loaded, new: &Loaded, name: &Name, command: &Name) -> Option<u32>
+// The number of the procedure of a command of a loaded or planned module.
+fn command_in(loaded: &Loaded, new: &Loaded, name: &Name, command: &Name) -> Option<u32>
     ensures { result ≡ command_in_of (member_named name.now (loaded.now ++ new.now)) command.now }
 {
     let member = find(loaded, new, name)?;
@@ -269,5 +269,23 @@ pub fn command_in(loaded: &Loaded, new: &Loaded, name: &Name, command: &Name) ->
         Some(exported.procedure)
     } else {
         None
+    }
+}
+
+/// The procedure of a command of a loaded or planned module.
+pub fn command_ref(
+    loaded: &Loaded,
+    new: &Loaded,
+    name: &Name,
+    command: &Name,
+) -> Option<ProcRef>
+    ensures { result ≡ command_ref_of (loaded.now ++ new.now) name.now command.now }
+{
+    match command_in(loaded, new, name, command) {
+        None => None,
+        Some(proc) => match number_of(loaded, new, name) {
+            None => None,
+            Some(module) => Some(ProcRef { module, proc }),
+        },
     }
 }

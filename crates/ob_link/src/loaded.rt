@@ -59,7 +59,8 @@ impl Loaded {
 
     /// The modules, in order.
     pub fn members(&self) -> &[Member]
-        ensures { result.now ≡ self.now }
+        ensures members { result.now ≡ self.now }
+        ensures few { length result.now ≤ 255 }
     {
         &self.members
     }

@@ -1,13 +1,15 @@
-ghost use Rattle.std.specs.Prelude.{◌≡◌, ◌<◌, ◌≤◌, ◌-◌, ◌++◌, ◌∷◌, [], true, length, drop, take, IfOk, OnOk, Option, Some, None, MatchOption};
+ghost use Rattle.std.specs.Prelude.{◌≡◌, ◌<◌, ◌≤◌, ◌-◌, ◌++◌, ◌∷◌, [], true, length, map, drop, take, IfOk, OnOk, Option, Some, None, MatchOption};
 ghost use Rattle.std.specs.Result.{IsErrOf};
 ghost use Rattle.ob_io.specs.Io.{SameFiles};
 ghost use Rattle.ob_link.specs.Members.{member_of};
 ghost use Rattle.ob_obj.specs.Grammar.{file as file_form};
-ghost use Rattle.ob_link.specs.Files.{decoded, decoded_as, object_entry, object_file_name};
-ghost use Rattle.ob_link.specs.Contract.{PlanHasCause};
+ghost use Rattle.ob_obj.specs.declared.file.ObjFile.{ObjFile as File};
+ghost use Rattle.ob_link.specs.Files.{asks, decoded, decoded_as, object_entry, object_file_name};
+ghost use Rattle.ob_link.specs.Contract.{PlanHasCause, AreLoaded};
 ghost use Rattle.ob_link.specs.Index.{place_from};
-ghost use Rattle.ob_link.specs.Plan.{newest, is_there};
-ghost use Rattle.ob_link.specs.Walking.{entry_for, Looks, IsFound, path_of, stack, names_on, Visits, Advances, IsWalk};
+ghost use Rattle.ob_link.specs.Walk.{visit as visited, most_deep};
+ghost use Rattle.ob_link.specs.Plan.{newest, is_there, steps};
+ghost use Rattle.ob_link.specs.Walking.{entry_for, Looks, IsFound, path_of, stack, names_on, Visits, Advances, IsWalk, Begins, Walks};
 
 use crate::fault::{LoadFault, LoadRefusal};
 use crate::judging::{is_passed, judge};
@@ -264,4 +266,54 @@ pub fn advance<F: Shelf>(
             Err(_) => Err(LoadFault::Memory),
         },
     }
+}
+
+// The visit of the first module of a walk.
+fn begin<F: Shelf>(
+    alloc: Global,
+    loaded: &Loaded,
+    folder: &mut F,
+    module: &Name,
+) -> Result<Walk, LoadFault>
+    requires { length loaded.now ≤ 255 }
+    ensures walk { IfOk result (λ w. IsWalk loaded.now w.path.items w.on_path w.files w.planned) }
+    ensures told { F.tells folder.new ≡ F.tells folder.old }
+    ensures files { F.tells folder.old ≡ true → SameFiles (F.files folder.new) (F.files folder.old) }
+    ensures begun { F.tells folder.old ≡ true → (fs : List File) → AreLoaded loaded.now fs → Begins (steps asks (object_entry (F.files folder.old)) fs) most_deep (visited (steps asks (object_entry (F.files folder.old)) fs) most_deep [] «module».now []) result }
+    ensures cause { PlanHasCause (F.faults folder.old) (F.faults folder.new) result }
+{
+    let mut walk = Walk {
+        path: Vec::new(alloc),
+        on_path: Names::new(alloc),
+        files: List::new(alloc),
+        planned: Loaded::new(alloc),
+    };
+    match visit(alloc, loaded, folder, &mut walk, module) {
+        Ok(()) => Ok(walk),
+        Err(fault) => Err(fault),
+    }
+}
+
+/// The walk from a module, behind the loaded ones.
+pub fn walk_from<F: Shelf>(
+    alloc: Global,
+    loaded: &Loaded,
+    folder: &mut F,
+    module: &Name,
+) -> Result<Walk, LoadFault>
+    requires { length loaded.now ≤ 255 }
+    ensures walk { IfOk result (λ w. w.planned ≡ map member_of w.files) }
+    ensures told { F.tells folder.new ≡ F.tells folder.old }
+    ensures files { F.tells folder.old ≡ true → SameFiles (F.files folder.new) (F.files folder.old) }
+    ensures walked { F.tells folder.old ≡ true → (fs : List File) → AreLoaded loaded.now fs → Walks (visited (steps asks (object_entry (F.files folder.old)) fs) most_deep [] «module».now []) result }
+    ensures cause { PlanHasCause (F.faults folder.old) (F.faults folder.new) result }
+{
+    let mut walk = begin(alloc, loaded, folder, module)?;
+    for _ in 0..u64::MAX {
+        match walk.path.pop() {
+            None => return Ok(walk),
+            Some(frame) => advance(alloc, loaded, folder, &mut walk, frame)?,
+        }
+    }
+    Err(LoadFault::Memory)
 }
