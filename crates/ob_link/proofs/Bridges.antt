@@ -1,29 +1,25 @@
 -- What is known of files says what the files say.
-use Rattle.std.proofs.Common.{◌≡◌, ℕ, zero, suc, ◌+◌, ◌<◌, ◌≤◌, Bool, true, false, List, [], ◌∷◌, ◌++◌, length, map, Option, Some, None, refl, sym, ap, subst, ◌∙◌, arith}
-use Rattle.std.specs.Prelude.{if◌then◌else◌, bytes_eq, ◌||◌, codes, slice_get}
+use Rattle.std.proofs.Common.{◌≡◌, ℕ, suc, Bool, true, false, List, [], ◌∷◌, ◌++◌, map, Option, Some, None, refl, sym, ap, ◌∙◌}
+use Rattle.std.specs.Prelude.{if◌then◌else◌, bytes_eq, ◌||◌, codes}
 use Rattle.std.specs.Option.{option_map}
 use Rattle.std.proofs.lemmas.List.{length-map}
 use Rattle.std.proofs.lemmas.Map.Text.{is_eq-slice_cmp}
-use Rattle.ob_tree.specs.declared.names.QName.{QName}
-use Rattle.ob_tree.specs.declared.print.Print.{Print}
 use Rattle.ob_types.specs.declared.face.Aspect.{Aspect}
 use Rattle.ob_types.specs.declared.face.Use.{Use}
-use Rattle.ob_env.specs.Faces.{Wanted, wanted_of}
+use Rattle.ob_env.specs.Faces.{wanted_of}
 use Rattle.ob_instr.specs.declared.procedure.Procedure.{Procedure}
 use Rattle.ob_obj.specs.declared.parts.Command.{Command}
-use Rattle.ob_obj.specs.declared.parts.Link.{Link}
 use Rattle.ob_obj.specs.declared.parts.RecordType.{RecordType}
 use Rattle.ob_obj.specs.declared.file.ObjFile.{ObjFile}
 use Rattle.ob_obj.specs.Images.{same}
 use Rattle.ob_link.specs.declared.exported.Exported.{Exported}
 use Rattle.ob_link.specs.Index.{place_from}
-use Rattle.ob_link.specs.Walk.{first_of, or_first}
-use Rattle.ob_link.specs.Plan as p
-use Rattle.ob_link.specs.Plan.{Refusal, is_there, named, fails, use_fails, use_against, absent, too_many, present, kept_by}
-use Rattle.ob_link.specs.Files.{asks, exported, agrees, unless, linked, holds, file_named, has_variable, has_procedure, has_type, command_number, unlinked, unlinked_variable, unlinked_procedure, unlinked_type}
+use Rattle.ob_link.specs.Walk.{first_of}
+use Rattle.ob_link.specs.Plan.{is_there, named, fails, use_fails, use_against, kept_by}
+use Rattle.ob_link.specs.Files.{asks, agrees, unless, linked, holds, file_named, has_variable, has_procedure, has_type, command_number, unlinked, unlinked_variable, unlinked_procedure, unlinked_type}
 use Rattle.ob_link.specs.Members as m
 use Rattle.ob_link.specs.Members.{Known, member_of, member_named, procedure_named}
-use Rattle.ob_link.specs.Judging.{kept_of, use_break, variable_in, procedure_in, type_in, missing_variable, missing_procedure, missing_type, missing, breaks, is_passed, words_of, command_of, command_in}
+use Rattle.ob_link.specs.Judging.{kept_of, use_break, variable_in, procedure_in, type_in, missing_variable, missing_procedure, missing_type, missing, breaks, is_passed}
 
 -- MODULES
 

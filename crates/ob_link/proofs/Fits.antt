@@ -8,10 +8,10 @@ use Rattle.ob_obj.specs.declared.parts.Export.{Export}
 use Rattle.ob_obj.specs.declared.parts.Variable.{Variable}
 use Rattle.ob_link.specs.declared.exported.Exported.{Exported}
 use Rattle.ob_obj.specs.declared.file.ObjFile.{ObjFile}
-use Rattle.ob_obj.specs.Grammar.{file, head, globals, body, by_export, by_variable, by_command, words_of, IsSound}
+use Rattle.ob_obj.specs.Grammar.{file, head, globals, body, by_export, by_variable, by_command, IsSound}
 use Rattle.ob_obj.specs.Images.{global_words}
 use Rattle.ob_instr.specs.declared.procedure.Procedure.{Procedure}
-use Rattle.ob_link.specs.Members.{Known, member_of, exported, by_exported, IsMember}
+use Rattle.ob_link.specs.Members.{member_of, exported, by_exported, IsMember}
 
 pub sound : (f : ObjFile) → file.fits f → IsSound f
 unfolding file

@@ -1,12 +1,12 @@
 -- A walk by steps over a path that is kept in a list.
-use Rattle.std.proofs.Common.{◌≡◌, ℕ, zero, suc, ◌+◌, ◌-◌, ◌<◌, ◌≤◌, Bool, true, false, List, [], ◌∷◌, ◌++◌, length, Option, Some, None, Result, Ok, Err, refl, sym, ap, subst, ◌∙◌, arith}
+use Rattle.std.proofs.Common.{◌≡◌, ℕ, zero, suc, ◌+◌, ◌-◌, ◌<◌, true, false, List, [], ◌∷◌, ◌++◌, length, Some, None, Result, Ok, Err, refl, sym, ap, ◌∙◌, arith}
 use Rattle.std.specs.Prelude.{if◌then◌else◌}
 use Rattle.ob_tree.specs.declared.print.Print.{Print}
 use Rattle.ob_obj.specs.declared.file.ObjFile.{ObjFile}
 use Rattle.ob_link.specs.declared.walking.Frame.{Frame}
 use Rattle.ob_link.specs.Walk.{Steps, visit, has, enters, all_in_turn, and_then, leaves}
 use Rattle.ob_link.specs.Plan.{Refusal}
-use Rattle.ob_link.specs.Walking.{Opened, open_of, stack_on, stack, path_of, Visited, resume, visits}
+use Rattle.ob_link.specs.Walking.{Opened, open_of, stack_on, path_of, resume, visits}
 
 abbrev pub Step : Type 0
 Step = Steps ObjFile (Refusal Print)

@@ -1,16 +1,16 @@
 -- The steps of a walk.
-use Rattle.std.proofs.Common.{◌≡◌, ℕ, zero, suc, ◌+◌, ◌-◌, ◌<◌, ◌≤◌, ◌^◌, Bool, true, false, List, [], ◌∷◌, ◌++◌, length, map, take, drop, get_or, Option, Some, None, Result, Ok, Err, refl, sym, ap, subst, ◌∙◌, arith, append_assoc}
+use Rattle.std.proofs.Common.{◌≡◌, ℕ, suc, ◌+◌, ◌-◌, ◌<◌, ◌≤◌, Bool, true, false, List, [], ◌∷◌, ◌++◌, length, map, take, drop, get_or, Option, Some, None, Result, Ok, Err, refl, sym, ap, subst, ◌∙◌, arith, append_assoc}
 use Rattle.std.specs.Prelude.{if◌then◌else◌, bytes_eq, ◌||◌, codes, nat_le}
 use Rattle.std.specs.Option.{option_map, option_or}
 use Rattle.std.specs.List.{AllByRecursion}
-use Rattle.std.proofs.lemmas.List.{length-append, append-nil, length-map, take_at}
+use Rattle.std.proofs.lemmas.List.{length-append, append-nil, take_at}
 use Rattle.std.proofs.lemmas.Bool.{false≢true}
 use Rattle.std.proofs.lemmas.Map.Text.{is_eq-slice_cmp}
 use Rattle.std.proofs.lemmas.Slice.Eq.{bytes_eq-Decides}
 use Rattle.ob_tree.specs.declared.print.Print.{Print}
 use Rattle.ob_obj.specs.declared.file.ObjFile.{ObjFile}
 use Rattle.ob_obj.specs.Grammar.{file}
-use Rattle.ob_obj.specs.Images.{same, image_of}
+use Rattle.ob_obj.specs.Images.{same}
 use Rattle.ob_link.specs.declared.walking.Frame.{Frame}
 use Rattle.ob_link.specs.declared.fault.LoadFault.{LoadFault}
 use Rattle.ob_link.specs.declared.fault.LoadFault.TheVariants as fault
@@ -18,12 +18,11 @@ use Rattle.ob_link.specs.declared.fault.LoadRefusal.{LoadRefusal}
 use Rattle.ob_link.specs.declared.fault.LoadRefusal.TheVariants as refusal
 use Rattle.ob_link.specs.Index.{place_from}
 use Rattle.ob_format.specs.Exact.{le_decides}
-use Rattle.ob_link.specs.Walk.{Steps, visit, has, and_then, most_deep, or_first, first_of}
+use Rattle.ob_link.specs.Walk.{visit, has, and_then, most_deep, or_first, first_of}
 use Rattle.ob_link.specs.Plan as plan
 use Rattle.ob_link.specs.Plan.{Entry, Missing, TooLong, Junk, Holds, Refusal, steps, is_there, named, newest, fails, entered, absent, too_many}
 use Rattle.ob_link.specs.Files.{Files, asks, object_entry, answered}
-use Rattle.ob_link.specs.Members.{Known, member_of, member_named, empty_image}
-use Rattle.ob_link.specs.Contract.{AreLoaded}
+use Rattle.ob_link.specs.Members.{Known, member_of, member_named}
 use Rattle.ob_link.specs.Judging.{is_passed, breaks, use_break, missing}
 use Rattle.ob_link.specs.Walking.{Opened, open_of, stack_on, stack, path_of, names_on, Visited, resume, visits, Stops, Goes, Visits, Advances, Apart, IsWalk, Begins}
 use Rattle.ob_link.proofs.Places.{member_or}

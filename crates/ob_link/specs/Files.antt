@@ -1,5 +1,5 @@
 -- The plan over the object files of a folder.
-use Rattle.std.specs.Prelude.{ℕ, zero, suc, List, [], ◌∷◌, ◌++◌, Bool, true, false, not, ◌&&◌, ◌||◌, nat_lt, nat_eq, if◌then◌else◌, length, map, slice_get, Option, Some, None, Result, Ok, Err, bytes_eq, codes}
+use Rattle.std.specs.Prelude.{ℕ, suc, List, [], ◌∷◌, ◌++◌, Bool, true, false, not, ◌&&◌, ◌||◌, nat_lt, nat_eq, if◌then◌else◌, length, map, slice_get, Option, Some, None, Result, bytes_eq, codes}
 use Rattle.ob_tree.specs.declared.print.Print.{Print}
 use Rattle.ob_tree.specs.declared.names.QName.{QName}
 use Rattle.ob_tree.specs.declared.proc_ref.ProcRef.{ProcRef}
@@ -14,7 +14,7 @@ use Rattle.ob_obj.specs.declared.parts.RecordType.{RecordType}
 use Rattle.ob_obj.specs.declared.file.ObjFile.{ObjFile}
 use Rattle.ob_obj.specs.Grammar.{file}
 use Rattle.ob_obj.specs.Images.{global_words}
-use Rattle.ob_env.specs.Faces.{Wanted, wanted_of}
+use Rattle.ob_env.specs.Faces.{wanted_of}
 use Rattle.ob_link.specs.declared.fault.LoadRefusal.{LoadRefusal}
 use Rattle.ob_link.specs.declared.fault.LoadRefusal.TheVariants as refusal
 use Rattle.ob_link.specs.declared.shape.Plan.{Plan}

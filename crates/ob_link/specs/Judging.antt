@@ -1,5 +1,5 @@
 -- What refuses a file behind modules of which this is known.
-use Rattle.std.specs.Prelude.{ℕ, ◌+◌, List, [], ◌∷◌, Bool, true, false, ◌||◌, length, map, Option, Some, None, bytes_eq, codes, if◌then◌else◌}
+use Rattle.std.specs.Prelude.{ℕ, ◌+◌, List, [], ◌∷◌, Bool, false, ◌||◌, length, map, Option, Some, None, bytes_eq, codes, if◌then◌else◌}
 use Rattle.ob_tree.specs.declared.names.QName.{QName}
 use Rattle.ob_tree.specs.declared.print.Print.{Print}
 use Rattle.ob_tree.specs.declared.proc_ref.ProcRef.{ProcRef}

@@ -1,10 +1,9 @@
 -- How far a walk has come that keeps its path in a list.
-use Rattle.std.specs.Prelude.{◌≡◌, ℕ, zero, suc, ◌+◌, ◌-◌, ◌≤◌, List, [], ◌∷◌, ◌++◌, drop, map, length, Bool, true, false, Option, Some, None, Result, Ok, Err, bytes_eq}
+use Rattle.std.specs.Prelude.{◌≡◌, ℕ, suc, ◌-◌, ◌≤◌, List, [], ◌∷◌, ◌++◌, drop, map, length, false, Result, Ok, Err}
 use Rattle.std.specs.List.{AllByRecursion}
 use Rattle.ob_tree.specs.declared.print.Print.{Print}
 use Rattle.ob_obj.specs.declared.file.ObjFile.{ObjFile}
 use Rattle.ob_obj.specs.Grammar.{file}
-use Rattle.ob_obj.specs.Images.{image_of}
 use Rattle.ob_link.specs.declared.fault.LoadFault.{LoadFault}
 use Rattle.ob_link.specs.declared.fault.LoadFault.TheVariants as fault
 use Rattle.ob_link.specs.declared.fault.LoadRefusal.{LoadRefusal}
@@ -15,7 +14,7 @@ use Rattle.ob_link.specs.declared.walking.Looked.TheVariants as looked
 use Rattle.ob_link.specs.Walk.{Steps, visit, has, all_in_turn, and_then, leaves, most_deep}
 use Rattle.ob_link.specs.Plan.{Entry, Missing, TooLong, Junk, Holds, Refusal, steps, is_there}
 use Rattle.ob_link.specs.Files.{Files, asks, object_entry, answered}
-use Rattle.ob_link.specs.Members.{Known, member_of, member_named, empty_image}
+use Rattle.ob_link.specs.Members.{Known, member_of, member_named}
 use Rattle.ob_link.specs.Contract.{AreLoaded}
 
 -- ---- a file that is looked for

@@ -184,11 +184,7 @@ fn first_procedure(
     Ok(None)
 }
 
-fn first_type(
-    loaded: &Loaded,
-    new: &Loaded,
-    links: &[QName],
-) -> Result<Option<QName>, AllocError>
+fn first_type(loaded: &Loaded, new: &Loaded, links: &[QName]) -> Result<Option<QName>, AllocError>
     ensures { IfOk result (λ o. o ≡ first_of (missing_type (loaded.now ++ new.now)) links.now) }
 {
     let mut rest = links;
@@ -273,12 +269,7 @@ fn command_in(loaded: &Loaded, new: &Loaded, name: &Name, command: &Name) -> Opt
 }
 
 /// The procedure of a command of a loaded or planned module.
-pub fn command_ref(
-    loaded: &Loaded,
-    new: &Loaded,
-    name: &Name,
-    command: &Name,
-) -> Option<ProcRef>
+pub fn command_ref(loaded: &Loaded, new: &Loaded, name: &Name, command: &Name) -> Option<ProcRef>
     ensures { result ≡ command_ref_of (loaded.now ++ new.now) name.now command.now }
 {
     match command_in(loaded, new, name, command) {

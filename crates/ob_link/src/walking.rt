@@ -213,12 +213,7 @@ fn keep(walk: &mut Walk, file: ObjFile) -> Result<(), AllocError>
 }
 
 // A file whose imports are done leaves the path.
-fn leave(
-    alloc: Global,
-    loaded: &Loaded,
-    walk: &mut Walk,
-    frame: Frame,
-) -> Result<(), LoadFault>
+fn leave(alloc: Global, loaded: &Loaded, walk: &mut Walk, frame: Frame) -> Result<(), LoadFault>
     requires walk { IsWalk loaded.now (walk.old.path.items ++ frame ∷ []) walk.old.on_path walk.old.files walk.old.planned }
     requires done { drop frame.next frame.file.head.imports ≡ [] }
     ensures walk { OnOk result (IsWalk loaded.now walk.new.path.items walk.new.on_path walk.new.files walk.new.planned) }

@@ -1,4 +1,4 @@
-use Rattle.std.proofs.Common.{rules, of_calls, sym, ap, Some, ◌∙◌, []}
+use Rattle.std.proofs.Common.{rules, of_calls, sym, ap, Some, ◌∙◌}
 use Rattle.std.proofs.lemmas.Fn.{always_returns_same}
 use Rattle.ob_obj.specs.Grammar.{by_name}
 use Rattle.ob_link.proofs.Search.{procedure_there, no_procedure}

@@ -1,4 +1,4 @@
-use Rattle.std.proofs.Common.{◌≡◌, ◌≤◌, ◌+◌, ◌*◌, ◌++◌, length}
+use Rattle.std.proofs.Common.{◌≡◌, ◌++◌, length}
 use Rattle.ob_link.specs.Walk.{first_of}
 use Rattle.ob_link.specs.Judging.{use_break}
 use Rattle.ob_link.proofs.judging.first_break.Given as goal

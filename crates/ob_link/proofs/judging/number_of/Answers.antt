@@ -1,4 +1,4 @@
-use Rattle.std.proofs.Common.{rules, ◌≡◌, ◌+◌, ◌<◌, Some, None, ap, sym, ◌∙◌, arith}
+use Rattle.std.proofs.Common.{◌+◌, Some, None, ap, ◌∙◌, arith}
 use Rattle.ob_link.proofs.Places.{first_place, second_place}
 use Rattle.ob_link.proofs.judging.number_of.Goals as goal
 

@@ -1,4 +1,4 @@
-use Rattle.std.proofs.Common.{◌≡◌, ◌+◌, ◌++◌, length, map}
+use Rattle.std.proofs.Common.{◌≡◌, ◌++◌, length}
 use Rattle.ob_link.proofs.member.copy_variables.Given as goal
 
 abbrev pub invariant-loop-rest : goal.invariant-loop-rest

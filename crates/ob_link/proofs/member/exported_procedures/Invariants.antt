@@ -1,4 +1,4 @@
-use Rattle.std.proofs.Common.{◌≡◌, ◌+◌, ◌++◌, length, map}
+use Rattle.std.proofs.Common.{◌≡◌, ◌++◌, length, map}
 use Rattle.ob_link.specs.Members.{exported}
 use Rattle.ob_link.proofs.member.exported_procedures.Given as goal
 

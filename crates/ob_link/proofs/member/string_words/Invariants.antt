@@ -1,4 +1,4 @@
-use Rattle.std.proofs.Common.{◌≡◌, ◌+◌, ◌++◌, length, map}
+use Rattle.std.proofs.Common.{◌≡◌, ◌+◌, length}
 use Rattle.ob_obj.specs.Grammar.{words_of}
 use Rattle.ob_link.proofs.member.string_words.Given as goal
 

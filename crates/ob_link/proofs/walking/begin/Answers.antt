@@ -1,4 +1,4 @@
-use Rattle.std.proofs.Common.{◌≡◌, [], sym, ◌∙◌}
+use Rattle.std.proofs.Common.{[], sym, ◌∙◌}
 use Rattle.ob_link.specs.Walk.{visit, most_deep}
 use Rattle.ob_link.specs.Walking.{resume, stack, visits}
 use Rattle.ob_link.specs.Plan.{steps}

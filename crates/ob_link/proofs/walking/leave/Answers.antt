@@ -1,4 +1,4 @@
-use Rattle.std.proofs.Common.{◌≡◌, ◌++◌, None, refl}
+use Rattle.std.proofs.Common.{◌≡◌, ◌++◌, None}
 use Rattle.ob_link.specs.Judging.{breaks}
 use Rattle.ob_link.proofs.Steps.{walk_left, advance_left, advance_stopped, none_answered}
 use Rattle.ob_link.proofs.walking.leave.Goals as goal

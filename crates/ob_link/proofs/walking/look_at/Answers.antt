@@ -1,4 +1,4 @@
-use Rattle.std.proofs.Common.{◌≡◌, Err, sym, ap, ◌∙◌, arith}
+use Rattle.std.proofs.Common.{Err, sym, ap, ◌∙◌, arith}
 use Rattle.ob_link.specs.Files.{decoded_as}
 use Rattle.ob_link.proofs.Decoded.{decoded_again, not_decoded}
 use Rattle.ob_link.proofs.walking.look_at.Goals as goal

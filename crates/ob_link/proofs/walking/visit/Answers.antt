@@ -1,11 +1,9 @@
-use Rattle.std.proofs.Common.{◌≡◌, ◌++◌, true, false, ap, sym, subst, ◌∙◌, refl, List}
-use Rattle.ob_obj.specs.Grammar.{file}
+use Rattle.std.proofs.Common.{◌≡◌, true, false, ap, sym, subst, ◌∙◌, refl, List}
 use Rattle.ob_link.specs.declared.walking.Frame.{Frame}
 use Rattle.ob_link.specs.declared.fault.LoadRefusal.TheVariants as refusal
 use Rattle.ob_link.specs.Walk.{has}
 use Rattle.ob_link.specs.Plan as plan
 use Rattle.ob_link.specs.Plan.{newest, entered}
-use Rattle.ob_link.specs.Judging.{is_passed}
 use Rattle.ob_link.specs.Walking.{entry_for, IsFound, path_of, stack}
 use Rattle.ob_link.proofs.Steps.{visit_passed, visit_circled, visit_refused, visit_opened, walk_opened, on_path}
 use Rattle.ob_link.proofs.walking.visit.Goals as goal

@@ -1,4 +1,4 @@
-use Rattle.std.proofs.Common.{◌≡◌, sym, ◌∙◌}
+use Rattle.std.proofs.Common.{◌∙◌}
 use Rattle.ob_link.specs.Walk.{most_deep}
 use Rattle.ob_link.specs.Plan.{steps}
 use Rattle.ob_link.specs.Files.{asks, object_entry}

@@ -13,5 +13,5 @@ invariant-loop g l = record {
   told : g.F.Shelf.tells l.folder ≡ g.F.Shelf.tells l.fn.folder;
   same : g.F.Shelf.tells l.fn.folder ≡ true → g.F.Shelf.files l.folder ≡ g.F.Shelf.files l.fn.folder;
   later : g.F.Shelf.faults l.fn.folder ≤ g.F.Shelf.faults l.folder;
-  walked : g.F.Shelf.tells l.fn.folder ≡ true → (fs : List ObjFile) → AreLoaded l.loaded fs → visit (steps asks (object_entry (g.F.Shelf.files l.fn.folder)) fs) most_deep [] l.«module» [] ≡ resume (steps asks (object_entry (g.F.Shelf.files l.fn.folder)) fs) most_deep (stack l.walk.path.items) l.walk.files
+  walked : g.F.Shelf.tells l.fn.folder ≡ true → (fs : List ObjFile) → AreLoaded l.loaded fs → visit (steps asks (object_entry (g.F.Shelf.files l.fn.folder)) fs) most_deep [] l.«module» [] ≡ resume (steps asks (object_entry (g.F.Shelf.files l.fn.folder)) fs) most_deep (stack l.walk.path.items) l.walk.files;
 }

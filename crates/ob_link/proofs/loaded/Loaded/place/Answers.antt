@@ -1,4 +1,4 @@
-use Rattle.std.proofs.Common.{rules, ◌≡◌, ◌<◌, Some, arith}
+use Rattle.std.proofs.Common.{arith}
 use Rattle.ob_link.proofs.Places.{below_of}
 use Rattle.ob_link.proofs.loaded.Loaded.place.Goals as goal
 

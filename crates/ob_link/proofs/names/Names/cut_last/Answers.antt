@@ -1,4 +1,4 @@
-use Rattle.std.proofs.Common.{◌≡◌, suc, ◌-◌, ◌<◌, length, get_or, take, ap, sym, subst, ◌∙◌, arith}
+use Rattle.std.proofs.Common.{◌≡◌, suc, ◌-◌, ◌<◌, length, sym, subst, ◌∙◌, arith}
 use Rattle.ob_link.specs.Index.{IsIndexed, Forgets}
 use Rattle.ob_link.proofs.Indexing.{indexed_less}
 use Rattle.ob_link.proofs.names.Names.cut_last.Goals as goal

@@ -1,4 +1,4 @@
-use Rattle.std.proofs.Common.{◌≡◌, ◌+◌, ◌<◌, ◌++◌, List, ◌∷◌, [], IsOk, length, vec_len, vec_capacity, ap, sym, subst, refl, ◌∙◌, arith}
+use Rattle.std.proofs.Common.{◌≡◌, ◌<◌, ◌++◌, ◌∷◌, [], IsOk, length, vec_len, vec_capacity, sym, subst, refl, ◌∙◌, arith}
 use Rattle.ob_link.specs.Index.{IsIndexed}
 use Rattle.ob_link.proofs.Indexing.{indexed_more, pushed}
 use Rattle.ob_link.proofs.names.Names.push.Goals as goal
