@@ -1,0 +1,9 @@
+pub mod Decoded
+pub mod Maps
+pub mod Indexing
+pub mod Search
+pub mod Fits
+pub mod Places
+pub mod Resume
+pub mod Bridges
+pub mod Steps

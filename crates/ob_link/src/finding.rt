@@ -1,0 +1,77 @@
+ghost use Rattle.std.specs.Prelude.{◌≡◌};
+ghost use Rattle.std.specs.List.Sorted.{IsStrictlySortedBy};
+ghost use Rattle.std.specs.Option.{option_copied};
+ghost use Rattle.ob_obj.specs.Grammar.{by_name, by_export, by_variable};
+ghost use Rattle.ob_types.specs.Spelled.{aspect_number as aspect_number_of};
+ghost use Rattle.ob_link.specs.Files.{exported as exported_of, has_variable as has_variable_of};
+ghost use Rattle.ob_link.specs.Members.{by_export_name, by_exported, procedure_named};
+
+use crate::exported::Exported;
+use ob_obj::{Export, Variable};
+use ob_tree::{Name, ObjName, Print};
+use ob_types::Aspect;
+use std::cmp::Ordering;
+
+// The order of two names.
+fn compare(a: &[u8], b: &[u8]) -> Ordering
+    ensures { result ≡ by_name a.now b.now }
+{
+    a.cmp(b)
+}
+
+fn aspect_number(aspect: Aspect) -> u8
+    ensures { result ≡ aspect_number_of aspect }
+{
+    match aspect {
+        Aspect::Shape => 0,
+        Aspect::Layout => 1,
+    }
+}
+
+// The order of an export and of the name and aspect of one.
+fn compare_export(export: &Export, name: &ObjName, aspect: Aspect) -> Ordering
+    ensures { result ≡ by_export_name (export.now.name, aspect_number_of export.now.aspect) (name.now, aspect_number_of aspect) }
+{
+    let order = compare(export.name.as_bytes(), name.as_bytes());
+    if order != Ordering::Equal {
+        return order;
+    }
+    aspect_number(export.aspect).cmp(&aspect_number(aspect))
+}
+
+/// The print of the export of a name and aspect.
+pub fn exported(exports: &[Export], name: &ObjName, aspect: Aspect) -> Option<Print>
+    requires { IsStrictlySortedBy by_export exports.now }
+    ensures { result ≡ exported_of name.now aspect exports.now }
+{
+    match exports.binary_search_by(|export| { compare_export(export, name, aspect) }) {
+        Ok(place) => Some(exports[place].print),
+        Err(_) => None,
+    }
+}
+
+/// Whether a variable of the name is exported.
+pub fn has_variable(variables: &[Variable], name: &Name) -> bool
+    requires { IsStrictlySortedBy by_variable variables.now }
+    ensures { result ≡ has_variable_of name.now variables.now }
+{
+    match variables.binary_search_by(|variable| {
+        compare(variable.name.as_bytes(), name.as_bytes())
+    }) {
+        Ok(_) => true,
+        Err(_) => false,
+    }
+}
+
+/// The exported procedure of the name.
+pub fn procedure<'a>(procedures: &'a [Exported], name: &Name) -> Option<&'a Exported>
+    requires { IsStrictlySortedBy by_exported procedures.now }
+    ensures { option_copied result ≡ procedure_named name.now procedures.now }
+{
+    match procedures.binary_search_by(|procedure| {
+        compare(procedure.name.as_bytes(), name.as_bytes())
+    }) {
+        Ok(place) => Some(&procedures[place]),
+        Err(_) => None,
+    }
+}
