@@ -1,6 +1,6 @@
 -- The shapes of what is put one after the other, for statements with parts that are statements.
 use Rattle.std.specs.Prelude.{ℤ, pos}
-use Rattle.std.proofs.Common.{◌≡◌, ℕ, suc, ◌+◌, ◌*◌, ◌<◌, ◌≤◌, List, [], ◌∷◌, ◌++◌, length, get_or, drop, append_assoc, length-append, arith, refl, sym, ap, ◌∙◌}
+use Rattle.std.proofs.Common.{◌≡◌, ℕ, suc, ◌+◌, ◌<◌, ◌≤◌, List, [], ◌∷◌, ◌++◌, length, get_or, drop, append_assoc, length-append, arith, sym, ap, ◌∙◌}
 use Rattle.std.proofs.lemmas.List.{drop_more, drop_all}
 use Rattle.ob_tree.specs.declared.pos.Pos.{Pos}
 use Rattle.ob_types.specs.declared.typed.Width.{Width}
@@ -17,10 +17,10 @@ use Rattle.ob_code.specs.Lines.{Line, Number, plain, placed, count, bare, jump, 
 use Rattle.ob_code.specs.Operations.{bytes_of}
 use Rattle.ob_code.specs.Numbers.{instr}
 use Rattle.ob_code.specs.Context.{Context}
-use Rattle.ob_code.specs.Expressions.{end_desig, end_expr, desig_code, expr_code}
+use Rattle.ob_code.specs.Expressions.{end_expr, desig_code, expr_code}
 use Rattle.ob_code.specs.Statements.{for_place, for_value, within, end_for_test, end_for_step, end_label, label_code, end_labels, labels_code, end_stmts, end_branches, end_cases, end_else, next_stmts, next_branches, next_cases, stmt_code, stmts_code, branches_code, cases_code, else_code}
 use Rattle.ob_code.specs.Coded.{Coded, appended, place_in, with_instr}
-use Rattle.ob_code.proofs.Ends.{behind_is, desig_ends, expr_ends, labels_end, stmts_end, branches_end, cases_end}
+use Rattle.ob_code.proofs.Ends.{behind_is, expr_ends, labels_end, stmts_end, branches_end, cases_end}
 use Rattle.ob_code.proofs.Appends.{put_two, put_three, next_place, put_aimed, appended_none}
 use Rattle.ob_code.proofs.Views.{view_branches, view_cases}
 

@@ -1,5 +1,5 @@
 -- The shapes of the pieces of FOR and CASE.
-use Rattle.std.proofs.Common.{◌≡◌, ℕ, suc, ◌+◌, List, [], ◌∷◌, ◌++◌, length, arith, ap, ◌∙◌}
+use Rattle.std.proofs.Common.{◌≡◌, ℕ, suc, [], ◌∷◌, ◌++◌, arith, ap, ◌∙◌}
 use Rattle.ob_types.specs.declared.typed.Variable.{Variable}
 use Rattle.ob_types.specs.TypedSyntax.{Expr}
 use Rattle.ob_instr.specs.declared.opcode.Opcode.TheVariants as op

@@ -1,7 +1,7 @@
-use Rattle.std.proofs.Common.{◌≡◌, suc, ◌+◌, ◌*◌, length, arith, List, sym, ap, ◌∙◌, subst}
+use Rattle.std.proofs.Common.{◌≡◌, suc, arith, sym, ap, ◌∙◌, subst}
 use Rattle.std.proofs.lemmas.Result.{on_ok_weaker, IfOk-weaker}
-use Rattle.ob_types.specs.TypedSyntax.{If, Case, Loop, With, Stmt, Branch, NoBranch, OneCase, NoCase, NoElse, Else}
-use Rattle.ob_types.specs.TypedView.{designator_view, expr_view, stmt_view, stmts_view, branches_view, cases_view, otherwise_view}
+use Rattle.ob_types.specs.TypedSyntax.{If, Case, Loop, With, Branch, NoBranch, OneCase, NoCase}
+use Rattle.ob_types.specs.TypedView.{expr_view, stmt_view, stmts_view, branches_view, cases_view, otherwise_view}
 use Rattle.ob_types.proofs.TypedViews.{view_assign, view_call_proper, view_updated, view_copy, view_new, view_new_open_array, view_assert, view_halt, view_if, view_while, view_repeat, view_for, view_loop, view_exit, view_return}
 use Rattle.ob_code.specs.Coded.{appended, place_in}
 use Rattle.ob_code.specs.Statements.{stmt_code, stmts_code, branches_code, cases_code, labels_code, end_labels, end_stmt, next_stmt, next_stmts, next_branches, next_cases, next_else, else_code}
