@@ -11,7 +11,10 @@ use Rattle.ob_tree.specs.declared.expr.Element.{Element}
 use Rattle.ob_tree.specs.declared.stmt.Guard.{Guard}
 use Rattle.ob_tree.specs.declared.stmt.Stmt.{Stmt}
 use Rattle.ob_tree.specs.declared.stmt.Stmt.TheOpen.{Stmt-F, Branch-F, Case-F, GuardedBranch-F}
-use Rattle.ob_tree.specs.declared.stmt.Stmt.TheFolds.{fold-Stmt}
+use Rattle.ob_tree.specs.declared.stmt.Branch.{Branch}
+use Rattle.ob_tree.specs.declared.stmt.Case.{Case}
+use Rattle.ob_tree.specs.declared.stmt.GuardedBranch.{GuardedBranch}
+use Rattle.ob_tree.specs.declared.stmt.Stmt.TheFolds.{fold-Stmt, fold-Branch, fold-Case, fold-GuardedBranch}
 use Rattle.ob_types.specs.declared.types.Basic.TheVariants as basic
 use Rattle.ob_types.specs.declared.types.TypeRef.{TypeRef}
 use Rattle.ob_types.specs.declared.types.TypeRef.TheVariants as ref
@@ -43,6 +46,8 @@ use Rattle.ob_rules.specs.declared.meant.Where.TheVariants.{InExpression, AsStat
 use Rattle.ob_rules.specs.Judged.{Judged, Notes, sound, silent, breaks, also, wants, unless, both, each_sound, if_there, made, noted, joined, no_notes, broken_at, ◌▷◌}
 use Rattle.ob_rules.specs.Shapes.{Map, is_structured, is_array, record_of, signature_at, width_of, basic_of, is_pointer, pointed_record}
 use Rattle.ob_rules.specs.Names.{Around, map_of, named, type_named, find_name}
+use Rattle.ob_rules.specs.declared.meant.Selects.{Selects}
+use Rattle.ob_rules.specs.declared.meant.Selects.TheVariants as selecting
 use Rattle.ob_rules.specs.declared.values.Place.{Place}
 use Rattle.ob_rules.specs.declared.values.Valued.{Valued}
 use Rattle.ob_rules.specs.declared.values.Valued.TheVariants as valued
@@ -60,12 +65,10 @@ Judging = Around → Judged (List TypedStmt)
 abbrev pub one : TypedStmt → Judged (List TypedStmt)
 one s = sound (s ∷ [])
 
-abbrev pub concat : List (List TypedStmt) → List TypedStmt
-concat [] = []
-concat (xs ∷ xss) = xs ++ concat xss
-
-abbrev pub in_turn : List Judging → Judging
-in_turn fs u = made concat (each_sound (map (λ f. f u) fs))
+-- one after the other
+abbrev pub in_turn : List Judging → Around → Judged (List TypedStmt)
+in_turn [] u = sound []
+in_turn (f ∷ fs) u = both (f u) (in_turn fs u) ▷ λ p. sound (p.0 ++ p.1)
 
 abbrev pub in_turn_if : Option (List Judging) → Around → Judged (Option (List TypedStmt))
 in_turn_if None u = sound None
@@ -78,14 +81,14 @@ abbrev pub target : Pos → Meant → Judged Place
 target start (means.Place p) = unless p.read_only 26 start p
 target start m = breaks 26 start
 
-abbrev pub assigned_as : Bool → Option QName → Option (List ℕ) → Bool → Assigned
-assigned_as true q text array = assigned.Text
-assigned_as false (Some q) text array = assigned.Record q
-assigned_as false None text true = assigned.Array
-assigned_as false None text false = assigned.Scalar
+abbrev pub assigned_as : Bool → Option QName → Bool → Assigned
+assigned_as true q array = assigned.Text
+assigned_as false (Some q) array = assigned.Record q
+assigned_as false None true = assigned.Array
+assigned_as false None false = assigned.Scalar
 
 abbrev pub assignment_of : Map → Place → Valued → Assigned
-assignment_of map p x = assigned_as (is_array map p.of && is_some (text_of x)) (record_of map p.of) (text_of x) (is_array map p.of)
+assignment_of map p x = assigned_as (is_array map p.of && is_some (text_of x)) (record_of map p.of) (is_array map p.of)
 
 abbrev pub assigned_tree : Bool → Valued → TypedExpr
 assigned_tree true x = text_tree x
@@ -142,14 +145,9 @@ empty_if_none (Some xs) = xs
 
 -- CASE
 
--- what the labels are to be: characters, or integers of a type that the value's type includes
-pub data Selects : Type 0 where
-  Characters : Selects
-  Integers : (w : Width) → Selects
-
 abbrev pub selects_by : Bool → Option Width → Option Selects
-selects_by true w = Some Characters
-selects_by false (Some w) = Some (Integers w)
+selects_by true w = Some selecting.Characters
+selects_by false (Some w) = Some (selecting.Integers w)
 selects_by false None = None
 
 abbrev pub selects : Map → Valued → Option Selects
@@ -175,8 +173,8 @@ label_if true z = Some z
 label_if false z = None
 
 abbrev pub label_value : Selects → Value → Option ℤ
-label_value Characters (literal.Char c) = Some (pos c)
-label_value (Integers w) (literal.Int z) = label_if (within w (width_of_number z)) z
+label_value selecting.Characters (literal.Char c) = Some (pos c)
+label_value (selecting.Integers w) (literal.Int z) = label_if (within w (width_of_number z)) z
 label_value s v = None
 
 abbrev pub overlaps : ℤ → ℤ → Label → Bool
@@ -186,9 +184,12 @@ abbrev pub range_if : Bool → Pos → ℤ → ℤ → Judged Label
 range_if true at low high = sound (record { low = low; high = high })
 range_if false at low high = breaks 33 at
 
+abbrev pub label_ranged : Pos → List Label → ℤ → ℤ → Judged Label
+label_ranged at before low high = range_if (int_le low high && not (list_any (overlaps low high) before)) at low high
+
 -- rule 33: a label is of the other kind, or of an integer type that the value's type does not include, is an empty range, or occurs twice
 abbrev pub label_of : Pos → List Label → Option ℤ → Option ℤ → Judged Label
-label_of at before (Some low) (Some high) = range_if (int_le low high && not (list_any (overlaps low high) before)) at low high
+label_of at before (Some low) (Some high) = label_ranged at before low high
 label_of at before low high = breaks 33 at
 
 abbrev pub label_as : Option Selects → Pos → List Label → Value → Value → Judged Label
@@ -216,10 +217,10 @@ pub record Labels : Type 0 where
 
 abbrev pub with_label : List Label → Option Label → List Label
 with_label ls None = ls
-with_label ls (Some l) = l ∷ ls
+with_label ls (Some l) = ls ++ l ∷ []
 
 abbrev pub then_labels : Judged Label → Labels → Labels
-then_labels l rest = record { found = made (λ p. p.0 ∷ p.1) (both l rest.found); before = rest.before }
+then_labels l rest = record { found = both l rest.found ▷ λ p. sound (p.0 ∷ p.1); before = rest.before }
 
 abbrev pub labels_behind : Judged Label → List Label → (List Label → Labels) → Labels
 labels_behind l before f = then_labels l (f (with_label before l.node))
@@ -236,7 +237,7 @@ abbrev pub case_of : Judged (List Label) → Judged (List TypedStmt) → Judged 
 case_of ls b = made (λ p. roll-TypedCase (record { labels = p.0; body = p.1 })) (both ls b)
 
 abbrev pub case_behind : Labels → Judged (List TypedStmt) → (List Label → Judged (List TypedCase)) → Judged (List TypedCase)
-case_behind ls b f = made (λ p. p.0 ∷ p.1) (both (case_of ls.found b) (f ls.before))
+case_behind ls b f = both (case_of ls.found b) (f ls.before) ▷ λ p. sound (p.0 ∷ p.1)
 
 abbrev pub cases : Around → Option Selects → List Label → List Labelled → Judged (List TypedCase)
 cases u s before [] = sound []
@@ -249,14 +250,21 @@ selects_if map (Some x) = selects map x
 abbrev pub case_with : Around → Pos → Judged Valued → List Labelled → Option (List Judging) → Judged (List TypedStmt)
 case_with u at x cs otherwise = both x (both (cases u (selects_if (map_of u) x.node) [] cs) (in_turn_if otherwise u)) ▷ λ p. one (stmt.Case (tree p.0) p.1.0 p.1.1 at)
 
+abbrev pub case_judged : Around → Phrase → Judged Valued
+case_judged u x = x.value u ▷ case_value (map_of u) x.start
+
 abbrev pub case : Around → Pos → Phrase → List Labelled → Option (List Judging) → Judged (List TypedStmt)
-case u at x cs otherwise = case_with u at (x.value u ▷ case_value (map_of u) x.start) cs otherwise
+case u at x cs otherwise = case_with u at (case_judged u x) cs otherwise
 
 -- FOR
 
--- rule 34: the variable is no integer variable. Rule 3: a type or a module there
+-- rule 34: the variable is no integer variable
+abbrev pub integer_place : Map → Pos → Place → Judged Place
+integer_place map at p = wants (is_some (width_of (basic_of map p.of))) 34 at p
+
+-- rule 3: a type or a module there
 abbrev pub for_variable : Around → Pos → Ident → Entity → Judged Place
-for_variable u at x (entity.Variable v t) = variable_named u x.pos v t false ▷ λ p. wants (is_some (width_of (basic_of (map_of u) p.of))) 34 at p
+for_variable u at x (entity.Variable v t) = variable_named u x.pos v t false ▷ λ p. integer_place (map_of u) at p
 for_variable u at x (entity.TypeName t) = breaks 3 x.pos
 for_variable u at x (entity.Module m) = breaks 3 x.pos
 for_variable u at x e = breaks 34 at
@@ -270,24 +278,35 @@ step_value at (literal.Int z) = unless (int_eq z (pos 0)) 34 at z
 step_value at v = breaks 34 at
 
 -- rule 34: the step is no integer, or 0; rule 10: it is not constant
+abbrev pub step_of : Around → Pos → Phrase → Judged ℤ
+step_of u at x = constant_value u x ▷ step_value at
+
 abbrev pub for_step : Around → Pos → Option Phrase → Judged ℤ
 for_step u at None = sound (pos 1)
-for_step u at (Some x) = constant_value u x ▷ step_value at
+for_step u at (Some x) = step_of u at x
 
 abbrev pub width_or_long : Option Width → Width
 width_or_long None = width.LongInt
 width_or_long (Some w) = w
 
-abbrev pub for_made : Map → Pos → (Place × (TypedExpr × TypedExpr)) → ℤ → List TypedStmt → TypedStmt
-for_made map at p step body = stmt.For p.0.root (width_or_long (width_of (basic_of map p.0.of))) p.1.0 p.1.1 step body at
+abbrev pub for_made : Map → Pos → Place → TypedExpr × TypedExpr → ℤ → List TypedStmt → TypedStmt
+for_made map at p bounds step body = stmt.For p.root (width_or_long (width_of (basic_of map p.of))) bounds.0 bounds.1 step body at
 
-abbrev pub for_bounds : Map → Pos → Judged Place → Judged Valued → Judged Valued → Judged (Place × (TypedExpr × TypedExpr))
-for_bounds map at v a b = both v (both (both v a ▷ λ p. for_bound map at p.0 p.1) (both v b ▷ λ p. for_bound map at p.0 p.1))
+-- a bound is judged, and where the variable is sound, whether it fits
+abbrev pub bound_if : Map → Pos → Option Place → Judged Valued → Judged TypedExpr
+bound_if map at None x = noted x.notes silent
+bound_if map at (Some p) x = x ▷ for_bound map at p
+
+abbrev pub for_parts : Map → Pos → Option Place → Judged ((TypedExpr × TypedExpr) × (ℤ × List TypedStmt)) → Judged (List TypedStmt)
+for_parts map at None r = noted r.notes silent
+for_parts map at (Some p) r = r ▷ λ q. one (for_made map at p q.0 q.1.0 q.1.1)
+
+abbrev pub for_with : Map → Pos → Option Place → Judged Valued → Judged Valued → Judged ℤ → Judged (List TypedStmt) → Judged (List TypedStmt)
+for_with map at v a b step body = for_parts map at v (both (both (bound_if map at v a) (bound_if map at v b)) (both step body))
 
 abbrev pub for : Around → Pos → Ident → Phrase → Phrase → Option Phrase → List Judging → Judged (List TypedStmt)
 for u at x a b step body =
-    both (for_bounds (map_of u) at (named u x ▷ for_variable u at x) (a.value u) (b.value u)) (both (for_step u at step) (in_turn body u))
-    ▷ λ p. one (for_made (map_of u) at p.0 p.1.0 p.1.1)
+    noted (named u x ▷ for_variable u at x).notes (for_with (map_of u) at (named u x ▷ for_variable u at x).node (a.value u) (b.value u) (for_step u at step) (in_turn body u))
 
 -- LOOP, EXIT, RETURN
 
@@ -304,9 +323,12 @@ abbrev pub return_none : Pos → Option TypeRef → Judged (List TypedStmt)
 return_none at None = one (stmt.Return None)
 return_none at (Some t) = breaks 36 at
 
+abbrev pub return_of : Around → Pos → Phrase → Judged (List TypedStmt)
+return_of u at x = x.value u ▷ returned (map_of u) at u.result
+
 abbrev pub return : Around → Pos → Option Phrase → Judged (List TypedStmt)
 return u at None = return_none at u.result
-return u at (Some x) = x.value u ▷ returned (map_of u) at u.result
+return u at (Some x) = return_of u at x
 
 -- WITH
 
@@ -315,9 +337,12 @@ abbrev pub with_module : Around → Ident → Ident → Entity → Judged Meant
 with_module u m x (entity.Module n) = designates u InExpression m (Dot x.pos x ∷ [])
 with_module u m x e = breaks 3 m.pos
 
+abbrev pub with_named : Around → Ident → Ident → Judged Meant
+with_named u m x = named u m ▷ with_module u m x
+
 abbrev pub with_qualified_by : Around → Ident → Ident → Entity → Judged Meant
 with_qualified_by u m x (entity.Variable v t) = breaks 3 m.pos
-with_qualified_by u m x e = named u m ▷ with_module u m x
+with_qualified_by u m x e = with_named u m x
 
 abbrev pub with_qualified : Around → Ident → Ident → Option Known → Judged Meant
 with_qualified u m x None = breaks 2 m.pos
@@ -370,19 +395,27 @@ abbrev pub type_if : {A : Type 0} → Option (A × TypeRef) → Option TypeRef
 type_if None = None
 type_if (Some p) = Some p.1
 
+-- what stands around the body of a guard
+abbrev pub guarded_body : Around → Guard → Option (TypedExpr × TypeRef) → Around
+guarded_body u g t = guarded_around u (variable_meant u g.variable.qualifier g.variable.ident) (type_if t)
+
 -- a guard with its body, in which the guarded name has the guard
 pub record GuardedBody : Type 0 where
   pub guard : Guard
   pub body : List Judging
 
 abbrev pub with_branch_in : Around → Guard → List Judging → Judged (TypedExpr × TypeRef) → Judged TypedBranch
-with_branch_in u g body t = branch_of (made (λ p. p.0) t) (in_turn body (guarded_around u (variable_meant u g.variable.qualifier g.variable.ident) (type_if t.node)))
+with_branch_in u g body t = branch_of (made (λ p. p.0) t) (in_turn body (guarded_body u g t.node))
+
+-- the test of a place for a type
+abbrev pub tested : Map → Pos → Place → TypeRef → Judged (TypedExpr × TypeRef)
+tested map at p t = with_guard at p (guard_of map p t) t ▷ λ q. sound (guard_test q.0 q.1.0 q.1.1, t)
+
+abbrev pub with_variable : Around → Guard → Judged Place
+with_variable u g = with_meant u g.variable.qualifier g.variable.ident ▷ with_place (map_of u) (first_of g.variable)
 
 abbrev pub with_test : Around → Guard → Judged (TypedExpr × TypeRef)
-with_test u g =
-    both (with_meant u g.variable.qualifier g.variable.ident ▷ with_place (map_of u) (first_of g.variable)) (type_named u g.target)
-    ▷ λ p. with_guard (first_of g.variable) p.0 (guard_of (map_of u) p.0 p.1) p.1
-    ▷ λ q. sound (guard_test q.0 q.1.0 q.1.1, p.1)
+with_test u g = both (with_variable u g) (type_named u g.target) ▷ λ p. tested (map_of u) (first_of g.variable) p.0 p.1
 
 abbrev pub with_branch : Around → GuardedBody → Judged TypedBranch
 with_branch u b = with_branch_in u b.guard b.body (with_test u b.guard)
@@ -397,8 +430,16 @@ abbrev pub in_loop : Around → Around
 in_loop u = record u { in_loop = true }
 
 -- the branches of IF, each with its condition
+abbrev pub conditional : Around → Conditional → Judged TypedBranch
+conditional u b = branch_of (condition u b.test) (in_turn b.body u)
+
 abbrev pub conditionals : Around → List Conditional → Judged (List TypedBranch)
-conditionals u bs = each_sound (map (λ b. branch_of (condition u b.test) (in_turn b.body u)) bs)
+conditionals u [] = sound []
+conditionals u (b ∷ bs) = both (conditional u b) (conditionals u bs) ▷ λ p. sound (p.0 ∷ p.1)
+
+abbrev pub with_branches : Around → List GuardedBody → Judged (List TypedBranch)
+with_branches u [] = sound []
+with_branches u (b ∷ bs) = both (with_branch u b) (with_branches u bs) ▷ λ p. sound (p.0 ∷ p.1)
 
 abbrev pub if_statement : List Conditional → Option (List Judging) → Judging
 if_statement bs otherwise u = both (conditionals u bs) (in_turn_if otherwise u) ▷ λ p. one (stmt.If p.0 (empty_if_none p.1))
@@ -413,7 +454,7 @@ abbrev pub loop_statement : Pos → List Judging → Judging
 loop_statement at body u = in_turn body (in_loop u) ▷ λ b. one (stmt.Loop b at)
 
 abbrev pub with_statement : Pos → List GuardedBody → Option (List Judging) → Judging
-with_statement at bs otherwise u = both (each_sound (map (with_branch u) bs)) (in_turn_if otherwise u) ▷ λ p. one (stmt.With p.0 p.1 at)
+with_statement at bs otherwise u = both (with_branches u bs) (in_turn_if otherwise u) ▷ λ p. one (stmt.With p.0 p.1 at)
 
 abbrev pub call_statement : Named → Judging
 call_statement n u = meant_by AsStatement n u ▷ called u n
@@ -447,3 +488,12 @@ guarded_rule b = record { guard = b.guard; body = b.body }
 
 abbrev pub judging : Stmt → Judging
 judging = fold-Stmt Judging Conditional Labelled GuardedBody stmt_rule branch_rule case_rule guarded_rule
+
+abbrev pub conditional_of : Branch → Conditional
+conditional_of = fold-Branch Judging Conditional Labelled GuardedBody stmt_rule branch_rule case_rule guarded_rule
+
+abbrev pub labelled_of : Case → Labelled
+labelled_of = fold-Case Judging Conditional Labelled GuardedBody stmt_rule branch_rule case_rule guarded_rule
+
+abbrev pub guarded_of : GuardedBranch → GuardedBody
+guarded_of = fold-GuardedBranch Judging Conditional Labelled GuardedBody stmt_rule branch_rule case_rule guarded_rule

@@ -2,7 +2,7 @@ use crate::broken::Predeclared;
 use crate::values::{Place, Valued};
 use ob_tree::{Pos, QName};
 use ob_trees::{ExprTree, StmtTree};
-use ob_types::{Method, OutProcedure, Signature, TypeRef, Value};
+use ob_types::{Method, OutProcedure, Signature, TypeRef, Value, Width};
 
 /// A bound procedure that is selected.
 #[derive(Drop)]
@@ -52,6 +52,14 @@ pub enum Asked {
     Value,
     Changed,
     Constant,
+}
+
+/// What the labels of a CASE are to be: characters, or integers of a type that the value's type
+/// includes.
+#[derive(Clone, Copy, Debug, PartialEq, Eq)]
+pub enum Selects {
+    Characters,
+    Integers(Width),
 }
 
 /// An element of a set: where it stands, its node, and the set that it is if it is constant.

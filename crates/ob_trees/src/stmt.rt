@@ -1,4 +1,4 @@
-ghost use Rattle.std.specs.Prelude.{◌≡◌, [], ◌∷◌, ◌++◌, OnOk, OnErr};
+ghost use Rattle.std.specs.Prelude.{◌≡◌, [], ◌∷◌, ◌++◌, IfOk, OnOk, OnErr};
 ghost use Rattle.std.specs.Option.{option_map};
 ghost use Rattle.ob_types.specs.declared.typed.TypedStmt.TheVariants as s;
 ghost use Rattle.ob_types.specs.declared.typed.TypedBranch.{roll-TypedBranch};
@@ -71,6 +71,23 @@ impl StmtTrees {
         StmtTrees {
             inner: List::new(alloc),
         }
+    }
+
+    /// A single one.
+    pub fn one(alloc: Global, only: StmtTree) -> Result<StmtTrees, AllocError>
+        ensures { IfOk result (λ t. t.inner ≡ only.inner ∷ []) }
+    {
+        let mut all = StmtTrees::new(alloc);
+        all.push(only)?;
+        Ok(all)
+    }
+
+    /// More of them, at the end.
+    pub fn append(&mut self, more: StmtTrees) -> Result<(), AllocError>
+        ensures ok { OnOk result (self.new.inner ≡ self.old.inner ++ more.inner) }
+        ensures err { OnErr result (self.new.inner ≡ self.old.inner) }
+    {
+        self.inner.append(more.into_inner())
     }
 
     /// One more, at the end.
