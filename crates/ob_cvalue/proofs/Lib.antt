@@ -1,0 +1,2 @@
+pub mod PointedLaws
+pub mod SetLaws

@@ -1,0 +1,4 @@
+mod Build
+pub mod Least
+pub mod BookLaws
+pub mod RowLaws
