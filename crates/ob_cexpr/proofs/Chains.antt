@@ -57,9 +57,10 @@ chain_step u t ts x y z b c d whole end ey ec ez ed ew ee =
     let v = t.operand.value u in
     let z_is : z ≡ (both (plain x) v ▷ f).node = ez ∙ ap (λ o. (if_sound (paired x o) f).node) ey in
     let d_is : d ≡ book_after b (both (plain x) v ▷ f).notes =
-      ed ∙ ap (λ o. book_after c (if_sound (paired x o) f).notes) ey ∙ ap (λ k. book_after k (if_sound (paired x v.node) f).notes) ec ∙ sym (after_second b v.notes (if_sound (paired x v.node) f).notes) in
-    (ew ∙ chain_node u ts (both (plain x) v ▷ f) ∙ ap (λ o. (combine_all u ts (plain o)).node) (sym z_is),
-     ee ∙ chain_notes u ts (both (plain x) v ▷ f) b ∙ ap (λ k. book_after k (combine_all u ts (plain (both (plain x) v ▷ f).node)).notes) (sym d_is) ∙ ap (λ o. book_after d (combine_all u ts (plain o)).notes) (sym z_is))
+    ed ∙ ap (λ o. book_after c (if_sound (paired x o) f).notes) ey ∙ ap (λ k. book_after k (if_sound (paired x v.node) f).notes) ec ∙ sym (after_second b v.notes (if_sound (paired x v.node) f).notes) in (
+      ew ∙ chain_node u ts (both (plain x) v ▷ f) ∙ ap (λ o. (combine_all u ts (plain o)).node) (sym z_is),
+      ee ∙ chain_notes u ts (both (plain x) v ▷ f) b ∙ ap (λ k. book_after k (combine_all u ts (plain (both (plain x) v ▷ f).node)).notes) (sym d_is) ∙ ap (λ o. book_after d (combine_all u ts (plain o)).notes) (sym z_is),
+    )
 
 -- an operator with its operand
 abbrev pub tailed_as : Tail → Tailed

@@ -40,6 +40,7 @@ row_notes a rest b = made_notes (λ p. p.0 ∷ p.1) (both a (each_sound rest)) b
 pub row_step : {A : Type 0} (a : Judged A) (rest : List (Judged A)) (x y : Option (List A)) (k l : Notebook) (whole : Option (List A)) (end : Notebook)
     → y ≡ onto x (alone a.node) → l ≡ book_after k a.notes → whole ≡ onto x (each_sound (a ∷ rest)).node → end ≡ book_after k (each_sound (a ∷ rest)).notes
     → (whole ≡ onto y (each_sound rest).node) × (end ≡ book_after l (each_sound rest).notes)
-row_step a rest x y k l whole end ey el ew ee =
-    (ew ∙ ap (onto x) (first_node a.node (each_sound rest).node) ∙ sym (onto_assoc x (alone a.node) (each_sound rest).node) ∙ ap (λ o. onto o (each_sound rest).node) (sym ey),
-     ee ∙ row_notes a rest k ∙ ap (λ b. book_after b (each_sound rest).notes) (sym el))
+row_step a rest x y k l whole end ey el ew ee = (
+  ew ∙ ap (onto x) (first_node a.node (each_sound rest).node) ∙ sym (onto_assoc x (alone a.node) (each_sound rest).node) ∙ ap (λ o. onto o (each_sound rest).node) (sym ey),
+  ee ∙ row_notes a rest k ∙ ap (λ b. book_after b (each_sound rest).notes) (sym el),
+)

@@ -28,11 +28,7 @@ pub fn character(book: &mut Notebook, at: Pos, text: &[u8]) -> Result<Option<Val
 }
 
 /// A string.
-pub fn string(
-    alloc: Global,
-    book: &mut Notebook,
-    text: &[u8],
-) -> Result<Option<Valued>, AllocError>
+pub fn string(alloc: Global, book: &mut Notebook, text: &[u8]) -> Result<Option<Valued>, AllocError>
     ensures made { IfOk result (λ r. r ≡ (judged.sound (values.constant (text_value text.now))).node) }
     ensures noted { OnOk result (book.new ≡ book_after book.old (judged.sound (values.constant (text_value text.now))).notes) }
 {

@@ -22,7 +22,7 @@ check_expr-returns-in_ok-x-in-Not-clause-noted g t c =
     let u = g.S.Surroundings.around c.args.here.now in
     let v = (spec.phrase_of c.get-in-Not.result.now).value u in
     let whole : (spec.phrase_of c.args.e.now).value u ≡ (v ▷ λ x. opposite (map_of u) c.in-Not.pos x) =
-      ap (λ y. (spec.phrase_of y).value u) (c.in-Not.is ∙ ap (λ o. expr.Not c.in-Not.pos o) (sym c.get-in-Not.ensures)) ∙ value_not c.in-Not.pos c.get-in-Not.result.now u in
+    ap (λ y. (spec.phrase_of y).value u) (c.in-Not.is ∙ ap (λ o. expr.Not c.in-Not.pos o) (sym c.get-in-Not.ensures)) ∙ value_not c.in-Not.pos c.get-in-Not.result.now u in
     on_ok_weaker c.opposite_if.result (λ h. then_noted v (λ x. opposite (map_of u) c.in-Not.pos x) c.in_ok-x-in-Not.x c.args.book.now c.check_expr-in-Not.new.book c.opposite_if.new.book c.in_ok-x-in-Not.ensures.made c.in_ok-x-in-Not.ensures.noted h ∙ ap (λ j. book_after c.args.book.now j.notes) (sym whole)) c.opposite_if.ensures.noted
 
 pub check_expr-returns-in_ok-x-in-Signed-clause-noted : goal.check_expr-returns-in_ok-x-in-Signed-clause-noted
@@ -30,7 +30,7 @@ check_expr-returns-in_ok-x-in-Signed-clause-noted g t c =
     let u = g.S.Surroundings.around c.args.here.now in
     let v = (spec.phrase_of c.get-in-Signed.result.now).value u in
     let whole : (spec.phrase_of c.args.e.now).value u ≡ (v ▷ λ x. signed (map_of u) c.in-Signed.sign c.in-Signed.pos x) =
-      ap (λ y. (spec.phrase_of y).value u) (c.in-Signed.is ∙ ap (λ o. expr.Signed c.in-Signed.sign c.in-Signed.pos o) (sym c.get-in-Signed.ensures)) ∙ value_signed c.in-Signed.sign c.in-Signed.pos c.get-in-Signed.result.now u in
+    ap (λ y. (spec.phrase_of y).value u) (c.in-Signed.is ∙ ap (λ o. expr.Signed c.in-Signed.sign c.in-Signed.pos o) (sym c.get-in-Signed.ensures)) ∙ value_signed c.in-Signed.sign c.in-Signed.pos c.get-in-Signed.result.now u in
     on_ok_weaker c.signed_if.result (λ h. then_noted v (λ x. signed (map_of u) c.in-Signed.sign c.in-Signed.pos x) c.in_ok-x-in-Signed.x c.args.book.now c.check_expr-in-Signed.new.book c.signed_if.new.book c.in_ok-x-in-Signed.ensures.made c.in_ok-x-in-Signed.ensures.noted h ∙ ap (λ j. book_after c.args.book.now j.notes) (sym whole)) c.signed_if.ensures.noted
 
 pub check_expr-returns-in_ok-x-in-Chain-clause-made : goal.check_expr-returns-in_ok-x-in-Chain-clause-made
@@ -39,7 +39,7 @@ check_expr-returns-in_ok-x-in-Chain-clause-made g t c =
     let v = (spec.phrase_of c.get-in-Chain.result.now).value u in
     let ts = map spec.tailed_of c.as_slice-in-Chain.result.now in
     let whole : (spec.phrase_of c.args.e.now).value u ≡ spec.combine_all u ts v =
-      ap (λ y. (spec.phrase_of y).value u) (c.in-Chain.is ∙ ap (λ o. expr.Chain o c.in-Chain.tails) (sym c.get-in-Chain.ensures) ∙ ap (λ o. expr.Chain c.get-in-Chain.result.now o) (sym c.as_slice-in-Chain.ensures)) ∙ value_chain c.get-in-Chain.result.now c.as_slice-in-Chain.result.now u in
+    ap (λ y. (spec.phrase_of y).value u) (c.in-Chain.is ∙ ap (λ o. expr.Chain o c.in-Chain.tails) (sym c.get-in-Chain.ensures) ∙ ap (λ o. expr.Chain c.get-in-Chain.result.now o) (sym c.as_slice-in-Chain.ensures)) ∙ value_chain c.get-in-Chain.result.now c.as_slice-in-Chain.result.now u in
     IfOk-weaker c.check_tails.result _ _ (λ r h. then_chain u ts v c.in_ok-x-in-Chain.x r c.in_ok-x-in-Chain.ensures.made h ∙ ap (λ j. j.node) (sym whole)) c.check_tails.ensures.made
 
 pub check_expr-returns-in_ok-x-in-Chain-clause-noted : goal.check_expr-returns-in_ok-x-in-Chain-clause-noted
@@ -48,7 +48,7 @@ check_expr-returns-in_ok-x-in-Chain-clause-noted g t c =
     let v = (spec.phrase_of c.get-in-Chain.result.now).value u in
     let ts = map spec.tailed_of c.as_slice-in-Chain.result.now in
     let whole : (spec.phrase_of c.args.e.now).value u ≡ spec.combine_all u ts v =
-      ap (λ y. (spec.phrase_of y).value u) (c.in-Chain.is ∙ ap (λ o. expr.Chain o c.in-Chain.tails) (sym c.get-in-Chain.ensures) ∙ ap (λ o. expr.Chain c.get-in-Chain.result.now o) (sym c.as_slice-in-Chain.ensures)) ∙ value_chain c.get-in-Chain.result.now c.as_slice-in-Chain.result.now u in
+    ap (λ y. (spec.phrase_of y).value u) (c.in-Chain.is ∙ ap (λ o. expr.Chain o c.in-Chain.tails) (sym c.get-in-Chain.ensures) ∙ ap (λ o. expr.Chain c.get-in-Chain.result.now o) (sym c.as_slice-in-Chain.ensures)) ∙ value_chain c.get-in-Chain.result.now c.as_slice-in-Chain.result.now u in
     on_ok_weaker c.check_tails.result (λ h. then_chain_noted u ts v c.in_ok-x-in-Chain.x c.args.book.now c.check_expr-in-Chain.new.book c.check_tails.new.book c.in_ok-x-in-Chain.ensures.made c.in_ok-x-in-Chain.ensures.noted h ∙ ap (λ j. book_after c.args.book.now j.notes) (sym whole)) c.check_tails.ensures.noted
 
 pub check_expr-returns-in_ok-x-in-Relate-clause-noted : goal.check_expr-returns-in_ok-x-in-Relate-clause-noted
@@ -57,7 +57,7 @@ check_expr-returns-in_ok-x-in-Relate-clause-noted g t c =
     let v = (spec.phrase_of c.get-in-Relate.result.now).value u in
     let r = spec.phrase_of c.get-in-Relate-2.result.now in
     let whole : (spec.phrase_of c.args.e.now).value u ≡ spec.relation_of u c.in-Relate.relation c.in-Relate.pos v r =
-      ap (λ y. (spec.phrase_of y).value u) (c.in-Relate.is ∙ ap (λ o. expr.Relate o c.in-Relate.relation c.in-Relate.pos c.in-Relate.right) (sym c.get-in-Relate.ensures) ∙ ap (λ o. expr.Relate c.get-in-Relate.result.now c.in-Relate.relation c.in-Relate.pos o) (sym c.get-in-Relate-2.ensures)) ∙ value_relate c.get-in-Relate.result.now c.in-Relate.relation c.in-Relate.pos c.get-in-Relate-2.result.now u in
+    ap (λ y. (spec.phrase_of y).value u) (c.in-Relate.is ∙ ap (λ o. expr.Relate o c.in-Relate.relation c.in-Relate.pos c.in-Relate.right) (sym c.get-in-Relate.ensures) ∙ ap (λ o. expr.Relate c.get-in-Relate.result.now c.in-Relate.relation c.in-Relate.pos o) (sym c.get-in-Relate-2.ensures)) ∙ value_relate c.get-in-Relate.result.now c.in-Relate.relation c.in-Relate.pos c.get-in-Relate-2.result.now u in
     on_ok_weaker c.check_relation.result (λ h. relation_noted u c.in-Relate.relation c.in-Relate.pos r v c.in_ok-x-in-Relate.x c.args.book.now c.check_expr-in-Relate.new.book c.check_relation.new.book c.in_ok-x-in-Relate.ensures.made c.in_ok-x-in-Relate.ensures.noted h ∙ ap (λ j. book_after c.args.book.now j.notes) (sym whole)) c.check_relation.ensures.noted
 
 pub check_tails-tails-preserved : goal.check_tails-tails-preserved
