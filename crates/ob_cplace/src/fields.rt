@@ -86,11 +86,7 @@ fn record_meant<'a, T: Types>(types: &'a T, t: &'a TypeRef) -> Option<&'a QName>
     }
 }
 
-fn is_of<T: Types>(
-    types: &T,
-    owner: &QName,
-    record: Option<&QName>,
-) -> Result<bool, AllocError>
+fn is_of<T: Types>(types: &T, owner: &QName, record: Option<&QName>) -> Result<bool, AllocError>
     ensures { IfOk result (λ r. r ≡ spec.is_of (T.types types.now) owner.now (option_copied record.entry)) }
 {
     match record {
@@ -121,11 +117,7 @@ fn comes_of<S: Surroundings>(here: &S, owner: &QName, entity: &Entity) -> Result
     }
 }
 
-fn comes_for<S: Surroundings>(
-    here: &S,
-    owner: &QName,
-    of: &Name,
-) -> Result<bool, AllocError>
+fn comes_for<S: Surroundings>(here: &S, owner: &QName, of: &Name) -> Result<bool, AllocError>
     ensures { IfOk result (λ r. r ≡ spec.comes_for (S.around here.now) owner.now (names.find_name (S.around here.now).known of.now) of.now) }
 {
     match here.known(of) {
@@ -161,13 +153,7 @@ fn comes<S: Surroundings>(here: &S, owner: &QName, name: &Name) -> Result<bool, 
     Ok(false)
 }
 
-fn not_there(
-    book: &mut Notebook,
-    comes: bool,
-    last: bool,
-    start: Pos,
-    x: &Ident,
-) -> Option<Meant>
+fn not_there(book: &mut Notebook, comes: bool, last: bool, start: Pos, x: &Ident) -> Option<Meant>
     ensures made { result ≡ (spec.not_there comes last start x.now).node }
     ensures noted { book.new ≡ book_after book.old (spec.not_there comes last start x.now).notes }
 {
@@ -263,9 +249,7 @@ fn member_of<S: Surroundings>(
             let comes = comes(here, &owner, &x.name)?;
             Ok(not_there(book, comes, last, start, x))
         }
-        Some(found) => {
-            member_found(alloc, here, book, start, at, place, pointed, owner, found)
-        }
+        Some(found) => { member_found(alloc, here, book, start, at, place, pointed, owner, found) }
     }
 }
 

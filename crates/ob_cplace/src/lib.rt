@@ -8,7 +8,7 @@ mod guards;
 mod places;
 
 pub use bound::super_call;
+pub use fields::{select, through};
 pub use front::{Front, front_named};
 pub use guards::{guard, guard_of, if_extends};
 pub use places::{dereference, index, variable_named};
-pub use fields::{select, through};
