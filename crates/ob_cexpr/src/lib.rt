@@ -1,7 +1,10 @@
 //! Expressions and designators, judged by the rules.
-#![tactic(auto)]
+#![tactic(auto, using(ob_rules::proofs::BookLaws::after_none, ob_rules::proofs::BookLaws::after_joined))]
 
+mod literals;
+mod operands;
 mod phrases;
+mod tests;
 mod walk;
 
 pub use phrases::{name_in, start_of};

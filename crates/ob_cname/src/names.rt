@@ -52,11 +52,7 @@ fn entity_known<'a, S: Surroundings>(
 }
 
 /// What a name stands for. None where it breaks rule 2, 7 or 8, or its declaration breaks a rule.
-pub fn named<'a, S: Surroundings>(
-    here: &'a S,
-    book: &mut Notebook,
-    x: &Ident,
-) -> Option<&'a Entity>
+pub fn named<'a, S: Surroundings>(here: &'a S, book: &mut Notebook, x: &Ident) -> Option<&'a Entity>
     ensures made { option_copied result ≡ (spec.named (S.around here.now) x.now).node }
     ensures noted { book.new ≡ book_after book.old (spec.named (S.around here.now) x.now).notes }
 {

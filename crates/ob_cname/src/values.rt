@@ -10,9 +10,8 @@ ghost use Rattle.ob_cname.specs.Basics.{basic_in, computed_type, kind_basic};
 
 use crate::shapes::basic_of;
 use ob_rules::{Computed, Place, Valued};
-
-use ob_trees::ExprTree;
 use ob_tree::List;
+use ob_trees::ExprTree;
 use ob_types::{
     Basic, ExprType, TypeRef, Types, Value, Width, constant_fits, signature_within,
     signatures_match, takes_nil, type_fits,

@@ -201,9 +201,12 @@ value_if u (Some p) = made (λ x. Some x) (p.value u)
 abbrev pub element_value : Around → Ranged → Judged ElementOf
 element_value u r = both (r.low.value u) (value_if u r.high) ▷ λ p. element (map_of u) r.low.start p.0 p.1
 
+abbrev pub relation_of : Around → Relation → Pos → Judged Valued → Phrase → Judged Valued
+relation_of u relates.Is at x r = is_test u at x r r.name
+relation_of u op at x r = both x (r.value u) ▷ λ p. related (map_of u) op at p.0 p.1
+
 abbrev pub relation_value : Around → Relation → Pos → Phrase → Phrase → Judged Valued
-relation_value u relates.Is at l r = is_test u at (l.value u) r r.name
-relation_value u op at l r = both (l.value u) (r.value u) ▷ λ p. related (map_of u) op at p.0 p.1
+relation_value u op at l r = relation_of u op at (l.value u) r
 
 abbrev pub expr_rule : Expr-F Phrase Behind Named Ranged Tailed → Phrase
 expr_rule (Expr-F.Designator n) = designator_phrase n
