@@ -1,0 +1,7 @@
+//! What is known at a place of a module: the declared names with their scopes, the types so far,
+//! the bound procedures, each found by an index.
+#![tactic(auto)]
+
+mod stack;
+
+pub use stack::Stack;
