@@ -3,5 +3,7 @@
 #![tactic(auto)]
 
 mod stack;
+mod table;
 
 pub use stack::Stack;
+pub use table::{Named, Table};
