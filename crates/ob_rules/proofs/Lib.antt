@@ -1,0 +1,3 @@
+mod Build
+pub mod Least
+pub mod BookLaws

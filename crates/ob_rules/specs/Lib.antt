@@ -1,0 +1,17 @@
+pub mod Judged
+pub mod Books
+pub mod Shapes
+pub mod Names
+pub mod Constants
+pub mod Values
+pub mod Operators
+pub mod Phrases
+pub mod Calls
+pub mod Predeclared
+pub mod Designators
+pub mod Expressions
+pub mod Types
+pub mod Statements
+pub mod Headings
+pub mod Depth
+pub mod Declarations

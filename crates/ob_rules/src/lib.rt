@@ -1,0 +1,18 @@
+//! The rules of the language, as definitions over trees, and what they share with the checkers: what
+//! is broken, what names stand for, what designators and expressions come to, what is noted on the
+//! way, and how a checker looks up what stands around it.
+#![tactic(auto)]
+
+mod broken;
+mod entity;
+mod meant;
+mod notes;
+mod surroundings;
+mod values;
+
+pub use broken::{Broken, Predeclared, earlier};
+pub use entity::{Bound, Coming, Entity, Known, Received};
+pub use meant::{Chosen, ElementOf, Meant, Where};
+pub use notes::{Later, Notebook};
+pub use surroundings::Surroundings;
+pub use values::{Computed, Place, Valued};

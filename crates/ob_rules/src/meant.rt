@@ -1,0 +1,54 @@
+use crate::broken::Predeclared;
+use crate::values::{Place, Valued};
+use ob_tree::{Pos, QName};
+use ob_trees::{ExprTree, StmtTree};
+use ob_types::{Method, OutProcedure, Signature, TypeRef, Value};
+
+/// A bound procedure that is selected.
+#[derive(Drop)]
+pub struct Chosen {
+    /// The variable that it is selected of.
+    pub receiver: Place,
+    /// The first symbol of the designator.
+    pub start: Pos,
+    /// What the variable points to, if it is a pointer. It is the receiver of a call where that is
+    /// a record.
+    pub pointed: Option<TypeRef>,
+    /// The record that the procedure is looked for in.
+    pub owner: QName,
+    /// The record that introduces it.
+    pub introduced: QName,
+    pub method: Method,
+    /// Of a super call, the base that it begins at.
+    pub base: Option<QName>,
+}
+
+/// What a designator comes to.
+#[derive(Drop)]
+pub enum Meant {
+    Place(Place),
+    Constant(Value),
+    Procedure(QName, Signature),
+    Bound(Chosen),
+    Out(OutProcedure),
+    Predeclared(Predeclared),
+    Call(Valued),
+    /// A call of a predeclared procedure without a result.
+    Statement(StmtTree),
+}
+
+/// Where a designator stands: a call there has a result, has none, or is not asked for one.
+#[derive(Clone, Copy, Debug, PartialEq, Eq)]
+pub enum Where {
+    InExpression,
+    AsStatement,
+    Elsewhere,
+}
+
+/// An element of a set: where it stands, its node, and the set that it is if it is constant.
+#[derive(Drop)]
+pub struct ElementOf {
+    pub at: Pos,
+    pub node: ExprTree,
+    pub constant: Option<Value>,
+}
