@@ -2,8 +2,10 @@
 //! the bound procedures, each found by an index.
 #![tactic(auto)]
 
+mod scope;
 mod stack;
 mod table;
 
+pub use scope::Scope;
 pub use stack::Stack;
 pub use table::{Named, Table};

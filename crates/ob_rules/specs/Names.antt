@@ -30,7 +30,7 @@ use Rattle.ob_rules.specs.declared.entity.Entity.TheVariants as entity
 use Rattle.ob_rules.specs.declared.broken.Predeclared.{Predeclared}
 use Rattle.ob_rules.specs.declared.broken.Predeclared.TheVariants as pre
 use Rattle.ob_rules.specs.Judged.{Judged, sound, silent, breaks, names, ◌▷◌}
-use Rattle.ob_rules.specs.Shapes.{Map}
+use Rattle.ob_rules.specs.Shapes.{Map, same_name}
 
 -- what stands around a part of a text
 pub record Around : Type 0 where
@@ -75,7 +75,7 @@ type_desc false false u q = u.shown q
 
 -- the map of all types: the module's own, those that the imported modules show, and that of the parameter of Out.String
 abbrev pub map_of : Around → Map
-map_of u = λ q. type_desc (bytes_eq q.module u.unit) (bytes_eq q.module (codes "Out")) u q
+map_of u = λ q. type_desc (bytes_eq q.module u.unit) (same_name q out_string) u q
 
 -- KNOWN NAMES
 
