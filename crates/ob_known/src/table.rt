@@ -1,4 +1,4 @@
-ghost use Rattle.std.specs.Prelude.{◌≡◌, [], ◌∷◌, ◌<◌, ◌-◌, ◌+◌, length, Some, OnOk, OnErr, drop, bytes_eq, slice_get};
+ghost use Rattle.std.specs.Prelude.{◌≡◌, [], ◌∷◌, ◌<◌, ◌-◌, ◌+◌, length, Some, OnOk, OnErr, drop, reverse, bytes_eq, slice_get};
 ghost use Rattle.std.specs.List.{find};
 ghost use Rattle.std.specs.Option.{option_copied};
 ghost use Rattle.ob_known.specs.Stacks.{latest};
@@ -61,6 +61,13 @@ impl<T: Named> Table<T> {
         ensures { result ≡ length self.now }
     {
         self.items.len()
+    }
+
+    /// All of them, the oldest first.
+    pub fn as_slice(&self) -> &[T]
+        ensures { reverse result.now ≡ self.now }
+    {
+        &self.items
     }
 
     /// The latest of that name. Takes no memory.
