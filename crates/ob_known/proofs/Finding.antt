@@ -1,8 +1,8 @@
 -- What is found by the latest place of its name.
-use Rattle.std.proofs.Common.{◌≡◌, ℕ, zero, suc, ◌+◌, ◌-◌, ◌<◌, ◌≤◌, Bool, true, false, List, [], ◌∷◌, ◌++◌, length, map, drop, Option, Some, None, refl, sym, ap, subst, ◌∙◌, arith}
+use Rattle.std.proofs.Common.{◌≡◌, ℕ, zero, suc, ◌+◌, ◌-◌, ◌<◌, ◌≤◌, Bool, true, false, List, [], ◌∷◌, ◌++◌, length, map, drop, take, Option, Some, None, refl, sym, ap, subst, ◌∙◌, arith}
 use Rattle.std.specs.Prelude.{if◌then◌else◌, bytes_eq, reverse, slice_get}
 use Rattle.std.specs.List.{find}
-use Rattle.std.proofs.lemmas.List.{reverse-append, reverse-reverse, length-reverse, length-map}
+use Rattle.std.proofs.lemmas.List.{reverse-append, reverse-reverse, length-reverse, length-map, length-drop, take-append-drop}
 use Rattle.ob_known.specs.Stacks.{latest}
 
 reverse_cons : {A : Type 0} (x : A) (xs : List A) → reverse (x ∷ xs) ≡ reverse xs ++ x ∷ []
@@ -52,3 +52,23 @@ finds name items x n e = ap (λ l. slice_get l n) (sym (reverse-reverse items)) 
 
 pub finds_none : {A : Type 0} (name : A → List ℕ) (items : List A) (x : List ℕ) → None ≡ latest (map name (reverse items)) x → None ≡ find (λ y. bytes_eq (name y) x) (reverse items)
 finds_none name items x e = ap (at_place (reverse items)) e ∙ sym (find_at name (reverse items) x)
+
+-- CUT
+
+drop_map : {A B : Type 0} (f : A → B) (n : ℕ) (xs : List A) → drop n (map f xs) ≡ map f (drop n xs)
+drop_map f zero xs = refl
+drop_map f (suc n) [] = refl
+drop_map f (suc n) (x ∷ xs) = drop_map f n xs
+
+pub drop_mapped : {A B : Type 0} (f : A → B) (left : ℕ) (xs : List A) → drop (length (map f xs) - left) (map f xs) ≡ map f (drop (length xs - left) xs)
+drop_mapped f left xs = ap (λ n. drop (n - left) (map f xs)) (length-map xs f) ∙ drop_map f (length xs - left) xs
+
+drop_front : {A : Type 0} (xs ys : List A) (n : ℕ) → n ≡ length xs → drop n (xs ++ ys) ≡ ys
+drop_front [] ys zero e = refl
+drop_front [] ys (suc n) e = absurd (omega arith)
+drop_front (x ∷ xs) ys zero e = absurd (omega arith)
+drop_front (x ∷ xs) ys (suc n) e = drop_front xs ys n (omega arith)
+
+-- the front of a list, turned, is the end of the turned list
+pub reverse_taken : {A : Type 0} (xs : List A) (n : ℕ) → reverse (take n xs) ≡ drop (length (reverse xs) - n) (reverse xs)
+reverse_taken xs n = sym (ap (λ l. drop (length (reverse xs) - n) l) (ap reverse (sym (take-append-drop n xs)) ∙ reverse-append (take n xs) (drop n xs)) ∙ drop_front (reverse (drop n xs)) (reverse (take n xs)) (length (reverse xs) - n) (ap (λ m. m - n) (length-reverse xs) ∙ sym (length-reverse (drop n xs) ∙ length-drop n xs)))

@@ -1,5 +1,5 @@
 -- What is known in a scope, by the latest declaration of the name.
-use Rattle.std.proofs.Common.{◌≡◌, ℕ, suc, ◌<◌, ◌≤◌, Bool, true, false, List, [], ◌∷◌, ◌++◌, length, map, Option, Some, None, refl, sym, ap, subst, ◌∙◌, arith}
+use Rattle.std.proofs.Common.{◌≡◌, ℕ, suc, ◌<◌, ◌≤◌, Bool, true, false, List, [], ◌∷◌, ◌++◌, length, map, Option, Some, None, Result, Ok, Err, OnOk, OnErr, refl, sym, ap, subst, ◌∙◌, arith}
 use Rattle.std.specs.Prelude.{bytes_eq, ◌&&◌, ◌||◌, if◌then◌else◌, is_some, nat_eq, nat_le, IsTrue}
 use Rattle.std.specs.List.{find, list_any}
 use Rattle.std.specs.Option.{option_map}
@@ -71,3 +71,19 @@ declared_by n s (k ∷ ks) x h = go (bytes_eq k.name x) (nat_le s k.scope) refl 
 
 pub own_seen : (u : Around) (q : QName) (o : Option TypedType) → bytes_eq q.«module» u.unit ≡ true → o ≡ find (λ t. bytes_eq t.name q.object) u.own → own_desc o ≡ map_of u q
 own_seen u q o e f = ap own_desc f ∙ sym (ap (λ b. type_desc b (same_name q out_string) u q) e)
+
+at_most : (m n : ℕ) → m ≤ n → nat_le m n ≡ true
+at_most m n le = grind (arith, nat_tests)
+
+joined_true : (a b : Bool) → a ≡ true → b ≡ true → a && b ≡ true
+joined_true true true e f = refl
+joined_true true false e f = absurd cc
+joined_true false b e f = absurd cc
+
+pub wider : (n m : ℕ) (ks : List Known) → n ≤ m → are_within n ks ≡ true → are_within m ks ≡ true
+wider n m [] le h = refl
+wider n m (k ∷ ks) le h = let p = parts n k.scope ks h in let lt = less k.scope n p.0 in joined_true (nat_le k.scope m) (are_within k.scope ks) (at_most k.scope m (omega (arith, lt))) p.1
+
+pub one_more : {E : Type 0} (r : Result Unit E) (s : ℕ) (k : Known) (old new : List Known) → OnOk r (new ≡ k ∷ old) → OnErr r (new ≡ old) → k.scope ≡ s → are_within s old ≡ true → are_within s new ≡ true
+one_more (Ok x) s k old new ok err e h = subst (λ l. are_within s l ≡ true) (sym ok) (joined_true (nat_le k.scope s) (are_within k.scope old) (at_most k.scope s (omega (arith, e))) (subst (λ n. are_within n old ≡ true) (sym e) h))
+one_more (Err x) s k old new ok err e h = subst (λ l. are_within s l ≡ true) (sym err) h

@@ -1,5 +1,5 @@
 -- What stands around, as a scope keeps it.
-use Rattle.std.specs.Prelude.{Option}
+use Rattle.std.specs.Prelude.{ℕ, List, [], Option, None, false}
 use Rattle.ob_tree.specs.declared.names.QName.{QName}
 use Rattle.ob_types.specs.declared.desc.Desc.{Desc}
 use Rattle.ob_rules.specs.Names.{Around}
@@ -21,4 +21,23 @@ around_of shown s = record {
   receiver = s.receiver;
   result = s.result_type;
   in_loop = s.in_loop
+}
+
+-- no name is known yet
+abbrev pub at_start : List ℕ → (QName → Option Desc) → Around
+at_start unit shown = record {
+  unit = unit;
+  shown = shown;
+  own = [];
+  known = [];
+  scope = 0;
+  level = 1;
+  path = [];
+  later_types = [];
+  coming = [];
+  bound = [];
+  guards = [];
+  receiver = None;
+  result = None;
+  in_loop = false
 }

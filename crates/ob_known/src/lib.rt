@@ -6,6 +6,6 @@ mod scope;
 mod stack;
 mod table;
 
-pub use scope::{Imports, Scope};
+pub use scope::{Imports, Marked, Scope};
 pub use stack::Stack;
 pub use table::{Named, Table};

@@ -1,4 +1,4 @@
-ghost use Rattle.std.specs.Prelude.{◌≡◌, [], ◌∷◌, ◌++◌, ◌<◌, ◌-◌, ◌+◌, length, drop, List, Option, Some, None, is_some, bytes_eq, reverse, IsTrue, OnOk};
+ghost use Rattle.std.specs.Prelude.{◌≡◌, [], ◌∷◌, ◌++◌, ◌<◌, ◌≤◌, ◌-◌, ◌+◌, true, length, drop, List, Option, Some, None, is_some, bytes_eq, reverse, IsTrue, OnOk, IfOk};
 ghost use Rattle.std.specs.Option.{option_copied};
 ghost use Rattle.std.specs.Option.{option_map};
 ghost use Rattle.ob_rules.specs.Names.{own_desc, bound_for};
@@ -121,6 +121,13 @@ fn find_bound<'a>(bound: &'a [Bound], owner: &QName, name: &Name) -> Option<&'a 
     None
 }
 
+/// How many names are known, and how many types the module has, at a place of a module.
+#[derive(Clone, Copy, Debug)]
+pub struct Marked {
+    pub known: usize,
+    pub own: usize,
+}
+
 impl<'a, E: Imports> Types for Scope<'a, E> {
     ghost use Rattle.ob_rules.specs.Names.{map_of};
     ghost use Rattle.ob_known.specs.Scopes.{around_of};
@@ -221,4 +228,90 @@ impl<'a, E: Imports> Surroundings for Scope<'a, E> {
     }
 
     ghost all_types = { λ s. refl };
+}
+
+impl<'a, E: Imports> Scope<'a, E> {
+    ghost use Rattle.ob_known.specs.Scopes.{around_of, at_start};
+
+    /// What stands around at the start of a module: no name is known, in the scope of number 0.
+    pub fn new(alloc: Global, unit: Name, imported: &'a E) -> Result<Scope<'a, E>, AllocError>
+        ensures { IfOk result (λ s. around_of E.types s ≡ at_start unit (E.types imported.now)) }
+    {
+        let path = ObjName::new(alloc, b"".as_slice())?;
+        Ok(Scope {
+            unit,
+            imported,
+            own: Table::new(alloc),
+            known: Table::new(alloc),
+            scope: 0,
+            level: 1,
+            path,
+            later_types: Stack::new(alloc),
+            coming: List::new(alloc),
+            bound: Table::new(alloc),
+            guards: Vec::new(alloc),
+            receiver: None,
+            result_type: None,
+            in_loop: false,
+            text: Desc::OpenArray(Mark::Hidden, TypeRef::Basic(Basic::Char)),
+        })
+    }
+
+    /// From here on a name is known, in the innermost scope.
+    pub fn declare(&mut self, alloc: Global, name: Name, what: Entity) -> Result<(), AllocError>
+        ensures { OnOk result (around_of E.types self.new ≡ record (around_of E.types self.old) { known = record { name = name; scope = (around_of E.types self.old).scope; what = what } ∷ (around_of E.types self.old).known }) }
+    {
+        let scope = self.scope;
+        self.known.push(alloc, Known { name, scope, what })
+    }
+
+    /// From here on the module has one more type.
+    pub fn add_type(&mut self, alloc: Global, t: TypedType) -> Result<(), AllocError>
+        ensures { OnOk result (around_of E.types self.new ≡ record (around_of E.types self.old) { own = t ∷ (around_of E.types self.old).own }) }
+    {
+        self.own.push(alloc, t)
+    }
+
+    /// From here on a scope in the innermost one is the innermost.
+    pub fn enter(&mut self) -> Result<(), AllocError>
+        ensures { OnOk result (around_of E.types self.new ≡ record (around_of E.types self.old) { scope = (around_of E.types self.old).scope + 1 }) }
+    {
+        if self.scope == u32::MAX {
+            return Err(AllocError);
+        }
+        self.scope += 1;
+        Ok(())
+    }
+
+    /// How many names are known, and how many types the module has. The scopes of the known names fall,
+    /// the latest first. Takes no memory.
+    pub fn mark(&self) -> Marked
+        ensures known { result.known ≡ length (around_of E.types self.now).known }
+        ensures own { result.own ≡ length (around_of E.types self.now).own }
+        ensures fall { are_within (around_of E.types self.now).scope (around_of E.types self.now).known ≡ true }
+    {
+        Marked {
+            known: self.known.len(),
+            own: self.own.len(),
+        }
+    }
+
+    /// Ends the innermost scope: as many names are known and the module has as many types as at
+    /// the mark. Takes no memory.
+    pub fn leave(&mut self, mark: Marked)
+        requires inner { 0 < (around_of E.types self.old).scope }
+        requires fall { are_within ((around_of E.types self.old).scope - 1) (drop (length (around_of E.types self.old).known - mark.known) (around_of E.types self.old).known) ≡ true }
+        ensures { around_of E.types self.new ≡ record (around_of E.types self.old) { scope = (around_of E.types self.old).scope - 1; known = drop (length (around_of E.types self.old).known - mark.known) (around_of E.types self.old).known; own = drop (length (around_of E.types self.old).own - mark.own) (around_of E.types self.old).own } }
+    {
+        self.known.cut(mark.known);
+        self.own.cut(mark.own);
+        self.scope -= 1;
+    }
+
+    /// The module has as many types as at the mark. Takes no memory.
+    pub fn cut_types(&mut self, mark: Marked)
+        ensures { around_of E.types self.new ≡ record (around_of E.types self.old) { own = drop (length (around_of E.types self.old).own - mark.own) (around_of E.types self.old).own } }
+    {
+        self.own.cut(mark.own);
+    }
 }

@@ -84,7 +84,8 @@ impl<T: Named> Table<T> {
 impl<T: Named + Drop> Table<T> {
     /// One more, the latest.
     pub fn push(&mut self, alloc: Global, item: T) -> Result<(), AllocError>
-        ensures { OnOk result (self.new ≡ item ∷ self.old) }
+        ensures ok { OnOk result (self.new ≡ item ∷ self.old) }
+        ensures err { OnErr result (self.new ≡ self.old) }
     {
         self.items.reserve(1)?;
         self.names.push(alloc, item.name_bytes())?;
@@ -101,5 +102,16 @@ impl<T: Named> Table<T> {
     {
         self.names.pop();
         self.items.pop()
+    }
+}
+
+impl<T: Named + Drop> Table<T> {
+    /// Takes the latest away until so many are left; where there are no more than that, none.
+    /// Takes no memory.
+    pub fn cut(&mut self, left: usize)
+        ensures { self.new ≡ drop (length self.old - left) self.old }
+    {
+        self.names.cut(left);
+        self.items.truncate(left);
     }
 }
