@@ -1,6 +1,6 @@
 //! Checked trees as their owners hold them: each recursive tree stands behind a struct that lets it
 //! go, so that a crate above sees one call where a tree ends, and nothing of its parts. Nodes are
-//! made here, of the trees below them. Copies of what trees are made of stand here too.
+//! made here, of the trees below them. Exact copies of what trees are made of stand here too.
 #![tactic(auto)]
 
 mod copies;
