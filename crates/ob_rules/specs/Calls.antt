@@ -29,7 +29,7 @@ use Rattle.ob_rules.specs.declared.meant.Meant.{Meant}
 use Rattle.ob_rules.specs.declared.meant.Where.{Where}
 use Rattle.ob_rules.specs.declared.meant.Meant.TheVariants as means
 use Rattle.ob_rules.specs.declared.meant.Where.TheVariants.{InExpression, AsStatement, Elsewhere}
-use Rattle.ob_rules.specs.Judged.{Judged, sound, silent, breaks, also, wants, each_sound, made, noted, ◌▷◌}
+use Rattle.ob_rules.specs.Judged.{Judged, sound, silent, breaks, also, wants, both, noted, ◌▷◌}
 use Rattle.ob_rules.specs.Shapes.{Map, shape, open_element, array_of, element_is, passing_of, record_of, extends_record, is_array, base_record}
 use Rattle.ob_rules.specs.Names.{bound_for, Around, map_of, out_string}
 use Rattle.ob_rules.specs.declared.values.Place.{Place}
@@ -52,10 +52,17 @@ abbrev pub takes_variable : Map → Option TypeRef → TypeRef → TypeRef → B
 takes_variable map (Some element) formal t = element_is map element (array_of map t)
 takes_variable map None formal t = same_at map t formal || both_records map (record_of map t) (record_of map formal)
 
--- rule 25: an actual parameter does not fit; rule 26: a read-only thing is passed as VAR; rule 38: a designator that ends in a guard on a pointer is
+-- rule 38: a designator that ends in a guard on a pointer is passed as VAR
+abbrev pub unless_guarded : Map → TypeRef → Pos → Place → Judged Actual
+unless_guarded map t start p = also p.guarded 38 start (sound (actual_of (passing_of map mode.Var t) t (e.Designator p.designator.inner)))
+
+-- rule 26: a read-only thing is
+abbrev pub unless_read_only : Map → TypeRef → Pos → Place → Judged Actual
+unless_read_only map t start p = also p.read_only 26 start (unless_guarded map t start p)
+
+-- rule 25: an actual parameter does not fit
 abbrev pub variable_actual : Map → TypeRef → Pos → Place → Judged Actual
-variable_actual map t start p =
-    also (not (takes_variable map (open_element map t) t p.of)) 25 start (also p.read_only 26 start (also p.guarded 38 start (sound (actual_of (passing_of map mode.Var t) t (e.Designator p.designator.inner)))))
+variable_actual map t start p = also (not (takes_variable map (open_element map t) t p.of)) 25 start (unless_read_only map t start p)
 
 -- rule 26: a constant or a procedure is passed as VAR; rule 25: an expression or a call
 abbrev pub meant_actual : Map → TypeRef → Pos → Meant → Judged Actual
@@ -89,14 +96,10 @@ actual u mode.Var t p = var_actual u t p p.meant
 actual u mode.Value t p = p.value u ▷ value_actual (map_of u) t p.start
 
 -- each actual parameter with its formal one; what stands behind the last formal one is judged too
-abbrev pub actuals : Around → List (Mode × TypeRef) → List Phrase → List (Judged (List Actual))
-actuals u fs [] = []
-actuals u [] (p ∷ ps) = (p.value u ▷ λ x. sound []) ∷ actuals u [] ps
-actuals u (f ∷ fs) (p ∷ ps) = (actual u f.0 f.1 p ▷ λ a. sound (a ∷ [])) ∷ actuals u fs ps
-
-abbrev pub flat : {A : Type 0} → List (List A) → List A
-flat [] = []
-flat (xs ∷ xss) = xs ++ flat xss
+abbrev pub actuals : Around → List (Mode × TypeRef) → List Phrase → Judged (List Actual)
+actuals u fs [] = sound []
+actuals u [] (p ∷ ps) = both (p.value u) (actuals u [] ps) ▷ λ r. sound r.1
+actuals u (f ∷ fs) (p ∷ ps) = both (actual u f.0 f.1 p) (actuals u fs ps) ▷ λ r. sound (r.0 ∷ r.1)
 
 -- CALLS
 
@@ -107,11 +110,13 @@ misplaced AsStatement is_function = is_function
 misplaced Elsewhere is_function = false
 
 -- rule 24: the number of actual parameters differs
+abbrev pub called_with : Where → Pos → Signature → ℕ → (List Actual → TypedExpr) → List Actual → Judged Valued
+called_with w at s n f xs =
+    wants (nat_eq n (length s.params)) 24 at xs
+    ▷ λ ys. also (misplaced w (is_some s.result)) 27 at (sound (computed (f ys) (result_type s.result)))
+
 abbrev pub called : Around → Where → Pos → Signature → List Phrase → (List Actual → TypedExpr) → Judged Valued
-called u w at s ps f =
-    each_sound (actuals u s.params ps)
-    ▷ λ xs. wants (nat_eq (length ps) (length s.params)) 24 at xs
-    ▷ λ ys. also (misplaced w (is_some s.result)) 27 at (sound (computed (f (flat ys)) (result_type s.result)))
+called u w at s ps f = actuals u s.params ps ▷ called_with w at s (length ps) f
 
 abbrev pub call_procedure : Around → Where → Pos → QName → Signature → List Phrase → Judged Valued
 call_procedure u w at name s ps = called u w at s ps (λ xs. e.Call (callee.Declared name) xs at s.result)
@@ -154,7 +159,7 @@ sound_or true (Some b) base f = is_some b.signature
 sound_or true None None f = true
 sound_or true None (Some b) f = f b
 
-abbrev pub nearest_sound : Around → ℕ → QName → List ℕ → Bool
+unfoldable pub nearest_sound : Around → ℕ → QName → List ℕ → Bool
 nearest_sound u zero q x = true
 nearest_sound u (suc n) q x = sound_or (bytes_eq q.module u.unit) (bound_for u.bound q x) (base_record (map_of u) q) (λ b. nearest_sound u n b x)
 
@@ -164,7 +169,7 @@ where_from c (Some base) = base
 
 -- rule 26: a read-only record is passed as the receiver of a VAR record
 abbrev pub call_bound_sound : Bool → Around → Where → Pos → Chosen → List Phrase → Judged Valued
-call_bound_sound false u w at c ps = each_sound (actuals u [] ps) ▷ λ xs. silent
+call_bound_sound false u w at c ps = actuals u [] ps ▷ λ xs. silent
 call_bound_sound true u w at c ps =
     also (is_record_receiver c.method.receiver && ((receiver_place c).read_only && is_none c.base)) 26 at (called u w at c.method.signature ps (λ xs. e.Call (bound_callee c c.base) (receiver_actual c.method.receiver c ∷ xs) at c.method.signature.result))
 

@@ -26,6 +26,7 @@ use Rattle.ob_types.specs.declared.typed.OutProcedure.{OutProcedure}
 use Rattle.ob_types.specs.declared.typed.Designator.TheVariants as d
 use Rattle.ob_rules.specs.declared.entity.Entity.{Entity}
 use Rattle.ob_rules.specs.declared.entity.Known.{Known}
+use Rattle.ob_rules.specs.declared.entity.Coming.{Coming}
 use Rattle.ob_rules.specs.declared.entity.Received.{Received}
 use Rattle.ob_rules.specs.declared.meant.Chosen.{Chosen}
 use Rattle.ob_rules.specs.declared.meant.Meant.{Meant}
@@ -124,6 +125,11 @@ if_so_held false p = silent
 abbrev pub if_held : Map → TypeRef → Place → Judged Place
 if_held map t p = if_so_held (is_held map t) p
 
+-- what a pointer points to, if it is one, is there
+abbrev pub is_there : Map → Option TypeRef → Bool
+is_there map None = true
+is_there map (Some t) = is_held map t
+
 -- rule 22: a selector does not fit the type
 abbrev pub dereference_of : Map → Pos → Place → Option TypeRef → Judged Place
 dereference_of map at p None = breaks 22 at
@@ -196,9 +202,12 @@ abbrev pub comes_for : Around → QName → Option Known → List ℕ → Bool
 comes_for u q None owner = list_any (λ x. bytes_eq x owner) u.later_types
 comes_for u q (Some k) owner = comes_of u q k.what
 
+abbrev pub comes_as : Around → QName → List ℕ → Coming → Bool
+comes_as u q x c = bytes_eq c.name x && comes_for u q (find_name u.known c.owner) c.owner
+
 -- a bound procedure of that name that the text has further on, for the record or a base of it
 abbrev pub comes : Around → QName → List ℕ → Bool
-comes u q x = list_any (λ c. bytes_eq c.name x && comes_for u q (find_name u.known c.owner) c.owner) u.coming
+comes u q x = list_any (λ c. comes_as u q x c) u.coming
 
 abbrev pub nothing_behind : List Behind → Bool
 nothing_behind [] = true
@@ -210,19 +219,26 @@ not_there true true start x = breaks 39 start
 not_there true false start x = silent
 not_there false last start x = breaks 2 x.pos
 
+-- p is the variable, and q what it points to, if it is a pointer
+abbrev pub member_found : Around → Pos → Pos → Place → Place → Option TypeRef → QName → Member → Judged Meant
+member_found u start at p q pointed rec (AField owner f) = sound (means.Place (field_of u q owner f))
+member_found u start at p q pointed rec (AMethod owner m) = select_bound at (is_some pointed) (chosen start p pointed rec owner m)
+
 -- rule 2: the record has no such member, or it is not exported
-abbrev pub member_of : Around → Pos → Pos → Ident → Place → Place → Bool → QName → List Behind → Option Member → Judged Meant
-member_of u start at x p q pointer rec rest None = not_there (comes u rec x.name) (nothing_behind rest) start x
-member_of u start at x p q pointer rec rest (Some (AField owner f)) = sound (means.Place (field_of u q owner f))
-member_of u start at x p q pointer rec rest (Some (AMethod owner m)) = select_bound at pointer (chosen start p (pointed (map_of u) p.of) rec owner m)
+abbrev pub member_of : Around → Pos → Pos → Ident → Place → Place → Option TypeRef → QName → Bool → Option Member → Judged Meant
+member_of u start at x p q pointed rec last None = not_there (comes u rec x.name) last start x
+member_of u start at x p q pointed rec last (Some m) = member_found u start at p q pointed rec m
 
 -- rule 22: neither a record nor a pointer to one
-abbrev pub select_of : Around → Pos → Pos → Ident → Place → Place → List Behind → Option QName → Judged Meant
-select_of u start at x p q rest None = breaks 22 at
-select_of u start at x p q rest (Some rec) = member_of u start at x p q (is_pointer (map_of u) p.of) rec rest (member (map_of u) rec x.name)
+abbrev pub select_of : Around → Pos → Pos → Ident → Place → Place → Option TypeRef → Bool → Option QName → Judged Meant
+select_of u start at x p q pointed last None = breaks 22 at
+select_of u start at x p q pointed last (Some rec) = member_of u start at x p q pointed rec last (member (map_of u) rec x.name)
 
-abbrev pub select : Around → Pos → Pos → Ident → Place → List Behind → Judged Meant
-select u start at x p rest = implicitly (map_of u) (λ t. true) at p (pointed (map_of u) p.of) ▷ λ q. select_of u start at x p q rest (record_of (map_of u) q.of)
+abbrev pub select_through : Around → Pos → Pos → Ident → Place → Bool → Option TypeRef → Judged Meant
+select_through u start at x p last pointed = implicitly (map_of u) (λ t. true) at p pointed ▷ λ q. select_of u start at x p q pointed last (record_of (map_of u) q.of)
+
+abbrev pub select : Around → Pos → Pos → Ident → Place → Bool → Judged Meant
+select u start at x p last = select_through u start at x p last (pointed (map_of u) p.of)
 
 -- rule 40: `P^` on what is not the receiver of the enclosing bound procedure, or where no base has P
 abbrev pub super_of : Pos → Chosen → QName → Option Member → Judged Meant
@@ -311,22 +327,35 @@ other_round u w start at m ps (Some q) false true callable = type_named u q ▷ 
 other_round u w start at m ps None false guardable true = call_meant u w start m ps
 other_round u w start at m ps q false guardable callable = noted (visited u ps) (breaks 22 at)
 
-abbrev pub step : Around → Where → Pos → Meant → Behind → List Behind → Judged Meant
-step u w start (means.Place p) (Dot at x) rest = select u start at x p rest
-step u w start (means.Place p) (Index at i) rest = index (map_of u) at p (i.value u) ▷ λ q. sound (means.Place q)
-step u w start (means.Place p) (Up at) rest = dereference (map_of u) at p ▷ λ q. sound (means.Place q)
-step u w start (means.Place p) (Round at ps) rest = place_round u w start at p ps (type_in_round u ps) (signature_at (map_of u) p.of)
-step u w start (means.Bound c) (Up at) rest = super (map_of u) at c u.receiver
-step u w start m (Round at ps) rest = other_round u w start at m ps (type_in_round u ps) (takes_type m) (is_guardable m) (is_callable m)
-step u w start m (Index at i) rest = noted (i.value u).notes (breaks 22 at)
-step u w start m (Dot at x) rest = breaks 22 at
-step u w start m (Up at) rest = breaks 22 at
+abbrev pub step_dot : Around → Pos → Pos → Ident → Bool → Meant → Judged Meant
+step_dot u start at x last (means.Place p) = select u start at x p last
+step_dot u start at x last m = breaks 22 at
+
+abbrev pub step_index : Map → Pos → Judged Valued → Meant → Judged Meant
+step_index map at i (means.Place p) = index map at p i ▷ λ q. sound (means.Place q)
+step_index map at i m = noted i.notes (breaks 22 at)
+
+abbrev pub step_up : Around → Pos → Meant → Judged Meant
+step_up u at (means.Place p) = dereference (map_of u) at p ▷ λ q. sound (means.Place q)
+step_up u at (means.Bound c) = super (map_of u) at c u.receiver
+step_up u at m = breaks 22 at
+
+abbrev pub step_round : Around → Where → Pos → Pos → List Phrase → Meant → Judged Meant
+step_round u w start at ps (means.Place p) = place_round u w start at p ps (type_in_round u ps) (signature_at (map_of u) p.of)
+step_round u w start at ps m = other_round u w start at m ps (type_in_round u ps) (takes_type m) (is_guardable m) (is_callable m)
+
+-- one selector, which may be the last
+abbrev pub step : Around → Where → Pos → Meant → Behind → Bool → Judged Meant
+step u w start m (Dot at x) last = step_dot u start at x last m
+step u w start m (Index at i) last = step_index (map_of u) at (i.value u) m
+step u w start m (Up at) last = step_up u at m
+step u w start m (Round at ps) last = step_round u w start at ps m
 
 -- a call that something follows is not asked for its result as a statement
-abbrev pub where_of : Where → List Behind → Where
-where_of AsStatement [] = AsStatement
-where_of AsStatement (b ∷ bs) = Elsewhere
-where_of w bs = w
+abbrev pub where_of : Where → Bool → Where
+where_of AsStatement true = AsStatement
+where_of AsStatement false = Elsewhere
+where_of w last = w
 
 abbrev pub go_on_with : Around → List Behind → (Meant → Judged Meant) → Option Meant → Judged Meant
 go_on_with u bs f None = noted (all_visited u bs) silent
@@ -338,7 +367,7 @@ go_on u bs j f = noted j.notes (go_on_with u bs f j.node)
 -- each selector in turn. Behind one that is not sound the values are judged all the same
 abbrev pub through : Around → Where → Pos → List Behind → Meant → Judged Meant
 through u w start [] m = sound m
-through u w start (b ∷ bs) m = go_on u bs (step u (where_of w bs) start m b bs) (λ n. through u w start bs n)
+through u w start (b ∷ bs) m = go_on u bs (step u (where_of w (nothing_behind bs)) start m b (nothing_behind bs)) (λ n. through u w start bs n)
 
 -- THE NAME AT ITS FRONT
 
@@ -359,15 +388,25 @@ abbrev pub in_module : Bool → Around → Pos → List ℕ → Ident → Judged
 in_module true u start m x = out_meant x.pos (out_procedure x.name)
 in_module false u start m x = exported u m x ▷ λ q. exported_meant u start x.pos m x.name q.1
 
+-- the name behind a dot, where that comes first
+abbrev pub dot_of : List Behind → Option Ident
+dot_of (Dot at y ∷ bs) = Some y
+dot_of bs = None
+
+-- a module's name alone is rule 3
+abbrev pub module_front : Around → Pos → List ℕ → Option Ident → Judged Meant
+module_front u start m None = breaks 3 start
+module_front u start m (Some y) = in_module (is_out m) u start m y
+
 -- rule 3: a name whose kind does not fit its place
-abbrev pub front_of : Around → Ident → Entity → List Behind → Judged Meant
-front_of u x (entity.Constant v) bs = sound (means.Constant v)
-front_of u x (entity.Variable v t) bs = of_variable (variable_named u x.pos v t false)
-front_of u x (entity.Procedure name s) bs = sound (means.Procedure name s)
-front_of u x (entity.Forward name s) bs = sound (means.Procedure name s)
-front_of u x (entity.Predeclared f) bs = sound (means.Predeclared f)
-front_of u x (entity.Module m) (Dot at y ∷ bs) = in_module (is_out m) u x.pos m y
-front_of u x e bs = breaks 3 x.pos
+abbrev pub front_of : Around → Ident → Entity → Option Ident → Judged Meant
+front_of u x (entity.Constant v) dot = sound (means.Constant v)
+front_of u x (entity.Variable v t) dot = of_variable (variable_named u x.pos v t false)
+front_of u x (entity.Procedure name s) dot = sound (means.Procedure name s)
+front_of u x (entity.Forward name s) dot = sound (means.Procedure name s)
+front_of u x (entity.Predeclared f) dot = sound (means.Predeclared f)
+front_of u x (entity.Module m) dot = module_front u x.pos m dot
+front_of u x e dot = breaks 3 x.pos
 
 -- the selectors behind the name, or behind a module's name with the name in it
 abbrev pub is_module : Entity → Bool
@@ -379,7 +418,7 @@ behind true (b ∷ bs) = bs
 behind m bs = bs
 
 abbrev pub front : Around → Ident → List Behind → Judged Entity → Judged (Meant × List Behind)
-front u x bs e = e ▷ λ k. made (λ m. (m, behind (is_module k) bs)) (front_of u x k bs)
+front u x bs e = e ▷ λ k. made (λ m. (m, behind (is_module k) bs)) (front_of u x k (dot_of bs))
 
 -- a designator. Where its front breaks a rule, the values behind it are judged all the same
 abbrev pub from_front_with : Around → Where → Pos → List Behind → Option (Meant × List Behind) → Judged Meant

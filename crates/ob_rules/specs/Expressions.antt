@@ -11,7 +11,9 @@ use Rattle.ob_tree.specs.declared.expr.Expr.{Expr}
 use Rattle.ob_tree.specs.declared.expr.Designator.{Designator}
 use Rattle.ob_tree.specs.declared.expr.Element.{Element}
 use Rattle.ob_tree.specs.declared.expr.Expr.TheOpen.{Expr-F, Tail-F, Element-F, Designator-F, Selector-F}
-use Rattle.ob_tree.specs.declared.expr.Expr.TheFolds.{fold-Expr, fold-Designator, fold-Element}
+use Rattle.ob_tree.specs.declared.expr.Tail.{Tail}
+use Rattle.ob_tree.specs.declared.expr.Selector.{Selector}
+use Rattle.ob_tree.specs.declared.expr.Expr.TheFolds.{fold-Expr, fold-Designator, fold-Element, fold-Tail, fold-Selector}
 use Rattle.ob_types.specs.declared.types.TypeRef.{TypeRef}
 use Rattle.ob_types.specs.declared.types.TypeRef.TheVariants as ref
 use Rattle.ob_types.specs.declared.types.Basic.TheVariants as basic
@@ -156,10 +158,17 @@ test map at x t = found_or 23 at (test_of map x t (record_if map (type_in (type 
 abbrev pub untestable : Map → Pos → Judged Valued → Judged Valued
 untestable map at x = x ▷ λ v. wants (testable map v) 23 at v
 
--- a type's name behind IS, judged by itself; rule 21: something else
+-- a type's name behind IS, judged by itself
+abbrev pub type_test : Around → Pos → Judged Valued → Qualident → Judged Valued
+type_test u at x q = both (untestable (map_of u) at x) (type_named u q) ▷ λ p. test (map_of u) at p.0 p.1
+
+-- rule 21: something else
+abbrev pub other_test : Map → Pos → Judged Valued → Judged Valued → Judged Valued
+other_test map at x y = both x y ▷ λ p. also (not (testable map p.0)) 23 at (breaks 21 at)
+
 abbrev pub is_test : Around → Pos → Judged Valued → Phrase → Option Qualident → Judged Valued
-is_test u at x r (Some q) = both (untestable (map_of u) at x) (type_named u q) ▷ λ p. test (map_of u) at p.0 p.1
-is_test u at x r None = both x (r.value u) ▷ λ p. also (not (testable (map_of u) p.0)) 23 at (breaks 21 at)
+is_test u at x r (Some q) = type_test u at x q
+is_test u at x r None = other_test (map_of u) at x (r.value u)
 
 -- NODES
 
@@ -233,6 +242,12 @@ named_of = fold-Designator Phrase Behind Named Ranged Tailed expr_rule selector_
 
 abbrev pub ranged_of : Element → Ranged
 ranged_of = fold-Element Phrase Behind Named Ranged Tailed expr_rule selector_rule designator_rule element_rule tail_rule
+
+abbrev pub tailed_of : Tail → Tailed
+tailed_of = fold-Tail Phrase Behind Named Ranged Tailed expr_rule selector_rule designator_rule element_rule tail_rule
+
+abbrev pub behind_of : Selector → Behind
+behind_of = fold-Selector Phrase Behind Named Ranged Tailed expr_rule selector_rule designator_rule element_rule tail_rule
 
 -- CONSTANT EXPRESSIONS
 

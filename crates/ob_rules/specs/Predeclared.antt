@@ -25,6 +25,8 @@ use Rattle.ob_types.specs.TypedKinds.{of_basic, variable_type}
 use Rattle.ob_types.specs.TypedSyntax.{Desig, OfVariable, Field, Index, Deref, Guard}
 use Rattle.ob_types.specs.TypedView.{designator_view}
 use Rattle.ob_rules.specs.declared.meant.Meant.{Meant}
+use Rattle.ob_rules.specs.declared.meant.Asked.{Asked}
+use Rattle.ob_rules.specs.declared.meant.Asked.TheVariants as asked
 use Rattle.ob_rules.specs.declared.meant.Where.{Where}
 use Rattle.ob_rules.specs.declared.meant.Meant.TheVariants as means
 use Rattle.ob_rules.specs.declared.broken.Predeclared.{Predeclared}
@@ -63,25 +65,34 @@ abbrev pub values : Around → List Phrase → List (Judged Valued)
 values u [] = []
 values u (p ∷ ps) = p.value u ∷ values u ps
 
-abbrev pub first_by : (Phrase → Judged Valued) → Around → List Phrase → List (Judged Valued)
-first_by f u [] = []
-first_by f u (p ∷ ps) = f p ∷ values u ps
+-- what is asked of the first parameter, and of the second
+abbrev pub asked_first : Predeclared → Asked
+asked_first pre.Inc = asked.Changed
+asked_first pre.Dec = asked.Changed
+asked_first pre.Incl = asked.Changed
+asked_first pre.Excl = asked.Changed
+asked_first pre.New = asked.Changed
+asked_first pre.Halt = asked.Constant
+asked_first f = asked.Value
 
-abbrev pub second_by : (Phrase → Judged Valued) → Around → List Phrase → List (Judged Valued)
-second_by f u [] = []
-second_by f u (p ∷ ps) = p.value u ∷ first_by f u ps
+abbrev pub asked_second : Predeclared → Asked
+asked_second pre.Copy = asked.Changed
+asked_second pre.Assert = asked.Constant
+asked_second pre.Len = asked.Constant
+asked_second f = asked.Value
+
+abbrev pub parameter : Around → Asked → Phrase → Judged Valued
+parameter u asked.Value p = p.value u
+parameter u asked.Changed p = changed u p
+parameter u asked.Constant p = must_be_constant u p
+
+abbrev pub parameters_behind : Around → Predeclared → List Phrase → List (Judged Valued)
+parameters_behind u f [] = []
+parameters_behind u f (p ∷ ps) = parameter u (asked_second f) p ∷ values u ps
 
 abbrev pub parameters : Around → Predeclared → List Phrase → List (Judged Valued)
-parameters u pre.Inc ps = first_by (changed u) u ps
-parameters u pre.Dec ps = first_by (changed u) u ps
-parameters u pre.Incl ps = first_by (changed u) u ps
-parameters u pre.Excl ps = first_by (changed u) u ps
-parameters u pre.New ps = first_by (changed u) u ps
-parameters u pre.Copy ps = second_by (changed u) u ps
-parameters u pre.Assert ps = second_by (must_be_constant u) u ps
-parameters u pre.Len ps = second_by (must_be_constant u) u ps
-parameters u pre.Halt ps = first_by (must_be_constant u) u ps
-parameters u f ps = values u ps
+parameters u f [] = []
+parameters u f (p ∷ ps) = parameter u (asked_first f) p ∷ parameters_behind u f ps
 
 abbrev pub is_function : Predeclared → Bool
 is_function pre.Assert = false
@@ -179,30 +190,41 @@ new_one map at x = and_so (place_in x) (λ p. and_so (pointed map p.of) (λ base
 abbrev pub new_many : Map → Pos → Valued → Valued → Option (Judged Meant)
 new_many map at x n = and_so (place_in x) (λ p. and_so (width_of map n) (λ w. and_so (pointed map p.of) (λ base. if_held (is_held map base) (and_so (array_of map base) (λ a. new_elements a.0 a.1 p n at)))))
 
+-- a single parameter
+abbrev pub fit_one : Map → Predeclared → Pos → Valued → Option (Judged Meant)
+fit_one map pre.Abs at x = on_width map unary.Abs at x
+fit_one map pre.Cap at x = and_so (if_is (is map basic.Char x) unary.Cap) (λ op. value (monadic op at x))
+fit_one map pre.Chr at x = and_so (if_is (is_integer map x) unary.Chr) (λ op. value (monadic op at x))
+fit_one map pre.Long at x = and_so (width_of map x) (λ w. and_so (longer w) (λ l. value (monadic (unary.Long l) at x)))
+fit_one map pre.Short at x = and_so (width_of map x) (λ w. and_so (shorter w) (λ l. value (monadic (unary.Short l) at x)))
+fit_one map pre.Odd at x = and_so (if_is (is_integer map x) unary.Odd) (λ op. value (monadic op at x))
+fit_one map pre.Ord at x = and_so (if_is (is map basic.Char x) unary.Ord) (λ op. value (monadic op at x))
+fit_one map pre.Len at x = and_so (place_in x) (λ p. len_at map 0 p)
+fit_one map pre.Assert at x = if_is (is map basic.Boolean x) (sound (means.Statement (record { inner = stmt.Assert (tree x) (pos 0) at })))
+fit_one map pre.Halt at x = and_so (number_in (constant_in x)) (λ z. does (stmt.Halt z at))
+fit_one map pre.Inc at x = step map update.Inc at x one
+fit_one map pre.Dec at x = step map update.Dec at x one
+fit_one map pre.New at x = new_one map at x
+fit_one map f at x = None
+
+-- two of them
+abbrev pub fit_two : Map → Predeclared → Pos → Valued → Valued → Option (Judged Meant)
+fit_two map pre.Ash at x n = and_so (if_is (is_integer map x && is_integer map n) binary.Ash) (λ op. value (dyadic op at x n))
+fit_two map pre.Len at x n = and_so (place_in x) (λ p. and_so (number_in (constant_in n)) (λ z. len_of map z p))
+fit_two map pre.Assert at x n = and_so (number_in (constant_in n)) (λ z. if_is (is map basic.Boolean x) (sound (means.Statement (record { inner = stmt.Assert (tree x) z at }))))
+fit_two map pre.Inc at x n = step map update.Inc at x n
+fit_two map pre.Dec at x n = step map update.Dec at x n
+fit_two map pre.Incl at x n = element_step map update.Incl at x n
+fit_two map pre.Excl at x n = element_step map update.Excl at x n
+fit_two map pre.Copy at x y = and_so (place_in y) (λ p. if_is (is_text map x && is_chars map y) (sound (means.Statement (record { inner = stmt.Copy (text_tree x) p.designator.inner at }))))
+fit_two map pre.New at x n = new_many map at x n
+fit_two map f at x n = None
+
 abbrev pub fit : Map → Predeclared → Pos → List Valued → Option (Judged Meant)
-fit map pre.Abs at (x ∷ []) = on_width map unary.Abs at x
-fit map pre.Ash at (x ∷ n ∷ []) = and_so (if_is (is_integer map x && is_integer map n) binary.Ash) (λ op. value (dyadic op at x n))
-fit map pre.Cap at (x ∷ []) = and_so (if_is (is map basic.Char x) unary.Cap) (λ op. value (monadic op at x))
-fit map pre.Chr at (x ∷ []) = and_so (if_is (is_integer map x) unary.Chr) (λ op. value (monadic op at x))
-fit map pre.Long at (x ∷ []) = and_so (width_of map x) (λ w. and_so (longer w) (λ l. value (monadic (unary.Long l) at x)))
-fit map pre.Short at (x ∷ []) = and_so (width_of map x) (λ w. and_so (shorter w) (λ l. value (monadic (unary.Short l) at x)))
-fit map pre.Odd at (x ∷ []) = and_so (if_is (is_integer map x) unary.Odd) (λ op. value (monadic op at x))
-fit map pre.Ord at (x ∷ []) = and_so (if_is (is map basic.Char x) unary.Ord) (λ op. value (monadic op at x))
-fit map pre.Len at (x ∷ []) = and_so (place_in x) (λ p. len_at map 0 p)
-fit map pre.Len at (x ∷ n ∷ []) = and_so (place_in x) (λ p. and_so (number_in (constant_in n)) (λ z. len_of map z p))
-fit map pre.Assert at (x ∷ []) = if_is (is map basic.Boolean x) (sound (means.Statement (record { inner = stmt.Assert (tree x) (pos 0) at })))
-fit map pre.Assert at (x ∷ n ∷ []) = and_so (number_in (constant_in n)) (λ z. if_is (is map basic.Boolean x) (sound (means.Statement (record { inner = stmt.Assert (tree x) z at }))))
-fit map pre.Halt at (n ∷ []) = and_so (number_in (constant_in n)) (λ z. does (stmt.Halt z at))
-fit map pre.Inc at (x ∷ []) = step map update.Inc at x one
-fit map pre.Inc at (x ∷ n ∷ []) = step map update.Inc at x n
-fit map pre.Dec at (x ∷ []) = step map update.Dec at x one
-fit map pre.Dec at (x ∷ n ∷ []) = step map update.Dec at x n
-fit map pre.Incl at (x ∷ n ∷ []) = element_step map update.Incl at x n
-fit map pre.Excl at (x ∷ n ∷ []) = element_step map update.Excl at x n
-fit map pre.Copy at (x ∷ y ∷ []) = and_so (place_in y) (λ p. if_is (is_text map x && is_chars map y) (sound (means.Statement (record { inner = stmt.Copy (text_tree x) p.designator.inner at }))))
-fit map pre.New at (x ∷ []) = new_one map at x
-fit map pre.New at (x ∷ n ∷ []) = new_many map at x n
-fit map f at xs = None
+fit map f at [] = None
+fit map f at (x ∷ []) = fit_one map f at x
+fit map f at (x ∷ y ∷ []) = fit_two map f at x y
+fit map f at (x ∷ y ∷ z ∷ zs) = None
 
 -- rule 28: the parameters of a predeclared procedure do not fit
 abbrev pub if_fit : Pos → Option (Judged Meant) → Judged Meant

@@ -12,7 +12,7 @@ mod values;
 
 pub use broken::{Broken, Predeclared, earlier};
 pub use entity::{Bound, Coming, Entity, Known, Received};
-pub use meant::{Chosen, ElementOf, Meant, Where};
+pub use meant::{Asked, Chosen, ElementOf, Meant, Where};
 pub use notes::{Later, Notebook};
 pub use surroundings::Surroundings;
 pub use values::{Computed, Place, Valued};

@@ -45,6 +45,15 @@ pub enum Where {
     Elsewhere,
 }
 
+/// What is asked of a parameter of a predeclared procedure: a value, a variable that is changed, or
+/// a constant.
+#[derive(Clone, Copy, Debug, PartialEq, Eq)]
+pub enum Asked {
+    Value,
+    Changed,
+    Constant,
+}
+
 /// An element of a set: where it stands, its node, and the set that it is if it is constant.
 #[derive(Drop)]
 pub struct ElementOf {
