@@ -1,0 +1,6 @@
+//! Modules, judged by the rules: the least broken rule, or the checked module.
+#![tactic(auto)]
+
+mod module;
+
+pub use module::{Checked, check_module};
