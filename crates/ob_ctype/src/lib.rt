@@ -4,6 +4,8 @@
 mod made;
 mod marks;
 mod naming;
+mod nodes;
+mod parts;
 mod types;
 
 pub use made::{Parameters, Typed};
