@@ -1,4 +1,5 @@
 ghost use Rattle.std.specs.Prelude.{◌≡◌, [], ◌∷◌, ◌<◌, ◌-◌, ◌+◌, length, Some, OnOk, OnErr, IsSome, drop};
+ghost use Rattle.ob_rules.specs.Names.{is_among};
 ghost use Rattle.ob_known.specs.Stacks.{latest, before_at, place_at, Puts};
 
 use ob_tree::ObjName;
@@ -88,6 +89,14 @@ impl Stack {
         ensures { result ≡ latest self.now name.now }
     {
         self.last.get(name).copied()
+    }
+
+    /// Whether the name is among them. Takes no memory.
+    #[tactic(auto, using(crate::proofs::Scoping::among))]
+    pub fn has(&self, name: &[u8]) -> bool
+        ensures { result ≡ is_among name.now self.now }
+    {
+        self.find(name).is_some()
     }
 
     /// One more name, the latest.
