@@ -150,11 +150,7 @@ fn field_if<E: Imports>(
 }
 
 // Adds a field, where all so far are sound.
-fn collect(
-    sound: bool,
-    fields: &mut List<Field>,
-    field: Option<Field>,
-) -> Result<bool, AllocError>
+fn collect(sound: bool, fields: &mut List<Field>, field: Option<Field>) -> Result<bool, AllocError>
     ensures { IfOk result (λ r. (rest : Maybe (Listed AField)) → finish r fields.new rest ≡ finish sound fields.old (one_more field rest)) }
 {
     match field {

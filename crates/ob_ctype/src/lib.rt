@@ -12,8 +12,8 @@ mod parts;
 mod pointers;
 mod types;
 
-pub use made::{Parameters, Typed};
 pub use fields::{Fields, fields_of, fields_together, first_name, joined_fields, record_of};
+pub use made::{Parameters, Typed};
 pub use marks::{check_mark, is_module_level};
 pub use params::{declare_names, mode_of};
 pub use types::{check_parameters, check_type};

@@ -20,12 +20,7 @@ pub fn is_module_level<E: Imports>(scope: &Scope<'_, E>) -> bool
 }
 
 // Rule 6.
-fn mark_of(
-    book: &mut Notebook,
-    level: bool,
-    minus: bool,
-    d: &IdentDef,
-) -> Option<Mark>
+fn mark_of(book: &mut Notebook, level: bool, minus: bool, d: &IdentDef) -> Option<Mark>
     ensures made { result ≡ (spec.mark_of level minus d.now.mark_pos d.now.mark).node }
     ensures noted { book.new ≡ book_after book.old (spec.mark_of level minus d.now.mark_pos d.now.mark).notes }
 {

@@ -90,9 +90,7 @@ fn array_type<E: Imports>(
 {
     match lengths {
         [] => open_array(alloc, scope, book, name, mark, at, open_ok, element),
-        [first, rest @ ..] => {
-            fixed_array(alloc, scope, book, name, mark, element, first, rest)
-        }
+        [first, rest @ ..] => { fixed_array(alloc, scope, book, name, mark, element, first, rest) }
     }
 }
 
@@ -113,7 +111,15 @@ fn inner_arrays<E: Imports>(
 {
     let sizes = lengths_of(alloc, &*scope, book, lengths)?;
     let inner = inner_name(alloc, name, lengths)?;
-    let of = check_type(alloc, scope, book, element, inner.as_bytes(), Mark::Hidden, false)?;
+    let of = check_type(
+        alloc,
+        scope,
+        book,
+        element,
+        inner.as_bytes(),
+        Mark::Hidden,
+        false,
+    )?;
     let all = arrays_of(alloc, &*scope, name, &sizes, of)?;
     Ok(all)
 }
@@ -156,7 +162,15 @@ fn open_element<E: Imports>(
 {
     let inner = element_name(alloc, name)?;
     let open_ok = is_open_array(element);
-    match check_type(alloc, scope, book, element, inner.as_bytes(), Mark::Hidden, open_ok)? {
+    match check_type(
+        alloc,
+        scope,
+        book,
+        element,
+        inner.as_bytes(),
+        Mark::Hidden,
+        open_ok,
+    )? {
         None => Ok(None),
         Some(t) => {
             let Typed { of, made } = t;
@@ -203,7 +217,15 @@ fn pointed_type<E: Imports>(
 {
     let inner = base_name(alloc, name)?;
     let inline = name_of(base).is_none();
-    match check_type(alloc, scope, book, base, inner.as_bytes(), Mark::Hidden, true)? {
+    match check_type(
+        alloc,
+        scope,
+        book,
+        base,
+        inner.as_bytes(),
+        Mark::Hidden,
+        true,
+    )? {
         None => Ok(None),
         Some(t) => pointer_base(alloc, scope, book, name, inline, start_of(base), t),
     }
