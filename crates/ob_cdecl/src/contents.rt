@@ -36,12 +36,7 @@ impl Contents {
 
     /// One more constant.
     #[tactic(auto, using(crate::proofs::ContentsLaws::adds_constant))]
-    pub fn add_constant(
-        &mut self,
-        name: Name,
-        mark: Mark,
-        value: Value,
-    ) -> Result<(), AllocError>
+    pub fn add_constant(&mut self, name: Name, mark: Mark, value: Value) -> Result<(), AllocError>
         ensures { OnOk result (contents_of self.new ≡ spec.together (contents_of self.old) (holds_constant (record { name = name; mark = mark; value = value }))) }
     {
         self.constants.push(TypedConstant { name, mark, value })

@@ -20,7 +20,7 @@ around_of shown s = record {
   guards = s.guards.items;
   receiver = s.receiver;
   result = s.result_type;
-  in_loop = s.in_loop
+  in_loop = s.in_loop;
 }
 
 -- no name is known yet
@@ -39,5 +39,5 @@ at_start unit shown = record {
   guards = [];
   receiver = None;
   result = None;
-  in_loop = false
+  in_loop = false;
 }

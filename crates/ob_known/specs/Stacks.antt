@@ -1,5 +1,5 @@
 -- Names in a stack: each has a place, counted from the oldest, and is found by its latest place.
-use Rattle.std.specs.Prelude.{◌≡◌, ℕ, Bool, true, false, List, [], ◌∷◌, length, map, reverse, drop, Option, Some, None, bytes_eq, if◌then◌else◌, Vec}
+use Rattle.std.specs.Prelude.{◌≡◌, ℕ, List, [], ◌∷◌, length, map, reverse, drop, Option, Some, None, bytes_eq, if◌then◌else◌, Vec}
 use Rattle.std.specs.Ordering.{nat_cmp}
 use Rattle.std.specs.Cmp.Lexicographic.{slice_cmp}
 use Rattle.std.specs.BTreeMap.{BTreeMap, get_by}

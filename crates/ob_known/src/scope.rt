@@ -141,7 +141,9 @@ impl<'a, E: Imports> Types for Scope<'a, E> {
         if name.module.as_bytes() == self.unit.as_bytes() {
             return desc_in(self.own.find(name.object.as_bytes()));
         }
-        if name.module.as_bytes() == b"Out".as_slice() && name.object.as_bytes() == b"String(1".as_slice() {
+        if name.module.as_bytes() == b"Out".as_slice()
+            && name.object.as_bytes() == b"String(1".as_slice()
+        {
             return Some(&self.text);
         }
         self.imported.desc_of(name)

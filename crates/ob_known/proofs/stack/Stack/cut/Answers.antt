@@ -1,4 +1,4 @@
-use Rattle.std.proofs.Common.{◌≡◌, ◌-◌, ◌≤◌, length, drop, min, arith, ap, ◌∙◌}
+use Rattle.std.proofs.Common.{length, arith, ap, ◌∙◌}
 use Rattle.std.proofs.lemmas.List.{length-drop}
 use Rattle.ob_known.proofs.Stacking.{dropped, cut_to}
 use Rattle.ob_known.proofs.stack.Stack.cut.Goals as goal

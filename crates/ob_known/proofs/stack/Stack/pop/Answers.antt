@@ -1,4 +1,4 @@
-use Rattle.std.proofs.Common.{rules, ◌≡◌, List, [], ◌∷◌, ◌++◌, sym, subst}
+use Rattle.std.proofs.Common.{rules, ◌≡◌, [], ◌∷◌, ◌++◌, sym, subst}
 use Rattle.std.specs.Prelude.{IsSome}
 use Rattle.ob_known.specs.Stacks.{Puts, place_at}
 use Rattle.ob_known.proofs.Stacking.{is_there, indexed_less}

@@ -1,4 +1,4 @@
-use Rattle.std.proofs.Common.{◌≡◌, ◌-◌, List, length, map, drop, take, ap, sym, ◌∙◌}
+use Rattle.std.proofs.Common.{◌-◌, length, map, drop, ap, sym, ◌∙◌}
 use Rattle.std.specs.Prelude.{reverse}
 use Rattle.ob_known.proofs.Finding.{reverse_taken, drop_mapped}
 use Rattle.ob_known.proofs.table.Table.cut.Goals as goal

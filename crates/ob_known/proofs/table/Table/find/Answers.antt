@@ -1,5 +1,5 @@
-use Rattle.std.proofs.Common.{◌≡◌, ℕ, List, Some, None, map, sym, subst, ap, ◌∙◌}
-use Rattle.std.specs.Prelude.{reverse, bytes_eq, slice_get}
+use Rattle.std.proofs.Common.{ap, ◌∙◌}
+use Rattle.std.specs.Prelude.{bytes_eq, slice_get}
 use Rattle.std.specs.List.{find}
 use Rattle.ob_known.specs.Stacks.{latest}
 use Rattle.ob_known.proofs.Finding.{finds, finds_none}
