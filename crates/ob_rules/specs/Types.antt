@@ -168,6 +168,11 @@ abbrev pub fields_of : Around → Option (Option TypeRef) → List (List ℕ) �
 fields_of u base before [] t = []
 fields_of u base before (d ∷ ds) t = field_if u base before d t ∷ fields_of u base (name_in d ∷ before) ds t
 
+-- the names behind those before, the latest first
+abbrev pub names_behind : List IdentDef → List (List ℕ) → List (List ℕ)
+names_behind [] before = before
+names_behind (d ∷ ds) before = names_behind ds (name_in d ∷ before)
+
 pub record WrittenFields : Type 0 where
   pub names : List IdentDef
   pub node : Written
@@ -189,7 +194,7 @@ fields_joined a b = record { fields = a.fields ++ b.fields; made = a.made ++ b.m
 abbrev pub field_lists : Around → List ℕ → Option (Option TypeRef) → List (List ℕ) → List WrittenFields → Judged Fields
 field_lists u name base before [] = sound (record { fields = []; made = [] })
 field_lists u name base before (l ∷ ls) =
-    both (with_fields u base before l.names (l.node.typing u (field_name name (first_name l.names)) mark.Hidden false)) (field_lists u name base (map name_in l.names ++ before) ls)
+    both (with_fields u base before l.names (l.node.typing u (field_name name (first_name l.names)) mark.Hidden false)) (field_lists u name base (names_behind l.names before) ls)
     ▷ λ p. sound (fields_joined p.0 p.1)
 
 -- the words, the places and what is bound come when the module is known
@@ -319,9 +324,12 @@ sections u name i [] = record { found = sound (record { signature = record { par
 sections u name i (s ∷ ss) = section u (mode_of s.is_var) s.names (s.node.typing u (section_name name i) mark.Hidden true) (λ v. sections v name (i + length s.names) ss)
 
 -- rule 17: a result type is a record or array
+abbrev pub result_fits : Around → Pos → TypeRef → Judged (Option TypeRef)
+result_fits u at t = unless (is_structured (map_of u) t) 17 at (Some t)
+
 abbrev pub result_of : Around → Option Qualident → Judged (Option TypeRef)
 result_of u None = sound None
-result_of u (Some q) = type_named u q ▷ λ t. unless (is_structured (map_of u) t) 17 (first_of q) (Some t)
+result_of u (Some q) = type_named u q ▷ result_fits u (first_of q)
 
 abbrev pub with_result : Parameters → Option TypeRef → Parameters
 with_result p r = record { signature = record { params = p.signature.params; result = r }; parameters = p.parameters; made = p.made }

@@ -1,0 +1,4 @@
+pub mod Places
+pub mod Stacking
+pub mod Finding
+pub mod Scoping

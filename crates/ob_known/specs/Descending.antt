@@ -1,0 +1,25 @@
+-- Known names whose scopes fall, the latest first.
+use Rattle.std.specs.Prelude.{ℕ, Bool, true, false, ◌&&◌, nat_le, nat_eq, Option, Some, None, List, [], ◌∷◌}
+use Rattle.ob_tree.specs.declared.ident.Mark.TheVariants as mark
+use Rattle.ob_types.specs.declared.types.Basic.TheVariants as basic
+use Rattle.ob_types.specs.declared.types.TypeRef.TheVariants as ref
+use Rattle.ob_types.specs.declared.desc.Desc.{Desc}
+use Rattle.ob_types.specs.declared.desc.Desc.TheVariants as desc
+use Rattle.ob_rules.specs.declared.entity.Known.{Known}
+
+-- the type of the parameter of Out.String
+abbrev pub text_type : Desc
+text_type = desc.OpenArray mark.Hidden (ref.Basic basic.Char)
+
+-- none is of a scope above n, nor above that of the one before it
+abbrev pub are_within : ℕ → List Known → Bool
+are_within n [] = true
+are_within n (k ∷ ks) = nat_le k.scope n && are_within k.scope ks
+
+abbrev pub is_scope : Option ℕ → ℕ → Bool
+is_scope None n = false
+is_scope (Some m) n = nat_eq m n
+
+abbrev pub is_scope_from : Option ℕ → ℕ → Bool
+is_scope_from None n = false
+is_scope_from (Some m) n = nat_le n m

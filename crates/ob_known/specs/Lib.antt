@@ -1,0 +1,4 @@
+pub mod Stacks
+pub mod Descending
+pub mod Scopes
+pub mod Finite
