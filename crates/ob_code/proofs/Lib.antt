@@ -1,0 +1,5 @@
+pub mod Ends
+pub mod Appends
+pub mod Puts
+pub mod Actuals
+pub mod Views

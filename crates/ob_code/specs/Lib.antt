@@ -1,0 +1,12 @@
+pub mod Lines
+pub mod Descriptions
+pub mod Context
+pub mod Operations
+pub mod Expressions
+pub mod Statements
+pub mod Numbers
+pub mod Procedures
+pub mod Object
+pub mod Needs
+pub mod Coded
+pub mod Laws
