@@ -1,19 +1,13 @@
 -- What is found of a name in a list of interfaces.
 use Rattle.std.specs.Prelude.{ℕ, Bool, cond, List, [], ◌∷◌, map as each, Option, Some, None, bytes_eq, slice_get}
-use Rattle.std.specs.Option.{option_map}
-use Rattle.std.specs.declared.alloc.Global.{Global}
 use Rattle.ob_format.specs.Format.{◌>>=◌}
+use Rattle.ob_layout.specs.Index.{first_by}
 use Rattle.ob_tree.specs.declared.names.QName.{QName}
 use Rattle.ob_tree.specs.declared.print.Print.{Print}
 use Rattle.ob_types.specs.declared.face.Aspect.{Aspect}
 use Rattle.ob_types.specs.declared.face.Aspect.TheVariants as aspect
 use Rattle.ob_types.specs.declared.face.Object.{Object}
 use Rattle.ob_types.specs.declared.face.Interface.{Interface}
-
--- the first item of a name
-abbrev pub first_by : {A : Type 0} → (A → List ℕ) → List A → List ℕ → Option A
-first_by name [] x = None
-first_by name (a ∷ more) x = cond (bytes_eq x (name a)) (Some a) (first_by name more x)
 
 abbrev pub object_by_name : List Object → List ℕ → Option Object
 object_by_name os x = first_by (λ o. o.name) os x

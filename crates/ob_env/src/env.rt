@@ -3,7 +3,7 @@ ghost use Rattle.std.specs.Option.{option_copied};
 ghost use Rattle.ob_env.specs.Found.{object_found};
 
 use crate::found::placed;
-use crate::index::NameIndex;
+use ob_layout::NameIndex;
 use ob_tree::{List, QName};
 use ob_types::{Interface, Object};
 use std::marker::Model;
@@ -22,7 +22,7 @@ impl Model for Env {
     ghost use Rattle.std.specs.Prelude.{List as Listed};
     ghost use Rattle.std.specs.Coded.{coded_list};
     ghost use Rattle.ob_types.specs.declared.face.Interface.{Interface as Face};
-    ghost use Rattle.ob_env.specs.Index.{IsIndexOf};
+    ghost use Rattle.ob_layout.specs.Index.{IsIndexOf};
     ghost use Rattle.ob_env.specs.Found.{module_names};
     ghost use Rattle.ob_env.specs.Tables.{AreTables};
 

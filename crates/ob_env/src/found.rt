@@ -1,18 +1,11 @@
-ghost use Rattle.std.specs.Prelude.{◌≡◌, slice_get};
+ghost use Rattle.std.specs.Prelude.{◌≡◌};
 ghost use Rattle.std.specs.Option.{option_copied};
-ghost use Rattle.ob_env.specs.Index.{IsIndexOf};
+ghost use Rattle.ob_layout.specs.Index.{IsIndexOf};
 ghost use Rattle.ob_env.specs.Found.{object_by_name, object_names, object_placed};
 ghost use Rattle.ob_env.specs.Tables.{AreTables};
 
-use crate::index::NameIndex;
+use ob_layout::{NameIndex, item_at};
 use ob_types::{Interface, Object};
-
-// The item at a position.
-fn item_at<T>(items: &[T], position: usize) -> Option<&T>
-    ensures { option_copied result ≡ slice_get items.now position }
-{
-    items.get(position)
-}
 
 // The object of a name.
 fn object_at<'a>(objects: &'a [Object], names: &NameIndex, name: &[u8]) -> Option<&'a Object>

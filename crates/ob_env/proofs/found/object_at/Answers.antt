@@ -1,5 +1,5 @@
 use Rattle.std.proofs.Common.{sym, ◌∙◌}
-use Rattle.ob_env.proofs.Places.{by_index, by_index_none}
+use Rattle.ob_layout.proofs.Names.{by_index, by_index_none}
 use Rattle.ob_env.proofs.found.object_at.Goals as goal
 
 pub returns-in-None : goal.returns-in-None

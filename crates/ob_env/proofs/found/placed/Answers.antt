@@ -1,6 +1,6 @@
 use Rattle.std.proofs.Common.{◌≡◌, ℕ, List, sym, ap, ◌∙◌, subst}
 use Rattle.ob_types.specs.declared.face.Object.{Object}
-use Rattle.ob_env.specs.Index.{IsIndexOf}
+use Rattle.ob_layout.specs.Index.{IsIndexOf}
 use Rattle.ob_env.specs.Found.{object_names}
 use Rattle.ob_env.proofs.Places.{table_at, no_table}
 use Rattle.ob_env.proofs.found.placed.Goals as goal

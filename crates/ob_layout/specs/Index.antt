@@ -29,3 +29,8 @@ position_from n x (y ∷ ys) = cond (bytes_eq x y) (Some n) (position_from (suc 
 -- each name has its position
 abbrev pub IsIndexOf : Positions → List (List ℕ) → Type 0
 IsIndexOf m names = (x : List ℕ) → at_name m x ≡ position_from 0 x names
+
+-- the first item of a name
+abbrev pub first_by : {A : Type 0} → (A → List ℕ) → List A → List ℕ → Option A
+first_by name [] x = None
+first_by name (a ∷ more) x = cond (bytes_eq x (name a)) (Some a) (first_by name more x)

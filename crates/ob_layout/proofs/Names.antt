@@ -1,6 +1,6 @@
 -- Names and their positions.
-use Rattle.std.proofs.Common.{◌≡◌, ℕ, suc, ◌+◌, Bool, true, false, cond, List, [], ◌∷◌, length, Option, Some, None, refl, sym, ap, subst, ◌∙◌, arith}
-use Rattle.std.specs.Prelude.{Vec, bytes_eq}
+use Rattle.std.proofs.Common.{◌≡◌, ℕ, zero, suc, ◌+◌, ◌-◌, ◌≤◌, Bool, true, false, cond, List, [], ◌∷◌, map, length, Option, Some, None, refl, sym, ap, subst, ◌∙◌, arith}
+use Rattle.std.specs.Prelude.{Vec, bytes_eq, slice_get}
 use Rattle.std.specs.Option.{option_or}
 use Rattle.std.specs.Ordering.{nat_cmp, is_eq}
 use Rattle.std.specs.Cmp.{Equal-is}
@@ -10,7 +10,7 @@ use Rattle.std.specs.BTreeMap.{UpdatesBy}
 use Rattle.std.specs.Map.{KeepsOthers}
 use Rattle.std.specs.declared.alloc.Global.{Global}
 use Rattle.std.proofs.lemmas.Map.Lookups.{exact_bytes}
-use Rattle.ob_env.specs.Index.{Positions, at_name, Puts, Notes, position_from, IsIndexOf}
+use Rattle.ob_layout.specs.Index.{Positions, at_name, Puts, Notes, position_from, IsIndexOf, first_by}
 
 abbrev same : List ℕ → List ℕ → Bool
 same a b = is_eq (slice_cmp nat_cmp a b)
@@ -89,3 +89,41 @@ indexing_all m at names so_far x = none_else (at_name m x) ∙ so_far x
     none_else : (o : Option ℕ) → o ≡ option_or o None
     none_else None = refl
     none_else (Some k) = refl
+
+-- ---- what stands at a position
+
+AtPosition : {A : Type 0} → ℕ → List A → Option A → Option ℕ → Type 0
+AtPosition n xs r None = r ≡ None
+AtPosition n xs r (Some k) = (n ≤ k) × (r ≡ slice_get xs (k - n))
+
+step_position : {A : Type 0} (n : ℕ) (a : A) (xs : List A) (later : Option ℕ) (r : Option A) → ((o : Option ℕ) → later ≡ o → AtPosition (suc n) xs r o) → (b : Bool) (o : Option ℕ) → cond b (Some n) later ≡ o → AtPosition n (a ∷ xs) (cond b (Some a) r) o
+unfolding AtPosition
+step_position n a xs later r more true None h = absurd cc
+step_position n a xs later r more true (Some k) h =
+    let e : n ≡ k = cc in
+    let z : k - n ≡ 0 = omega (arith, e) in
+    (omega (arith, e), ap (λ (i : ℕ). slice_get (a ∷ xs) i) (sym z))
+step_position n a xs later r more false None h = more None h
+step_position n a xs later r more false (Some k) h =
+    let f = more (Some k) h in
+    let l : suc n ≤ k = f.0 in
+    let s : k - n ≡ suc (k - suc n) = omega (arith, l) in
+    (omega (arith, l), f.1 ∙ ap (λ (i : ℕ). slice_get (a ∷ xs) i) (sym s))
+
+from_position : {A : Type 0} (name : A → List ℕ) (n : ℕ) (xs : List A) (x : List ℕ) (o : Option ℕ) → position_from n x (map name xs) ≡ o → AtPosition n xs (first_by name xs x) o
+unfolding AtPosition
+from_position name n [] x None h = refl
+from_position name n [] x (Some k) h = absurd cc
+from_position name n (a ∷ xs) x o h = step_position n a xs (position_from (suc n) x (map name xs)) (first_by name xs x) (λ o h. from_position name (suc n) xs x o h) (bytes_eq x (name a)) o h
+
+-- what an index finds
+pub by_index : {A : Type 0} (name : A → List ℕ) (m : Positions) (xs : List A) (x : List ℕ) (k : ℕ) → IsIndexOf m (map name xs) → Some k ≡ at_name m x → first_by name xs x ≡ slice_get xs k
+unfolding AtPosition
+by_index name m xs x k is found =
+    let r = from_position name 0 xs x (Some k) (sym (is x) ∙ sym found) in
+    let z : k - 0 ≡ k = omega arith in
+    r.1 ∙ ap (λ (i : ℕ). slice_get xs i) z
+
+pub by_index_none : {A : Type 0} (name : A → List ℕ) (m : Positions) (xs : List A) (x : List ℕ) → IsIndexOf m (map name xs) → None ≡ at_name m x → first_by name xs x ≡ None
+unfolding AtPosition
+by_index_none name m xs x is found = from_position name 0 xs x None (sym (is x) ∙ sym found)

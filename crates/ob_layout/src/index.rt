@@ -1,5 +1,6 @@
-ghost use Rattle.std.specs.Prelude.{◌≡◌, None, OnOk, IfOk};
-ghost use Rattle.ob_env.specs.Index.{at_name, Puts, Notes};
+ghost use Rattle.std.specs.Prelude.{◌≡◌, None, OnOk, slice_get};
+ghost use Rattle.std.specs.Option.{option_copied};
+ghost use Rattle.ob_layout.specs.Index.{at_name, Puts, Notes};
 
 use std::alloc::{AllocError, Global};
 use std::collections::BTreeMap;
@@ -45,4 +46,11 @@ impl NameIndex {
             None => self.put(alloc, name, position),
         }
     }
+}
+
+/// The item at a position; none exactly behind the last one. Takes no memory.
+pub fn item_at<T>(items: &[T], position: usize) -> Option<&T>
+    ensures { option_copied result ≡ slice_get items.now position }
+{
+    items.get(position)
 }
