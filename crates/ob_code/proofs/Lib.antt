@@ -3,3 +3,4 @@ pub mod Appends
 pub mod Puts
 pub mod Actuals
 pub mod Views
+pub mod Descriptions

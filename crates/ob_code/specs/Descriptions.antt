@@ -40,8 +40,8 @@ abbrev pub open_words : (QName → Option Desc) → TypeRef → ℕ
 open_words types t = open_words_in types (description types t)
 
 -- the place of a field, and the number of a bound procedure, of a checked tree, which has no other
-abbrev pub field_place : (QName → Option Desc) → QName → List ℕ → ℕ
+unfoldable pub field_place : (QName → Option Desc) → QName → List ℕ → ℕ
 field_place types owner x = unwrap_or (field_place_in types owner x) 0
 
-abbrev pub method_number : (QName → Option Desc) → QName → List ℕ → ℕ
+unfoldable pub method_number : (QName → Option Desc) → QName → List ℕ → ℕ
 method_number types owner x = unwrap_or (method_number_in types owner x) 0
