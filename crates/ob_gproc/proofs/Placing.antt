@@ -1,9 +1,14 @@
 -- Where the things of a list stand, found thing by thing.
-use Rattle.std.specs.Prelude.{bytes_eq, Bool, true, false, cond, if◌then◌else◌, Option, Some, None, unwrap_or}
+use Rattle.std.specs.Prelude.{bytes_eq, nat_le, map, Bool, true, false, cond, if◌then◌else◌, Option, Some, None, unwrap_or}
 use Rattle.std.specs.Option.{option_or}
 use Rattle.std.proofs.Common.{◌≡◌, ◌<◌, ◌≤◌, ℕ, ◌+◌, List, [], ◌∷◌, length, drop, get_or, refl, sym, ap, ◌∙◌, arith}
 use Rattle.std.proofs.lemmas.List.{drop_more, drop_all}
 use Rattle.ob_types.specs.declared.typed.TypedType.{TypedType}
+use Rattle.ob_types.specs.declared.typed.TypedProcedure.{TypedProcedure}
+use Rattle.ob_types.specs.TypedView.{procedure_view}
+use borrow.Author.Tests.{leb-true}
+use Rattle.ob_layout.specs.Words.{limited}
+use Rattle.ob_gproc.specs.Scoped.{procedures_before}
 use Rattle.ob_layout.specs.Index.{Positions, at_name, Notes}
 use Rattle.ob_layout.specs.Lists.{sum_of}
 use Rattle.ob_code.specs.Context.{before, is_record, records_among}
@@ -40,14 +45,14 @@ module _ {A : Type 0} (name : A → List ℕ) (size : A → ℕ) where
 
   pub placing_over : (xs : List A) (i : ℕ) (m : Positions) (total : ℕ) (whole : List ℕ → ℕ) → length xs ≤ i → ArePlacing m total (before name size (drop i xs)) whole → ArePlaces m total whole
   placing_over xs i m total whole past so_far =
-      placing_all m total whole (λ x. ap (λ l. unwrap_or (at_name m x) (total + before name size l x)) (sym (drop_all xs i past)) ∙ so_far x)
+      placing_all m total whole (λ x. ap (λ l. unwrap_or (at_name m x) (total + before name size l x)) (sym (drop_all i xs past)) ∙ so_far x)
 
   pub sum_turn : (xs : List A) (i : ℕ) (d : A) (total n s whole : ℕ) → i < length xs → s ≡ size (get_or xs i d) → n ≡ total + s → total + sum_of size (drop i xs) ≡ whole → n + sum_of size (drop (i + 1) xs) ≡ whole
   sum_turn xs i d total n s whole lt z k inv =
       let e = ap (sum_of size) (drop_more xs i d lt) in omega (arith, e, z, k, inv)
 
   pub sum_over : (xs : List A) (i : ℕ) (total whole : ℕ) → length xs ≤ i → total + sum_of size (drop i xs) ≡ whole → total ≡ whole
-  sum_over xs i total whole past inv = let e = ap (sum_of size) (drop_all xs i past) in omega (arith, e, inv)
+  sum_over xs i total whole past inv = let e = ap (sum_of size) (drop_all i xs past) in omega (arith, e, inv)
 
   -- what stands before a thing is not more than all that stands
   pub before_within : (xs : List A) (x : List ℕ) → before name size xs x ≤ sum_of size xs
@@ -68,3 +73,45 @@ record_turn ts i d lt e = ap records_among (drop_more ts i d lt) ∙ among (get_
 
 pub other_turn : (ts : List TypedType) (i : ℕ) (d : TypedType) → i < length ts → false ≡ is_record (get_or ts i d).desc → records_among (drop i ts) ≡ records_among (drop (i + 1) ts)
 other_turn ts i d lt e = ap records_among (drop_more ts i d lt) ∙ among (get_or ts i d) (drop (i + 1) ts) false e
+
+-- ---- bounds
+
+pub bound_none : (o : Option ℕ) (m total : ℕ) → o ≡ None → total < m → unwrap_or o total < m
+bound_none o m total e h = let f = ap (λ (p : Option ℕ). unwrap_or p total) e in omega (arith, f, h)
+
+noted_bound : (o : Option ℕ) (b : Bool) (m total : ℕ) → unwrap_or o total < m → total < m → unwrap_or (option_or o (cond b (Some total) None)) total < m
+noted_bound (Some k) b m total h l = h
+noted_bound None true m total h l = l
+noted_bound None false m total h l = l
+
+-- a thing is noted at the end
+pub bound_noted : (old new : Positions) (bytes x : List ℕ) (m total : ℕ) → Notes old new bytes total → place_of old total x < m → total < m → place_of new total x < m
+bound_noted old new bytes x m total note h l =
+    let e = ap (λ (o : Option ℕ). unwrap_or o total) (note x) in
+    let k = noted_bound (at_name old x) (bytes_eq x bytes) m total h l in
+    omega (arith, e, k)
+
+grown : (o : Option ℕ) (m total n : ℕ) → unwrap_or o total < m → n < m → unwrap_or o n < m
+grown (Some k) m total n h l = h
+grown None m total n h l = l
+
+-- the end moves on
+pub bound_grown : (p : Positions) (x : List ℕ) (m total n : ℕ) → place_of p total x < m → n < m → place_of p n x < m
+bound_grown p x m total n h l = grown (at_name p x) m total n h l
+
+-- ---- words within the limit
+
+limited_at : (n k : ℕ) (b : Bool) → nat_le n 1048576 ≡ b → Some k ≡ cond b (Some n) None → (k ≡ n) × (k ≤ 1048576)
+limited_at n k true e h = let same : k ≡ n = cc in (same, omega (arith, same, leb-true n 1048576 e))
+limited_at n k false e h = absurd cc
+
+pub limited_is : (n k : ℕ) → Some k ≡ limited n → k ≡ n
+limited_is n k h = (limited_at n k (nat_le n 1048576) refl h).0
+
+pub limited_small : (n k : ℕ) → Some k ≡ limited n → k ≤ 1048576
+limited_small n k h = (limited_at n k (nat_le n 1048576) refl h).1
+
+-- the view of a procedure has its name
+pub procedures_same : (ps : List TypedProcedure) (x : List ℕ) → procedures_before ps x ≡ before (λ p. p.name) (λ p. 1) (map procedure_view ps) x
+procedures_same [] x = refl
+procedures_same (p ∷ ps) x = ap (λ n. if bytes_eq x p.name then 0 else 1 + n) (procedures_same ps x)

@@ -1,4 +1,4 @@
-ghost use Rattle.std.specs.Prelude.{◌≡◌, ◌+◌, ◌<◌, ◌^◌, None, OnOk};
+ghost use Rattle.std.specs.Prelude.{◌≡◌, ◌+◌, ◌<◌, ◌^◌, ℕ, List, None, IfOk};
 ghost use Rattle.ob_layout.specs.Index.{at_name, Notes};
 ghost use Rattle.ob_gproc.specs.Placed.{place_of};
 
@@ -14,6 +14,7 @@ const MOST: usize = 1 << 30;
 pub struct Places {
     pub index: NameIndex,
     pub total: usize,
+    ghost bounded: { (x : List ℕ) → place_of index.positions total x < 2 ^ 30 },
     ghost within: { total < 2 ^ 30 },
 }
 
@@ -29,23 +30,26 @@ impl Places {
         }
     }
 
-    /// One thing more, behind the others; a name that is there already keeps its place.
-    pub fn add(&mut self, alloc: Global, name: &[u8], size: usize) -> Result<(), GenFault>
-        ensures noted { OnOk result (Notes self.old.index.positions self.new.index.positions name.now self.old.total) }
-        ensures total { OnOk result (self.new.total ≡ self.old.total + size) }
+    /// With one thing more, behind the others; a name that is there already keeps its place.
+    pub fn with(self, alloc: Global, name: &[u8], size: usize) -> Result<Places, GenFault>
+        ensures noted { IfOk result (λ p. Notes self.index.positions p.index.positions name.now self.total) }
+        ensures total { IfOk result (λ p. p.total ≡ self.total + size) }
     {
-        let place = self.total;
-        if size >= MOST || place + size >= MOST {
+        let Places { mut index, total } = self;
+        if size >= MOST || total + size >= MOST {
             return Err(GenFault::Memory);
         }
-        self.index.note(alloc, name, place)?;
-        self.total = place + size;
-        Ok(())
+        index.note(alloc, name, total)?;
+        Ok(Places {
+            index,
+            total: total + size,
+        })
     }
 
     /// What stands before the first of a name; of one that is not there, all that stands.
     pub fn get(&self, name: &[u8]) -> usize
-        ensures { result ≡ place_of self.now.index.positions self.now.total name.now }
+        ensures is { result ≡ place_of self.now.index.positions self.now.total name.now }
+        ensures within { result < 2 ^ 30 }
     {
         self.index.get(name).unwrap_or(self.total)
     }

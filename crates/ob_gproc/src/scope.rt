@@ -99,7 +99,7 @@ impl<T: Types> Scope for ProcedureScope<'_, T> {
         self.records.total as u32
     }
 
-    fn record_of(&self, t: &TypeRef) -> Option<&QName> {
+    fn record_of<'a>(&'a self, t: &'a TypeRef) -> Option<&'a QName> {
         match target_within(self.types, t) {
             TypeRef::Basic(_) => None,
             TypeRef::Named(name) => Some(name),

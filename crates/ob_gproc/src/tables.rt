@@ -1,5 +1,6 @@
 ghost use Rattle.std.specs.Prelude.{◌≡◌, ◌<◌, IfOk};
 ghost use Rattle.ob_layout.specs.Room.{slots};
+ghost use Rattle.ob_layout.specs.Words.{words_of};
 ghost use Rattle.ob_code.specs.Context.{is_record};
 ghost use Rattle.ob_gproc.specs.Placed.{ArePlaces};
 ghost use Rattle.ob_gproc.specs.Scoped.{variables_before, variables_words, parameters_before, parameters_slots, procedures_before, types_before, types_count};
@@ -8,9 +9,20 @@ use crate::places::Places;
 use ob_gcode::GenFault;
 use ob_layout::words_of;
 use ob_types::{
-    Desc, Passing, TypedParameter, TypedProcedure, TypedType, TypedVariable, Types,
+    Desc, Passing, TypeRef, TypedParameter, TypedProcedure, TypedType, TypedVariable, Types,
 };
 use std::alloc::Global;
+
+// The words of a type.
+#[tactic(auto, using(crate::proofs::Placing::limited_is))]
+fn words_in<T: Types>(types: &T, of: &TypeRef) -> Result<usize, GenFault>
+    ensures { IfOk result (λ n. n ≡ words_of (T.types types.now) of.now) }
+{
+    match words_of(types, of) {
+        Some(words) => Ok(words as usize),
+        None => Err(GenFault::Memory),
+    }
+}
 
 /// Where variables stand, one behind the other.
 pub fn places_of_variables<T: Types>(
@@ -23,10 +35,8 @@ pub fn places_of_variables<T: Types>(
 {
     let mut places = Places::new(alloc);
     'variables: for variable in variables {
-        let Some(words) = words_of(types, &variable.of) else {
-            return Err(GenFault::Memory);
-        };
-        places.add(alloc, variable.name.as_bytes(), words as usize)?;
+        let words = words_in(types, &variable.of)?;
+        places = places.with(alloc, variable.name.as_bytes(), words)?;
     }
     Ok(places)
 }
@@ -50,7 +60,7 @@ pub fn places_of_parameters(
 {
     let mut places = Places::new(alloc);
     'parameters: for parameter in parameters {
-        places.add(alloc, parameter.name.as_bytes(), slots_of(parameter.passing))?;
+        places = places.with(alloc, parameter.name.as_bytes(), slots_of(parameter.passing))?;
     }
     Ok(places)
 }
@@ -64,7 +74,7 @@ pub fn places_of_procedures(
 {
     let mut places = Places::new(alloc);
     'procedures: for procedure in procedures {
-        places.add(alloc, procedure.name.as_bytes(), 1)?;
+        places = places.with(alloc, procedure.name.as_bytes(), 1)?;
     }
     Ok(places)
 }
@@ -87,7 +97,7 @@ pub fn places_of_types(alloc: Global, types: &[TypedType]) -> Result<Places, Gen
     let mut places = Places::new(alloc);
     'types: for named in types {
         if is_record(&named.desc) {
-            places.add(alloc, named.name.as_bytes(), 1)?;
+            places = places.with(alloc, named.name.as_bytes(), 1)?;
         }
     }
     Ok(places)
