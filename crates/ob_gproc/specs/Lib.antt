@@ -1,2 +1,4 @@
 pub mod Placed
 pub mod Scoped
+pub mod Parts
+pub mod Named

@@ -6,10 +6,12 @@ use Rattle.ob_types.specs.declared.typed.TypedVariable.{TypedVariable}
 use Rattle.ob_types.specs.declared.typed.TypedParameter.{TypedParameter}
 use Rattle.ob_types.specs.declared.typed.TypedProcedure.{TypedProcedure}
 use Rattle.ob_types.specs.declared.typed.TypedType.{TypedType}
+use Rattle.ob_types.specs.declared.typed.TypedModule.{TypedModule}
+use Rattle.ob_types.specs.TypedView.{module_view}
 use Rattle.ob_layout.specs.Lists.{sum_of}
 use Rattle.ob_layout.specs.Words.{words_of}
 use Rattle.ob_layout.specs.Room.{slots}
-use Rattle.ob_code.specs.Context.{before, records_among}
+use Rattle.ob_code.specs.Context.{Context, before, records_among}
 
 abbrev pub variables_before : (QName → Option Desc) → List TypedVariable → List ℕ → ℕ
 variables_before types vs x = before (λ v. v.name) (λ v. words_of types v.of) vs x
@@ -31,3 +33,7 @@ types_before ts x = before (λ t. t.name) (λ t. 1) (records_among ts) x
 
 abbrev pub types_count : List TypedType → ℕ
 types_count ts = sum_of (λ t. 1) (records_among ts)
+
+-- what the code of a procedure looks up
+abbrev pub context_of : (QName → Option Desc) → TypedModule → List TypedParameter → List TypedVariable → Context
+context_of types m parameters locals = record { types = types; unit = module_view m; parameters = parameters; locals = locals }

@@ -13,6 +13,7 @@ use ob_types::{
 
 /// What the code of a procedure looks up: the descriptions, the module and the procedure at hand,
 /// and where their things stand.
+#[derive(Drop)]
 pub struct ProcedureScope<'a, T: Types> {
     pub types: &'a T,
     pub unit: &'a TypedModule,
