@@ -23,8 +23,12 @@ fn record_of<'a, T: Types>(types: &'a T, of: &'a TypeRef) -> Option<&'a QName>
 }
 
 // The record type that a record type extends.
-fn base_of<'a, T: Types>(types: &'a T, base: &'a Option<TypeRef>) -> Option<&'a QName>
-    ensures { option_copied result ≡ base_type (T.types types.now) base.now }
+fn base_of<'a, T: Types>(
+    types: &'a T,
+    _unit: &TypedModule,
+    base: &'a Option<TypeRef>,
+) -> Option<&'a QName>
+    ensures { option_copied result ≡ base_type (T.types types.now) (module_view _unit.now) base.now }
 {
     match base {
         None => None,
@@ -45,9 +49,9 @@ fn name_base<T: Types>(
     unit: &TypedModule,
     base: &Option<TypeRef>,
 ) -> Result<(), GenFault>
-    ensures { OnOk result (code.new ≡ with_types code.old (with_base (T.types types.now) (module_view unit.now) code.old.named.types (base_type (T.types types.now) base.now))) }
+    ensures { OnOk result (code.new ≡ with_types code.old (with_base (T.types types.now) (module_view unit.now) code.old.named.types (base_type (T.types types.now) (module_view unit.now) base.now))) }
 {
-    match base_of(types, base) {
+    match base_of(types, unit, base) {
         None => Ok(()),
         Some(name) => {
             if is_own(unit, name) {
@@ -113,9 +117,9 @@ pub fn base_in<T: Types>(
     scope: &ModuleScope<'_, T>,
     base: &Option<TypeRef>,
 ) -> Result<Base, GenFault>
-    ensures { IfOk result (λ b. b ≡ base_in (T.types scope.now.types.now) (module_view scope.now.unit.now) code.now.named.types (base_type (T.types scope.now.types.now) base.now)) }
+    ensures { IfOk result (λ b. b ≡ base_in (T.types scope.now.types.now) (module_view scope.now.unit.now) code.now.named.types (base_type (T.types scope.now.types.now) (module_view scope.now.unit.now) base.now)) }
 {
-    match base_of(scope.types, base) {
+    match base_of(scope.types, scope.unit, base) {
         None => Ok(Base::None),
         Some(name) => numbered_base(code, scope, name),
     }

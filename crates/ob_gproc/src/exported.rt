@@ -1,8 +1,5 @@
-ghost use Rattle.std.specs.Prelude.{◌≡◌, Option, map, IfOk};
+ghost use Rattle.std.specs.Prelude.{◌≡◌, ◌+◌, ◌++◌, ◌∷◌, [], map, OnOk, IfOk};
 ghost use Rattle.ob_types.specs.TypedView.{module_view, procedure_view};
-ghost use Rattle.ob_tree.specs.declared.names.QName.{QName};
-ghost use Rattle.ob_types.specs.declared.desc.Desc.{Desc};
-ghost use Rattle.ob_types.specs.TypedSyntax.{Module};
 ghost use Rattle.ob_code.specs.Object.{is_seen, is_full, is_free, seen_variables, commands_among, variables, commands};
 
 use crate::module_scope::ModuleScope;
@@ -42,6 +39,25 @@ fn is_free(binding: &Option<Binding>) -> bool
     }
 }
 
+// A variable that is exported stands behind the others, with its place.
+fn add_seen<T: Types>(
+    seen: &mut List<Variable>,
+    scope: &ModuleScope<'_, T>,
+    variable: &TypedVariable,
+) -> Result<(), GenFault>
+    ensures { OnOk result (seen.new ≡ seen.old ++ seen_variables (T.types scope.now.types.now) (module_view scope.now.unit.now) (variable.now ∷ [])) }
+{
+    if !is_seen(variable.mark) {
+        return Ok(());
+    }
+    let place = scope.variables.get(variable.name.as_bytes()) as u32;
+    seen.push(Variable {
+        name: variable.name,
+        place,
+    })?;
+    Ok(())
+}
+
 // The exported ones of variables, each with its place.
 fn seen_among<T: Types>(
     alloc: Global,
@@ -52,13 +68,7 @@ fn seen_among<T: Types>(
 {
     let mut seen = List::new(alloc);
     'variables: for variable in variables {
-        if is_seen(variable.mark) {
-            let place = scope.variables.get(variable.name.as_bytes());
-            seen.push(Variable {
-                name: variable.name,
-                place: place as u32,
-            })?;
-        }
+        add_seen(&mut seen, scope, variable)?;
     }
     Ok(seen)
 }
@@ -85,27 +95,48 @@ fn name_of(name: &ObjName) -> Result<Name, GenFault>
     Ok(Name::new(bytes))
 }
 
+// A procedure that is exported and not bound stands behind the others, with its index.
+fn add_command<T: Types>(
+    found: &mut List<Command>,
+    _scope: &ModuleScope<'_, T>,
+    procedure: &TypedProcedure,
+    index: u32,
+) -> Result<(), GenFault>
+    ensures { OnOk result (found.new ≡ found.old ++ commands_among (T.types _scope.now.types.now) (module_view _scope.now.unit.now) (procedure_view procedure.now ∷ []) index) }
+{
+    if !is_full(procedure.mark) || !is_free(&procedure.binding) {
+        return Ok(());
+    }
+    let name = name_of(&procedure.name)?;
+    found.push(Command {
+        name,
+        procedure: index,
+    })?;
+    Ok(())
+}
+
+fn next_index(index: u32) -> Result<u32, GenFault>
+    ensures { IfOk result (λ n. n ≡ index + 1) }
+{
+    if index >= 1 << 31 {
+        return Err(GenFault::Memory);
+    }
+    Ok(index + 1)
+}
+
 // The exported ones of procedures that are not bound, each with its index.
-fn commands_in(
+fn commands_in<T: Types>(
     alloc: Global,
+    scope: &ModuleScope<'_, T>,
     procedures: &[TypedProcedure],
 ) -> Result<List<Command>, GenFault>
-    ensures { IfOk result (λ l. (types : QName → Option Desc) (m : Module) → l ≡ commands_among types m (map procedure_view procedures.now) 1) }
+    ensures { IfOk result (λ l. l ≡ commands_among (T.types scope.now.types.now) (module_view scope.now.unit.now) (map procedure_view procedures.now) 1) }
 {
     let mut found = List::new(alloc);
     let mut index: u32 = 1;
     'procedures: for procedure in procedures {
-        if is_full(procedure.mark) && is_free(&procedure.binding) {
-            let name = name_of(&procedure.name)?;
-            found.push(Command {
-                name,
-                procedure: index,
-            })?;
-        }
-        if index >= 1 << 31 {
-            return Err(GenFault::Memory);
-        }
-        index += 1;
+        add_command(&mut found, scope, procedure, index)?;
+        index = next_index(index)?;
     }
     Ok(found)
 }
@@ -117,6 +148,6 @@ pub fn exported_procedures<T: Types>(
 ) -> Result<List<Command>, GenFault>
     ensures { IfOk result (λ l. l ≡ commands (T.types scope.now.types.now) (module_view scope.now.unit.now)) }
 {
-    let found = commands_in(alloc, scope.unit.procedures.as_slice())?;
+    let found = commands_in(alloc, scope, scope.unit.procedures.as_slice())?;
     commands_in_order(alloc, found)
 }
