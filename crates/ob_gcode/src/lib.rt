@@ -19,4 +19,6 @@ pub use links::Links;
 pub use scope::Scope;
 pub use type_links::TypeLinks;
 pub use typed::{put_typed, put_typed_and, put_typed_behind};
-pub use wants::{want_for, want_for_guard, want_for_index};
+pub use wants::{
+    has_tag, want_for, want_for_guard, want_for_index, want_for_source, want_for_target,
+};

@@ -1,0 +1,193 @@
+ghost use Rattle.std.specs.Prelude.{◌≡◌, ◌++◌, ◌∷◌, [], length, pos, ◌+◌, ◌<◌, OnOk};
+ghost use Rattle.ob_types.specs.TypedView.{designator_view, expr_view, actual_view, actuals_view};
+ghost use Rattle.ob_code.specs.Lines.{plain, none, line_of, count};
+ghost use Rattle.ob_code.specs.Context.{Context, words, type_operand};
+ghost use Rattle.ob_code.specs.Coded.{Coded, appended, place_in};
+ghost use Rattle.ob_code.specs.Expressions.{wanted, desig_code, expr_code, actuals_code};
+
+use crate::calls::{put_call, put_held_call};
+use crate::constants::put_constant;
+use crate::pieces::{put_binary, put_unary};
+use crate::places::{put_field, put_from_pointer, put_index, put_variable};
+use crate::relations::put_relation;
+use crate::types::{put_from_guard, put_procedure_value};
+use ob_code::Want;
+use ob_gcode::{
+    Code, GenFault, Scope, put_count, put_typed, want_for, want_for_guard, want_for_index,
+};
+use ob_instr::Opcode;
+use ob_tree::Which;
+use ob_types::{Actual, Connective, Designator, TypedExpr};
+
+#[cycle(put_expr)]
+#[tactic(auto, using(ob_code::proofs::Appends::put_two, ob_code::proofs::Puts::place_and_expr, ob_types::proofs::TypedViews::view_variable, ob_types::proofs::TypedViews::view_field, ob_types::proofs::TypedViews::view_index, ob_types::proofs::TypedViews::view_deref, ob_types::proofs::TypedViews::view_guard))]
+pub fn put_designator<S: Scope>(
+    code: &mut Code,
+    scope: &S,
+    want: Want,
+    d: &Designator,
+) -> Result<(), GenFault>
+    ensures { OnOk result (code.new ≡ appended code.old (desig_code (S.context scope.now) want (designator_view d.now) (place_in code.old))) }
+{
+    match d {
+        Designator::Variable { variable, of } => put_variable(code, scope, want, variable, of),
+        Designator::Field {
+            inner,
+            owner,
+            name,
+            of,
+        } => {
+            put_designator(code, scope, Want::Place, inner.get())?;
+            put_field(code, scope, owner, name, want, of)
+        }
+        Designator::Index {
+            inner,
+            length,
+            index,
+            pos,
+            of,
+        } => {
+            put_designator(code, scope, want_for_index(*length), inner.get())?;
+            put_expr(code, scope, Want::Value, index.get())?;
+            put_index(code, scope, *length, want, of, *pos)
+        }
+        Designator::Deref { inner, pos, of } => {
+            put_designator(code, scope, Want::Value, inner.get())?;
+            put_from_pointer(code, scope, want, of, *pos)
+        }
+        Designator::Guard {
+            inner,
+            guarded,
+            target,
+            pos,
+            of,
+        } => {
+            put_designator(code, scope, want_for_guard(*guarded, want), inner.get())?;
+            put_from_guard(code, scope, *guarded, target, want, of, *pos)
+        }
+    }
+}
+
+#[cycle(put_expr)]
+#[tactic(auto, using(ob_code::proofs::Appends::put_two, ob_code::proofs::Puts::two_exprs_and, ob_code::proofs::Puts::place_and_actuals, ob_types::proofs::TypedViews::view_constant, ob_types::proofs::TypedViews::view_value_of, ob_types::proofs::TypedViews::view_procedure_value, ob_types::proofs::TypedViews::view_monadic, ob_types::proofs::TypedViews::view_dyadic, ob_types::proofs::TypedViews::view_compare_texts, ob_types::proofs::TypedViews::view_is_pointer, ob_types::proofs::TypedViews::view_is_record, ob_types::proofs::TypedViews::view_length, ob_types::proofs::TypedViews::view_call, ob_types::proofs::TypedViews::view_call_variable))]
+pub fn put_expr<S: Scope>(
+    code: &mut Code,
+    scope: &S,
+    want: Want,
+    e: &TypedExpr,
+) -> Result<(), GenFault>
+    ensures { OnOk result (code.new ≡ appended code.old (expr_code (S.context scope.now) want (expr_view e.now) (place_in code.old))) }
+{
+    match e {
+        TypedExpr::Constant(value) => put_constant(code, want, value),
+        TypedExpr::Designator(d) => put_designator(code, scope, want, d),
+        TypedExpr::Procedure { name, .. } => put_procedure_value(code, scope, name),
+        TypedExpr::Unary { op, operand, pos } => {
+            put_expr(code, scope, Want::Value, operand.get())?;
+            put_unary(code, *op, *pos)
+        }
+        TypedExpr::Binary {
+            op,
+            left,
+            right,
+            pos,
+        } => {
+            put_expr(code, scope, Want::Value, left.get())?;
+            put_expr(code, scope, Want::Value, right.get())?;
+            put_binary(code, *op, *pos)
+        }
+        TypedExpr::Logical {
+            connective,
+            left,
+            right,
+        } => {
+            put_expr(code, scope, Want::Value, left.get())?;
+            match connective {
+                Connective::And => {
+                    let test = code.place();
+                    put_count(code, Opcode::JumpF, 0)?;
+                    put_expr(code, scope, Want::Value, right.get())?;
+                    put_ahead(code, Opcode::Jump, 2)?;
+                    code.aim(test, Opcode::JumpF)?;
+                    put_count(code, Opcode::Int, 0)
+                }
+                Connective::Or => {
+                    put_ahead(code, Opcode::JumpF, 3)?;
+                    put_count(code, Opcode::Int, 1)?;
+                    let over = code.place();
+                    put_count(code, Opcode::Jump, 0)?;
+                    put_expr(code, scope, Want::Value, right.get())?;
+                    code.aim(over, Opcode::Jump)
+                }
+            }
+        }
+        TypedExpr::CompareTexts {
+            comparison,
+            left,
+            right,
+            pos,
+        } => {
+            put_expr(code, scope, Want::PlaceAndLength, left.get())?;
+            put_expr(code, scope, Want::PlaceAndLength, right.get())?;
+            put_relation(code, *comparison, *pos)
+        }
+        TypedExpr::IsPointer { operand, target } => {
+            put_expr(code, scope, Want::Value, operand.get())?;
+            put_typed(code, scope, Opcode::IsP, target, None)
+        }
+        TypedExpr::IsRecord { inner, target } => {
+            put_designator(code, scope, Want::Tag, inner)?;
+            put_typed(code, scope, Opcode::IsR, target, None)
+        }
+        TypedExpr::Length(d) => put_designator(code, scope, Want::Length, d),
+        TypedExpr::Call {
+            callee,
+            actuals,
+            pos,
+            ..
+        } => {
+            put_actuals(code, scope, actuals.as_slice())?;
+            put_call(code, scope, callee, actuals.as_slice(), *pos)
+        }
+        TypedExpr::CallVariable {
+            inner,
+            actuals,
+            pos,
+            ..
+        } => {
+            put_designator(code, scope, Want::Value, inner)?;
+            put_actuals(code, scope, actuals.as_slice())?;
+            put_held_call(code, actuals.as_slice(), *pos)
+        }
+    }
+}
+
+#[cycle(put_expr)]
+fn put_actual<S: Scope>(code: &mut Code, scope: &S, actual: &Actual) -> Result<(), GenFault>
+    ensures { OnOk result (code.new ≡ appended code.old (expr_code (S.context scope.now) (wanted (words (S.context scope.now)) actual.now.passing actual.now.formal) (expr_view actual.now.value) (place_in code.old))) }
+{
+    let want = want_for(scope, actual.passing, &actual.formal)?;
+    put_expr(code, scope, want, &actual.value)
+}
+
+#[cycle(put_expr)]
+fn put_actuals<S: Scope>(code: &mut Code, scope: &S, actuals: &[Actual]) -> Result<(), GenFault>
+    ensures { OnOk result (code.new ≡ appended code.old (actuals_code (S.context scope.now) (actuals_view actuals.now) (place_in code.old))) }
+{
+    'actuals: for actual in actuals {
+        put_actual(code, scope, actual)?;
+    }
+    Ok(())
+}
+
+// A jump to so many instructions further.
+fn put_ahead(code: &mut Code, op: Opcode, by: u32) -> Result<(), GenFault>
+    requires { by < 10 }
+    ensures { OnOk result (code.new ≡ appended code.old (plain op (count (length code.old.instrs + by)) ∷ [])) }
+{
+    let place = code.place();
+    if place >= 1 << 30 {
+        return Err(GenFault::Limit(Which::Code));
+    }
+    put_count(code, op, place as u32 + by)
+}
