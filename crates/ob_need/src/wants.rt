@@ -1,12 +1,7 @@
-ghost use Rattle.std.specs.Prelude.{◌≡◌, ◌+◌, ℕ, max, List};
-ghost use Rattle.ob_tree.specs.declared.pos.Pos.{Pos};
-ghost use Rattle.ob_tree.specs.declared.names.QName.{QName};
-ghost use Rattle.ob_types.specs.declared.types.TypeRef.{TypeRef};
-ghost use Rattle.ob_types.specs.declared.typed.Variable.TheVariants as variable;
-ghost use Rattle.ob_types.specs.TypedSyntax.{Desig, OfVariable, Guard};
+ghost use Rattle.std.specs.Prelude.{◌≡◌, ◌+◌, max};
 ghost use Rattle.ob_types.specs.TypedView.{designator_view};
 ghost use Rattle.ob_code.specs.Expressions.{index_want, guard_want, under_guard};
-ghost use Rattle.ob_code.specs.Statements.{has_tag, record_want, target_want, source_want};
+ghost use Rattle.ob_code.specs.Statements.{is_passed_with_tag, is_tagged_variable, is_tagged_guard, has_tag, record_want, target_want, source_want};
 ghost use Rattle.ob_code.specs.Needs.{operands_of, result_operands, label_operands};
 ghost use Rattle.ob_need.specs.Capped.{capped};
 ghost use Rattle.ob_need.specs.Nowhere.{passed};
@@ -107,7 +102,7 @@ pub fn operands_of_labels(labels: &[Label]) -> u32
 }
 
 fn is_tagged_variable(variable: &Variable) -> bool
-    ensures { (t : TypeRef) → result ≡ has_tag (OfVariable variable.now t) }
+    ensures { result ≡ is_tagged_variable variable.now }
 {
     match variable {
         Variable::Module { .. } => false,
@@ -117,7 +112,7 @@ fn is_tagged_variable(variable: &Variable) -> bool
 }
 
 fn is_tagged_parameter(how: Passing) -> bool
-    ensures { (x : List ℕ) (t : TypeRef) → result ≡ has_tag (OfVariable (variable.Parameter how x) t) }
+    ensures { result ≡ is_passed_with_tag how }
 {
     match how {
         Passing::VariableRecord => true,
@@ -130,7 +125,7 @@ fn is_tagged_parameter(how: Passing) -> bool
 }
 
 fn is_tagged_guard(guarded: Guarded) -> bool
-    ensures { (d : Desig) (target : QName) (at : Pos) (t : TypeRef) → result ≡ has_tag (Guard d guarded target at t) }
+    ensures { result ≡ is_tagged_guard guarded }
 {
     match guarded {
         Guarded::Pointer => false,
