@@ -1,3 +1,4 @@
 pub mod Placing
 pub mod Counting
 pub mod Exporting
+pub mod Putting

@@ -2,3 +2,4 @@ pub mod Placed
 pub mod Scoped
 pub mod Parts
 pub mod Named
+pub mod Ordered

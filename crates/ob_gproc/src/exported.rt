@@ -81,7 +81,7 @@ pub fn exported_variables<T: Types>(
     ensures { IfOk result (λ l. l ≡ variables (T.types scope.now.types.now) (module_view scope.now.unit.now)) }
 {
     let seen = seen_among(alloc, scope, scope.unit.variables.as_slice())?;
-    variables_in_order(alloc, seen)
+    variables_in_order(alloc, seen.as_slice())
 }
 
 // An exported procedure is named by an identifier.
@@ -115,7 +115,8 @@ fn add_command<T: Types>(
     Ok(())
 }
 
-fn next_index(index: u32) -> Result<u32, GenFault>
+/// The next index.
+pub fn next_index(index: u32) -> Result<u32, GenFault>
     ensures { IfOk result (λ n. n ≡ index + 1) }
 {
     if index >= 1 << 31 {
@@ -149,5 +150,5 @@ pub fn exported_procedures<T: Types>(
     ensures { IfOk result (λ l. l ≡ commands (T.types scope.now.types.now) (module_view scope.now.unit.now)) }
 {
     let found = commands_in(alloc, scope, scope.unit.procedures.as_slice())?;
-    commands_in_order(alloc, found)
+    commands_in_order(alloc, found.as_slice())
 }
