@@ -3,3 +3,5 @@ pub mod Scoped
 pub mod Parts
 pub mod Named
 pub mod Ordered
+pub mod Filed
+pub mod Whole

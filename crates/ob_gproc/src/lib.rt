@@ -5,6 +5,7 @@ mod bases;
 mod code;
 mod defined;
 mod exported;
+mod file;
 mod module_scope;
 mod named;
 mod order;
@@ -15,13 +16,6 @@ mod scope;
 mod stub;
 mod tables;
 
-pub use code::put_module;
-pub use bases::name_bases;
-pub use exported::{exported_procedures, exported_variables};
-pub use records::records_in;
-pub use module_scope::ModuleScope;
-pub use places::Places;
-pub use scope::ProcedureScope;
-pub use tables::{places_of_parameters, places_of_procedures, places_of_types, places_of_variables};
+pub use file::object_file;
 
 
