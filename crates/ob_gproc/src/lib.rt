@@ -6,6 +6,7 @@ mod code;
 mod defined;
 mod exported;
 mod file;
+mod made;
 mod module_scope;
 mod named;
 mod order;
