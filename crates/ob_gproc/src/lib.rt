@@ -16,6 +16,7 @@ mod rows;
 mod scope;
 mod stub;
 mod tables;
+mod whole;
 
 pub use file::object_file;
 

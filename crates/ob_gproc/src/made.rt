@@ -4,6 +4,7 @@ ghost use Rattle.ob_code.specs.Procedures.{module_rows};
 ghost use Rattle.ob_code.specs.Object.{variables, commands, records_in, type_links};
 ghost use Rattle.ob_gcode.specs.Parts.{parts_of};
 ghost use Rattle.ob_gproc.specs.Whole.{module_coded};
+ghost use Rattle.ob_gproc.specs.Filed.{file_with};
 
 use crate::bases::name_bases;
 use crate::code::put_module;
@@ -12,7 +13,7 @@ use crate::module_scope::ModuleScope;
 use crate::records::records_in;
 use ob_gcode::{Code, CodeParts, GenFault};
 use ob_instr::Procedure;
-use ob_obj::{Command, RecordType, Variable};
+use ob_obj::{Body, Command, Globals, Head, Links, ObjFile, RecordType, Variable};
 use ob_tree::List;
 use ob_types::Types;
 use std::alloc::Global;
@@ -108,4 +109,59 @@ pub fn find_shown<T: Types>(alloc: Global, scope: &ModuleScope<'_, T>) -> Result
         variables,
         commands,
     })
+}
+
+impl Made {
+    fn into_file(
+        self,
+        head: Head,
+        variable_words: u32,
+        variables: List<Variable>,
+        commands: List<Command>,
+    ) -> ObjFile
+        ensures { result ≡ file_with head self.parts variable_words variables self.types self.rows commands }
+    {
+        let Made { parts, rows, types } = self;
+        let CodeParts {
+            instrs,
+            positions,
+            strings,
+            variables: variable_links,
+            procedures: procedure_links,
+            types: type_links,
+        } = parts;
+        ObjFile {
+            head,
+            globals: Globals {
+                variable_words,
+                strings,
+                variables,
+            },
+            links: Links {
+                variables: variable_links,
+                procedures: procedure_links,
+                types: type_links,
+            },
+            body: Body {
+                types,
+                procedures: rows,
+                commands,
+                code: instrs,
+                positions,
+            },
+        }
+    }
+}
+
+impl Shown {
+    /// The object file of a head and the other parts.
+    pub fn into_file(self, made: Made, head: Head, words: u32) -> ObjFile
+        ensures { result ≡ file_with head made.parts words self.variables made.types made.rows self.commands }
+    {
+        let Shown {
+            variables,
+            commands,
+        } = self;
+        made.into_file(head, words, variables, commands)
+    }
 }
