@@ -1,7 +1,6 @@
 -- The pieces of the scheme have so many lines.
-use Rattle.std.proofs.Common.{◌≡◌, ℕ, suc, ◌+◌, ◌*◌, sym, ap, ◌∙◌, List, [], ◌∷◌, ◌++◌, length, arith, Option, Some, None}
+use Rattle.std.proofs.Common.{◌≡◌, ℕ, suc, ◌+◌, ◌*◌, sym, ap, ◌∙◌, List, [], ◌∷◌, length, arith, Option, Some, None}
 use Rattle.ob_tree.specs.declared.pos.Pos.{Pos}
-use Rattle.ob_tree.specs.declared.names.QName.{QName}
 use Rattle.ob_types.specs.declared.types.TypeRef.{TypeRef}
 use Rattle.ob_types.specs.declared.value.Value.{Value}
 use Rattle.ob_types.specs.declared.value.Value.TheVariants as literal
@@ -19,7 +18,7 @@ use Rattle.ob_types.specs.declared.typed.Label.{Label}
 use Rattle.ob_types.specs.TypedSyntax.{Expr, Logical}
 use Rattle.ob_code.specs.declared.want.Want.{Want}
 use Rattle.ob_code.specs.declared.want.Want.TheVariants as want
-use Rattle.ob_code.specs.Lines.{Line, behind}
+use Rattle.ob_code.specs.Lines.{behind}
 use Rattle.ob_code.specs.Context.{Context}
 use Rattle.ob_code.specs.Descriptions.{elements_of}
 use Rattle.ob_code.specs.Operations.{unary_code}

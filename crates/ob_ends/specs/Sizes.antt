@@ -1,5 +1,5 @@
 -- How many lines the pieces of the scheme have.
-use Rattle.std.specs.Prelude.{ℕ, suc, ◌+◌, Option, Some, None}
+use Rattle.std.specs.Prelude.{ℕ, suc, Option, Some, None}
 use Rattle.ob_types.specs.declared.value.Value.{Value}
 use Rattle.ob_types.specs.declared.value.Value.TheVariants as literal
 use Rattle.ob_types.specs.declared.typed.Passing.{Passing}

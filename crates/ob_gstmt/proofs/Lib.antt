@@ -1,0 +1,2 @@
+pub mod StmtPuts
+pub mod Stored
