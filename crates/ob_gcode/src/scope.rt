@@ -61,6 +61,6 @@ pub trait Scope {
         ensures within { result < 2 ^ 30 };
 
     /// The name of the type that a type is equated to; none for a basic type.
-    fn record_of(&self, t: &TypeRef) -> Option<&QName>
+    fn record_of<'a>(&'a self, t: &'a TypeRef) -> Option<&'a QName>
         ensures { option_copied result ≡ own_name (context self.now).types t.now };
 }

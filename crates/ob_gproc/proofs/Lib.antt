@@ -1,0 +1,5 @@
+pub mod Placing
+pub mod Counting
+pub mod Exporting
+pub mod Putting
+pub mod Filing

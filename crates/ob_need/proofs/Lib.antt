@@ -1,0 +1,4 @@
+pub mod Shapes
+pub mod Anywhere
+pub mod Lists
+pub mod Few
