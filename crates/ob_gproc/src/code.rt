@@ -9,9 +9,9 @@ ghost use Rattle.ob_gproc.specs.Scoped.{context_of};
 use crate::module_scope::ModuleScope;
 use crate::rows::{has_result, params_of};
 use crate::scope::ProcedureScope;
-use crate::stub::put_stmts;
 use crate::tables::{places_of_parameters, places_of_variables};
 use ob_gcode::{Code, GenFault, Scope};
+use ob_gstmt::put_stmts;
 use ob_instr::{Opcode, Procedure};
 use ob_tree::{List, Pos};
 use ob_types::{TypeRef, TypedParameter, TypedProcedure, TypedStmt, TypedVariable, Types};
@@ -119,7 +119,16 @@ fn put_body<T: Types>(
     ensures row { IfOk result (λ r. r ≡ row_of (T.types scope.now.types.now) (module_view scope.now.unit.now) (body_of (module_view scope.now.unit.now)) (place_in code.old)) }
 {
     let pos = Pos { line: 0, col: 0 };
-    put_procedure(alloc, code, scope, &[], &[], &None, pos, scope.unit.body.as_slice())
+    put_procedure(
+        alloc,
+        code,
+        scope,
+        &[],
+        &[],
+        &None,
+        pos,
+        scope.unit.body.as_slice(),
+    )
 }
 
 // The code of procedures, and their rows behind the others.
@@ -153,6 +162,12 @@ pub fn put_module<T: Types>(
     let mut rows = List::new(alloc);
     let row = put_body(alloc, code, scope)?;
     rows.push(row)?;
-    put_procedures(alloc, code, scope, &mut rows, scope.unit.procedures.as_slice())?;
+    put_procedures(
+        alloc,
+        code,
+        scope,
+        &mut rows,
+        scope.unit.procedures.as_slice(),
+    )?;
     Ok(rows)
 }

@@ -14,10 +14,7 @@ mod places;
 mod records;
 mod rows;
 mod scope;
-mod stub;
 mod tables;
 mod whole;
 
 pub use file::object_file;
-
-

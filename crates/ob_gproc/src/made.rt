@@ -73,16 +73,18 @@ impl ModuleCode {
 }
 
 // The code of a module with all its links.
-fn module_code<T: Types>(
-    alloc: Global,
-    scope: &ModuleScope<'_, T>,
-) -> Result<ModuleCode, GenFault>
+fn module_code<T: Types>(alloc: Global, scope: &ModuleScope<'_, T>) -> Result<ModuleCode, GenFault>
     ensures code { IfOk result (λ x. x.code ≡ module_coded (T.types scope.now.types.now) (module_view scope.now.unit.now)) }
     ensures rows { IfOk result (λ x. x.rows ≡ module_rows (T.types scope.now.types.now) (module_view scope.now.unit.now)) }
 {
     let mut code = Code::new(alloc, scope.variables.total as u32);
     let rows = put_module(alloc, &mut code, scope)?;
-    name_bases(&mut code, scope.types, scope.unit, scope.unit.types.as_slice())?;
+    name_bases(
+        &mut code,
+        scope.types,
+        scope.unit,
+        scope.unit.types.as_slice(),
+    )?;
     Ok(ModuleCode { code, rows })
 }
 

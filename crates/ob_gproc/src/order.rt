@@ -122,7 +122,10 @@ fn definitions_of(alloc: Global, found: &[Definition]) -> Result<Vec<Defined>, A
     Ok(items)
 }
 
-fn definitions_in(alloc: Global, set: BTreeSet<Defined, Global>) -> Result<List<Definition>, AllocError>
+fn definitions_in(
+    alloc: Global,
+    set: BTreeSet<Defined, Global>,
+) -> Result<List<Definition>, AllocError>
     ensures { IfOk result (λ l. l ≡ map to_definition set.keys) }
 {
     let mut left = set;
@@ -137,7 +140,10 @@ fn definitions_in(alloc: Global, set: BTreeSet<Defined, Global>) -> Result<List<
 }
 
 /// Definitions in the order of their numbers; of those that have one number, the last.
-pub fn definitions_in_order(alloc: Global, found: &[Definition]) -> Result<List<Definition>, GenFault>
+pub fn definitions_in_order(
+    alloc: Global,
+    found: &[Definition],
+) -> Result<List<Definition>, GenFault>
     ensures { IfOk result (λ l. l ≡ in_order by_number found.now) }
 {
     let items = definitions_of(alloc, found)?;

@@ -60,7 +60,11 @@ pub fn places_of_parameters(
 {
     let mut places = Places::new(alloc);
     'parameters: for parameter in parameters {
-        places = places.with(alloc, parameter.name.as_bytes(), slots_of(parameter.passing))?;
+        places = places.with(
+            alloc,
+            parameter.name.as_bytes(),
+            slots_of(parameter.passing),
+        )?;
     }
     Ok(places)
 }

@@ -31,7 +31,10 @@ pub fn operands_of_designator(want: Want, d: &Designator) -> u32
         } => {
             let whole = want_for_index(*length);
             let array = operands_of_designator(whole, inner.get());
-            let at = above(operands_of(whole), operands_of_expr(Want::Value, index.get()));
+            let at = above(
+                operands_of(whole),
+                operands_of_expr(Want::Value, index.get()),
+            );
             larger(array, larger(at, operands_of(want)))
         }
         Designator::Deref { inner, .. } => larger(

@@ -40,7 +40,9 @@ fn operands_of_stmt(s: &TypedStmt) -> u32
         }
         TypedStmt::Call(call) => operands_of_expr(Want::Value, call),
         TypedStmt::Update {
-            target, operand, ..
+            target,
+            operand,
+            ..
         } => {
             let place = operands_of_designator(Want::Place, target);
             larger(place, above(1, operands_of_expr(Want::Value, operand)))
@@ -89,7 +91,10 @@ fn operands_of_stmt(s: &TypedStmt) -> u32
             larger(repeated, operands_of_expr(Want::Value, test))
         }
         TypedStmt::For {
-            start, end, body, ..
+            start,
+            end,
+            body,
+            ..
         } => {
             let last = operands_of_expr(Want::Value, end);
             let first = operands_of_expr(Want::Value, start);

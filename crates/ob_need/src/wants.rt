@@ -150,7 +150,11 @@ pub fn has_tag(d: &Designator) -> bool
 fn want_for_record(tagged: bool) -> Want
     ensures { result ≡ record_want tagged }
 {
-    if tagged { Want::PlaceAndTag } else { Want::Place }
+    if tagged {
+        Want::PlaceAndTag
+    } else {
+        Want::Place
+    }
 }
 
 /// How the target of an assignment is wanted.
