@@ -7,3 +7,5 @@ pub mod Places
 pub mod Resume
 pub mod Bridges
 pub mod Steps
+pub mod Made
+pub mod Planned

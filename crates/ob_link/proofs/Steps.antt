@@ -24,7 +24,7 @@ use Rattle.ob_link.specs.Plan.{Entry, Missing, TooLong, Junk, Holds, Refusal, st
 use Rattle.ob_link.specs.Files.{Files, asks, object_entry, answered}
 use Rattle.ob_link.specs.Members.{Known, member_of, member_named}
 use Rattle.ob_link.specs.Judging.{is_passed, breaks, use_break, missing}
-use Rattle.ob_link.specs.Walking.{Opened, open_of, stack_on, stack, path_of, names_on, Visited, resume, visits, Stops, Goes, Visits, Advances, Apart, IsWalk, Begins}
+use Rattle.ob_link.specs.Walking.{Opened, open_of, stack_on, stack, path_of, names_on, Visited, resume, visits, Stops, Goes, Visits, Advances, Apart, IsWalk, Begins, Stand}
 use Rattle.ob_link.proofs.Places.{member_or}
 use Rattle.ob_link.proofs.Indexing.{ending}
 use Rattle.ob_link.proofs.Resume.{passed, circled, refused, opened, goes_on, left_by, stopped, over, Step, stack_more, stack_length}
@@ -127,6 +127,7 @@ walk_opened loaded planned frames on left name x frames2 on2 left2 planned2 w is
       apart = apart_more (loaded ++ planned) frames f name w.apart is off n;
       short = omega (arith, length-append frames (f ∷ []), short);
       few = w.few;
+      stand = w.stand;
     } in
     rw (e1, e2, e3, e4) now
 
@@ -141,6 +142,7 @@ walk_next loaded planned frames f g on left frames2 w e path =
       apart = subst (Apart (loaded ++ planned)) (ap path_of (stack_more [] frames f) ∙ ap (λ (x : ObjFile). x.head.«module» ∷ path_of (stack frames)) (sym e) ∙ ap path_of (sym (stack_more [] frames g))) w.apart;
       short = omega (arith, w.short, length-append frames (f ∷ []), length-append frames (g ∷ []));
       few = w.few;
+      stand = w.stand;
     } in
     rw path now
 
@@ -186,10 +188,19 @@ few_so true n e = refl
 few_so false n e = absurd cc
 
 -- a file that nothing refuses is not one too many
-few_more : (ks : List Known) (x : ObjFile) → breaks ks x ≡ None → length ks + 1 ≤ 255
+pub few_more : (ks : List Known) (x : ObjFile) → breaks ks x ≡ None → length ks + 1 ≤ 255
 few_more ks x ok =
     let last = none_last (first_of (use_break ks x.head.«module») x.head.uses) (absent x.head.«module» (missing ks x.links)) (too_many (length ks + 1)) ok in
     (le_decides (length ks + 1) 255).0 (few_so (nat_le (length ks + 1) 255) (length ks + 1) last)
+
+-- one file more that stands
+pub stand_more : (ks : List Known) (fs : List ObjFile) (f : ObjFile) → Stand ks fs → file.fits f → is_there (member_named f.head.«module» (ks ++ map member_of fs)) ≡ false → breaks (ks ++ map member_of fs) f ≡ None → Stand ks (fs ++ f ∷ [])
+stand_more ks [] f s fits new ok =
+    let e : ks ++ [] ≡ ks = append-nil ks in
+    (fits, subst (λ l. is_there (member_named f.head.«module» l) ≡ false) e new, subst (λ l. breaks l f ≡ None) e ok, tt)
+stand_more ks (g ∷ fs) f s fits new ok =
+    let e : ks ++ (member_of g ∷ map member_of fs) ≡ (ks ++ member_of g ∷ []) ++ map member_of fs = sym (append_assoc ks (member_of g ∷ []) (map member_of fs)) in
+    (s.0, s.1, s.2, stand_more (ks ++ member_of g ∷ []) fs f s.3 fits (subst (λ l. is_there (member_named f.head.«module» l) ≡ false) e new) (subst (λ l. breaks l f ≡ None) e ok))
 
 pub walk_left : (loaded planned : List Known) (frames : List Frame) (f : Frame) (on : List (List ℕ)) (left : List ObjFile) (frames2 : List Frame) (on2 : List (List ℕ)) (left2 : List ObjFile) (planned2 : List Known) → IsWalk loaded (frames ++ f ∷ []) on left planned → breaks (loaded ++ planned) f.file ≡ None → frames2 ≡ frames → on2 ≡ take (length on - 1) on → left2 ≡ left ++ f.file ∷ [] → planned2 ≡ planned ++ member_of f.file ∷ [] → IsWalk loaded frames2 on2 left2 planned2
 walk_left loaded planned frames f on left frames2 on2 left2 planned2 w ok e1 e2 e3 e4 =
@@ -204,6 +215,7 @@ walk_left loaded planned frames f on left frames2 on2 left2 planned2 w ok e1 e2 
       apart = subst (λ ks. Apart ks (path_of (stack frames))) assoc (apart_left (loaded ++ planned) (member_of x) x.head.«module» (path_of (stack frames)) refl apart.1 apart.2);
       short = omega (arith, w.short, length-append frames (f ∷ []));
       few = subst (λ ks. length ks ≤ 255) assoc (omega (arith, few_more (loaded ++ planned) x ok, length-append (loaded ++ planned) (member_of x ∷ [])));
+      stand = stand_more loaded left x w.stand a.1 (subst (λ l. is_there (member_named x.head.«module» (loaded ++ l)) ≡ false) w.known apart.0) (subst (λ l. breaks (loaded ++ l) x ≡ None) w.known ok);
     } in
     rw (e1, e2, e3, e4) now
 
@@ -246,7 +258,7 @@ none_answered (Some r) e = absurd cc
 
 pub walk_begins : (loaded : List Known) (frames : List Frame) (on : List (List ℕ)) (left : List ObjFile) (planned : List Known) → length loaded ≤ 255 → frames ≡ [] → on ≡ [] → left ≡ [] → planned ≡ [] → IsWalk loaded frames on left planned
 walk_begins loaded frames on left planned few e1 e2 e3 e4 =
-    let now : IsWalk loaded [] [] [] [] = record { known = refl; names = refl; fits = tt; apart = tt; short = omega arith; few = subst (λ (l : List Known). length l ≤ 255) (sym (append-nil loaded)) few } in
+    let now : IsWalk loaded [] [] [] [] = record { known = refl; names = refl; fits = tt; apart = tt; short = omega arith; few = subst (λ (l : List Known). length l ≤ 255) (sym (append-nil loaded)) few; stand = tt } in
     rw (e1, e2, e3, e4) now
 
 and_ok : (s : Step) (d : ℕ) (v : Visited) → and_then v (resume s d []) ≡ v

@@ -1,5 +1,5 @@
 -- How far a walk has come that keeps its path in a list.
-use Rattle.std.specs.Prelude.{◌≡◌, ℕ, suc, ◌-◌, ◌≤◌, List, [], ◌∷◌, ◌++◌, drop, map, length, false, Result, Ok, Err}
+use Rattle.std.specs.Prelude.{◌≡◌, ℕ, suc, ◌-◌, ◌≤◌, List, [], ◌∷◌, ◌++◌, drop, map, length, false, None, Result, Ok, Err}
 use Rattle.std.specs.List.{AllByRecursion}
 use Rattle.ob_tree.specs.declared.print.Print.{Print}
 use Rattle.ob_obj.specs.declared.file.ObjFile.{ObjFile}
@@ -15,6 +15,7 @@ use Rattle.ob_link.specs.Walk.{Steps, visit, has, all_in_turn, and_then, leaves,
 use Rattle.ob_link.specs.Plan.{Entry, Missing, TooLong, Junk, Holds, Refusal, steps, is_there}
 use Rattle.ob_link.specs.Files.{Files, asks, object_entry, answered}
 use Rattle.ob_link.specs.Members.{Known, member_of, member_named}
+use Rattle.ob_link.specs.Judging.{breaks}
 use Rattle.ob_link.specs.Contract.{AreLoaded}
 
 -- ---- a file that is looked for
@@ -103,6 +104,11 @@ abbrev pub Apart : List Known → List (List ℕ) → Type 0
 Apart ks [] = Unit {0}
 Apart ks (n ∷ path) = (is_there (member_named n ks) ≡ false) × (has n path ≡ false) × Apart ks path
 
+-- each of these files has a spelling, is of a module that is not there yet, and nothing refuses it behind those before it
+abbrev pub Stand : List Known → List ObjFile → Type 0
+Stand ks [] = Unit {0}
+Stand ks (f ∷ files) = file.fits f × (is_there (member_named f.head.«module» ks) ≡ false) × (breaks ks f ≡ None) × Stand (ks ++ member_of f ∷ []) files
+
 pub record IsWalk (loaded : List Known) (frames : List Frame) (on_path : List (List ℕ)) (files : List ObjFile) (new : List Known) : Type 0 where
   pub known : new ≡ map member_of files
   pub names : on_path ≡ names_on frames
@@ -110,6 +116,7 @@ pub record IsWalk (loaded : List Known) (frames : List Frame) (on_path : List (L
   pub apart : Apart (loaded ++ new) (path_of (stack frames))
   pub short : length frames ≤ 65536
   pub few : length (loaded ++ new) ≤ 255
+  pub stand : Stand loaded files
 
 -- the begin of a walk
 abbrev pub Begins : Steps ObjFile (Refusal Print) → ℕ → Visited → Result Walk LoadFault → Type 0

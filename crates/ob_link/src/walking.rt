@@ -9,7 +9,7 @@ ghost use Rattle.ob_link.specs.Contract.{PlanHasCause, AreLoaded};
 ghost use Rattle.ob_link.specs.Index.{place_from};
 ghost use Rattle.ob_link.specs.Walk.{visit as visited, most_deep};
 ghost use Rattle.ob_link.specs.Plan.{newest, is_there, steps};
-ghost use Rattle.ob_link.specs.Walking.{entry_for, Looks, IsFound, path_of, stack, names_on, Visits, Advances, IsWalk, Begins, Walks};
+ghost use Rattle.ob_link.specs.Walking.{entry_for, Looks, IsFound, path_of, stack, names_on, Visits, Advances, IsWalk, Begins, Walks, Stand};
 
 use crate::fault::{LoadFault, LoadRefusal};
 use crate::judging::{is_passed, judge};
@@ -298,6 +298,7 @@ pub fn walk_from<F: Shelf>(
 ) -> Result<Walk, LoadFault>
     requires { length loaded.now ≤ 255 }
     ensures walk { IfOk result (λ w. w.planned ≡ map member_of w.files) }
+    ensures stand { IfOk result (λ w. Stand loaded.now w.files) }
     ensures told { F.tells folder.new ≡ F.tells folder.old }
     ensures files { F.tells folder.old ≡ true → SameFiles (F.files folder.new) (F.files folder.old) }
     ensures walked { F.tells folder.old ≡ true → (fs : List File) → AreLoaded loaded.now fs → Walks (visited (steps asks (object_entry (F.files folder.old)) fs) most_deep [] «module».now []) result }
