@@ -1,12 +1,11 @@
 -- The image of files: where what is known of the files says what is there, files can be entered behind others.
-use Rattle.std.proofs.Common.{◌≡◌, ℕ, zero, suc, ◌+◌, ◌-◌, ◌*◌, ◌^◌, ◌<◌, ◌≤◌, Bool, true, false, List, [], ◌∷◌, ◌++◌, length, map, Option, Some, None, refl, sym, ap, subst, ◌∙◌, arith, append_assoc}
-use Rattle.std.specs.Prelude.{if◌then◌else◌, slice_get, bytes_eq, ◌||◌, ◌&&◌, IsSome, is_some, nat_eq, not}
+use Rattle.std.proofs.Common.{◌≡◌, ℕ, zero, suc, ◌+◌, ◌*◌, ◌≤◌, Bool, true, false, List, [], ◌∷◌, ◌++◌, length, map, Option, Some, None, refl, sym, ap, subst, ◌∙◌, arith, append_assoc}
+use Rattle.std.specs.Prelude.{if◌then◌else◌, slice_get, bytes_eq, ◌||◌, ◌&&◌, IsSome, nat_eq, not}
 use Rattle.std.specs.Option.{option_map, option_or}
 use Rattle.std.specs.List.{AllByRecursion}
 use Rattle.std.proofs.lemmas.List.{length-append, length-map, append-nil}
 use Rattle.std.proofs.lemmas.Bool.{false≢true, and_parts, and_from, not-true, eqb-true}
 use Rattle.std.proofs.lemmas.Map.Text.{is_eq-slice_cmp}
-use Rattle.ob_format.specs.Exact.{le_decides}
 use Rattle.ob_tree.specs.declared.names.QName.{QName}
 use Rattle.ob_tree.specs.declared.print.Print.{Print}
 use Rattle.ob_tree.specs.declared.proc_ref.ProcRef.{ProcRef}
@@ -22,7 +21,6 @@ use Rattle.ob_obj.specs.declared.file.ObjFile.{ObjFile}
 use Rattle.ob_obj.specs.Grammar.{file}
 use Rattle.ob_obj.specs.Images.{same, named, module_from, module_at, variables_in, commands_in, linked_variable, linked_procedure, linked_type, ref_of, type_from, type_links, descriptor_of, with_types, module_of, entered, image_of, global_words, IsEnterable, AreEnterable}
 use Rattle.ob_link.specs.declared.exported.Exported.{Exported}
-use Rattle.ob_link.specs.declared.shape.Plan.{Plan}
 use Rattle.ob_link.specs.Index.{place_from}
 use Rattle.ob_link.specs.Walk.{or_first, first_of}
 use Rattle.ob_link.specs.Plan as plan

@@ -1,5 +1,5 @@
 -- The end of a plan, behind the whole walk.
-use Rattle.std.proofs.Common.{◌≡◌, ℕ, zero, suc, ◌+◌, ◌<◌, ◌≤◌, Bool, true, false, List, [], ◌∷◌, ◌++◌, length, map, Option, Some, None, Result, Ok, Err, refl, sym, ap, subst, ◌∙◌, arith}
+use Rattle.std.proofs.Common.{◌≡◌, ℕ, suc, ◌+◌, ◌<◌, ◌≤◌, Bool, true, false, List, [], ◌∷◌, ◌++◌, map, Option, Some, None, Result, Ok, Err, refl, sym, ap, subst, ◌∙◌, arith}
 use Rattle.std.specs.Prelude.{if◌then◌else◌, bytes_eq, codes, nat_lt}
 use Rattle.std.proofs.lemmas.Bool.{false≢true, lt-ltb, le-ltb}
 use Rattle.std.proofs.lemmas.Map.Text.{is_eq-slice_cmp}
@@ -11,7 +11,6 @@ use Rattle.ob_obj.specs.Images.{same}
 use Rattle.ob_link.specs.declared.exported.Exported.{Exported}
 use Rattle.ob_link.specs.declared.fault.LoadFault.{LoadFault}
 use Rattle.ob_link.specs.declared.fault.LoadFault.TheVariants as fault
-use Rattle.ob_link.specs.declared.fault.LoadRefusal.{LoadRefusal}
 use Rattle.ob_link.specs.declared.fault.LoadRefusal.TheVariants as refusal
 use Rattle.ob_link.specs.declared.shape.Plan.{Plan}
 use Rattle.ob_link.specs.Index.{place_from}
@@ -19,12 +18,12 @@ use Rattle.ob_link.specs.Walk.{visit, and_then, most_deep}
 use Rattle.ob_link.specs.Plan as p
 use Rattle.ob_link.specs.Plan.{Refusal, is_there, steps, most_globals, has_command, plan}
 use Rattle.ob_link.specs.Files as files
-use Rattle.ob_link.specs.Files.{Files, asks, numbered, command_number, command_at, or_zero, object_entry, file_plan, answered}
+use Rattle.ob_link.specs.Files.{Files, asks, numbered, command_number, command_at, or_zero, object_entry, file_plan}
 use Rattle.ob_link.specs.Members as m
 use Rattle.ob_link.specs.Members.{Known, member_of, member_named, procedure_named}
 use Rattle.ob_link.specs.Judging.{words_of, command_of, command_in, command_ref, ref_with}
-use Rattle.ob_link.specs.Contract.{AreLoaded, Plans}
-use Rattle.ob_link.specs.Walking.{Visited, Stops, Walks}
+use Rattle.ob_link.specs.Contract.{Plans}
+use Rattle.ob_link.specs.Walking.{Visited, Walks}
 use Rattle.ob_link.proofs.Bridges.{all_known}
 use Rattle.ob_link.proofs.Made.{words_so}
 

@@ -1,4 +1,4 @@
-use Rattle.std.proofs.Common.{◌≡◌, ◌+◌, ◌≤◌, ◌<◌, sym, ap, ◌∙◌, arith}
+use Rattle.std.proofs.Common.{◌≡◌, ◌+◌, ◌≤◌, sym, ap, ◌∙◌, arith}
 use Rattle.ob_link.specs.Judging.{words_of}
 use Rattle.ob_link.proofs.Made.{can_start}
 use Rattle.ob_link.proofs.Planned.{no_room, no_command, all_planned}
