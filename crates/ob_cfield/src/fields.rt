@@ -212,6 +212,16 @@ pub fn fields_together(typed: Option<Typed>, fields: Option<List<Field>>) -> Opt
     }
 }
 
+/// No fields. Takes no memory.
+pub fn no_fields(alloc: Global) -> Fields
+    ensures { fields_seen result ≡ record { fields = []; made = [] } }
+{
+    Fields {
+        fields: List::new(alloc),
+        made: List::new(alloc),
+    }
+}
+
 /// Fields, and more fields behind them.
 pub fn joined_fields(
     all: Option<Fields>,

@@ -41,7 +41,7 @@ pub fn field_name(alloc: Global, name: &[u8], field: &[u8]) -> Result<ObjName, A
 
 /// The name of the type of the parameters from that number on, counted from 1, of the procedure or
 /// procedure type of that name.
-pub fn section_name(alloc: Global, name: &[u8], number: u32) -> Result<ObjName, AllocError>
+pub fn section_name(alloc: Global, name: &[u8], number: usize) -> Result<ObjName, AllocError>
     ensures { IfOk result (λ r. r ≡ spec.section_name name.now number) }
 {
     let behind = with_end(alloc, name, b"(".as_slice())?;

@@ -1,2 +1,4 @@
 pub mod ArrayLaws
 pub mod LengthLaws
+pub mod ListLaws
+pub mod HeadingLaws

@@ -11,9 +11,10 @@ use Rattle.ob_tree.specs.declared.ident.Mark.TheVariants as mark
 use Rattle.ob_types.specs.declared.desc.Desc.TheVariants as desc
 use Rattle.ob_tree.specs.declared.type_node.FieldList.{FieldList}
 use Rattle.ob_tree.specs.declared.type_node.Section.{Section}
+use Rattle.ob_tree.specs.declared.type_node.FormalPars.{FormalPars}
 use Rattle.ob_tree.specs.declared.type_node.TypeNode.TheFolds.{fold-FieldList, fold-Section}
 use Rattle.ob_rules.specs.Phrases.{Phrase}
-use Rattle.ob_rules.specs.Types.{array_length, Typing, Written, WrittenFields, WrittenParameters, WrittenSection, node_rule, fields_rule, parameters_rule, section_rule, typed_as, element_name, pointer_to}
+use Rattle.ob_rules.specs.Types.{array_length, Typing, Written, WrittenFields, WrittenParameters, WrittenSection, node_rule, fields_rule, parameters_rule, section_rule, written, typed_as, element_name, pointer_to}
 
 -- the type of that name that the scope declares later
 abbrev pub later_named : Around → Ident → TypeRef
@@ -34,8 +35,20 @@ open_judged u name m w = w.typing u (element_name name) mark.Hidden w.open_array
 abbrev pub written_fields : FieldList → WrittenFields
 written_fields = fold-FieldList Written WrittenFields WrittenParameters WrittenSection node_rule fields_rule parameters_rule section_rule
 
+-- a field list by its parts
+abbrev pub fields_as : FieldList → WrittenFields
+fields_as l = record { names = l.names; node = written l.node }
+
 abbrev pub written_section : Section → WrittenSection
 written_section = fold-Section Written WrittenFields WrittenParameters WrittenSection node_rule fields_rule parameters_rule section_rule
+
+-- a section by its parts
+abbrev pub section_as : Section → WrittenSection
+section_as s = record { is_var = s.is_var; names = s.names; node = written s.node }
+
+-- parameters by their parts
+abbrev pub parameters_as : FormalPars → WrittenParameters
+parameters_as p = record { sections = map written_section p.sections; result = p.result_type }
 
 -- the lengths that are sound
 abbrev pub lengths_in : Around → List Phrase → List (Option ℕ)
