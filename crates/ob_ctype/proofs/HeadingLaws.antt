@@ -3,7 +3,7 @@ use Rattle.std.proofs.Common.{◌≡◌, ℕ, ◌+◌, List, [], ◌∷◌, leng
 use Rattle.std.specs.Option.{option_map}
 use Rattle.ob_tree.specs.declared.ident.Mark.{Mark}
 use Rattle.ob_tree.specs.declared.type_node.Section.{Section}
-use Rattle.ob_tree.specs.declared.type_node.FormalPars.{FormalPars}
+use Rattle.ob_tree.specs.declared.type_node.FormalPars.{FormalPars, out-FormalPars}
 use Rattle.ob_tree.specs.declared.type_node.TypeNode.TheFolds.{fold_out-Section, fold_out-FormalPars}
 use Rattle.ob_types.specs.declared.types.TypeRef.{TypeRef}
 use Rattle.ob_types.specs.declared.desc.Desc.TheVariants as desc
@@ -88,33 +88,33 @@ result_node_of (Some p) None = refl
 result_node_of (Some p) (Some r) = refl
 
 pub heading_node : (u v : Around) (name : List ℕ) (p : FormalPars) (ss : List Section) (all : Option Parameters) (r : Option (Option TypeRef)) (o : Option Parameters)
-    → o ≡ result_joined all r → all ≡ (sections u name 1 (map written_section ss)).found.node → v ≡ record u { known = (sections u name 1 (map written_section ss)).known } → r ≡ (result_of v p.result_type).node → ss ≡ p.sections
+    → o ≡ result_joined all r → all ≡ (sections u name 1 (map written_section ss)).found.node → v ≡ record u { known = (sections u name 1 (map written_section ss)).known } → r ≡ (result_of v (out-FormalPars p).result_type).node → ss ≡ (out-FormalPars p).sections
     → o ≡ (parameters_in u name (written_parameters p)).found.node
 heading_node u v name p ss all r o eo ea ev er es =
     let k = λ (l : List Section). sections u name 1 (map written_section l) in
     let w = λ (l : List Section). record u { known = (k l).known } in
     eo
-    ∙ ap (result_joined all) (er ∙ ap (λ a. (result_of a p.result_type).node) ev)
-    ∙ ap (λ x. result_joined x (result_of (w ss) p.result_type).node) ea
-    ∙ ap (λ l. result_joined (k l).found.node (result_of (w l) p.result_type).node) es
-    ∙ sym (result_node_of (k p.sections).found.node (result_of (w p.sections) p.result_type).node)
+    ∙ ap (result_joined all) (er ∙ ap (λ a. (result_of a (out-FormalPars p).result_type).node) ev)
+    ∙ ap (λ x. result_joined x (result_of (w ss) (out-FormalPars p).result_type).node) ea
+    ∙ ap (λ l. result_joined (k l).found.node (result_of (w l) (out-FormalPars p).result_type).node) es
+    ∙ sym (result_node_of (k (out-FormalPars p).sections).found.node (result_of (w (out-FormalPars p).sections) (out-FormalPars p).result_type).node)
     ∙ ap (λ x. (parameters_in u name x).found.node) (sym (parameters_are p))
 
 pub heading_notes : (b c d : Notebook) (u v : Around) (name : List ℕ) (p : FormalPars) (ss : List Section)
-    → d ≡ book_after c (result_of v p.result_type).notes → c ≡ book_after b (sections u name 1 (map written_section ss)).found.notes → v ≡ record u { known = (sections u name 1 (map written_section ss)).known } → ss ≡ p.sections
+    → d ≡ book_after c (result_of v (out-FormalPars p).result_type).notes → c ≡ book_after b (sections u name 1 (map written_section ss)).found.notes → v ≡ record u { known = (sections u name 1 (map written_section ss)).known } → ss ≡ (out-FormalPars p).sections
     → d ≡ book_after b (parameters_in u name (written_parameters p)).found.notes
 heading_notes b c d u v name p ss ed ec ev es =
     let k = λ (l : List Section). sections u name 1 (map written_section l) in
     let w = λ (l : List Section). record u { known = (k l).known } in
-    let r = result_of (w p.sections) p.result_type in
+    let r = result_of (w (out-FormalPars p).sections) (out-FormalPars p).result_type in
     ed
-    ∙ ap (λ a. book_after c (result_of a p.result_type).notes) ev
-    ∙ ap (λ e. book_after e (result_of (w ss) p.result_type).notes) ec
-    ∙ ap (λ l. book_after (book_after b (k l).found.notes) (result_of (w l) p.result_type).notes) es
-    ∙ two_parts b (k p.sections).found.notes r.notes (paired (k p.sections).found.node r.node) (λ x. with_result x.0 x.1)
+    ∙ ap (λ a. book_after c (result_of a (out-FormalPars p).result_type).notes) ev
+    ∙ ap (λ e. book_after e (result_of (w ss) (out-FormalPars p).result_type).notes) ec
+    ∙ ap (λ l. book_after (book_after b (k l).found.notes) (result_of (w l) (out-FormalPars p).result_type).notes) es
+    ∙ two_parts b (k (out-FormalPars p).sections).found.notes r.notes (paired (k (out-FormalPars p).sections).found.node r.node) (λ x. with_result x.0 x.1)
     ∙ ap (λ x. book_after b (parameters_in u name x).found.notes) (sym (parameters_are p))
 
-pub heading_known : (u v : Around) (name : List ℕ) (p : FormalPars) (ss : List Section) → v ≡ record u { known = (sections u name 1 (map written_section ss)).known } → ss ≡ p.sections → v ≡ record u { known = (parameters_in u name (written_parameters p)).known }
+pub heading_known : (u v : Around) (name : List ℕ) (p : FormalPars) (ss : List Section) → v ≡ record u { known = (sections u name 1 (map written_section ss)).known } → ss ≡ (out-FormalPars p).sections → v ≡ record u { known = (parameters_in u name (written_parameters p)).known }
 heading_known u v name p ss ev es =
     ev
     ∙ ap (λ l. record u { known = (sections u name 1 (map written_section l)).known }) es

@@ -11,7 +11,7 @@ use Rattle.ob_tree.specs.declared.ident.Mark.TheVariants as mark
 use Rattle.ob_types.specs.declared.desc.Desc.TheVariants as desc
 use Rattle.ob_tree.specs.declared.type_node.FieldList.{FieldList}
 use Rattle.ob_tree.specs.declared.type_node.Section.{Section}
-use Rattle.ob_tree.specs.declared.type_node.FormalPars.{FormalPars}
+use Rattle.ob_tree.specs.declared.type_node.FormalPars.{FormalPars, out-FormalPars}
 use Rattle.ob_tree.specs.declared.type_node.TypeNode.TheFolds.{fold-FieldList, fold-Section}
 use Rattle.ob_rules.specs.Phrases.{Phrase}
 use Rattle.ob_rules.specs.Types.{array_length, Typing, Written, WrittenFields, WrittenParameters, WrittenSection, node_rule, fields_rule, parameters_rule, section_rule, written, typed_as, element_name, pointer_to}
@@ -48,7 +48,7 @@ section_as s = record { is_var = s.is_var; names = s.names; node = written s.nod
 
 -- parameters by their parts
 abbrev pub parameters_as : FormalPars → WrittenParameters
-parameters_as p = record { sections = map written_section p.sections; result = p.result_type }
+parameters_as p = record { sections = map written_section (out-FormalPars p).sections; result = (out-FormalPars p).result_type }
 
 -- the lengths that are sound
 abbrev pub lengths_in : Around → List Phrase → List (Option ℕ)

@@ -1,4 +1,4 @@
-use Rattle.std.proofs.Common.{◌≡◌, ◌×◌, [], drop, map, Some}
+use Rattle.std.proofs.Common.{◌≡◌, [], drop, map, Some}
 use Rattle.std.specs.Option.{option_map}
 use Rattle.ob_known.specs.Scopes.{around_of}
 use Rattle.ob_rules.specs.Books.{book_after}
