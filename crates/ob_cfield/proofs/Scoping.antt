@@ -1,12 +1,12 @@
 -- What stands around behind parameters, and when their types or their scope end.
-use Rattle.std.proofs.Common.{◌≡◌, ℕ, suc, ◌+◌, ◌-◌, ◌<◌, Bool, true, List, [], ◌∷◌, ◌++◌, length, drop, Option, Some, None, refl, sym, ap, subst, ◌∙◌, arith, add-one}
+use Rattle.std.proofs.Common.{◌≡◌, ℕ, suc, ◌+◌, ◌-◌, ◌<◌, true, List, [], ◌∷◌, ◌++◌, length, drop, Option, Some, None, refl, sym, ap, ◌∙◌, arith, add-one}
 use Rattle.std.proofs.lemmas.List.{append_assoc}
 use Rattle.ob_tree.specs.declared.ident.Ident.{Ident}
 use Rattle.ob_types.specs.declared.types.Mode.{Mode}
 use Rattle.ob_types.specs.declared.typed.TypedType.{TypedType}
 use Rattle.ob_rules.specs.declared.entity.Known.{Known}
 use Rattle.ob_rules.specs.Names.{Around}
-use Rattle.ob_rules.specs.Types.{Typing, WrittenSection, Sections, mode_of, knows, parameter_as, declare_all, sections, inner}
+use Rattle.ob_rules.specs.Types.{Typing, WrittenSection, mode_of, knows, parameter_as, declare_all, sections, inner}
 use Rattle.ob_known.specs.Descending.{are_within}
 use Rattle.ob_cfield.specs.ParameterMakes.{behind_names, section_typing, behind_section}
 use Rattle.ob_cfield.proofs.Cuts.{back}
@@ -24,11 +24,15 @@ grown_none u = ([], ([], refl))
 
 grown_more : (u v w : Around) (ts : List TypedType) (ks : List Known) → w ≡ larger v ts ks → Grown u v → Grown u w
 grown_more u v w ts ks e g =
-    let put : List TypedType → List Known → Around = λ o k. record u { own = o; known = k } in
-    (ts ++ g.0, (ks ++ g.1.0,
-      e ∙ ap (λ a. larger a ts ks) g.1.1
-      ∙ ap (λ o. put o (ks ++ (g.1.0 ++ u.known))) (sym (append_assoc ts g.0 u.own))
-      ∙ ap (put ((ts ++ g.0) ++ u.own)) (sym (append_assoc ks g.1.0 u.known))))
+    let put : List TypedType → List Known → Around = λ o k. record u { own = o; known = k } in (
+      ts ++ g.0,
+      (
+        ks ++ g.1.0,
+        e ∙ ap (λ a. larger a ts ks) g.1.1
+            ∙ ap (λ o. put o (ks ++ (g.1.0 ++ u.known))) (sym (append_assoc ts g.0 u.own))
+            ∙ ap (put ((ts ++ g.0) ++ u.own)) (sym (append_assoc ks g.1.0 u.known)),
+      ),
+    )
 
 declared_more : (u : Around) (m : Mode) (t : Option Typing) (xs : List Ident) → (ks : List Known) × ((declare_all u m t xs).around ≡ larger u [] ks)
 declared_more u m t [] = ([], refl)

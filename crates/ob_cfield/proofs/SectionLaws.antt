@@ -1,5 +1,5 @@
 -- Sections of parameters: their names are declared behind their type, and what is said of the names goes before what is said of it.
-use Rattle.std.proofs.Common.{◌≡◌, ℕ, ◌+◌, Bool, true, false, List, [], ◌∷◌, ◌++◌, length, map, Option, Some, None, cond, refl, sym, ap, ◌∙◌, arith}
+use Rattle.std.proofs.Common.{◌≡◌, ℕ, ◌+◌, Bool, true, false, List, [], ◌∷◌, ◌++◌, length, Option, Some, None, cond, refl, sym, ap, ◌∙◌, arith}
 use Rattle.std.specs.Option.{option_map}
 use Rattle.std.proofs.lemmas.List.{append-nil, append_assoc}
 use Rattle.std.proofs.lemmas.Bool.Decides.{nat_tests}
@@ -12,11 +12,11 @@ use Rattle.ob_types.specs.declared.typed.TypedParameter.{TypedParameter}
 use Rattle.ob_rules.specs.declared.broken.Broken.{Broken}
 use Rattle.ob_rules.specs.declared.entity.Known.{Known}
 use Rattle.ob_rules.specs.declared.notes.Notebook.{Notebook}
-use Rattle.ob_rules.specs.Judged.{Judged, Notes, before, earlier, least, joined, no_notes, paired, if_sound, sound, made}
+use Rattle.ob_rules.specs.Judged.{Judged, Notes, before, earlier, least, joined, paired, if_sound, sound, made}
 use Rattle.ob_rules.specs.Books.{book_after}
 use Rattle.ob_rules.specs.Names.{Around}
-use Rattle.ob_rules.specs.Types.{Named, Typing, Parameters, WrittenSection, Sections, mode_of, new_name, twice_if, knows, parameter_as, with_notes, with_types, with_made, declare_all, parameters_of, parameters_joined, sections}
-use Rattle.ob_rules.proofs.Least.{earlier_none, earlier_assoc, least_append}
+use Rattle.ob_rules.specs.Types.{Named, Typing, Parameters, WrittenSection, mode_of, new_name, twice_if, knows, parameter_as, with_notes, with_types, declare_all, parameters_of, parameters_joined, sections}
+use Rattle.ob_rules.proofs.Least.{least_append}
 use Rattle.ob_rules.proofs.BookLaws.{after_none, after_joined}
 use Rattle.ob_cfield.specs.ParameterMakes.{names_declared, behind_names, no_parameters, join_parameters, section_typing, behind_section}
 use Rattle.ob_cfield.proofs.FieldLaws.{quiet, two_parts}
@@ -133,11 +133,11 @@ notes_by : (b : Notebook) (t : Judged Typing) (f : Typing → Parameters) (d : N
 notes_by b t f d r e =
     let last = (if_sound t.node (λ x. sound (f x))).notes in
     ap (λ c. book_after c r.notes) (
-      turned b t.notes d e
-      ∙ sym (after_none (book_after (book_after b d) t.notes))
-      ∙ ap (book_after (book_after (book_after b d) t.notes)) (sym (quiet t.node f))
-      ∙ after_joined (book_after b d) t.notes last
-      ∙ after_joined b d (joined t.notes last)
+    turned b t.notes d e
+    ∙ sym (after_none (book_after (book_after b d) t.notes))
+    ∙ ap (book_after (book_after (book_after b d) t.notes)) (sym (quiet t.node f))
+    ∙ after_joined (book_after b d) t.notes last
+    ∙ after_joined b d (joined t.notes last)
     )
     ∙ two_parts b (joined d (made f t).notes) r.notes (paired (made f t).node r.node) (λ q. parameters_joined q.0 q.1)
 

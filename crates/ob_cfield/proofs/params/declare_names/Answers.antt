@@ -1,4 +1,4 @@
-use Rattle.std.proofs.Common.{rules, ◌≡◌, ◌+◌, ◌≤◌, ◌∷◌, List, [], drop, length, arith}
+use Rattle.std.proofs.Common.{◌+◌, drop, arith}
 use Rattle.std.specs.Option.{option_copied}
 use Rattle.ob_known.specs.Scopes.{around_of}
 use Rattle.ob_rules.specs.Books.{book_after}
