@@ -3,7 +3,7 @@ use Rattle.std.proofs.Common.{◌≡◌, ℕ, List, [], ◌∷◌, map, Option, 
 use Rattle.ob_tree.specs.declared.ident.Mark.{Mark}
 use Rattle.ob_tree.specs.declared.ident.Mark.TheVariants as mark
 use Rattle.ob_rules.specs.declared.notes.Notebook.{Notebook}
-use Rattle.ob_rules.specs.Judged.{Notes, joined, no_notes, notes_of}
+use Rattle.ob_rules.specs.Judged.{joined, no_notes, notes_of}
 use Rattle.ob_rules.specs.Books.{book_after}
 use Rattle.ob_rules.specs.Names.{Around}
 use Rattle.ob_rules.specs.Phrases.{Phrase}

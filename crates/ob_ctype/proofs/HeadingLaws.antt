@@ -9,10 +9,10 @@ use Rattle.ob_types.specs.declared.types.TypeRef.{TypeRef}
 use Rattle.ob_types.specs.declared.desc.Desc.TheVariants as desc
 use Rattle.ob_rules.specs.declared.entity.Known.{Known}
 use Rattle.ob_rules.specs.declared.notes.Notebook.{Notebook}
-use Rattle.ob_rules.specs.Judged.{Judged, Notes, paired, if_sound, sound, ◌▷◌}
+use Rattle.ob_rules.specs.Judged.{Notes, paired, if_sound, sound}
 use Rattle.ob_rules.specs.Books.{book_after}
 use Rattle.ob_rules.specs.Names.{Around}
-use Rattle.ob_rules.specs.Types.{Typing, Parameters, Written, WrittenFields, WrittenParameters, WrittenSection, Sections, node_rule, fields_rule, parameters_rule, section_rule, written, written_parameters, mode_of, declare_all, parameters_of, sections, result_of, with_result, parameters_in, inner, typed_as, procedure_type}
+use Rattle.ob_rules.specs.Types.{Typing, Parameters, Written, WrittenFields, WrittenParameters, WrittenSection, Sections, node_rule, fields_rule, parameters_rule, section_rule, written_parameters, mode_of, declare_all, parameters_of, sections, result_of, with_result, parameters_in, inner, typed_as, procedure_type}
 use Rattle.ob_rules.proofs.BookLaws.{after_none, after_joined}
 use Rattle.ob_cfield.specs.ParameterMakes.{no_parameters, join_parameters, result_joined, procedure_made, section_typing, behind_section}
 use Rattle.ob_cfield.proofs.FieldLaws.{quiet, two_parts}

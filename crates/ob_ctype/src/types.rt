@@ -19,8 +19,9 @@ use crate::pointers::{later_pointer, pointer_base, pointer_to};
 use ob_cfield::{
     Fields, Parameters, Typed, array_length, base_if, base_name, element_name, field_name,
     fields_of, fields_together, first_name, is_open_array, joined_fields, joined_parameters,
-    later_type, mode_of, name_of, named_type, no_fields, no_parameters, number_behind, procedure_of,
-    record_of, result_of, section_known, section_name, start_of, typed_as, with_result,
+    later_type, mode_of, name_of, named_type, no_fields, no_parameters, number_behind,
+    procedure_of, record_of, result_of, section_known, section_name, start_of, typed_as,
+    with_result,
 };
 use ob_known::{Imports, Scope, Stack};
 use ob_rules::Notebook;

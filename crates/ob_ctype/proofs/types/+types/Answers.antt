@@ -1,4 +1,4 @@
-use Rattle.std.proofs.Common.{◌≡◌, ◌+◌, ◌<◌, ◌≤◌, [], ◌∷◌, ◌∙◌, refl, sym, ap, subst, List, drop, length, Some, Result, Ok, Err, OnOk, arith}
+use Rattle.std.proofs.Common.{◌≡◌, ◌+◌, [], ◌∙◌, refl, sym, ap, subst, drop, length, Some, Result, Ok, Err, OnOk, arith}
 use Rattle.std.specs.Prelude.{map}
 use Rattle.std.specs.Option.{option_map}
 use Rattle.ob_tree.specs.declared.ident.Mark.TheVariants as mark
