@@ -1,0 +1,11 @@
+//! What is judged when all headings of a module are known: the bound procedures of its records, what
+//! was left for later of pointers and fields, and how long the chains of its types are.
+#![tactic(auto)]
+
+mod bindings;
+mod depth;
+mod later;
+
+pub use bindings::{Binding, bindings};
+pub use depth::is_deep;
+pub use later::{fields_judged, pointers_judged};
