@@ -23,3 +23,8 @@ is_scope (Some m) n = nat_eq m n
 abbrev pub is_scope_from : Option ℕ → ℕ → Bool
 is_scope_from None n = false
 is_scope_from (Some m) n = nat_le n m
+
+-- all are of the scope n
+abbrev pub are_of : ℕ → List Known → Bool
+are_of n [] = true
+are_of n (k ∷ ks) = nat_eq k.scope n && are_of n ks
