@@ -9,7 +9,7 @@ use Rattle.ob_rules.specs.Names.{Around}
 use Rattle.ob_rules.specs.Phrases.{Phrase}
 use Rattle.ob_rules.specs.Types.{Typing, Written, array_length, fixed_array, element_name}
 use Rattle.ob_rules.proofs.BookLaws.{after_none, after_joined}
-use Rattle.ob_ctype.specs.Makes.{array_judged, arrays, deep_name, lengths_in}
+use Rattle.ob_ctype.specs.Nested.{array_judged, arrays, deep_name, lengths_in}
 
 array_quiet : (u : Around) (name : List ℕ) (m : Mark) (l : Option ℕ) (t : Option Typing) → (array_judged u name m l t).notes ≡ no_notes
 array_quiet u name m None t = refl

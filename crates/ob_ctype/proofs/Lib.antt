@@ -1,5 +1,2 @@
-pub mod Cuts
 pub mod ArrayLaws
-pub mod FieldLaws
-pub mod ParameterLaws
-pub mod LoopLaws
+pub mod LengthLaws

@@ -1,3 +1,2 @@
-pub mod Makes
-pub mod FieldMakes
-pub mod ParameterMakes
+pub use Rattle.ob_cfield.specs.Makes
+pub mod Nested

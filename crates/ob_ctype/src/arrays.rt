@@ -10,11 +10,10 @@ ghost use Rattle.ob_rules.specs.Books.{book_after};
 ghost use Rattle.ob_rules.specs.Judged.{notes_of};
 ghost use Rattle.ob_rules.specs.Expressions.{phrase_of};
 ghost use Rattle.ob_rules.specs.Types as spec;
-ghost use Rattle.ob_ctype.specs.Makes.{typing_of, array_judged, arrays, deep_name, lengths_in};
+ghost use Rattle.ob_cfield.specs.Makes.{typing_of};
+ghost use Rattle.ob_ctype.specs.Nested.{array_judged, arrays, deep_name, lengths_in};
 
-use crate::made::{Typed, typed_as};
-use crate::naming::element_name;
-use crate::parts::array_length;
+use ob_cfield::{Typed, array_length, element_name, typed_as};
 use ob_known::{Imports, Scope};
 use ob_rules::Notebook;
 use ob_tree::{Expr, Mark, ObjName};

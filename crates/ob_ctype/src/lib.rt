@@ -2,18 +2,8 @@
 #![tactic(auto)]
 
 mod arrays;
-mod fields;
-mod made;
-mod marks;
-mod naming;
-mod nodes;
-mod params;
-mod parts;
 mod pointers;
 mod types;
 
-pub use fields::{Fields, fields_of, fields_together, first_name, joined_fields, record_of};
-pub use made::{Parameters, Typed};
-pub use marks::{check_mark, is_module_level};
-pub use params::{declare_names, mode_of};
+pub use ob_cfield::{Parameters, Typed, check_mark, is_module_level};
 pub use types::{check_parameters, check_type};

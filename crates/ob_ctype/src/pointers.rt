@@ -9,9 +9,10 @@ ghost use Rattle.ob_rules.specs.Books.{book_after};
 ghost use Rattle.ob_rules.specs.Names.{map_of};
 ghost use Rattle.ob_rules.specs.Shapes.{is_structured, is_pointer as points};
 ghost use Rattle.ob_rules.specs.Types as spec;
-ghost use Rattle.ob_ctype.specs.Makes.{typing_of, later_named, pointer_later};
+ghost use Rattle.ob_cfield.specs.Makes.{typing_of};
+ghost use Rattle.ob_ctype.specs.Nested.{later_named, pointer_later};
 
-use crate::made::{Typed, add_types, typed_as};
+use ob_cfield::{Typed, add_types, typed_as};
 use ob_cname::{is_array, is_pointer, is_record};
 use ob_known::{Imports, Scope};
 use ob_rules::{Later, Notebook, Surroundings};
@@ -38,7 +39,7 @@ fn kinds_of<E: Imports>(scope: &Scope<'_, E>, of: &TypeRef) -> Kinds
 }
 
 // What a type is among the types that it makes.
-#[tactic(auto, using(crate::proofs::Cuts::types_cut))]
+#[tactic(auto, using(ob_cfield::proofs::Cuts::types_cut))]
 fn kinds_with<E: Imports>(
     alloc: Global,
     scope: &mut Scope<'_, E>,

@@ -9,14 +9,15 @@ ghost use Rattle.ob_rules.specs.Judged.{◌▷◌};
 ghost use Rattle.ob_rules.specs.Names.{Around, map_of};
 ghost use Rattle.ob_rules.specs.Expressions.{phrase_of};
 ghost use Rattle.ob_rules.specs.Types as spec;
-ghost use Rattle.ob_ctype.specs.Makes.{typing_of, parameters_of, open_judged, written_fields};
+ghost use Rattle.ob_cfield.specs.Makes.{typing_of, parameters_of};
+ghost use Rattle.ob_ctype.specs.Nested.{open_judged, written_fields};
 
 use crate::arrays::{array_of, arrays_of, inner_name, lengths_of};
-use crate::made::{Parameters, Typed, typed_as};
-use crate::naming::{base_name, element_name};
-use crate::nodes::{is_open_array, name_of, start_of};
-use crate::parts::{array_length, later_type, named_type};
 use crate::pointers::{later_pointer, pointer_base, pointer_to};
+use ob_cfield::{
+    Parameters, Typed, array_length, base_name, element_name, is_open_array, later_type, name_of,
+    named_type, start_of, typed_as,
+};
 use ob_known::{Imports, Scope};
 use ob_rules::Notebook;
 use ob_tree::{Expr, FieldList, FormalPars, Mark, Pos, Qualident, TypeNode};

@@ -1,6 +1,6 @@
 use Rattle.std.proofs.Common.{◌≡◌, length, map}
 use Rattle.ob_rules.specs.Expressions.{phrase_of}
-use Rattle.ob_ctype.specs.Makes.{deep_name}
+use Rattle.ob_ctype.specs.Nested.{deep_name}
 use Rattle.ob_ctype.proofs.arrays.inner_name.Given as goal
 
 abbrev pub invariant-lengths : goal.invariant-lengths

@@ -5,8 +5,9 @@ use Rattle.ob_rules.specs.Judged.{notes_of}
 use Rattle.std.specs.Prelude.{map}
 use Rattle.ob_rules.specs.Expressions.{phrase_of}
 use Rattle.ob_rules.specs.Types.{array_length}
-use Rattle.ob_ctype.specs.Makes.{lengths_in}
-use Rattle.ob_ctype.proofs.LoopLaws.{step_at, end_at, more_lengths, more_notes, no_more_notes}
+use Rattle.ob_ctype.specs.Nested.{lengths_in}
+use Rattle.ob_cfield.proofs.LoopLaws.{step_at, end_at}
+use Rattle.ob_ctype.proofs.LengthLaws.{more_lengths, more_notes, no_more_notes}
 use Rattle.ob_ctype.proofs.arrays.lengths_of.Goals as goal
 
 pub lengths-preserved : goal.lengths-preserved

@@ -4,7 +4,7 @@ use Rattle.ob_rules.specs.Books.{book_after}
 use Rattle.ob_rules.specs.Judged.{notes_of}
 use Rattle.ob_rules.specs.Expressions.{phrase_of}
 use Rattle.ob_rules.specs.Types.{array_length}
-use Rattle.ob_ctype.specs.Makes.{lengths_in}
+use Rattle.ob_ctype.specs.Nested.{lengths_in}
 use Rattle.ob_ctype.proofs.arrays.lengths_of.Given as goal
 
 abbrev pub invariant-lengths : goal.invariant-lengths

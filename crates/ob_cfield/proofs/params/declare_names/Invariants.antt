@@ -2,8 +2,8 @@ use Rattle.std.proofs.Common.{◌≡◌, drop}
 use Rattle.std.specs.Option.{option_copied}
 use Rattle.ob_known.specs.Scopes.{around_of}
 use Rattle.ob_rules.specs.Books.{book_after}
-use Rattle.ob_ctype.specs.ParameterMakes.{names_declared}
-use Rattle.ob_ctype.proofs.params.declare_names.Given as goal
+use Rattle.ob_cfield.specs.ParameterMakes.{names_declared}
+use Rattle.ob_cfield.proofs.params.declare_names.Given as goal
 
 abbrev pub invariant-names : goal.invariant-names
 invariant-names g l = record {

@@ -8,7 +8,7 @@ ghost use Rattle.ob_known.specs.Scopes.{around_of};
 ghost use Rattle.ob_rules.specs.Books.{book_after};
 ghost use Rattle.ob_rules.specs.Names.{map_of};
 ghost use Rattle.ob_rules.specs.Types as spec;
-ghost use Rattle.ob_ctype.specs.ParameterMakes.{parameter_entity, names_declared};
+ghost use Rattle.ob_cfield.specs.ParameterMakes.{parameter_entity, names_declared};
 
 use ob_cname::passing_of;
 use ob_known::{Imports, Scope};

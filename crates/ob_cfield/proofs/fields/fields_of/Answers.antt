@@ -3,10 +3,10 @@ use Rattle.std.specs.Option.{option_map}
 use Rattle.ob_known.specs.Scopes.{around_of}
 use Rattle.ob_rules.specs.Books.{book_after}
 use Rattle.ob_rules.specs.Types.{name_in, names_behind}
-use Rattle.ob_ctype.specs.Makes.{typing_of}
-use Rattle.ob_ctype.specs.FieldMakes.{fields_in}
-use Rattle.ob_ctype.proofs.LoopLaws.{step_at, end_at, more_fields, more_field_notes, more_behind, no_more_fields}
-use Rattle.ob_ctype.proofs.fields.fields_of.Goals as goal
+use Rattle.ob_cfield.specs.Makes.{typing_of}
+use Rattle.ob_cfield.specs.FieldMakes.{fields_in}
+use Rattle.ob_cfield.proofs.LoopLaws.{step_at, end_at, more_fields, more_field_notes, more_behind, no_more_fields}
+use Rattle.ob_cfield.proofs.fields.fields_of.Goals as goal
 
 pub fields-preserved : goal.fields-preserved
 fields-preserved g c =

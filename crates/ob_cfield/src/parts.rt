@@ -10,7 +10,7 @@ ghost use Rattle.ob_rules.specs.Judged.{◌▷◌};
 ghost use Rattle.ob_rules.specs.Names.{map_of, type_named};
 ghost use Rattle.ob_rules.specs.Expressions.{phrase_of};
 ghost use Rattle.ob_rules.specs.Types as spec;
-ghost use Rattle.ob_ctype.specs.Makes.{typing_of};
+ghost use Rattle.ob_cfield.specs.Makes.{typing_of};
 
 use crate::made::Typed;
 use crate::nodes::first_of;

@@ -2,7 +2,7 @@ ghost use Rattle.std.specs.Prelude.{◌≡◌, ◌++◌, ◌∷◌, IfOk, OnOk};
 ghost use Rattle.ob_known.specs.Scopes.{around_of};
 ghost use Rattle.ob_rules.specs.Types as spec;
 ghost use Rattle.ob_rules.specs.Names.{Around};
-ghost use Rattle.ob_ctype.specs.Makes.{typing_of};
+ghost use Rattle.ob_cfield.specs.Makes.{typing_of};
 
 use ob_known::{Imports, Scope};
 use ob_rules::Surroundings;

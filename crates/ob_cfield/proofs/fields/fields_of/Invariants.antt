@@ -3,9 +3,9 @@ use Rattle.std.specs.Option.{option_map}
 use Rattle.ob_known.specs.Scopes.{around_of}
 use Rattle.ob_rules.specs.Books.{book_after}
 use Rattle.ob_rules.specs.Types.{names_behind}
-use Rattle.ob_ctype.specs.Makes.{typing_of}
-use Rattle.ob_ctype.specs.FieldMakes.{fields_in, finish}
-use Rattle.ob_ctype.proofs.fields.fields_of.Given as goal
+use Rattle.ob_cfield.specs.Makes.{typing_of}
+use Rattle.ob_cfield.specs.FieldMakes.{fields_in, finish}
+use Rattle.ob_cfield.proofs.fields.fields_of.Given as goal
 
 abbrev pub invariant-fields : goal.invariant-fields
 invariant-fields g l = record {

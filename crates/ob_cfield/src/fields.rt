@@ -10,8 +10,8 @@ ghost use Rattle.ob_rules.specs.Books.{book_after};
 ghost use Rattle.ob_rules.specs.Judged.{Judged, ◌▷◌, each_sound, judge_later};
 ghost use Rattle.ob_rules.specs.Names.{map_of};
 ghost use Rattle.ob_rules.specs.Types as spec;
-ghost use Rattle.ob_ctype.specs.Makes.{typing_of};
-ghost use Rattle.ob_ctype.specs.FieldMakes.{fields_in, fields_made, finish, one_more, join_fields, field_marked, fields_seen, record_made};
+ghost use Rattle.ob_cfield.specs.Makes.{typing_of};
+ghost use Rattle.ob_cfield.specs.FieldMakes.{fields_in, fields_made, finish, one_more, join_fields, field_marked, fields_seen, record_made};
 
 use crate::made::{Typed, typed_as};
 use crate::marks::check_mark;

@@ -1,11 +1,9 @@
--- What types and parameters make, as the definitions have it.
+-- Types, from what the types in them come to.
 use Rattle.std.specs.Prelude.{ℕ, List, [], ◌∷◌, ◌++◌, map, Option, false}
 use Rattle.ob_tree.specs.declared.ident.Ident.{Ident}
 use Rattle.ob_tree.specs.declared.ident.Mark.{Mark}
 use Rattle.ob_types.specs.declared.types.TypeRef.{TypeRef}
 use Rattle.ob_types.specs.declared.types.TypeRef.TheVariants as ref
-use Rattle.ob_ctype.specs.declared.made.Typed.{Typed}
-use Rattle.ob_ctype.specs.declared.made.Parameters.{Parameters as Made}
 use Rattle.ob_rules.specs.declared.notes.Later.TheVariants as later
 use Rattle.ob_rules.specs.Judged.{Judged, judge_later, sound, paired, if_sound, ◌▷◌}
 use Rattle.ob_rules.specs.Names.{Around, in_unit}
@@ -15,13 +13,7 @@ use Rattle.ob_tree.specs.declared.type_node.FieldList.{FieldList}
 use Rattle.ob_tree.specs.declared.type_node.Section.{Section}
 use Rattle.ob_tree.specs.declared.type_node.TypeNode.TheFolds.{fold-FieldList, fold-Section}
 use Rattle.ob_rules.specs.Phrases.{Phrase}
-use Rattle.ob_rules.specs.Types.{array_length, Typing, Parameters, Written, WrittenFields, WrittenParameters, WrittenSection, node_rule, fields_rule, parameters_rule, section_rule, typed_as, element_name, pointer_to}
-
-abbrev pub typing_of : Typed → Typing
-typing_of t = record { of = t.of; made = t.made }
-
-abbrev pub parameters_of : Made → Parameters
-parameters_of p = record { signature = p.signature; parameters = p.parameters; made = p.made }
+use Rattle.ob_rules.specs.Types.{array_length, Typing, Written, WrittenFields, WrittenParameters, WrittenSection, node_rule, fields_rule, parameters_rule, section_rule, typed_as, element_name, pointer_to}
 
 -- the type of that name that the scope declares later
 abbrev pub later_named : Around → Ident → TypeRef

@@ -5,7 +5,7 @@ use Rattle.ob_types.specs.declared.types.TypeRef.{TypeRef}
 use Rattle.ob_types.specs.declared.desc.Field.{Field}
 use Rattle.ob_rules.specs.Judged.{Judged, each_sound, unless, ◌▷◌}
 use Rattle.ob_rules.specs.Names.{Around, map_of, is_among}
-use Rattle.ob_ctype.specs.declared.fields.Fields.{Fields as Made}
+use Rattle.ob_cfield.specs.declared.fields.Fields.{Fields as Made}
 use Rattle.ob_tree.specs.declared.ident.Mark.{Mark}
 use Rattle.ob_tree.specs.declared.ident.Mark.TheVariants as mark
 use Rattle.ob_rules.specs.Types.{Typing, WrittenFields, with_fields, first_name, field_name, typed_as, record_desc, Fields, fields_of, fields_joined, marked, member_in, record_in}

@@ -13,7 +13,7 @@ use Rattle.ob_tree.specs.declared.ident.Mark.{Mark}
 use Rattle.ob_tree.specs.declared.ident.IdentDef.{IdentDef}
 use Rattle.ob_rules.specs.Types.{Typing, Fields, WrittenFields, typed_as, record_desc, record_with, fields_joined, field_lists, with_fields, names_behind, first_name, field_name}
 use Rattle.ob_rules.proofs.BookLaws.{after_none, after_joined}
-use Rattle.ob_ctype.specs.FieldMakes.{finish, one_more, join_fields, fields_in, fields_made, record_made}
+use Rattle.ob_cfield.specs.FieldMakes.{finish, one_more, join_fields, fields_in, fields_made, record_made}
 
 pub quiet : {A B : Type 0} (o : Option A) (g : A → B) → (if_sound o (λ p. sound (g p))).notes ≡ no_notes
 quiet None g = refl

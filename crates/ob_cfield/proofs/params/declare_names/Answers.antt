@@ -2,9 +2,9 @@ use Rattle.std.proofs.Common.{rules, ◌≡◌, ◌+◌, ◌≤◌, ◌∷◌, L
 use Rattle.std.specs.Option.{option_copied}
 use Rattle.ob_known.specs.Scopes.{around_of}
 use Rattle.ob_rules.specs.Books.{book_after}
-use Rattle.ob_ctype.specs.ParameterMakes.{names_declared}
-use Rattle.ob_ctype.proofs.LoopLaws.{step_at, end_at, more_known, more_name_notes, no_more_names}
-use Rattle.ob_ctype.proofs.params.declare_names.Goals as goal
+use Rattle.ob_cfield.specs.ParameterMakes.{names_declared}
+use Rattle.ob_cfield.proofs.LoopLaws.{step_at, end_at, more_known, more_name_notes, no_more_names}
+use Rattle.ob_cfield.proofs.params.declare_names.Goals as goal
 
 pub names-preserved : goal.names-preserved
 names-preserved g c =

@@ -1,0 +1,4 @@
+pub mod Cuts
+pub mod FieldLaws
+pub mod ParameterLaws
+pub mod LoopLaws

@@ -1,0 +1,3 @@
+pub mod Makes
+pub mod FieldMakes
+pub mod ParameterMakes
