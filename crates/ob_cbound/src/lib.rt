@@ -6,6 +6,6 @@ mod bindings;
 mod depth;
 mod later;
 
-pub use bindings::{Binding, bindings};
+pub use bindings::bind;
 pub use depth::is_deep;
 pub use later::{fields_judged, pointers_judged};

@@ -2,10 +2,10 @@
 
 #![tactic(auto, using(ob_rules::proofs::BookLaws::after_none, ob_rules::proofs::BookLaws::after_joined))]
 
-ghost use Rattle.std.specs.Prelude.{◌≡◌, map, List, OnOk};
+ghost use Rattle.std.specs.Prelude.{◌≡◌, ℕ, List, OnOk};
 ghost use Rattle.ob_rules.specs.Books.{book_after};
 ghost use Rattle.ob_rules.specs.Headings as spec;
-ghost use Rattle.ob_chead.specs.Kept.{kept};
+ghost use Rattle.ob_chead.specs.Kept.{AreKept};
 
 use crate::head::Head;
 use ob_rules::Notebook;
@@ -19,7 +19,7 @@ pub fn forwards_judged<T: Types>(
     book: &mut Notebook,
     heads: &[Head],
 ) -> Result<(), AllocError>
-    ensures { (hs : List spec.Head) → heads.now ≡ map kept hs → OnOk result (book.new ≡ book_after book.old (spec.forwards_judged (T.types types.now) hs hs)) }
+    ensures { (n : ℕ) (hs : List spec.Head) → AreKept n heads.now hs → OnOk result (book.new ≡ book_after book.old (spec.forwards_judged (T.types types.now) hs hs)) }
 {
     Err(AllocError)
 }

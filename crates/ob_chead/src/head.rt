@@ -1,7 +1,8 @@
 ghost use Rattle.std.specs.Prelude.{◌≡◌, [], ◌∷◌, ◌++◌, OnOk};
 
-use ob_ctype::Parameters;
-use ob_rules::{Known, Notebook};
+use ob_cfield::Parameters;
+use ob_known::Inside;
+use ob_rules::Notebook;
 use ob_tree::{Ident, List, Mark, Name, ObjName, Pos, QName};
 use ob_types::{Receiver, TypeRef};
 use std::alloc::{AllocError, Global};
@@ -35,8 +36,8 @@ pub struct Head {
     pub parameters: Option<Parameters>,
     /// What is said of the heading.
     pub notes: Notebook,
-    /// The names that are declared in the heading, the latest first.
-    pub inside: List<Known>,
+    /// The names that are declared in the heading.
+    pub inside: Inside,
     /// How many names are known behind the heading.
     pub behind: usize,
 }

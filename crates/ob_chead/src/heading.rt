@@ -2,10 +2,10 @@
 
 #![tactic(auto, using(ob_rules::proofs::BookLaws::after_none, ob_rules::proofs::BookLaws::after_joined))]
 
-ghost use Rattle.std.specs.Prelude.{◌≡◌, map, IfOk, OnOk};
+ghost use Rattle.std.specs.Prelude.{◌≡◌, suc, IfOk, OnOk};
 ghost use Rattle.ob_known.specs.Scopes.{around_of};
 ghost use Rattle.ob_rules.specs.Headings as spec;
-ghost use Rattle.ob_chead.specs.Kept.{kept};
+ghost use Rattle.ob_chead.specs.Kept.{AreKept};
 
 use crate::head::{Head, Heads};
 use ob_known::{Imports, Scope};
@@ -22,8 +22,8 @@ pub fn add_heading<E: Imports>(
     heading: &Heading,
     forward: bool,
 ) -> Result<(), AllocError>
-    ensures around { (hs : spec.Heads) → around_of E.types scope.old ≡ hs.around → heads.old ≡ map kept (spec.reversed hs.before) → OnOk result (around_of E.types scope.new ≡ (spec.add_heading hs (spec.heading_of heading.now) forward).around) }
-    ensures heads { (hs : spec.Heads) → around_of E.types scope.old ≡ hs.around → heads.old ≡ map kept (spec.reversed hs.before) → OnOk result (heads.new ≡ map kept (spec.reversed (spec.add_heading hs (spec.heading_of heading.now) forward).before)) }
+    ensures around { (hs : spec.Heads) → around_of E.types scope.old ≡ hs.around → AreKept (suc hs.around.scope) heads.old (spec.reversed hs.before) → OnOk result (around_of E.types scope.new ≡ (spec.add_heading hs (spec.heading_of heading.now) forward).around) }
+    ensures heads { (hs : spec.Heads) → around_of E.types scope.old ≡ hs.around → AreKept (suc hs.around.scope) heads.old (spec.reversed hs.before) → OnOk result (AreKept (suc hs.around.scope) heads.new (spec.reversed (spec.add_heading hs (spec.heading_of heading.now) forward).before)) }
 {
     Err(AllocError)
 }

@@ -5,6 +5,7 @@
 mod forwards;
 mod head;
 mod heading;
+mod owner;
 
 pub use forwards::forwards_judged;
 pub use head::{BoundAs, Head, Heads};
