@@ -2,12 +2,14 @@
 //! the bound procedures, each found by an index.
 #![tactic(auto)]
 
-mod inside;
+mod copies;
+mod moves;
+mod outside;
 mod scope;
 mod stack;
 mod table;
 
-pub use inside::{Inside, Outside};
+pub use outside::Outside;
 pub use scope::{Imports, Marked, Scope};
 pub use stack::Stack;
 pub use table::{Named, Table};

@@ -2,14 +2,15 @@ ghost use Rattle.std.specs.Prelude.{◌≡◌, [], ◌∷◌, ◌++◌, ◌<◌,
 ghost use Rattle.std.specs.Option.{option_copied};
 ghost use Rattle.std.specs.Option.{option_map};
 ghost use Rattle.ob_rules.specs.Names.{own_desc, bound_for};
-ghost use Rattle.ob_known.specs.Descending.{text_type, are_within, is_scope, is_scope_from};
+ghost use Rattle.ob_known.specs.Descending.{text_type, are_within, are_of, is_scope, is_scope_from};
 
-use crate::inside::{Inside, Outside};
+use crate::moves::{hide, put_back, put_inside, take_inner};
+use crate::outside::Outside;
 use crate::stack::Stack;
 use crate::table::{Named, Table};
 use ob_rules::{Bound, Coming, Entity, Known, Received, Surroundings};
 use ob_tree::{List, Mark, Name, ObjName, QName};
-use ob_types::{Basic, Desc, Method, TypeRef, TypedType, Types, Variable};
+use ob_types::{Basic, Desc, TypeRef, TypedType, Types, Variable};
 use std::alloc::{AllocError, Global};
 
 impl Named for Known {
@@ -234,10 +235,9 @@ impl<'a, E: Imports> Surroundings for Scope<'a, E> {
 }
 
 impl<'a, E: Imports> Scope<'a, E> {
-    ghost use Rattle.std.specs.Prelude.{◌*◌};
-    ghost use Rattle.ob_rules.specs.Headings.{of_scope, change_type, with_method};
+    ghost use Rattle.ob_rules.specs.Headings.{of_scope};
     ghost use Rattle.ob_known.specs.Scopes.{around_of, at_start, at_module};
-    ghost use Rattle.ob_known.specs.Bodies.{names_in, outer_names, body_around, restored};
+    ghost use Rattle.ob_known.specs.Bodies.{outer_names, body_around, restored};
 
     /// What stands around at the start of a module: no name is known, in the scope of number 0.
     pub fn new(alloc: Global, unit: Name, imported: &'a E) -> Result<Scope<'a, E>, AllocError>
@@ -356,30 +356,22 @@ impl<'a, E: Imports> Scope<'a, E> {
         self.own.as_slice()
     }
 
-    /// From here on the record types of that name have one more bound procedure.
-    pub fn add_method(
+    /// From here on the module has these types, and these bound procedures are known, of each the
+    /// oldest first, and none comes any more.
+    pub fn set_bound(
         &mut self,
         alloc: Global,
-        owner: &[u8],
-        method: &Method,
+        own: Vec<TypedType>,
+        bound: Vec<Bound>,
     ) -> Result<(), AllocError>
-        ensures { OnOk result (around_of E.types self.new ≡ record (around_of E.types self.old) { own = change_type owner.now (λ r. with_method r method.now) (around_of E.types self.old).own }) }
+        ensures { OnOk result (around_of E.types self.new ≡ record (around_of E.types self.old) { own = reverse own.items; bound = reverse bound.items; coming = [] }) }
     {
-        Err(AllocError)
-    }
-
-    /// From here on no bound procedure is known. Takes no memory.
-    pub fn unbind(&mut self, alloc: Global)
-        ensures { around_of E.types self.new ≡ record (around_of E.types self.old) { bound = [] } }
-    {
-        self.bound = Table::new(alloc);
-    }
-
-    /// From here on one more bound procedure is known.
-    pub fn bind(&mut self, alloc: Global, bound: Bound) -> Result<(), AllocError>
-        ensures { OnOk result (around_of E.types self.new ≡ record (around_of E.types self.old) { bound = bound ∷ (around_of E.types self.old).bound }) }
-    {
-        self.bound.push(alloc, bound)
+        let own = Table::from_items(alloc, own)?;
+        let bound = Table::from_items(alloc, bound)?;
+        self.own = own;
+        self.bound = bound;
+        self.coming = List::new(alloc);
+        Ok(())
     }
 
     /// As many names are known as at the mark. Takes no memory.
@@ -389,14 +381,16 @@ impl<'a, E: Imports> Scope<'a, E> {
         self.known.cut(mark.known);
     }
 
-    /// Ends the innermost scope, that of a heading, and puts its names aside.
-    pub fn leave_heading(&mut self, alloc: Global) -> Result<Inside, AllocError>
+    /// Ends the innermost scope, that of a heading, and hands out its names, the latest first.
+    pub fn leave_heading(&mut self, alloc: Global) -> Result<List<Known>, AllocError>
         requires { 0 < (around_of E.types self.old).scope }
-        ensures inside { IfOk result (λ i. names_in i ≡ of_scope ((around_of E.types self.old).scope - 1) (around_of E.types self.old).known) }
-        ensures scope { IfOk result (λ i. i.scope ≡ (around_of E.types self.old).scope) }
+        ensures inside { IfOk result (λ ks. ks ≡ of_scope ((around_of E.types self.old).scope - 1) (around_of E.types self.old).known) }
+        ensures one_scope { IfOk result (λ ks. are_of (around_of E.types self.old).scope ks ≡ true) }
         ensures outer { OnOk result (around_of E.types self.new ≡ record (around_of E.types self.old) { scope = (around_of E.types self.old).scope - 1; known = outer_names ((around_of E.types self.old).scope - 1) (around_of E.types self.old).known }) }
     {
-        Err(AllocError)
+        let inside = take_inner(alloc, &mut self.known, self.scope)?;
+        self.scope -= 1;
+        Ok(inside)
     }
 
     /// So many names are known, of those that are known and those that were put aside, which are
@@ -412,7 +406,8 @@ impl<'a, E: Imports> Scope<'a, E> {
         ensures shown { OnOk result (around_of E.types self.new ≡ record (around_of E.types self.old) { known = drop (length (aside.old.items ++ (around_of E.types self.old).known) - names) (aside.old.items ++ (around_of E.types self.old).known) }) }
         ensures aside { OnOk result (aside.new.items ++ (around_of E.types self.new).known ≡ aside.old.items ++ (around_of E.types self.old).known) }
     {
-        Err(AllocError)
+        hide(&mut self.known, aside, names, self.scope)?;
+        put_back(alloc, &mut self.known, aside, names, self.scope)
     }
 
     /// From here on the body of a procedure is judged: the names of its heading are known, and its
@@ -420,16 +415,35 @@ impl<'a, E: Imports> Scope<'a, E> {
     pub fn enter_body(
         &mut self,
         alloc: Global,
-        inside: Inside,
+        inside: &[Known],
         path: ObjName,
         receiver: Option<Received>,
         of: Option<TypeRef>,
     ) -> Result<Outside, AllocError>
-        requires { inside.scope ≡ (around_of E.types self.old).scope + 1 }
-        ensures body { OnOk result (around_of E.types self.new ≡ body_around (around_of E.types self.old) (names_in inside) path receiver of) }
+        requires { are_of ((around_of E.types self.old).scope + 1) inside.now ≡ true }
+        ensures body { OnOk result (around_of E.types self.new ≡ body_around (around_of E.types self.old) inside.now path receiver of) }
         ensures outside { IfOk result (λ o. restored o (around_of E.types self.new) ≡ around_of E.types self.old) }
     {
-        Err(AllocError)
+        if self.scope == u32::MAX {
+            return Err(AllocError);
+        }
+        let outside = Outside {
+            known: self.known.len(),
+            own: self.own.len(),
+            level: self.level,
+            path: std::mem::replace(&mut self.path, path),
+            later_types: std::mem::replace(&mut self.later_types, Stack::new(alloc)),
+            guards: std::mem::replace(&mut self.guards, Vec::new(alloc)),
+            receiver: std::mem::replace(&mut self.receiver, receiver),
+            result_type: std::mem::replace(&mut self.result_type, of),
+            in_loop: self.in_loop,
+        };
+        let scope = self.scope + 1;
+        put_inside(alloc, &mut self.known, inside, scope)?;
+        self.scope = scope;
+        self.level = scope;
+        self.in_loop = false;
+        Ok(outside)
     }
 
     /// Ends the body of a procedure. Takes no memory.
