@@ -5,7 +5,12 @@ use Rattle.ob_types.specs.declared.types.TypeRef.{TypeRef}
 use Rattle.ob_rules.specs.declared.entity.Known.{Known}
 use Rattle.ob_rules.specs.declared.entity.Received.{Received}
 use Rattle.ob_rules.specs.Names.{Around}
-use Rattle.ob_known.specs.declared.outside.Outside.{Outside}
+use Rattle.ob_known.specs.declared.inside.Inside.{Inside}
+use Rattle.ob_known.specs.declared.inside.Outside.{Outside}
+
+-- the names that are put aside, the latest first
+abbrev pub names_in : Inside → List Known
+names_in i = i.names.items
 
 -- those of the scopes up to n
 abbrev pub outer_names : ℕ → List Known → List Known

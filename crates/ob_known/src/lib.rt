@@ -2,14 +2,13 @@
 //! the bound procedures, each found by an index.
 #![tactic(auto)]
 
-mod copies;
+mod inside;
 mod moves;
-mod outside;
 mod scope;
 mod stack;
 mod table;
 
-pub use outside::Outside;
+pub use inside::{Inside, Outside};
 pub use scope::{Imports, Marked, Scope};
 pub use stack::Stack;
 pub use table::{Named, Table};

@@ -5,10 +5,8 @@ ghost use Rattle.ob_rules.specs.Headings.{of_scope};
 ghost use Rattle.ob_known.specs.Descending.{are_within, are_of, inner_first, inner_rest, is_inner};
 ghost use Rattle.ob_known.specs.Bodies.{outer_names};
 
-use crate::copies::copy_known;
 use crate::table::Table;
 use ob_rules::Known;
-use ob_tree::List;
 use std::alloc::{AllocError, Global};
 
 fn is_inner(known: &Table<Known>, scope: u32) -> bool
@@ -37,16 +35,16 @@ pub(crate) fn take_inner(
     alloc: Global,
     known: &mut Table<Known>,
     scope: u32,
-) -> Result<List<Known>, AllocError>
+) -> Result<Vec<Known>, AllocError>
     requires inner { 0 < scope }
     requires fall { are_within scope known.old ≡ true }
     ensures stays { are_within scope known.new ≡ true }
-    ensures taken { IfOk result (λ v. v ≡ of_scope (scope - 1) known.old) }
-    ensures one_scope { IfOk result (λ v. are_of scope v ≡ true) }
+    ensures taken { IfOk result (λ v. v.items ≡ of_scope (scope - 1) known.old) }
+    ensures one_scope { IfOk result (λ v. are_of scope v.items ≡ true) }
     ensures left { OnOk result (known.new ≡ outer_names (scope - 1) known.old) }
     ensures outer { OnOk result (are_within (scope - 1) known.new ≡ true) }
 {
-    let mut names = List::new(alloc);
+    let mut names = Vec::new(alloc);
     'names: while let Some(k) = pop_inner(known, scope) {
         names.push(k)?;
     }
@@ -96,21 +94,19 @@ pub(crate) fn put_back(
     Ok(())
 }
 
-/// More names are known, of which the first is the latest: copies of them.
-pub(crate) fn put_inside(
+/// All of them are known too, of which the first is the latest.
+pub(crate) fn put_all(
     alloc: Global,
     known: &mut Table<Known>,
-    inside: &[Known],
+    names: Vec<Known>,
     scope: u32,
 ) -> Result<(), AllocError>
-    requires fall { are_within scope (inside.now ++ known.old) ≡ true }
+    requires { are_within scope (names.items ++ known.old) ≡ true }
     ensures stays { are_within scope known.new ≡ true }
-    ensures all { OnOk result (known.new ≡ inside.now ++ known.old) }
+    ensures all { OnOk result (known.new ≡ names.items ++ known.old) }
 {
-    let mut i = inside.len();
-    'names: while i > 0 {
-        i -= 1;
-        let k = copy_known(alloc, &inside[i])?;
+    let mut rest = names;
+    'names: while let Some(k) = rest.pop() {
         known.push(alloc, k)?;
     }
     Ok(())

@@ -2,15 +2,15 @@ ghost use Rattle.std.specs.Prelude.{◌≡◌, [], ◌∷◌, ◌++◌, ◌<◌,
 ghost use Rattle.std.specs.Option.{option_copied};
 ghost use Rattle.std.specs.Option.{option_map};
 ghost use Rattle.ob_rules.specs.Names.{own_desc, bound_for};
-ghost use Rattle.ob_known.specs.Descending.{text_type, are_within, are_of, is_scope, is_scope_from};
+ghost use Rattle.ob_known.specs.Descending.{text_type, are_within, is_scope, is_scope_from};
 
-use crate::moves::{hide, put_back, put_inside, take_inner};
-use crate::outside::Outside;
+use crate::inside::{Inside, Outside};
+use crate::moves::{hide, put_all, put_back, take_inner};
 use crate::stack::Stack;
 use crate::table::{Named, Table};
 use ob_rules::{Bound, Coming, Entity, Known, Received, Surroundings};
 use ob_tree::{List, Mark, Name, ObjName, QName};
-use ob_types::{Basic, Desc, TypeRef, TypedType, Types, Variable};
+use ob_types::{Basic, Desc, Method, TypeRef, TypedType, Types, Variable};
 use std::alloc::{AllocError, Global};
 
 impl Named for Known {
@@ -235,9 +235,9 @@ impl<'a, E: Imports> Surroundings for Scope<'a, E> {
 }
 
 impl<'a, E: Imports> Scope<'a, E> {
-    ghost use Rattle.ob_rules.specs.Headings.{of_scope};
+    ghost use Rattle.ob_rules.specs.Headings.{of_scope, change_type, with_method};
     ghost use Rattle.ob_known.specs.Scopes.{around_of, at_start, at_module};
-    ghost use Rattle.ob_known.specs.Bodies.{outer_names, body_around, restored};
+    ghost use Rattle.ob_known.specs.Bodies.{names_in, outer_names, body_around, restored};
 
     /// What stands around at the start of a module: no name is known, in the scope of number 0.
     pub fn new(alloc: Global, unit: Name, imported: &'a E) -> Result<Scope<'a, E>, AllocError>
@@ -356,6 +356,32 @@ impl<'a, E: Imports> Scope<'a, E> {
         self.own.as_slice()
     }
 
+    /// From here on the record types of that name have one more bound procedure.
+    pub fn add_method(
+        &mut self,
+        alloc: Global,
+        owner: &[u8],
+        method: &Method,
+    ) -> Result<(), AllocError>
+        ensures { OnOk result (around_of E.types self.new ≡ record (around_of E.types self.old) { own = change_type owner.now (λ r. with_method r method.now) (around_of E.types self.old).own }) }
+    {
+        Err(AllocError)
+    }
+
+    /// From here on no bound procedure is known. Takes no memory.
+    pub fn unbind(&mut self, alloc: Global)
+        ensures { around_of E.types self.new ≡ record (around_of E.types self.old) { bound = [] } }
+    {
+        self.bound = Table::new(alloc);
+    }
+
+    /// From here on one more bound procedure is known.
+    pub fn bind(&mut self, alloc: Global, bound: Bound) -> Result<(), AllocError>
+        ensures { OnOk result (around_of E.types self.new ≡ record (around_of E.types self.old) { bound = bound ∷ (around_of E.types self.old).bound }) }
+    {
+        self.bound.push(alloc, bound)
+    }
+
     /// From here on the module has these types, and these bound procedures are known, of each the
     /// oldest first, and none comes any more.
     pub fn set_bound(
@@ -381,14 +407,18 @@ impl<'a, E: Imports> Scope<'a, E> {
         self.known.cut(mark.known);
     }
 
-    /// Ends the innermost scope, that of a heading, and hands out its names, the latest first.
-    pub fn leave_heading(&mut self, alloc: Global) -> Result<List<Known>, AllocError>
+    /// Ends the innermost scope, that of a heading, and puts its names aside.
+    pub fn leave_heading(&mut self, alloc: Global) -> Result<Inside, AllocError>
         requires { 0 < (around_of E.types self.old).scope }
-        ensures inside { IfOk result (λ ks. ks ≡ of_scope ((around_of E.types self.old).scope - 1) (around_of E.types self.old).known) }
-        ensures one_scope { IfOk result (λ ks. are_of (around_of E.types self.old).scope ks ≡ true) }
+        ensures inside { IfOk result (λ i. names_in i ≡ of_scope ((around_of E.types self.old).scope - 1) (around_of E.types self.old).known) }
+        ensures scope { IfOk result (λ i. i.scope ≡ (around_of E.types self.old).scope) }
         ensures outer { OnOk result (around_of E.types self.new ≡ record (around_of E.types self.old) { scope = (around_of E.types self.old).scope - 1; known = outer_names ((around_of E.types self.old).scope - 1) (around_of E.types self.old).known }) }
     {
-        let inside = take_inner(alloc, &mut self.known, self.scope)?;
+        let names = take_inner(alloc, &mut self.known, self.scope)?;
+        let inside = Inside {
+            names,
+            scope: self.scope,
+        };
         self.scope -= 1;
         Ok(inside)
     }
@@ -415,18 +445,16 @@ impl<'a, E: Imports> Scope<'a, E> {
     pub fn enter_body(
         &mut self,
         alloc: Global,
-        inside: &[Known],
+        inside: Inside,
         path: ObjName,
         receiver: Option<Received>,
         of: Option<TypeRef>,
     ) -> Result<Outside, AllocError>
-        requires { are_of ((around_of E.types self.old).scope + 1) inside.now ≡ true }
-        ensures body { OnOk result (around_of E.types self.new ≡ body_around (around_of E.types self.old) inside.now path receiver of) }
+        requires { inside.scope ≡ (around_of E.types self.old).scope + 1 }
+        ensures body { OnOk result (around_of E.types self.new ≡ body_around (around_of E.types self.old) (names_in inside) path receiver of) }
         ensures outside { IfOk result (λ o. restored o (around_of E.types self.new) ≡ around_of E.types self.old) }
     {
-        if self.scope == u32::MAX {
-            return Err(AllocError);
-        }
+        let Inside { names, scope } = inside;
         let outside = Outside {
             known: self.known.len(),
             own: self.own.len(),
@@ -438,8 +466,7 @@ impl<'a, E: Imports> Scope<'a, E> {
             result_type: std::mem::replace(&mut self.result_type, of),
             in_loop: self.in_loop,
         };
-        let scope = self.scope + 1;
-        put_inside(alloc, &mut self.known, inside, scope)?;
+        put_all(alloc, &mut self.known, names, scope)?;
         self.scope = scope;
         self.level = scope;
         self.in_loop = false;
