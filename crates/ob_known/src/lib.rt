@@ -3,6 +3,7 @@
 #![tactic(auto)]
 
 mod inside;
+mod moves;
 mod scope;
 mod stack;
 mod table;

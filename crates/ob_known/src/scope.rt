@@ -5,6 +5,7 @@ ghost use Rattle.ob_rules.specs.Names.{own_desc, bound_for};
 ghost use Rattle.ob_known.specs.Descending.{text_type, are_within, is_scope, is_scope_from};
 
 use crate::inside::{Inside, Outside};
+use crate::moves::{hide, put_all, put_back, take_inner};
 use crate::stack::Stack;
 use crate::table::{Named, Table};
 use ob_rules::{Bound, Coming, Entity, Known, Received, Surroundings};
@@ -234,7 +235,6 @@ impl<'a, E: Imports> Surroundings for Scope<'a, E> {
 }
 
 impl<'a, E: Imports> Scope<'a, E> {
-    ghost use Rattle.std.specs.Prelude.{◌*◌};
     ghost use Rattle.ob_rules.specs.Headings.{of_scope, change_type, with_method};
     ghost use Rattle.ob_known.specs.Scopes.{around_of, at_start, at_module};
     ghost use Rattle.ob_known.specs.Bodies.{names_in, outer_names, body_around, restored};
@@ -382,6 +382,24 @@ impl<'a, E: Imports> Scope<'a, E> {
         self.bound.push(alloc, bound)
     }
 
+    /// From here on the module has these types, and these bound procedures are known, of each the
+    /// oldest first, and none comes any more.
+    pub fn set_bound(
+        &mut self,
+        alloc: Global,
+        own: Vec<TypedType>,
+        bound: Vec<Bound>,
+    ) -> Result<(), AllocError>
+        ensures { OnOk result (around_of E.types self.new ≡ record (around_of E.types self.old) { own = reverse own.items; bound = reverse bound.items; coming = [] }) }
+    {
+        let own = Table::from_items(alloc, own)?;
+        let bound = Table::from_items(alloc, bound)?;
+        self.own = own;
+        self.bound = bound;
+        self.coming = List::new(alloc);
+        Ok(())
+    }
+
     /// As many names are known as at the mark. Takes no memory.
     pub fn cut_names(&mut self, mark: Marked)
         ensures { around_of E.types self.new ≡ record (around_of E.types self.old) { known = drop (length (around_of E.types self.old).known - mark.known) (around_of E.types self.old).known } }
@@ -396,7 +414,13 @@ impl<'a, E: Imports> Scope<'a, E> {
         ensures scope { IfOk result (λ i. i.scope ≡ (around_of E.types self.old).scope) }
         ensures outer { OnOk result (around_of E.types self.new ≡ record (around_of E.types self.old) { scope = (around_of E.types self.old).scope - 1; known = outer_names ((around_of E.types self.old).scope - 1) (around_of E.types self.old).known }) }
     {
-        Err(AllocError)
+        let names = take_inner(alloc, &mut self.known, self.scope)?;
+        let inside = Inside {
+            names,
+            scope: self.scope,
+        };
+        self.scope -= 1;
+        Ok(inside)
     }
 
     /// So many names are known, of those that are known and those that were put aside, which are
@@ -412,7 +436,8 @@ impl<'a, E: Imports> Scope<'a, E> {
         ensures shown { OnOk result (around_of E.types self.new ≡ record (around_of E.types self.old) { known = drop (length (aside.old.items ++ (around_of E.types self.old).known) - names) (aside.old.items ++ (around_of E.types self.old).known) }) }
         ensures aside { OnOk result (aside.new.items ++ (around_of E.types self.new).known ≡ aside.old.items ++ (around_of E.types self.old).known) }
     {
-        Err(AllocError)
+        hide(&mut self.known, aside, names, self.scope)?;
+        put_back(alloc, &mut self.known, aside, names, self.scope)
     }
 
     /// From here on the body of a procedure is judged: the names of its heading are known, and its
@@ -429,7 +454,23 @@ impl<'a, E: Imports> Scope<'a, E> {
         ensures body { OnOk result (around_of E.types self.new ≡ body_around (around_of E.types self.old) (names_in inside) path receiver of) }
         ensures outside { IfOk result (λ o. restored o (around_of E.types self.new) ≡ around_of E.types self.old) }
     {
-        Err(AllocError)
+        let Inside { names, scope } = inside;
+        let outside = Outside {
+            known: self.known.len(),
+            own: self.own.len(),
+            level: self.level,
+            path: std::mem::replace(&mut self.path, path),
+            later_types: std::mem::replace(&mut self.later_types, Stack::new(alloc)),
+            guards: std::mem::replace(&mut self.guards, Vec::new(alloc)),
+            receiver: std::mem::replace(&mut self.receiver, receiver),
+            result_type: std::mem::replace(&mut self.result_type, of),
+            in_loop: self.in_loop,
+        };
+        put_all(alloc, &mut self.known, names, scope)?;
+        self.scope = scope;
+        self.level = scope;
+        self.in_loop = false;
+        Ok(outside)
     }
 
     /// Ends the body of a procedure. Takes no memory.
