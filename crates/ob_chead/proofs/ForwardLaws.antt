@@ -36,7 +36,7 @@ more_noted F R x more all b c total row step is inv =
 pub no_more_noted : {A : Type 0} (R : List A → Notes) (all : List A) (b total : Notebook) → R [] ≡ no_notes → all ≡ [] → book_after b (R all) ≡ total → b ≡ total
 no_more_noted R all b total none end inv = sym (after_none b) ∙ ap (book_after b) (sym none) ∙ ap (λ l. book_after b (R l)) (sym end) ∙ inv
 
-bare_answer : (f : Head) (all : List Head) → find (answers (bare f)) (map bare all) ≡ option_map bare (find (answers f) all)
+pub bare_answer : (f : Head) (all : List Head) → find (answers (bare f)) (map bare all) ≡ option_map bare (find (answers f) all)
 bare_answer f [] = refl
 bare_answer f (h ∷ all) = go (answers f h) (bare_answer f all)
   where
