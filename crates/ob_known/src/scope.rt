@@ -466,10 +466,10 @@ impl<'a, E: Imports> Scope<'a, E> {
             result_type: std::mem::replace(&mut self.result_type, of),
             in_loop: self.in_loop,
         };
-        put_all(alloc, &mut self.known, names, scope)?;
         self.scope = scope;
         self.level = scope;
         self.in_loop = false;
+        put_all(alloc, &mut self.known, names, scope)?;
         Ok(outside)
     }
 
