@@ -5,6 +5,7 @@
 mod bindings;
 mod depth;
 mod later;
+mod parts;
 
 pub use bindings::bind;
 pub use depth::is_deep;

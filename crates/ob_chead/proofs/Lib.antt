@@ -2,3 +2,4 @@ pub mod Growing
 pub mod KeyLaws
 pub mod HeadLaws
 pub mod ForwardLaws
+pub mod Behind

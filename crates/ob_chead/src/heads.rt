@@ -6,6 +6,7 @@ ghost use Rattle.ob_chead.specs.Keys.{key};
 ghost use Rattle.ob_chead.specs.Index.{entry_if, comes_after};
 
 use crate::head::Head;
+use crate::keys::key_of;
 use ob_known::{Named, Table};
 use ob_tree::{Name, ObjName, QName};
 use std::alloc::{AllocError, Global};
@@ -44,20 +45,6 @@ impl Model for Heads {
     ghost view = { λ h. h.items.items };
 
     ghost invariant = { λ h. h.latest ≡ entries (reverse h.items.items) };
-}
-
-/// What stands for the name of a bound procedure and its record: two are the same where both are.
-pub(crate) fn key_of(alloc: Global, name: &Name, object: &[u8]) -> Result<ObjName, AllocError>
-    ensures { IfOk result (λ r. r ≡ key name.now object.now) }
-{
-    let mut all = Vec::new(alloc);
-    'bytes: for byte in name.as_bytes() {
-        all.push(1)?;
-        all.push(*byte)?;
-    }
-    all.push(0)?;
-    all.extend_from_slice(object)?;
-    ObjName::new(alloc, &all)
 }
 
 fn add_entry(alloc: Global, latest: &mut Table<Latest>, head: &Head) -> Result<(), AllocError>

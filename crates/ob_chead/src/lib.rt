@@ -6,9 +6,11 @@ mod forwards;
 mod head;
 mod heading;
 mod heads;
+mod keys;
 mod owner;
 
 pub use forwards::{answer_of, forwards_judged, is_same_kind};
 pub use head::{BoundAs, Head};
 pub use heading::add_heading;
 pub use heads::Heads;
+pub use keys::key_of;
