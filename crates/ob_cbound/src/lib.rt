@@ -4,9 +4,11 @@
 
 mod bindings;
 mod depth;
-mod later;
+mod fields;
 mod parts;
+mod pointers;
 
 pub use bindings::bind;
 pub use depth::is_deep;
-pub use later::{fields_judged, pointers_judged};
+pub use fields::fields_judged;
+pub use pointers::pointers_judged;
