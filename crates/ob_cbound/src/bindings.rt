@@ -264,7 +264,8 @@ fn bind_in<E: Imports>(
     ensures noted { OnOk result (book.new ≡ book_after book.old (spec.bind_in (around_of E.types scope.old) (map_of (around_of E.types scope.old)) (start (around_of E.types scope.old)) (seen head.now) (bound_seen bound.now)).notes) }
 {
     let member = find_member(alloc, &*scope, &bound.owner, &head.name)?;
-    bind_by(alloc, scope, book, head, bound, &member)
+    bind_by(alloc, scope, book, head, bound, &member)?;
+    Ok(())
 }
 
 fn bind_one<E: Imports>(
@@ -437,5 +438,6 @@ pub fn bind<E: Imports>(
     ensures around { (n : ℕ) (hs : Listed spec.Head) → AreKept n heads.now hs → OnOk result (around_of E.types scope.new ≡ with_bound (around_of E.types scope.old) (spec.bindings (around_of E.types scope.old) hs)) }
     ensures noted { (n : ℕ) (hs : Listed spec.Head) → AreKept n heads.now hs → OnOk result (book.new ≡ book_after book.old (spec.bindings (around_of E.types scope.old) hs).notes) }
 {
-    bind_all(alloc, scope, book, heads)
+    bind_all(alloc, scope, book, heads)?;
+    Ok(())
 }

@@ -116,7 +116,8 @@ fn keep<E: Imports>(
     ensures { IfOk result (λ r. r ≡ spec.kept_of (spec.names_held (map_of (record (at_start unit (E.types imported.now)) { own = types.now }))) types.now) }
 {
     let scope = scope_of(alloc, unit, imported, types)?;
-    kept_of(alloc, &scope, types)
+    let kept = kept_of(alloc, &scope, types)?;
+    Ok(kept)
 }
 
 fn copy_all(alloc: Global, types: &[TypedType]) -> Result<List<TypedType>, AllocError>
@@ -319,7 +320,8 @@ fn deep_types<E: Imports>(
 {
     let all = kept(alloc, unit, imported, types)?;
     let scope = scope_of(alloc, unit, imported, all.as_slice())?;
-    deep_among(alloc, &scope, DEPTH, unit, all.as_slice())
+    let deep = deep_among(alloc, &scope, DEPTH, unit, all.as_slice())?;
+    Ok(deep)
 }
 
 /// Whether the types of a module exceed the limit `depth`, where its imports show what `imported`
@@ -333,5 +335,6 @@ pub fn is_deep<E: Imports>(
 ) -> Result<bool, AllocError>
     ensures { (u : Around) → u.unit ≡ unit → u.shown ≡ E.types imported.now → u.own ≡ types.now → IfOk result (λ r. r ≡ spec.is_deep u) }
 {
-    deep_types(alloc, unit, imported, types)
+    let deep = deep_types(alloc, unit, imported, types)?;
+    Ok(deep)
 }

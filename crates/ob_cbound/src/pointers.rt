@@ -153,7 +153,8 @@ fn judge_one<E: Imports>(
 {
     let unsound = progress.unsound.has(base_name(scope, left));
     let wrong = is_wrong(scope, left);
-    tell(alloc, book, progress, left, unsound, wrong)
+    tell(alloc, book, progress, left, unsound, wrong)?;
+    Ok(())
 }
 
 fn is_pointer(left: &Later) -> bool
@@ -201,7 +202,8 @@ fn judge_pointer<E: Imports>(
     }
     progress.judged.push(alloc, pointer_name(left))?;
     judge_base(alloc, scope, book, progress, all, fuel - 1, left)?;
-    judge_one(alloc, scope, book, progress, left)
+    judge_one(alloc, scope, book, progress, left)?;
+    Ok(())
 }
 
 #[cycle(pointers)]
@@ -218,7 +220,10 @@ fn judge_base<E: Imports>(
 {
     match find_pointer(all, base_name(scope, left)) {
         None => Ok(()),
-        Some(base) => judge_pointer(alloc, scope, book, progress, all, fuel, base),
+        Some(base) => {
+            judge_pointer(alloc, scope, book, progress, all, fuel, base)?;
+            Ok(())
+        }
     }
 }
 

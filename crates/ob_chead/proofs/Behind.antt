@@ -76,4 +76,5 @@ heads_behind hs h forward b =
     let g = heading_grows hs h forward in
     let s = head_of hs.around h forward in
     let v = (add_heading hs h forward).around in
-    (last_behind v s (name_twice (with_types hs.around (types_of s.parameters)) hs.before s), subst (λ ks. AreBehind ks hs.before) (sym (ap (λ x. x.known) g.is)) (all_behind g.names hs.around.known hs.before b))
+    let K : Around → List Known = λ x. x.known in
+    (last_behind v s (name_twice (with_types hs.around (types_of s.parameters)) hs.before s), subst (λ ks. AreBehind ks hs.before) (sym (ap K g.is)) (all_behind g.names hs.around.known hs.before b))

@@ -27,11 +27,10 @@ use Rattle.ob_chead.specs.Sections.{sections_of}
 
 -- A HEADING BY ITSELF
 
-put : Pos → List ℕ → Bool → Bool → Option BoundAs → Mark → List ℕ → Option Ident → Option Parameters → List Known → Head
+abbrev pub put : Pos → List ℕ → Bool → Bool → Option BoundAs → Mark → List ℕ → Option Ident → Option Parameters → List Known → Head
 put at name forward bound_at_all bound m path x p inside = record { at = at; name = name; forward = forward; is_bound = bound_at_all; bound = bound; mark = m; path = path; self = x; parameters = p; notes = no_notes; inside = inside; known = [] }
 
 same_put : (at : Pos) (name : List ℕ) (forward is : Bool) (x : Option Ident) {b c : Option BoundAs} {m n : Mark} {path way : List ℕ} {p q : Option Parameters} {ks ls : List Known} → b ≡ c → m ≡ n → path ≡ way → p ≡ q → ks ≡ ls → put at name forward is b m path x p ks ≡ put at name forward is c n way x q ls
-unfolding put
 same_put at name forward is x {b = b} {c = c} {m = m} {n = n} {path = path} {way = way} {p = p} {q = q} {ks = ks} {ls = ls} e f g h i =
     ap (λ y. put at name forward is y m path x p ks) e ∙ ap (λ y. put at name forward is c y path x p ks) f ∙ ap (λ y. put at name forward is c n y x p ks) g ∙ ap (λ y. put at name forward is c n way x y ks) h ∙ ap (λ y. put at name forward is c n way x q y) i
 
@@ -46,7 +45,6 @@ pub record Parts (u : Around) (h : Heading) (forward : Bool) (m : Option Mark) (
 pub head_seen : (u : Around) (h : Heading) (forward : Bool) (m : Option Mark) (ob : Option (Option BoundAs)) (path name : List ℕ) (found : Option Parameters) (inside : List Known)
     → Parts u h forward m ob path name found → inside ≡ of_scope u.scope (sections_of u h ob name).known
     → put h.name.ident.«pos» h.name.ident.name forward (is_some h.receiver) (bound_in ob) (mark_or_hidden m) path (option_map (λ r. r.ident) h.receiver) (as_parameters (paired (paired m ob) found)) inside ≡ bare (head_of u (heading_of h) forward)
-unfolding put
 head_seen u h forward m ob path name found inside p e =
     let x = h.name.ident.name in
     let b = (owner_if u h.receiver).node in
@@ -179,12 +177,13 @@ heads_added hs h forward n u v w heads head last twice e a k =
 -- WHERE IT IS DECLARED
 
 pub kept_again : (n : ℕ) (head : Kept) (s : Head) (u : Around) (book : Notebook) (behind : ℕ) → IsKept n head s → book ≡ book_after head.notes (broken_at 1 head.at) → behind ≡ length u.known → IsKept n (record head { parameters = None; notes = book; behind = behind }) (declared_head true s u)
-kept_again n head s u book behind k e f = record {
-  same = ap (λ x. record x { parameters = None }) k.same;
-  notes = e ∙ ap (λ x. book_after x (broken_at 1 head.at)) k.notes ∙ ap (λ x. book_after (book_after empty_book s.notes) (broken_at 1 x.at)) k.same ∙ after_joined empty_book s.notes (broken_at 1 s.at);
-  behind = f;
-  scope = k.scope;
-}
+kept_again n head s u book behind k e f =
+    let F : Head → Head = λ x. record x { parameters = None } in
+    let N : Head → Notebook = λ x. book_after (book_after empty_book s.notes) (broken_at 1 x.at) in
+    let M : Notebook → Notebook = λ x. book_after x (broken_at 1 head.at) in
+    let p = ap F k.same in
+    let q = e ∙ ap M k.notes ∙ ap N k.same ∙ after_joined empty_book s.notes (broken_at 1 s.at) in
+    record { same = p; notes = q; behind = f; scope = k.scope }
 
 pub kept_anew : (n : ℕ) (head : Kept) (s : Head) (u : Around) (behind : ℕ) → IsKept n head s → behind ≡ length u.known → IsKept n (record head { behind = behind }) (declared_head false s u)
 kept_anew n head s u behind k f = record { same = k.same; notes = k.notes; behind = f; scope = k.scope }

@@ -2,7 +2,7 @@
 
 #![tactic(auto, using(ob_rules::proofs::BookLaws::after_none, ob_rules::proofs::BookLaws::after_joined))]
 
-ghost use Rattle.std.specs.Prelude.{◌≡◌, ℕ, suc, ◌+◌, ◌++◌, length, map, reverse, IfOk, OnOk};
+ghost use Rattle.std.specs.Prelude.{◌≡◌, ℕ, suc, true, false, ◌++◌, length, map, reverse, IfOk, OnOk};
 ghost use Rattle.std.specs.Option.{option_map, option_copied};
 ghost use Rattle.ob_cfield.specs.Makes.{parameters_of};
 ghost use Rattle.ob_known.specs.Bodies.{names_in};
@@ -77,7 +77,8 @@ fn forward_name(alloc: Global, forward: bool, name: &[u8]) -> Result<ObjName, Al
 fn enter_heading<E: Imports>(scope: &mut Scope<'_, E>) -> Result<(), AllocError>
     ensures { OnOk result (around_of E.types scope.new ≡ inner (around_of E.types scope.old)) }
 {
-    scope.enter()
+    scope.enter()?;
+    Ok(())
 }
 
 fn parameters_inside<E: Imports>(
@@ -94,7 +95,8 @@ fn parameters_inside<E: Imports>(
 {
     enter_heading(scope)?;
     know_receiver(alloc, scope, &heading.receiver, bound)?;
-    check_parameters(alloc, scope, book, &heading.parameters, name)
+    let found = check_parameters(alloc, scope, book, &heading.parameters, name)?;
+    Ok(found)
 }
 
 // The parameters of a heading, and the names that are declared in it.
@@ -304,7 +306,8 @@ fn declare_procedure<E: Imports>(
     ensures { OnOk result (around_of E.types scope.new ≡ spec.knows_procedure (around_of E.types scope.old) (seen head.now) false) }
 {
     let what = head_entity(alloc, &*scope, head)?;
-    scope.declare(alloc, head.name, what)
+    scope.declare(alloc, head.name, what)?;
+    Ok(())
 }
 
 fn know_procedure<E: Imports>(
@@ -371,5 +374,6 @@ pub fn add_heading<E: Imports>(
     let twice = name_twice(alloc, &*scope, heads, &head)?;
     know_procedure(alloc, scope, &head, twice)?;
     let behind = scope.mark().known;
-    heads.push(alloc, declared_head(head, twice, behind))
+    heads.push(alloc, declared_head(head, twice, behind))?;
+    Ok(())
 }

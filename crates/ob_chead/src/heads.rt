@@ -38,9 +38,14 @@ pub struct Heads {
 
 impl Model for Heads {
     ghost use Rattle.std.specs.Prelude.{List as Listed, ◌≡◌, reverse};
+    ghost use Rattle.ob_chead.specs.declared.head.Head.{Head as Kept};
+    ghost use Rattle.std.specs.Coded.{coded_list};
+    ghost use Rattle.ob_chead.specs.contracts.head.Head as one;
     ghost use Rattle.ob_chead.specs.Index.{entries};
 
-    ghost Value = { Listed Head };
+    ghost Value = { Listed Kept };
+
+    ghost coded = { coded_list one.the_row.coded };
 
     ghost view = { λ h. h.items.items };
 
@@ -98,7 +103,7 @@ impl Heads {
     }
 
     /// The headings themselves, in the order of the text. Takes no memory.
-    pub fn into_vec(self) -> Vec<Head>
+    pub fn into_items(self) -> Vec<Head>
         ensures { result.items ≡ self }
     {
         let Heads { items, latest: _ } = self;

@@ -93,7 +93,13 @@ fn silent_base<T: Types>(types: &T, is_var: bool, base: Option<&TypeRef>) -> boo
 {
     match base {
         None => false,
-        Some(of) => !is_var && !is_held(types, of),
+        Some(of) => {
+            if is_var {
+                false
+            } else {
+                !is_held(types, of)
+            }
+        }
     }
 }
 
@@ -122,9 +128,10 @@ fn bound_to(
             receiver: kind_of(is_var),
         }),
         None => {
-            if !quiet {
-                book.breaks(19, at);
+            if quiet {
+                return None;
             }
+            book.breaks(19, at);
             None
         }
     }
