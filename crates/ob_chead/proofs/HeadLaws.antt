@@ -55,7 +55,7 @@ head_seen u h forward m ob path name found inside p e =
     let fs : found ≡ F b = p.found_is ∙ ap (λ n. (sections_of u h ob n).found.node) named ∙ ap F p.owner in
     let ks : inside ≡ K b = e ∙ ap (λ n. of_scope u.scope (sections_of u h ob n).known) named ∙ ap K p.owner in
     let ps : as_parameters (paired (paired m ob) found) ≡ as_parameters (paired (paired (marked u false h.name).node b) (F b)) =
-      ap (λ y. as_parameters (paired (paired y ob) found)) p.mark ∙ ap (λ y. as_parameters (paired (paired (marked u false h.name).node y) found)) p.owner ∙ ap (λ y. as_parameters (paired (paired (marked u false h.name).node b) y)) fs in
+    ap (λ y. as_parameters (paired (paired y ob) found)) p.mark ∙ ap (λ y. as_parameters (paired (paired (marked u false h.name).node y) found)) p.owner ∙ ap (λ y. as_parameters (paired (paired (marked u false h.name).node b) y)) fs in
     same_put h.name.ident.«pos» x forward (is_some h.receiver) (option_map (λ r. r.ident) h.receiver) (ap bound_in p.owner) (ap mark_or_hidden p.mark) (p.path_is ∙ ap (λ o. u.path ++ path_by o x) p.owner) ps ks
 
 pub head_noted : (u : Around) (h : Heading) (forward : Bool) (m : Option Mark) (ob : Option (Option BoundAs)) (path name : List ℕ) (found : Option Parameters) (a b c d : Notebook)
@@ -126,6 +126,7 @@ known_bare u false s = go s.is_bound
     entity : (p : Option Parameters) → head_entity u (bare s) p ≡ head_entity u s p
     entity None = refl
     entity (Some p) = refl
+
     go : (p : Bool) → knows_procedure u (bare s) p ≡ knows_procedure u s p
     go true = refl
     go false = ap (λ e. record u { known = record { name = s.name; scope = u.scope; what = e } ∷ u.known }) (entity s.parameters)

@@ -45,6 +45,7 @@ after_by forward (h ∷ hs) q x = by_bound h.bound (after_by forward hs q x)
     go true false f r l g = absurd cc
     go false true f r l g = absurd cc
     go false false f r l g = r
+
     by_bound : (o : Option BoundAs) → comes_after forward (find (λ l. bytes_eq l.key (key x q.object)) (entries hs)) ≡ head_twice forward (bound_before (map seen hs) q x) → comes_after forward (find (λ l. bytes_eq l.key (key x q.object)) (entry_if o h (entries hs))) ≡ head_twice forward (cond (key_is (option_map bound_seen o) q x h.name) (Some (seen h)) (bound_before (map seen hs) q x))
     by_bound None r = r
     by_bound (Some b) r = go (bytes_eq (key h.name b.owner.object) (key x q.object)) (bytes_eq b.owner.object q.object && bytes_eq x h.name) (keys_same h.name x b.owner.object q.object) r (record { key = key h.name b.owner.object; forward = h.forward }) refl

@@ -88,11 +88,7 @@ pub fn is_same_kind(first: Receiver, second: Receiver) -> bool
     }
 }
 
-fn is_same_receiver<T: Types>(
-    types: &T,
-    first: &Option<BoundAs>,
-    second: &Option<BoundAs>,
-) -> bool
+fn is_same_receiver<T: Types>(types: &T, first: &Option<BoundAs>, second: &Option<BoundAs>) -> bool
     ensures { result ≡ spec.same_receiver (T.types types.now) (option_map bound_seen first.now) (option_map bound_seen second.now) }
 {
     match first {

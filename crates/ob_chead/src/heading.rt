@@ -178,8 +178,14 @@ fn head_of<E: Imports>(
     let bound = owner_if(alloc, &*scope, &mut notes, &heading.receiver)?;
     let path = heading_path(alloc, &*scope, &bound, &heading.name.ident.name)?;
     let name = forward_name(alloc, forward, path.as_bytes())?;
-    let (found, inside) =
-        heading_parameters(alloc, scope, &mut notes, heading, &bound, name.as_bytes())?;
+    let (found, inside) = heading_parameters(
+        alloc,
+        scope,
+        &mut notes,
+        heading,
+        &bound,
+        name.as_bytes(),
+    )?;
     let parameters = if_whole(mark, &bound, found);
     let behind = scope.mark().known;
     Ok(Head {

@@ -93,13 +93,7 @@ fn silent_base<T: Types>(types: &T, is_var: bool, base: Option<&TypeRef>) -> boo
 {
     match base {
         None => false,
-        Some(of) => {
-            if is_var {
-                false
-            } else {
-                !is_held(types, of)
-            }
-        }
+        Some(of) => { if is_var { false } else { !is_held(types, of) } }
     }
 }
 
@@ -148,14 +142,7 @@ fn bound_by<E: Imports>(
 {
     let quiet = is_silent(scope, receiver.is_var, &of);
     let owner = owner_name(scope, receiver.is_var, &of)?;
-    Ok(bound_to(
-        book,
-        receiver.owner.pos,
-        receiver.is_var,
-        of,
-        quiet,
-        owner,
-    ))
+    Ok(bound_to(book, receiver.owner.pos, receiver.is_var, of, quiet, owner))
 }
 
 fn owner_of<E: Imports>(
