@@ -2,3 +2,4 @@ pub mod Places
 pub mod Stacking
 pub mod Finding
 pub mod Scoping
+pub mod Bodying

@@ -1,4 +1,5 @@
 pub mod Stacks
 pub mod Descending
 pub mod Scopes
+pub mod Bodies
 pub mod Finite

@@ -2,7 +2,7 @@
 use Rattle.std.specs.Prelude.{ℕ, List, [], Option, None, false}
 use Rattle.ob_tree.specs.declared.names.QName.{QName}
 use Rattle.ob_types.specs.declared.desc.Desc.{Desc}
-use Rattle.ob_rules.specs.Names.{Around}
+use Rattle.ob_rules.specs.Names.{Around, predeclared}
 use Rattle.ob_known.specs.declared.scope.Scope.{Scope}
 
 abbrev pub around_of : {E : Type 0} → (E → QName → Option Desc) → Scope E → Around
@@ -41,3 +41,7 @@ at_start unit shown = record {
   result = None;
   in_loop = false;
 }
+
+-- a module begins: the predeclared names are known, around the module's scope
+abbrev pub at_module : List ℕ → (QName → Option Desc) → Around
+at_module unit shown = record (at_start unit shown) { known = predeclared; scope = 1 }

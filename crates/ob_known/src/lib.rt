@@ -2,10 +2,13 @@
 //! the bound procedures, each found by an index.
 #![tactic(auto)]
 
+mod inside;
+mod moves;
 mod scope;
 mod stack;
 mod table;
 
+pub use inside::{Inside, Outside};
 pub use scope::{Imports, Marked, Scope};
 pub use stack::Stack;
 pub use table::{Named, Table};

@@ -4,11 +4,13 @@ ghost use Rattle.std.specs.Option.{option_map};
 ghost use Rattle.ob_rules.specs.Names.{own_desc, bound_for};
 ghost use Rattle.ob_known.specs.Descending.{text_type, are_within, is_scope, is_scope_from};
 
+use crate::inside::{Inside, Outside};
+use crate::moves::{hide, put_all, put_back, take_inner};
 use crate::stack::Stack;
 use crate::table::{Named, Table};
 use ob_rules::{Bound, Coming, Entity, Known, Received, Surroundings};
 use ob_tree::{List, Mark, Name, ObjName, QName};
-use ob_types::{Basic, Desc, TypeRef, TypedType, Types, Variable};
+use ob_types::{Basic, Desc, Method, TypeRef, TypedType, Types, Variable};
 use std::alloc::{AllocError, Global};
 
 impl Named for Known {
@@ -233,7 +235,9 @@ impl<'a, E: Imports> Surroundings for Scope<'a, E> {
 }
 
 impl<'a, E: Imports> Scope<'a, E> {
-    ghost use Rattle.ob_known.specs.Scopes.{around_of, at_start};
+    ghost use Rattle.ob_rules.specs.Headings.{of_scope, change_type, with_method};
+    ghost use Rattle.ob_known.specs.Scopes.{around_of, at_start, at_module};
+    ghost use Rattle.ob_known.specs.Bodies.{names_in, outer_names, body_around, restored};
 
     /// What stands around at the start of a module: no name is known, in the scope of number 0.
     pub fn new(alloc: Global, unit: Name, imported: &'a E) -> Result<Scope<'a, E>, AllocError>
@@ -315,5 +319,186 @@ impl<'a, E: Imports> Scope<'a, E> {
         ensures { around_of E.types self.new ≡ record (around_of E.types self.old) { own = drop (length (around_of E.types self.old).own - mark.own) (around_of E.types self.old).own } }
     {
         self.own.cut(mark.own);
+    }
+
+    /// What stands around at the start of a module: the predeclared names are known, around the
+    /// module's scope, of number 1.
+    pub fn of_module(
+        alloc: Global,
+        unit: Name,
+        imported: &'a E,
+    ) -> Result<Scope<'a, E>, AllocError>
+        ensures { IfOk result (λ s. around_of E.types s ≡ at_module unit (E.types imported.now)) }
+    {
+        Err(AllocError)
+    }
+
+    /// From here on the scope declares types of these names, earlier or later. Gives the names
+    /// that it declared before. Takes no memory.
+    pub fn set_later_types(&mut self, names: Stack) -> Stack
+        ensures before { result ≡ (around_of E.types self.old).later_types }
+        ensures later { around_of E.types self.new ≡ record (around_of E.types self.old) { later_types = names } }
+    {
+        std::mem::replace(&mut self.later_types, names)
+    }
+
+    /// From here on these bound procedures come further on in the text. Takes no memory.
+    pub fn set_coming(&mut self, coming: List<Coming>)
+        ensures { around_of E.types self.new ≡ record (around_of E.types self.old) { coming = coming } }
+    {
+        self.coming = coming;
+    }
+
+    /// The types that the module has, the oldest first. Takes no memory.
+    pub fn own_types(&self) -> &[TypedType]
+        ensures { reverse result.now ≡ (around_of E.types self.now).own }
+    {
+        self.own.as_slice()
+    }
+
+    /// From here on the record types of that name have one more bound procedure.
+    pub fn add_method(
+        &mut self,
+        alloc: Global,
+        owner: &[u8],
+        method: &Method,
+    ) -> Result<(), AllocError>
+        ensures { OnOk result (around_of E.types self.new ≡ record (around_of E.types self.old) { own = change_type owner.now (λ r. with_method r method.now) (around_of E.types self.old).own }) }
+    {
+        Err(AllocError)
+    }
+
+    /// From here on no bound procedure is known. Takes no memory.
+    pub fn unbind(&mut self, alloc: Global)
+        ensures { around_of E.types self.new ≡ record (around_of E.types self.old) { bound = [] } }
+    {
+        self.bound = Table::new(alloc);
+    }
+
+    /// From here on one more bound procedure is known.
+    pub fn bind(&mut self, alloc: Global, bound: Bound) -> Result<(), AllocError>
+        ensures { OnOk result (around_of E.types self.new ≡ record (around_of E.types self.old) { bound = bound ∷ (around_of E.types self.old).bound }) }
+    {
+        self.bound.push(alloc, bound)
+    }
+
+    /// From here on the module has these types, and these bound procedures are known, of each the
+    /// oldest first, and none comes any more.
+    pub fn set_bound(
+        &mut self,
+        alloc: Global,
+        own: Vec<TypedType>,
+        bound: Vec<Bound>,
+    ) -> Result<(), AllocError>
+        ensures { OnOk result (around_of E.types self.new ≡ record (around_of E.types self.old) { own = reverse own.items; bound = reverse bound.items; coming = [] }) }
+    {
+        let own = Table::from_items(alloc, own)?;
+        let bound = Table::from_items(alloc, bound)?;
+        self.own = own;
+        self.bound = bound;
+        self.coming = List::new(alloc);
+        Ok(())
+    }
+
+    /// As many names are known as at the mark. Takes no memory.
+    pub fn cut_names(&mut self, mark: Marked)
+        ensures { around_of E.types self.new ≡ record (around_of E.types self.old) { known = drop (length (around_of E.types self.old).known - mark.known) (around_of E.types self.old).known } }
+    {
+        self.known.cut(mark.known);
+    }
+
+    /// Ends the innermost scope, that of a heading, and puts its names aside.
+    pub fn leave_heading(&mut self, alloc: Global) -> Result<Inside, AllocError>
+        requires { 0 < (around_of E.types self.old).scope }
+        ensures inside { IfOk result (λ i. names_in i ≡ of_scope ((around_of E.types self.old).scope - 1) (around_of E.types self.old).known) }
+        ensures scope { IfOk result (λ i. i.scope ≡ (around_of E.types self.old).scope) }
+        ensures outer { OnOk result (around_of E.types self.new ≡ record (around_of E.types self.old) { scope = (around_of E.types self.old).scope - 1; known = outer_names ((around_of E.types self.old).scope - 1) (around_of E.types self.old).known }) }
+    {
+        let names = take_inner(alloc, &mut self.known, self.scope)?;
+        let inside = Inside {
+            names,
+            scope: self.scope,
+        };
+        self.scope -= 1;
+        Ok(inside)
+    }
+
+    /// So many names are known, of those that are known and those that were put aside, which are
+    /// later; the others are put aside, the latest first.
+    pub fn show(
+        &mut self,
+        alloc: Global,
+        aside: &mut Vec<Known>,
+        names: usize,
+    ) -> Result<(), AllocError>
+        requires enough { names ≤ length (aside.old.items ++ (around_of E.types self.old).known) }
+        requires fall { are_within (around_of E.types self.old).scope (aside.old.items ++ (around_of E.types self.old).known) ≡ true }
+        ensures shown { OnOk result (around_of E.types self.new ≡ record (around_of E.types self.old) { known = drop (length (aside.old.items ++ (around_of E.types self.old).known) - names) (aside.old.items ++ (around_of E.types self.old).known) }) }
+        ensures aside { OnOk result (aside.new.items ++ (around_of E.types self.new).known ≡ aside.old.items ++ (around_of E.types self.old).known) }
+    {
+        hide(&mut self.known, aside, names, self.scope)?;
+        put_back(alloc, &mut self.known, aside, names, self.scope)
+    }
+
+    /// From here on the body of a procedure is judged: the names of its heading are known, and its
+    /// own scope is the innermost. Gives what `leave_body` needs.
+    pub fn enter_body(
+        &mut self,
+        alloc: Global,
+        inside: Inside,
+        path: ObjName,
+        receiver: Option<Received>,
+        of: Option<TypeRef>,
+    ) -> Result<Outside, AllocError>
+        requires { inside.scope ≡ (around_of E.types self.old).scope + 1 }
+        ensures body { OnOk result (around_of E.types self.new ≡ body_around (around_of E.types self.old) (names_in inside) path receiver of) }
+        ensures outside { IfOk result (λ o. restored o (around_of E.types self.new) ≡ around_of E.types self.old) }
+    {
+        let Inside { names, scope } = inside;
+        let outside = Outside {
+            known: self.known.len(),
+            own: self.own.len(),
+            level: self.level,
+            path: std::mem::replace(&mut self.path, path),
+            later_types: std::mem::replace(&mut self.later_types, Stack::new(alloc)),
+            guards: std::mem::replace(&mut self.guards, Vec::new(alloc)),
+            receiver: std::mem::replace(&mut self.receiver, receiver),
+            result_type: std::mem::replace(&mut self.result_type, of),
+            in_loop: self.in_loop,
+        };
+        self.scope = scope;
+        self.level = scope;
+        self.in_loop = false;
+        put_all(alloc, &mut self.known, names, scope)?;
+        Ok(outside)
+    }
+
+    /// Ends the body of a procedure. Takes no memory.
+    pub fn leave_body(&mut self, outside: Outside)
+        requires inner { 0 < (around_of E.types self.old).scope }
+        requires fall { are_within (restored outside (around_of E.types self.old)).scope (restored outside (around_of E.types self.old)).known ≡ true }
+        ensures { around_of E.types self.new ≡ restored outside (around_of E.types self.old) }
+    {
+        let Outside {
+            known,
+            own,
+            level,
+            path,
+            later_types,
+            guards,
+            receiver,
+            result_type,
+            in_loop,
+        } = outside;
+        self.known.cut(known);
+        self.own.cut(own);
+        self.scope -= 1;
+        self.level = level;
+        self.path = path;
+        self.later_types = later_types;
+        self.guards = guards;
+        self.receiver = receiver;
+        self.result_type = result_type;
+        self.in_loop = in_loop;
     }
 }

@@ -1,4 +1,4 @@
-ghost use Rattle.std.specs.Prelude.{◌≡◌, [], ◌∷◌, ◌<◌, ◌-◌, ◌+◌, length, Some, OnOk, OnErr, drop, reverse, bytes_eq, slice_get};
+ghost use Rattle.std.specs.Prelude.{◌≡◌, [], ◌∷◌, ◌<◌, ◌-◌, ◌+◌, length, Some, OnOk, OnErr, IfOk, map, drop, reverse, bytes_eq, slice_get};
 ghost use Rattle.std.specs.List.{find};
 ghost use Rattle.std.specs.Option.{option_copied};
 ghost use Rattle.ob_known.specs.Stacks.{latest};
@@ -45,6 +45,16 @@ fn item_at<T>(items: &[T], place: usize) -> Option<&T>
     items.get(place)
 }
 
+fn names_in<T: Named>(alloc: Global, items: &[T]) -> Result<Stack, AllocError>
+    ensures { IfOk result (λ s. s ≡ map T.name (reverse items.now)) }
+{
+    let mut names = Stack::new(alloc);
+    'items: for item in items {
+        names.push(alloc, item.name_bytes())?;
+    }
+    Ok(names)
+}
+
 impl<T: Named> Table<T> {
     /// Nothing. Takes no memory.
     pub fn new(alloc: Global) -> Table<T>
@@ -70,6 +80,13 @@ impl<T: Named> Table<T> {
         &self.items
     }
 
+    /// The latest of all. Takes no memory.
+    pub fn latest(&self) -> Option<&T>
+        ensures { option_copied result ≡ slice_get self.now 0 }
+    {
+        self.items.last()
+    }
+
     /// The latest of that name. Takes no memory.
     pub fn find(&self, name: &[u8]) -> Option<&T>
         ensures { option_copied result ≡ find (λ x. bytes_eq (T.name x) name.now) self.now }
@@ -82,6 +99,14 @@ impl<T: Named> Table<T> {
 }
 
 impl<T: Named + Drop> Table<T> {
+    /// All of these, the oldest first.
+    pub fn from_items(alloc: Global, items: Vec<T>) -> Result<Table<T>, AllocError>
+        ensures { IfOk result (λ t. t ≡ reverse items.items) }
+    {
+        let names = names_in(alloc, &items)?;
+        Ok(Table { items, names })
+    }
+
     /// One more, the latest.
     pub fn push(&mut self, alloc: Global, item: T) -> Result<(), AllocError>
         ensures ok { OnOk result (self.new ≡ item ∷ self.old) }

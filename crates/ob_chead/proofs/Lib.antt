@@ -1,0 +1,5 @@
+pub mod Growing
+pub mod KeyLaws
+pub mod HeadLaws
+pub mod ForwardLaws
+pub mod Behind
