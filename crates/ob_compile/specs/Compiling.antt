@@ -110,14 +110,20 @@ exceeded false w = Some w
 abbrev pub most_code : ℕ
 most_code = 262144
 
+-- files, the object file first
+abbrev pub limit_of_files : List ℕ → List ℕ → Option Which
+limit_of_files obj sym = or_first (exceeded (nat_le (length obj) file_limit) which.File) (exceeded (nat_le (length sym) file_limit) which.File)
+
+-- the code, and then the files
+abbrev pub limit_of_code : {K : Type 0} → Keeping K → Compiled K → Option Which
+limit_of_code keeping c = or_first (exceeded (nat_le (length (object_by keeping c).body.code) most_code) which.Code) (limit_of_files (object_bytes keeping c) (symbol_bytes keeping c))
+
+abbrev pub limit_of_operands : {K : Type 0} → Keeping K → Compiled K → Option Which
+limit_of_operands keeping c = or_first (exceeded (has_few_operands (viewed (described c.against) c.tree) c.tree) which.Operands) (limit_of_code keeping c)
+
 -- sizes, then operands, then code, then files
 abbrev pub exceeds : {K : Type 0} → Keeping K → Compiled K → Option Which
-exceeds keeping c =
-    or_first (first_limit (described c.against) c.tree (length c.shows.objects))
-    (or_first (exceeded (has_few_operands (viewed (described c.against) c.tree) c.tree) which.Operands)
-    (or_first (exceeded (nat_le (length (object_by keeping c).body.code) most_code) which.Code)
-    (or_first (exceeded (nat_le (length (object_bytes keeping c)) file_limit) which.File)
-    (exceeded (nat_le (length (symbol_bytes keeping c)) file_limit) which.File))))
+exceeds keeping c = or_first (first_limit (described c.against) c.tree (length c.shows.objects)) (limit_of_operands keeping c)
 
 abbrev pub within : {K : Type 0} → Compiled K → Option Which → Result (Compiled K) (Refusal K)
 within c (Some w) = Err (Limit w)
