@@ -64,12 +64,12 @@ fn unless_exceeded(limit: Option<Which>, files: Built) -> Result<Built, CompileF
 fn written(alloc: Global, file: &ObjFile, face: Interface) -> Result<Built, CompileFault>
     ensures { (c : Compiled Print) → file.now ≡ object_by prints c → face ≡ interface_by prints c → Compiles (within c (limit_of_bytes (built c).obj (built c).sym)) result }
 {
-    if !has_object_file(file) {
+    let Ok(true) = has_object_file(alloc, file) else {
         return Err(CompileFault::Memory);
-    }
-    if !has_symbol_file(&face) {
+    };
+    let Ok(true) = has_symbol_file(alloc, &face) else {
         return Err(CompileFault::Memory);
-    }
+    };
     let Ok(obj) = write_obj(alloc, file) else {
         return Err(CompileFault::Memory);
     };

@@ -18,7 +18,7 @@ use crate::files::files_of;
 use crate::shape::Built;
 use ob_cdecl::check_module;
 use ob_env::{Env, EnvFault};
-use ob_layout::lay_out;
+use ob_laid::lay_out;
 use ob_rules::Broken;
 use ob_shown::Shown;
 use ob_tree::{List, Module, Which};

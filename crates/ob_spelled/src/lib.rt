@@ -1,6 +1,13 @@
 //! Whether what a compile makes has a spelling as a file.
 #![tactic(auto)]
 
-mod files;
+mod checks;
+mod desc;
+mod face;
+mod file;
+mod groups;
+mod lists;
+mod parts;
 
-pub use files::{has_object_file, has_symbol_file};
+pub use face::has_symbol_file;
+pub use file::has_object_file;
