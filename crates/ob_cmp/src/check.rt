@@ -93,12 +93,12 @@ fn check_use(
     }
 }
 
-fn is_of(module: &Option<Name>, name: &Name) -> bool
-    ensures { result ≡ true → module.now ≡ Some name.now }
+fn is_of(read: &Option<Name>, name: &Name) -> bool
+    ensures { result ≡ true → read.now ≡ Some name.now }
 {
-    match module {
+    match read {
         None => false,
-        Some(module) => module.as_bytes() == name.as_bytes(),
+        Some(read) => read.as_bytes() == name.as_bytes(),
     }
 }
 
@@ -115,13 +115,13 @@ fn check_uses<F: Shelf>(
     ensures cause { CheckHasCause (F.faults folder.old) (F.faults folder.new) result }
 {
     let mut stale = List::new(alloc);
-    let mut module = None;
+    let mut read = None;
     let mut face = None;
     let mut rest = uses;
     while let [of, more @ ..] = rest {
-        if !is_of(&module, &of.object.module) {
+        if !is_of(&read, &of.object.module) {
             face = find_face(alloc, folder, &of.object.module)?;
-            module = Some(of.object.module);
+            read = Some(of.object.module);
         }
         let Ok(()) = check_use(&mut stale, &face, of) else {
             return Err(CheckFault::Memory);

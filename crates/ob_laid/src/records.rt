@@ -41,8 +41,8 @@ fn placed_fields(
     from: u32,
     fields: &[Field],
 ) -> Result<Vec<Placed>, AllocError>
-    requires { rows.now ≡ rows_below (described (faces_of view.now.env.now)) (module_view view.now.«module».now) (length rows.now) }
-    requires { 201 < length rows.now }
+    requires rows { rows.now ≡ rows_below (described (faces_of view.now.env.now)) (module_view view.now.«module».now) (length rows.now) }
+    requires steps { 201 < length rows.now }
     ensures { IfOk result (λ v. map to_field v.items ≡ placed_behind (words_in (described (faces_of view.now.env.now)) (module_view view.now.«module».now)) from fields.now) }
 {
     let mut all = Vec::new(alloc);
@@ -99,8 +99,8 @@ fn laid_fields(
     rows: &[List<u32>],
     described: &RecordDesc,
 ) -> Result<List<Field>, AllocError>
-    requires { rows.now ≡ rows_below (described (faces_of view.now.env.now)) (module_view view.now.«module».now) (length rows.now) }
-    requires { 201 < length rows.now }
+    requires rows { rows.now ≡ rows_below (described (faces_of view.now.env.now)) (module_view view.now.«module».now) (length rows.now) }
+    requires steps { 201 < length rows.now }
     ensures { IfOk result (λ l. l ≡ in_order by_place (placed (words_in (described (faces_of view.now.env.now)) (module_view view.now.«module».now)) (base_of (words_in (described (faces_of view.now.env.now)) (module_view view.now.«module».now)) described.now.base) described.now.fields)) }
 {
     let from = words_of_base(view, rows, CHAIN, &described.base);
@@ -127,8 +127,8 @@ fn laid_record(
     name: &[u8],
     described: &RecordDesc,
 ) -> Result<RecordDesc, AllocError>
-    requires { rows.now ≡ rows_below (described (faces_of view.now.env.now)) (module_view view.now.«module».now) (length rows.now) }
-    requires { 201 < length rows.now }
+    requires rows { rows.now ≡ rows_below (described (faces_of view.now.env.now)) (module_view view.now.«module».now) (length rows.now) }
+    requires steps { 201 < length rows.now }
     ensures { IfOk result (λ r. r ≡ record_laid (words_in (described (faces_of view.now.env.now)) (module_view view.now.«module».now)) (procedures_in (described (faces_of view.now.env.now)) (module_view view.now.«module».now)) (own_name (module_view view.now.«module».now).name name.now) described.now) }
 {
     let base = copy_base(&described.base)?;
@@ -152,8 +152,8 @@ fn laid_desc(
     name: &[u8],
     desc: &Desc,
 ) -> Result<Desc, AllocError>
-    requires { rows.now ≡ rows_below (described (faces_of view.now.env.now)) (module_view view.now.«module».now) (length rows.now) }
-    requires { 201 < length rows.now }
+    requires rows { rows.now ≡ rows_below (described (faces_of view.now.env.now)) (module_view view.now.«module».now) (length rows.now) }
+    requires steps { 201 < length rows.now }
     ensures { IfOk result (λ d. d ≡ desc_laid (words_in (described (faces_of view.now.env.now)) (module_view view.now.«module».now)) (procedures_in (described (faces_of view.now.env.now)) (module_view view.now.«module».now)) (own_name (module_view view.now.«module».now).name name.now) desc.now) }
 {
     match desc {
@@ -178,8 +178,8 @@ fn laid_type(
     rows: &[List<u32>],
     of: &TypedType,
 ) -> Result<TypedType, AllocError>
-    requires { rows.now ≡ rows_below (described (faces_of view.now.env.now)) (module_view view.now.«module».now) (length rows.now) }
-    requires { 201 < length rows.now }
+    requires rows { rows.now ≡ rows_below (described (faces_of view.now.env.now)) (module_view view.now.«module».now) (length rows.now) }
+    requires steps { 201 < length rows.now }
     ensures { IfOk result (λ t. t ≡ type_laid (described (faces_of view.now.env.now)) (module_view view.now.«module».now) of.now) }
 {
     let name = of.name.clone()?;
@@ -194,8 +194,8 @@ pub fn laid_types(
     rows: &[List<u32>],
     types: &[TypedType],
 ) -> Result<List<TypedType>, AllocError>
-    requires { rows.now ≡ rows_below (described (faces_of view.now.env.now)) (module_view view.now.«module».now) (length rows.now) }
-    requires { 201 < length rows.now }
+    requires rows { rows.now ≡ rows_below (described (faces_of view.now.env.now)) (module_view view.now.«module».now) (length rows.now) }
+    requires steps { 201 < length rows.now }
     ensures { IfOk result (λ l. l ≡ map (type_laid (described (faces_of view.now.env.now)) (module_view view.now.«module».now)) types.now) }
 {
     let mut all = List::new(alloc);

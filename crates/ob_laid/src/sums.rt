@@ -49,8 +49,8 @@ pub fn is_own(view: &View<'_>, name: &QName) -> bool
 
 /// The words of the type of the module that has this name, in so many steps.
 pub fn own_words(view: &View<'_>, rows: &[List<u32>], steps: usize, name: &[u8]) -> u32
-    requires { rows.now ≡ rows_below (described (faces_of view.now.env.now)) (module_view view.now.«module».now) (length rows.now) }
-    requires { steps < length rows.now }
+    requires rows { rows.now ≡ rows_below (described (faces_of view.now.env.now)) (module_view view.now.«module».now) (length rows.now) }
+    requires steps { steps < length rows.now }
     ensures { result ≡ kept (summed (described (faces_of view.now.env.now)) (module_view view.now.«module».now) steps (own_ref (module_view view.now.«module».now).name name.now)) }
 {
     match view.position(name) {
@@ -67,8 +67,8 @@ pub fn own_words(view: &View<'_>, rows: &[List<u32>], steps: usize, name: &[u8])
 
 /// The words of a type in so many steps, those above the limit as the next number.
 pub fn words_at(view: &View<'_>, rows: &[List<u32>], steps: usize, t: &TypeRef) -> u32
-    requires { rows.now ≡ rows_below (described (faces_of view.now.env.now)) (module_view view.now.«module».now) (length rows.now) }
-    requires { steps < length rows.now }
+    requires rows { rows.now ≡ rows_below (described (faces_of view.now.env.now)) (module_view view.now.«module».now) (length rows.now) }
+    requires steps { steps < length rows.now }
     ensures { result ≡ kept (summed (described (faces_of view.now.env.now)) (module_view view.now.«module».now) steps t.now) }
 {
     let TypeRef::Named(name) = t else {
@@ -91,8 +91,8 @@ pub fn words_at(view: &View<'_>, rows: &[List<u32>], steps: usize, t: &TypeRef) 
 
 // The words of fields.
 fn words_of_fields(view: &View<'_>, rows: &[List<u32>], steps: usize, fields: &[Field]) -> u32
-    requires { rows.now ≡ rows_below (described (faces_of view.now.env.now)) (module_view view.now.«module».now) (length rows.now) }
-    requires { steps < length rows.now }
+    requires rows { rows.now ≡ rows_below (described (faces_of view.now.env.now)) (module_view view.now.«module».now) (length rows.now) }
+    requires steps { steps < length rows.now }
     ensures { result ≡ kept (sum_of (λ f. summed (described (faces_of view.now.env.now)) (module_view view.now.«module».now) steps f.of) fields.now) }
 {
     let mut total = 0;
@@ -109,8 +109,8 @@ pub fn words_of_base(
     steps: usize,
     base: &Option<TypeRef>,
 ) -> u32
-    requires { rows.now ≡ rows_below (described (faces_of view.now.env.now)) (module_view view.now.«module».now) (length rows.now) }
-    requires { steps < length rows.now }
+    requires rows { rows.now ≡ rows_below (described (faces_of view.now.env.now)) (module_view view.now.«module».now) (length rows.now) }
+    requires steps { steps < length rows.now }
     ensures { result ≡ kept (base_of (summed (described (faces_of view.now.env.now)) (module_view view.now.«module».now) steps) base.now) }
 {
     match base {
@@ -126,8 +126,8 @@ fn words_of_record(
     steps: usize,
     described: &RecordDesc,
 ) -> u32
-    requires { rows.now ≡ rows_below (described (faces_of view.now.env.now)) (module_view view.now.«module».now) (length rows.now) }
-    requires { steps < length rows.now }
+    requires rows { rows.now ≡ rows_below (described (faces_of view.now.env.now)) (module_view view.now.«module».now) (length rows.now) }
+    requires steps { steps < length rows.now }
     ensures { result ≡ kept (record_words (summed (described (faces_of view.now.env.now)) (module_view view.now.«module».now) steps) true described.now) }
 {
     plus(
@@ -138,8 +138,8 @@ fn words_of_record(
 
 // The words of a type of the module that is so described, in one step more.
 fn words_of_desc(view: &View<'_>, rows: &[List<u32>], steps: usize, desc: &Desc) -> u32
-    requires { rows.now ≡ rows_below (described (faces_of view.now.env.now)) (module_view view.now.«module».now) (length rows.now) }
-    requires { steps < length rows.now }
+    requires rows { rows.now ≡ rows_below (described (faces_of view.now.env.now)) (module_view view.now.«module».now) (length rows.now) }
+    requires steps { steps < length rows.now }
     ensures { result ≡ kept (declared_words (summed (described (faces_of view.now.env.now)) (module_view view.now.«module».now) steps) true (Some desc.now)) }
 {
     match desc {
@@ -157,8 +157,8 @@ fn words_of_desc(view: &View<'_>, rows: &[List<u32>], steps: usize, desc: &Desc)
 
 // The words of the type of the module that has this name, in one step more.
 fn next_words(view: &View<'_>, rows: &[List<u32>], steps: usize, name: &[u8]) -> u32
-    requires { rows.now ≡ rows_below (described (faces_of view.now.env.now)) (module_view view.now.«module».now) (length rows.now) }
-    requires { steps < length rows.now }
+    requires rows { rows.now ≡ rows_below (described (faces_of view.now.env.now)) (module_view view.now.«module».now) (length rows.now) }
+    requires steps { steps < length rows.now }
     ensures { result ≡ kept (summed (described (faces_of view.now.env.now)) (module_view view.now.«module».now) (suc steps) (own_ref (module_view view.now.«module».now).name name.now)) }
 {
     match view.own_desc(name) {
@@ -168,7 +168,7 @@ fn next_words(view: &View<'_>, rows: &[List<u32>], steps: usize, name: &[u8]) ->
 }
 
 fn first_row(alloc: Global, view: &View<'_>, types: &[TypedType]) -> Result<List<u32>, AllocError>
-    requires { types.now ≡ view.now.«module».now.types }
+    requires types { types.now ≡ view.now.«module».now.types }
     ensures { IfOk result (λ row. row ≡ row_at (described (faces_of view.now.env.now)) (module_view view.now.«module».now) 0) }
 {
     let mut row = List::new(alloc);
@@ -187,9 +187,9 @@ fn next_row(
     steps: usize,
     types: &[TypedType],
 ) -> Result<List<u32>, AllocError>
-    requires { rows.now ≡ rows_below (described (faces_of view.now.env.now)) (module_view view.now.«module».now) (length rows.now) }
-    requires { steps < length rows.now }
-    requires { types.now ≡ view.now.«module».now.types }
+    requires rows { rows.now ≡ rows_below (described (faces_of view.now.env.now)) (module_view view.now.«module».now) (length rows.now) }
+    requires steps { steps < length rows.now }
+    requires types { types.now ≡ view.now.«module».now.types }
     ensures { IfOk result (λ row. row ≡ row_at (described (faces_of view.now.env.now)) (module_view view.now.«module».now) (suc steps)) }
 {
     let mut row = List::new(alloc);

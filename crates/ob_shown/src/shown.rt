@@ -1,7 +1,6 @@
 ghost use Rattle.std.specs.Prelude.{◌≡◌, IfOk};
-ghost use Rattle.std.specs.Option.{option_copied, option_map};
+ghost use Rattle.std.specs.Option.{option_copied};
 ghost use Rattle.ob_layout.specs.Index.{IsIndexOf};
-ghost use Rattle.ob_types.specs.declared.face.Object.{Object as Described};
 ghost use Rattle.ob_env.specs.Faces.{faces_of};
 ghost use Rattle.ob_env.specs.Found.{module_names, object_found};
 ghost use Rattle.ob_env.specs.Tables.{AreTables};
@@ -15,15 +14,32 @@ use ob_layout::NameIndex;
 use ob_tree::{List, Name, QName};
 use ob_types::{Desc, Interface, Object, Types};
 use std::alloc::{AllocError, Global};
+use std::marker::Model;
 
-/// What the modules of an environment show. It keeps a copy of their descriptions.
+/// What the modules of an environment show. Contracts see it as the list of the environment's
+/// interfaces. It keeps a copy of their descriptions.
 pub struct Shown<'a> {
     env: &'a Env,
     faces: List<Interface>,
     // the positions of the modules, and of the objects of each
     modules: NameIndex,
     objects: Vec<NameIndex>,
-    ghost indexed: { IsIndexOf modules.positions (module_names faces) × AreTables objects.items faces × (faces ≡ all_shown env.now) },
+}
+
+impl<'a> Model for Shown<'a> {
+    ghost use Rattle.std.specs.Prelude.{◌≡◌, List as Listed};
+    ghost use Rattle.std.specs.Coded.{coded_list};
+    ghost use Rattle.ob_types.specs.declared.face.Interface.{Interface as Face};
+    ghost use Rattle.ob_layout.specs.Index.{IsIndexOf};
+    ghost use Rattle.ob_env.specs.Found.{module_names};
+    ghost use Rattle.ob_env.specs.Tables.{AreTables};
+    ghost use Rattle.ob_shown.specs.Faces.{shown_faces as all_shown};
+
+    ghost Value = { Listed Face };
+
+    ghost view = { λ s. s.env.now };
+
+    ghost invariant = { λ s. IsIndexOf s.modules.positions (module_names s.faces) × AreTables s.objects.items s.faces × (s.faces ≡ all_shown s.env.now) };
 }
 
 impl Drop for Shown<'_> {
@@ -37,10 +53,28 @@ impl Drop for Shown<'_> {
     }
 }
 
+// The object of that name among interfaces that are indexed.
+fn find_in<'a>(
+    faces: &'a [Interface],
+    modules: &NameIndex,
+    objects: &[NameIndex],
+    module: &[u8],
+    object: &[u8],
+) -> Option<&'a Object>
+    requires modules { IsIndexOf modules.now.positions (module_names faces.now) }
+    requires objects { AreTables objects.now faces.now }
+    ensures { option_copied result ≡ object_found faces.now (record { «module» = «module».now; object = object.now }) }
+{
+    match modules.get(module) {
+        None => None,
+        Some(at) => placed(faces, objects, at, object),
+    }
+}
+
 impl<'a> Shown<'a> {
     /// What the modules of the environment show.
     pub fn new(alloc: Global, env: &'a Env) -> Result<Shown<'a>, AllocError>
-        ensures { IfOk result (λ s. s.env.now ≡ env.now) }
+        ensures { IfOk result (λ s. s ≡ env.now) }
     {
         let faces = shown_faces(alloc, env.faces())?;
         let modules = modules_of(alloc, faces.as_slice())?;
@@ -53,31 +87,27 @@ impl<'a> Shown<'a> {
         })
     }
 
-    /// The object of that name, without places, numbers and words; none exactly where no module has
-    /// it. Takes no memory.
-    fn find(&self, module: &[u8], name: &QName) -> Option<&Object>
-        requires { «module».now ≡ name.now.«module» }
-        ensures { option_copied result ≡ object_found self.now.faces name.now }
+    // The object of that name, without places, numbers and words.
+    fn find(&self, module: &[u8], object: &[u8]) -> Option<&Object>
+        ensures { option_copied result ≡ object_found (all_shown self.now) (record { «module» = «module».now; object = object.now }) }
     {
-        match self.modules.get(module) {
-            None => None,
-            Some(at) => placed(
-                self.faces.as_slice(),
-                self.objects.as_slice(),
-                at,
-                name.object.as_bytes(),
-            ),
-        }
+        find_in(
+            self.faces.as_slice(),
+            &self.modules,
+            self.objects.as_slice(),
+            module,
+            object,
+        )
     }
 }
 
 impl Types for Shown<'_> {
-    ghost types = { λ s. shown (faces_of s.env.now) };
+    ghost types = { λ s. shown (faces_of s) };
 
-    ghost finite = { λ s. shown_finite (faces_of s.env.now) };
+    ghost finite = { λ s. shown_finite (faces_of s) };
 
     fn desc_of(&self, name: &QName) -> Option<&Desc> {
-        match self.find(name.module.as_bytes(), name) {
+        match self.find(name.module.as_bytes(), name.object.as_bytes()) {
             None => None,
             Some(object) => Some(&object.desc),
         }
@@ -86,17 +116,9 @@ impl Types for Shown<'_> {
 
 impl Imports for Shown<'_> {
     fn shown(&self, unit: &Name, name: &Name) -> Option<&Desc> {
-        match self.modules.get(unit.as_bytes()) {
+        match self.find(unit.as_bytes(), name.as_bytes()) {
             None => None,
-            Some(at) => match placed(
-                self.faces.as_slice(),
-                self.objects.as_slice(),
-                at,
-                name.as_bytes(),
-            ) {
-                None => None,
-                Some(object) => Some(&object.desc),
-            },
+            Some(object) => Some(&object.desc),
         }
     }
 }

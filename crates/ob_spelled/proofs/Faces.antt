@@ -52,5 +52,5 @@ unfolding list_of
 object_list m os a r n = ((omega (arith, n), objects_in m os a), rises_sorted by_name os names_total r)
 
 pub is_face : (f : Interface) → AllByRecursion (IsObjectOf f.«module») f.objects → name.fits f.«module» → (few 64 name by_bytes).fits f.imports → rises by_name f.objects ≡ true → (rising use_form by_object).fits f.uses → length f.objects ≤ 4096 → list_all is_allowed f.imports ≡ true → face_form.fits f
-unfolding face_form, head, body
+unfolding face_form head body
 is_face f a m is r us n al = (((m, is), (object_list f.«module» f.objects a r n, us)), record { objects = n; imports = all_allowed f.imports al })

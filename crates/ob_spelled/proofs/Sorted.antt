@@ -1,5 +1,5 @@
 -- Lists whose items rise or differ, and what the conditions of an object file come to.
-use Rattle.std.proofs.Common.{◌≡◌, ℕ, ◌<◌, ◌≤◌, Bool, true, false, not, List, [], ◌∷◌, length, refl, arith}
+use Rattle.std.proofs.Common.{◌≡◌, ℕ, ◌<◌, ◌≤◌, Bool, true, false, not, List, [], ◌∷◌, length, refl, subst, arith}
 use Rattle.std.specs.Prelude.{nat_le, nat_lt, ◌&&◌, IsTrue}
 use Rattle.std.specs.List.{list_all, AllByRecursion, IsDistinct}
 use Rattle.std.specs.List.Sorted.{IsStrictlySortedBy}
@@ -12,9 +12,14 @@ use Rattle.ob_format.specs.Exact.{rises_decides, le_decides}
 use Rattle.ob_types.specs.Spelled.{aspect_number, by_object}
 use Rattle.ob_types.specs.SpelledLaws.{objects_total}
 use Rattle.ob_desc.specs.Grammar.{by_place, by_number as by_method}
+use Rattle.ob_format.specs.Format.{int}
+use Rattle.ob_instr.specs.declared.instr.Instr.{Instr}
+use Rattle.ob_instr.specs.Parts.{most_words}
+use Rattle.ob_instr.specs.Spelling.{instr, opcode, IsInstr}
+use Rattle.ob_obj.specs.declared.parts.RecordType.{RecordType}
 use Rattle.ob_obj.specs.declared.file.Head.{Head}
 use Rattle.ob_obj.specs.declared.file.ObjFile.{ObjFile}
-use Rattle.ob_obj.specs.Grammar.{by_export, by_variable, by_command, by_number, is_import, names_in, IsHead, bases_stand, has_procedures, begins_with_body, are_placed, IsSound}
+use Rattle.ob_obj.specs.Grammar.{by_export, by_variable, by_command, by_number, is_import, names_in, IsHead, bases_stand, has_procedures, begins_with_body, are_placed, IsRecord, IsSound}
 
 pub rises_sorted : {A : Type 0} (R : A → A → Ordering) (xs : List A) → IsTotalOrder R → rises R xs ≡ true → IsStrictlySortedBy R xs
 rises_sorted R xs total e = (rises_decides R total xs).0 e
@@ -51,8 +56,7 @@ not_is true e = absurd cc
 not_is false e = refl
 
 is_truth : (b : Bool) → b ≡ true → IsTrue b
-is_truth true e = tt
-is_truth false e = absurd cc
+is_truth b e = e
 
 all_hold : {A : Type 0} (f : A → Bool) (P : A → Type 0) → ((x : A) → f x ≡ true → P x) → (xs : List A) → list_all f xs ≡ true → AllByRecursion P xs
 all_hold f P h [] e = tt
@@ -85,3 +89,10 @@ sound_is f p c b d m e k q = record {
   commands = all_hold (λ c. nat_lt c.procedure (length f.body.procedures)) (λ c. c.procedure < length f.body.procedures) (λ c. below c.procedure (length f.body.procedures)) f.body.commands k;
   positions = is_truth (are_placed 0 f.body.code f.body.positions) q;
 }
+
+pub is_record : (t : RecordType) → t.words ≤ most_words → t.count ≤ most_words → AllByRecursion (λ d. d.number < t.count) t.definitions → IsRecord t
+is_record t w c n = record { words = w; count = c; numbers = n }
+
+pub same_fits : (i j : Instr) → IsInstr i → i ≡ j → instr.fits j
+unfolding instr opcode int
+same_fits i j h e = subst (λ (k : Instr). instr.fits k) e ((tt, (h.a_fits, h.b_fits)), h.named)

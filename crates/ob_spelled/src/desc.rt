@@ -3,9 +3,8 @@
 ghost use Rattle.std.specs.Prelude.{◌≡◌, true, IfSome, IsTrue};
 ghost use Rattle.std.specs.List.{AllByRecursion};
 ghost use Rattle.ob_format.specs.Order.{rises};
-ghost use Rattle.ob_tree.specs.declared.names.QName.{QName as Named};
 ghost use Rattle.ob_types.specs.declared.desc.Desc.TheVariants as desc;
-ghost use Rattle.ob_desc.specs.Grammar.{dotted, type_fits, param, signature, value_fits, IsByte, field, method, members, is_shown, by_place, by_number, shape_fits, layout_fits, IsSpelled};
+ghost use Rattle.ob_desc.specs.Grammar.{dotted, type_fits, param, signature, value_fits, IsByte, field, method, members, is_shown, by_place, by_number, IsSpelled};
 
 use ob_format::{is_name, is_object_name};
 use ob_tree::{Mark, QName};
@@ -193,9 +192,8 @@ fn has_members(of: &RecordDesc) -> bool
     are_fields(fields) && are_methods(methods) && fields_rise(fields) && methods_rise(methods)
 }
 
-fn is_record(of: &RecordDesc) -> bool
-    ensures shape { (q : Named) → dotted.fits q → result ≡ true → shape_fits q (desc.Record of.now) }
-    ensures layout { (q : Named) → result ≡ true → layout_fits q (desc.Record of.now) }
+fn is_record(module: &[u8], name: &[u8], of: &RecordDesc) -> bool
+    ensures { dotted.fits (record { «module» = «module».now; object = name.now }) → result ≡ true → IsSpelled (record { «module» = «module».now; object = name.now }) (desc.Record of.now) }
 {
     of.words < SMALL && of.procedures < SMALL && is_base(&of.base) && has_members(of)
 }
@@ -217,6 +215,6 @@ pub fn has_texts(module: &[u8], name: &[u8], of: &Desc) -> bool
         Desc::OpenArray(_, t) => is_type(t),
         Desc::Pointer(_, t) => is_type(t),
         Desc::ProcType(_, signature) => is_signature(signature),
-        Desc::Record(described) => is_record(described),
+        Desc::Record(described) => is_record(module, name, described),
     }
 }

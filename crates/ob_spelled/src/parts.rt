@@ -1,7 +1,8 @@
 //! Parts of an object file.
 
-ghost use Rattle.std.specs.Prelude.{◌≡◌, ◌+◌, ◌<◌, ◌≤◌, true};
+ghost use Rattle.std.specs.Prelude.{◌≡◌, ◌+◌, ◌<◌, ◌≤◌, ◌^◌, true, length, IfSome};
 ghost use Rattle.ob_instr.specs.Parts.{most_words, slots, slots_of};
+ghost use Rattle.ob_instr.specs.Spelling.{IsInstr};
 ghost use Rattle.std.specs.List.{AllByRecursion};
 ghost use Rattle.ob_types.specs.Spelled.{print_form};
 ghost use Rattle.ob_obj.specs.Grammar.{record_parts, IsRecord};
@@ -25,13 +26,26 @@ impl Spelled for Aspect {
     }
 }
 
+// Any number of 32 bits.
+fn is_word(n: u32) -> bool
+    ensures { result ≡ true → n < 2 ^ 32 }
+{
+    let _ = n;
+    true
+}
+
+fn are_eight(bytes: [u8; 8]) -> bool
+    ensures { result ≡ true → length bytes ≡ 8 }
+{
+    bytes.len() == 8
+}
+
 // A print, which has eight bytes.
 #[tactic(auto, unfolding(ob_types::specs::Spelled::print_form))]
 fn is_print(print: &Print) -> bool
     ensures { result ≡ true → print_form.fits print.now }
 {
-    let _print = *print;
-    true
+    are_eight(print.0)
 }
 
 impl Spelled for Use {
@@ -76,8 +90,8 @@ impl Spelled for Base {
     fn is_spelled(&self) -> bool {
         match *self {
             Base::None => true,
-            Base::Own(_) => true,
-            Base::Link(_) => true,
+            Base::Own(index) => is_word(index),
+            Base::Link(index) => is_word(index),
         }
     }
 }
@@ -85,8 +99,7 @@ impl Spelled for Base {
 impl Spelled for Definition {
     #[tactic(auto, unfolding(ob_obj::specs::Grammar::definition, ob_format::specs::Format::word32))]
     fn is_spelled(&self) -> bool {
-        let _definition = *self;
-        true
+        is_word(self.number) && is_word(self.procedure)
     }
 }
 
@@ -150,14 +163,21 @@ impl Spelled for Procedure {
 impl Spelled for Position {
     #[tactic(auto, unfolding(ob_instr::specs::Parts::position, ob_format::specs::Format::word32))]
     fn is_spelled(&self) -> bool {
-        let _position = *self;
-        true
+        is_word(self.at) && is_word(self.pos.line) && is_word(self.pos.col)
     }
 }
 
+// What the nine bytes of an instruction are read as.
+fn read_again(i: Instr) -> Option<Instr>
+    ensures { IfSome result IsInstr }
+{
+    take_instr(&put_instr(i))
+}
+
 impl Spelled for Instr {
+    #[tactic(auto, using(crate::proofs::Sorted::same_fits))]
     fn is_spelled(&self) -> bool {
-        match take_instr(&put_instr(*self)) {
+        match read_again(*self) {
             None => false,
             Some(again) => again == *self,
         }

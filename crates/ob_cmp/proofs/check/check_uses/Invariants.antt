@@ -11,7 +11,7 @@ invariant-loop-rest g l =
     (g.F.Shelf.tells l.folder ≡ g.F.Shelf.tells l.fn.folder)
     × (g.F.Shelf.tells l.fn.folder ≡ true → g.F.Shelf.files l.folder ≡ g.F.Shelf.files l.fn.folder)
     × (g.F.Shelf.tells l.fn.folder ≡ true → checked_uses prints_agree print_of_desc (symbols_of (g.F.Shelf.files l.fn.folder)) (each wanted_of l.uses) ≡ and_also l.stale (checked_uses prints_agree print_of_desc (symbols_of (g.F.Shelf.files l.fn.folder)) (each wanted_of l.rest)))
-    × (g.F.Shelf.tells l.fn.folder ≡ true → Keeps (symbols_of (g.F.Shelf.files l.fn.folder)) l.«module» l.face)
+    × (g.F.Shelf.tells l.fn.folder ≡ true → Keeps (symbols_of (g.F.Shelf.files l.fn.folder)) l.read l.face)
     × FaceFits l.face
     × (g.F.Shelf.faults l.fn.folder ≤ g.F.Shelf.faults l.folder)
 
