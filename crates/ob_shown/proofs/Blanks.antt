@@ -42,3 +42,11 @@ described_blank (Some o) = refl
 
 pub is_shown : (is : List Interface) (q : QName) → option_map (λ (o : Object). o.desc) (object_found (shown_faces is) q) ≡ shown (each face_of is) q
 is_shown is q = ap (option_map (λ (o : Object). o.desc)) (found_blank is q) ∙ described_blank (object_found is q) ∙ ap (option_map blank) (sym (described_found is q))
+
+-- what was found by the bytes of a name
+pub shown_of : (is : List Interface) (m x : List ℕ) (q : QName) (o : Option Object) → m ≡ q.«module» → x ≡ q.object → o ≡ object_found (shown_faces is) (record { «module» = m; object = x }) → option_map (λ (p : Object). p.desc) o ≡ shown (each face_of is) q
+shown_of is m x q o e f h =
+    ap (option_map (λ (p : Object). p.desc)) h
+    ∙ ap (λ (l : List ℕ). let r : QName = record { «module» = l; object = x } in option_map (λ (p : Object). p.desc) (object_found (shown_faces is) r)) e
+    ∙ ap (λ (l : List ℕ). let r : QName = record { «module» = q.«module»; object = l } in option_map (λ (p : Object). p.desc) (object_found (shown_faces is) r)) f
+    ∙ is_shown is q
