@@ -1,6 +1,7 @@
 -- Lists whose items rise or differ, and what the conditions of an object file come to.
-use Rattle.std.proofs.Common.{◌≡◌, ℕ, ◌<◌, ◌≤◌, Bool, true, false, not, List, [], ◌∷◌, length, refl, subst, arith}
-use Rattle.std.specs.Prelude.{nat_le, nat_lt, ◌&&◌, IsTrue}
+use Rattle.std.proofs.Common.{◌≡◌, ℕ, ◌<◌, ◌≤◌, Bool, true, false, not, List, [], ◌∷◌, length, refl, arith}
+use Rattle.std.specs.Prelude.{nat_le, nat_lt, ◌&&◌, IsTrue, FitsSigned, pos}
+use Rattle.std.specs.Int.{w32}
 use Rattle.std.specs.List.{list_all, AllByRecursion, IsDistinct}
 use Rattle.std.specs.List.Sorted.{IsStrictlySortedBy}
 use Rattle.std.specs.Cmp.{IsTotalOrder}
@@ -15,7 +16,7 @@ use Rattle.ob_desc.specs.Grammar.{by_place, by_number as by_method}
 use Rattle.ob_format.specs.Format.{int}
 use Rattle.ob_instr.specs.declared.instr.Instr.{Instr}
 use Rattle.ob_instr.specs.Parts.{most_words}
-use Rattle.ob_instr.specs.Spelling.{instr, opcode, IsInstr}
+use Rattle.ob_instr.specs.Spelling.{operands, instr, opcode, IsInstr}
 use Rattle.ob_obj.specs.declared.parts.RecordType.{RecordType}
 use Rattle.ob_obj.specs.declared.file.Head.{Head}
 use Rattle.ob_obj.specs.declared.file.ObjFile.{ObjFile}
@@ -93,6 +94,9 @@ sound_is f p c b d m e k q = record {
 pub is_record : (t : RecordType) → t.words ≤ most_words → t.count ≤ most_words → AllByRecursion (λ d. d.number < t.count) t.definitions → IsRecord t
 is_record t w c n = record { words = w; count = c; numbers = n }
 
-pub same_fits : (i j : Instr) → IsInstr i → i ≡ j → instr.fits j
+pub is_instr : (i : Instr) → FitsSigned w32 i.a → FitsSigned w32 i.b → (operands i.op < 1 → i.a ≡ pos 0) → (operands i.op < 2 → i.b ≡ pos 0) → IsInstr i
+is_instr i a b f g = record { a_fits = a; b_fits = b; named = (f, g) }
+
+pub instr_fits : (i : Instr) → IsInstr i → instr.fits i
 unfolding instr opcode int
-same_fits i j h e = subst (λ (k : Instr). instr.fits k) e ((tt, (h.a_fits, h.b_fits)), h.named)
+instr_fits i h = ((tt, (h.a_fits, h.b_fits)), h.named)

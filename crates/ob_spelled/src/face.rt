@@ -1,10 +1,14 @@
 //! The symbol file of an interface.
 
-ghost use Rattle.std.specs.Prelude.{◌≡◌, ◌<◌, ◌^◌, true, IfOk, IfSome, length};
-ghost use Rattle.std.specs.List.{AllByRecursion};
+ghost use Rattle.std.specs.Prelude.{◌≡◌, ◌<◌, ◌≤◌, ◌^◌, true, IfOk, IfSome, length};
+ghost use Rattle.std.specs.List.{AllByRecursion, list_all};
+ghost use Rattle.ob_format.specs.Format.{few, rising};
+ghost use Rattle.ob_format.specs.Names.{name};
 ghost use Rattle.ob_format.specs.Order.{rises};
+ghost use Rattle.ob_types.specs.Spelled.{use_form, by_object};
+ghost use Rattle.ob_obj.specs.Grammar.{by_name as by_bytes, is_import as is_allowed};
 ghost use Rattle.ob_desc.specs.Grammar.{shape_text, layout_text, IsSpelled};
-ghost use Rattle.ob_sym.specs.Grammar.{face as face_form, entry, texts_of, object_of, by_name, IsObjectOf, IsSound};
+ghost use Rattle.ob_sym.specs.Grammar.{face as face_form, object_of, by_name, IsObjectOf};
 ghost use Rattle.ob_spelled.specs.Prints.{HasPrints, AllHavePrints};
 
 use crate::checks::are_imports;
@@ -13,7 +17,7 @@ use crate::groups::is_import_list;
 use crate::lists::{Spelled, is_rising_list};
 use ob_desc::write_desc;
 use ob_tree::{List, Name, ObjName};
-use ob_types::{Aspect, Desc, Interface, Object};
+use ob_types::{Aspect, Desc, Interface, Object, Use};
 use std::alloc::{AllocError, Global};
 use std::cmp::Ordering;
 
@@ -94,6 +98,29 @@ fn objects_rise(objects: &[Object]) -> bool
     true
 }
 
+// Whether the module, its imports and its uses have spellings.
+fn has_frame(face: &Interface) -> bool
+    ensures { result ≡ true → (name.fits face.now.«module») × ((few 64 name by_bytes).fits face.now.imports × (rising use_form by_object).fits face.now.uses) }
+{
+    face.module.is_spelled() && is_import_list(&face.imports) && has_uses(&face.uses)
+}
+
+#[tactic(auto, using(crate::proofs::Sorted::uses_total))]
+fn has_uses(uses: &List<Use>) -> bool
+    ensures { result ≡ true → (rising use_form by_object).fits uses.now }
+{
+    is_rising_list(uses)
+}
+
+// Whether the objects are few and rise, and no import is built in.
+fn has_order(face: &Interface) -> bool
+    ensures { result ≡ true → (rises by_name face.now.objects ≡ true) × ((length face.now.objects ≤ 4096) × (list_all is_allowed face.now.imports ≡ true)) }
+{
+    objects_rise(face.objects.as_slice())
+        && face.objects.len() <= MOST_OBJECTS
+        && are_imports(face.imports.as_slice())
+}
+
 /// Whether it is found that the interface, whose objects carry the prints of their texts, has a
 /// symbol file. What a compile makes has one; this is asked because no law says so yet.
 #[tactic(auto, using(crate::proofs::Faces::is_face))]
@@ -101,11 +128,5 @@ pub fn has_symbol_file(alloc: Global, face: &Interface) -> Result<bool, AllocErr
     ensures { IfOk result (λ b. AllHavePrints face.now → b ≡ true → face_form.fits face.now) }
 {
     let objects = are_objects(alloc, &face.module, face.objects.as_slice())?;
-    Ok(objects
-        && face.module.is_spelled()
-        && is_import_list(&face.imports)
-        && objects_rise(face.objects.as_slice())
-        && is_rising_list(&face.uses)
-        && face.objects.len() <= MOST_OBJECTS
-        && are_imports(face.imports.as_slice()))
+    Ok(objects && has_frame(face) && has_order(face))
 }

@@ -1,6 +1,6 @@
 //! Parts of an object file.
 
-ghost use Rattle.std.specs.Prelude.{◌≡◌, ◌+◌, ◌<◌, ◌≤◌, ◌^◌, true, length, IfSome};
+ghost use Rattle.std.specs.Prelude.{◌≡◌, ◌+◌, ◌<◌, ◌≤◌, ◌^◌, true, length};
 ghost use Rattle.ob_instr.specs.Parts.{most_words, slots, slots_of};
 ghost use Rattle.ob_instr.specs.Spelling.{IsInstr};
 ghost use Rattle.std.specs.List.{AllByRecursion};
@@ -8,7 +8,7 @@ ghost use Rattle.ob_types.specs.Spelled.{print_form};
 ghost use Rattle.ob_obj.specs.Grammar.{record_parts, IsRecord};
 
 use crate::lists::{Spelled, is_list, is_rising_list};
-use ob_instr::{Instr, Param, Position, Procedure, put_instr, take_instr};
+use ob_instr::{Instr, Param, Position, Procedure, operands_of};
 use ob_obj::{Base, Command, Definition, Export, Link, RecordType, StringConst, Variable};
 use ob_tree::Print;
 use ob_types::{Aspect, Use};
@@ -167,20 +167,19 @@ impl Spelled for Position {
     }
 }
 
-// What the nine bytes of an instruction are read as.
-fn read_again(i: Instr) -> Option<Instr>
-    ensures { IfSome result IsInstr }
+// Whether the operands that an operation does not name are 0.
+#[tactic(auto, using(crate::proofs::Sorted::is_instr))]
+fn is_instr(i: Instr) -> bool
+    ensures { result ≡ true → IsInstr i }
 {
-    take_instr(&put_instr(i))
+    let named = operands_of(i.op);
+    (named >= 1 || i.a == 0) && (named >= 2 || i.b == 0)
 }
 
 impl Spelled for Instr {
-    #[tactic(auto, using(crate::proofs::Sorted::same_fits))]
+    #[tactic(auto, using(crate::proofs::Sorted::instr_fits))]
     fn is_spelled(&self) -> bool {
-        match read_again(*self) {
-            None => false,
-            Some(again) => again == *self,
-        }
+        is_instr(*self)
     }
 }
 
