@@ -1,6 +1,6 @@
 ghost use Rattle.std.specs.Prelude.{◌≡◌, IfOk};
 ghost use Rattle.std.specs.Option.{option_copied};
-ghost use Rattle.ob_layout.specs.Index.{IsIndexOf};
+ghost use Rattle.ob_layout.specs.Index.{IsIndexOf, position_from};
 ghost use Rattle.ob_layout.specs.LaidOut.{type_named};
 ghost use Rattle.ob_env.specs.Viewed.{seen_from, seen_finite, type_names};
 
@@ -72,6 +72,20 @@ impl<'a> View<'a> {
         ensures { result.now ≡ self.now.«module».now }
     {
         self.module
+    }
+
+    /// The position of the first of the module's own types that has that name. Takes no memory.
+    pub fn position(&self, name: &[u8]) -> Option<usize>
+        ensures { result ≡ position_from 0 name.now (type_names self.now.«module».now.types) }
+    {
+        self.own.get(name)
+    }
+
+    /// The description of the first of the module's own types that has that name. Takes no memory.
+    pub fn own_desc(&self, name: &[u8]) -> Option<&'a Desc>
+        ensures { option_copied result ≡ type_named self.now.«module».now.types name.now }
+    {
+        own_type(self.module.types.as_slice(), &self.own, name)
     }
 
     /// The environment.

@@ -16,6 +16,10 @@ capped_frame a b c = grind (arith, capped_plus)
 pub capped_more : (total n rest whole : ℕ) → min (total + (n + rest)) 4294967296 ≡ whole → min (min (total + min n 4294967296) 4294967296 + rest) 4294967296 ≡ whole
 capped_more total n rest whole e = grind arith
 
+-- one more, which is not capped
+pub capped_next : (total n rest whole : ℕ) → min (total + (n + rest)) 4294967296 ≡ whole → min (min (total + n) 4294967296 + rest) 4294967296 ≡ whole
+capped_next total n rest whole e = grind arith
+
 pub one_plus : (n : ℕ) → min (1 + min n 4294967296) 4294967296 ≡ min (suc n) 4294967296
 one_plus n = grind arith
 
