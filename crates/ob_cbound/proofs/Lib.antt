@@ -1,0 +1,3 @@
+pub mod Rebasing
+pub mod Chosen
+pub mod Bare

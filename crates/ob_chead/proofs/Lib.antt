@@ -1,0 +1,4 @@
+pub mod Growing
+pub mod KeyLaws
+pub mod HeadLaws
+pub mod ForwardLaws

@@ -1,12 +1,10 @@
-ghost use Rattle.std.specs.Prelude.{◌≡◌, [], ◌∷◌, ◌++◌, OnOk};
+//! Headings as they were judged.
 
 use ob_cfield::Parameters;
 use ob_known::Inside;
 use ob_rules::Notebook;
-use ob_tree::{Ident, List, Mark, Name, ObjName, Pos, QName};
+use ob_tree::{Ident, Mark, Name, ObjName, Pos, QName};
 use ob_types::{Receiver, TypeRef};
-use std::alloc::{AllocError, Global};
-use std::marker::Model;
 
 /// What a bound procedure is bound to: the type of its receiver, the record, and the kind.
 #[derive(Drop)]
@@ -40,53 +38,4 @@ pub struct Head {
     pub inside: Inside,
     /// How many names are known behind the heading.
     pub behind: usize,
-}
-
-/// The headings of a sequence of declarations.
-///
-/// Contracts see them in the order of the text.
-#[derive(Drop)]
-pub struct Heads {
-    items: List<Head>,
-}
-
-impl Model for Heads {
-    ghost use Rattle.std.specs.Prelude.{List as Listed};
-
-    ghost Value = { Listed Head };
-
-    ghost view = { λ h. h.items };
-}
-
-impl Heads {
-    /// No headings. Takes no memory.
-    pub fn new(alloc: Global) -> Heads
-        ensures { result ≡ [] }
-    {
-        Heads {
-            items: List::new(alloc),
-        }
-    }
-
-    /// The headings, in the order of the text. Takes no memory.
-    pub fn as_slice(&self) -> &[Head]
-        ensures { result.now ≡ self.now }
-    {
-        self.items.as_slice()
-    }
-
-    /// The headings themselves, in the order of the text. Takes no memory.
-    pub fn into_list(self) -> List<Head>
-        ensures { result ≡ self }
-    {
-        let Heads { items } = self;
-        items
-    }
-
-    /// One more heading, the last.
-    pub fn push(&mut self, head: Head) -> Result<(), AllocError>
-        ensures { OnOk result (self.new ≡ self.old ++ head ∷ []) }
-    {
-        self.items.push(head)
-    }
 }

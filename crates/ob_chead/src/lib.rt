@@ -5,8 +5,10 @@
 mod forwards;
 mod head;
 mod heading;
+mod heads;
 mod owner;
 
-pub use forwards::forwards_judged;
-pub use head::{BoundAs, Head, Heads};
+pub use forwards::{answer_of, forwards_judged, is_same_kind};
+pub use head::{BoundAs, Head};
 pub use heading::add_heading;
+pub use heads::Heads;
