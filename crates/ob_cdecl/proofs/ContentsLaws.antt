@@ -1,6 +1,6 @@
 -- What is added to the contents of a module.
 use Rattle.std.proofs.Common.{◌≡◌, List, [], ◌∷◌, ◌++◌, refl, sym, ap, ◌∙◌}
-use Rattle.std.proofs.lemmas.List.{append-nil}
+use Rattle.std.proofs.lemmas.List.{append-nil, append_assoc}
 use Rattle.ob_types.specs.declared.typed.TypedConstant.{TypedConstant}
 use Rattle.ob_types.specs.declared.typed.TypedVariable.{TypedVariable}
 use Rattle.ob_types.specs.declared.typed.TypedType.{TypedType}
@@ -27,3 +27,7 @@ adds_types c ts us e = same (sym (append-nil c.constants)) e (sym (append-nil c.
 
 pub adds_nothing : (c : Contents) → c ≡ together c no_contents
 adds_nothing c = same (sym (append-nil c.constants)) (sym (append-nil c.types)) (sym (append-nil c.variables)) (sym (append-nil c.procedures)) (sym (append-nil c.body)) (sym (append-nil c.bound))
+
+-- what is added in turn
+pub added_in_turn : (a b c : Contents) → together (together a b) c ≡ together a (together b c)
+added_in_turn a b c = same (append_assoc a.constants b.constants c.constants) (append_assoc a.types b.types c.types) (append_assoc a.variables b.variables c.variables) (append_assoc a.procedures b.procedures c.procedures) (append_assoc a.body b.body c.body) (append_assoc a.bound b.bound c.bound)

@@ -7,7 +7,7 @@ use Rattle.ob_cdecl.specs.declared.contents.Contents.{Contents as Added}
 use Rattle.ob_rules.specs.Declarations.{Contents, no_contents}
 
 abbrev pub contents_of : Added → Contents
-contents_of c = record { constants = c.constants; types = c.types; variables = c.variables; procedures = c.procedures.inner; body = c.body.inner; bound = c.bound }
+contents_of c = record { constants = c.constants; types = c.types; variables = c.variables; procedures = c.procedures.inner; body = c.body.inner; bound = [] }
 
 abbrev pub holds_constant : TypedConstant → Contents
 holds_constant k = record no_contents { constants = k ∷ [] }

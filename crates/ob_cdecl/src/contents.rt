@@ -7,8 +7,7 @@ use ob_trees::{ProcedureTrees, StmtTrees};
 use ob_types::{TypeRef, TypedConstant, TypedType, TypedVariable, Value};
 use std::alloc::{AllocError, Global};
 
-/// What a part of a module adds to it. `bound` are the types of the module level, with the bound
-/// procedures that they introduce.
+/// What a part of a module adds to it.
 #[derive(Drop)]
 pub struct Contents {
     pub constants: List<TypedConstant>,
@@ -16,7 +15,6 @@ pub struct Contents {
     pub variables: List<TypedVariable>,
     pub procedures: ProcedureTrees,
     pub body: StmtTrees,
-    pub bound: List<TypedType>,
 }
 
 impl Contents {
@@ -30,7 +28,6 @@ impl Contents {
             variables: List::new(alloc),
             procedures: ProcedureTrees::new(alloc),
             body: StmtTrees::new(alloc),
-            bound: List::new(alloc),
         }
     }
 
