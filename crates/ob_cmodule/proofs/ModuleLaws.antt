@@ -1,0 +1,56 @@
+-- What is said of a module.
+use Rattle.std.proofs.Common.{◌≡◌, ℕ, Bool, true, false, List, [], ◌∷◌, ◌++◌, Option, Some, None, map, refl, sym, ap, ◌∙◌}
+use Rattle.ob_tree.specs.declared.decl.Module.{Module}
+use Rattle.ob_tree.specs.declared.names.QName.{QName}
+use Rattle.ob_types.specs.declared.desc.Desc.{Desc}
+use Rattle.ob_types.specs.declared.typed.TypedModule.{TypedModule}
+use Rattle.ob_rules.specs.declared.broken.Broken.{Broken}
+use Rattle.ob_rules.specs.declared.notes.Notebook.{Notebook}
+use Rattle.ob_rules.specs.declared.entity.Known.{Known}
+use Rattle.ob_rules.specs.declared.entity.Coming.{Coming}
+use Rattle.ob_rules.specs.Judged.{Notes, least, earlier, is_quiet}
+use Rattle.ob_rules.specs.Books.{book_after, empty_book}
+use Rattle.ob_rules.specs.Names.{Around}
+use Rattle.ob_rules.specs.Types.{is_module_level}
+use Rattle.ob_rules.specs.Declarations.{Part, if_unbroken, together, no_contents, imports_declared, around_module, declaration}
+use Rattle.ob_rules.proofs.BookLaws.{quiet_if, loud_if}
+use Rattle.ob_known.specs.Scopes.{at_start, at_module}
+use Rattle.ob_known.specs.Predeclaring.{predeclared_names}
+use Rattle.ob_known.proofs.Predeclaring.{predeclared_are}
+use Rattle.ob_cdecl.specs.Order.{coming_within}
+use Rattle.ob_cmodule.specs.Wholes.{around_start}
+
+start_with : (QName → Option Desc) → Module → List Known → Around
+start_with shown m ks = record (at_start m.name.name shown) { known = ks; scope = 1; coming = coming_within m.decls }
+
+start_is : (shown : QName → Option Desc) (m : Module) (ks : List Known) → start_with shown m ks ≡ record (at_start m.name.name shown) { known = ks; scope = 1; coming = coming_within m.decls }
+unfolding start_with
+start_is shown m ks = refl
+
+pub starts : (shown : QName → Option Desc) (m : Module) (v w : Around) (cs : List Coming) → v ≡ at_module m.name.name shown → cs ≡ coming_within m.decls → w ≡ record v { coming = cs } → w ≡ around_start shown m
+unfolding around_start start_with
+starts shown m v w cs e f g = g ∙ ap (λ x. record v { coming = x }) f ∙ ap (λ x. record x { coming = coming_within m.decls }) e ∙ ap (start_with shown m) predeclared_are
+
+pub level_start : (shown : QName → Option Desc) (m : Module) → is_module_level (around_start shown m) ≡ true
+unfolding around_start
+level_start shown m = refl
+
+-- THE CHECKED MODULE
+
+pub unbroken : {A : Type 0} (bs : List Broken) (x : A) → None ≡ least bs → Some x ≡ if_unbroken bs x
+unbroken bs x e = go bs (quiet_if bs e)
+  where
+    go : (cs : List Broken) → true ≡ is_quiet cs → Some x ≡ if_unbroken cs x
+    go [] f = refl
+    go (b ∷ cs) f = absurd cc
+
+pub broken_is : {A : Type 0} (bs : List Broken) (b : Broken) (x : A) → Some b ≡ least bs → None ≡ if_unbroken bs x
+broken_is bs b x e = go bs (loud_if bs b e)
+  where
+    go : (cs : List Broken) → false ≡ is_quiet cs → None ≡ if_unbroken cs x
+    go [] f = absurd cc
+    go (b ∷ cs) f = refl
+
+pub least_in : (b : Notebook) (n : Notes) → b ≡ book_after empty_book n → b.broken ≡ least n.broken
+unfolding book_after
+least_in b n e = ap (λ x. x.broken) e
