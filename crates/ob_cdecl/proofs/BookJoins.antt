@@ -1,5 +1,5 @@
 -- Notebooks that are joined.
-use Rattle.std.proofs.Common.{◌≡◌, ℕ, List, [], ◌++◌, Option, refl, sym, ap, ◌∙◌}
+use Rattle.std.proofs.Common.{◌≡◌, ℕ, List, [], ◌++◌, Option, Result, OnOk, refl, sym, ap, ◌∙◌}
 use Rattle.ob_tree.specs.declared.names.QName.{QName}
 use Rattle.ob_types.specs.declared.types.TypeRef.{TypeRef}
 use Rattle.ob_types.specs.declared.typed.Designator.{Designator}
@@ -10,6 +10,7 @@ use Rattle.ob_rules.specs.declared.notes.Later.{Later}
 use Rattle.ob_rules.specs.Judged.{Notes, earlier, least}
 use Rattle.ob_rules.specs.Books.{book_after, empty_book}
 use Rattle.ob_rules.specs.Declarations.{nothing_later}
+use Rattle.ob_rules.proofs.BookLaws.{on_ok}
 
 abbrev both_of : Notebook → Notebook → Notebook
 both_of a b = record {
@@ -37,8 +38,14 @@ appended a o c n e f g h i j = same f g h i j ∙ ap (both_of a) e ∙ both_afte
 -- what is judged later is taken out
 pub without_later : (o c : Notebook) (n : Notes) → o ≡ book_after empty_book n → c ≡ record o { later = [] } → c ≡ book_after empty_book (nothing_later n)
 unfolding book_after
-without_later o c n e f = f ∙ ap (λ x. record x { later = [] }) e
+without_later o c n e f = let F : Notebook → Notebook = λ x. record x { later = [] } in f ∙ ap F e
 
 pub later_in : (o : Notebook) (n : Notes) → o ≡ book_after empty_book n → o.later ≡ n.later
 unfolding book_after
-later_in o n e = ap (λ x. x.later) e
+later_in o n e = let F : Notebook → List Later = λ x. x.later in ap F e
+
+pub appended_ok : {T F : Type 0} (r : Result T F) (a o : Notebook) (b : Option Broken) (os : List QName) (ts : List TypeRef) (ds : DesignatorTrees) (ls : List Later) (n : Notes) → o ≡ book_after empty_book n → b ≡ earlier a.broken o.broken → os ≡ a.objects ++ o.objects → ts ≡ a.types ++ o.types → ds.inner ≡ a.lengths.inner ++ o.lengths.inner → OnOk r (ls ≡ a.later ++ o.later) → OnOk r (record { broken = b; objects = os; types = ts; lengths = ds; later = ls } ≡ book_after a n)
+appended_ok r a o b os ts ds ls n e f g h i j =
+    let whole : Notebook = record { broken = b; objects = os; types = ts; lengths = ds; later = ls } in
+    let G : ls ≡ a.later ++ o.later → whole ≡ book_after a n = λ k. appended a o whole n e f g h i k in
+    on_ok r G j

@@ -1,5 +1,6 @@
 -- What stands around only grows behind declarations.
-use Rattle.std.proofs.Common.{◌≡◌, List, [], ◌∷◌, ◌++◌, Bool, true, false, Option, Some, None, refl, sym, ap, subst, ◌∙◌}
+use Rattle.std.proofs.Common.{◌≡◌, List, [], ◌∷◌, ◌++◌, Bool, true, false, Option, Some, None, Result, OnOk, refl, sym, ap, subst, ◌∙◌}
+use Rattle.ob_rules.proofs.BookLaws.{on_ok}
 use Rattle.std.specs.Prelude.{codes}
 use Rattle.ob_tree.specs.declared.ident.Mark.TheVariants as mark
 use Rattle.ob_rules.specs.Judged.{both, ◌▷◌}
@@ -27,7 +28,7 @@ grows_on u v w g h =
     record {
       names = h.names ++ g.names;
       types = h.types ++ g.types;
-      grown = h.grown ∙ ap F g.grown ∙ sym (ap (λ ks. more ks ((h.types ++ g.types) ++ u.own)) (append_assoc h.names g.names u.known) ∙ ap (λ ts. more (h.names ++ g.names ++ u.known) ts) (append_assoc h.types g.types u.own));
+      grown = h.grown ∙ ap F g.grown ∙ sym (ap (λ ks. more ks ((h.types ++ g.types) ++ u.own)) (append_assoc h.names g.names u.known) ∙ ap (λ ts. more (h.names ++ (g.names ++ u.known)) ts) (append_assoc h.types g.types u.own));
     }
 
 grows_if : (o : Option Known) (u : Around) (x : Ident) (e : Entity) → Grows u (declare_if o u x e)
@@ -62,3 +63,12 @@ variables_grow ds n u v e =
     let t = (n.typing u (u.path ++ first_name ds ++ codes ":") mark.Hidden false).node in
     let w = with_types u (made_in t) in
     subst (Grows u) (sym e) (grows_on u w (variables_with ds t w).around (grows_types u (made_in t)) (grows_variables ds t w))
+
+pub constant_grows_ok : {T F : Type 0} (r : Result T F) (d : IdentDef) (x : Phrase) (u v : Around) → OnOk r (v ≡ (constant_declared d x u).around) → OnOk r (Grows u v)
+constant_grows_ok r d x u v h = on_ok r (constant_grows d x u v) h
+
+pub type_grows_ok : {T F : Type 0} (r : Result T F) (d : IdentDef) (n : Written) (u v : Around) → OnOk r (v ≡ (type_declared d n u).around) → OnOk r (Grows u v)
+type_grows_ok r d n u v h = on_ok r (type_grows d n u v) h
+
+pub variables_grow_ok : {T F : Type 0} (r : Result T F) (ds : List IdentDef) (n : Written) (u v : Around) → OnOk r (v ≡ (variables_declared ds n u).around) → OnOk r (Grows u v)
+variables_grow_ok r ds n u v h = on_ok r (variables_grow ds n u v) h

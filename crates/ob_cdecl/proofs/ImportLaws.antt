@@ -1,5 +1,5 @@
 -- Imports in turn, and what is found of types and bound procedures.
-use Rattle.std.proofs.Common.{◌≡◌, ℕ, Bool, true, false, List, [], ◌∷◌, ◌++◌, Option, Some, None, map, drop, refl, sym, ap, ◌∙◌}
+use Rattle.std.proofs.Common.{◌≡◌, ℕ, Bool, true, false, List, [], ◌∷◌, ◌++◌, Option, Some, None, Result, IfOk, map, drop, refl, sym, ap, subst, ◌∙◌}
 use Rattle.std.specs.Prelude.{bytes_eq, ◌||◌}
 use Rattle.std.specs.List.{filter_map, cons_option, find}
 use Rattle.std.proofs.lemmas.List.{append_assoc}
@@ -88,3 +88,8 @@ described_own (Some b) t = refl
 
 pub described_is : (u : Around) (t : TypedType) → described_by (map_of u (record { «module» = u.unit; object = t.name })) t ≡ described_here u.own t
 described_is u t = ap (λ o. described_by o t) (own_is u t.name) ∙ described_own (find (λ b. bytes_eq b.name t.name) u.own) t
+
+pub described_ok : {F : Type 0} (r : Result TypedType F) (u : Around) (t : TypedType) (o : Option Desc) (q : QName) → o ≡ map_of u q → q ≡ record { «module» = u.unit; object = t.name } → IfOk r (λ x. x ≡ described_by o t) → IfOk r (λ x. x ≡ described_here u.own t)
+described_ok r u t o q e f h =
+    let P : TypedType → Type 0 = λ y. IfOk r (λ x. x ≡ y) in
+    subst P (ap (λ y. described_by y t) (e ∙ ap (map_of u) f) ∙ described_is u t) h

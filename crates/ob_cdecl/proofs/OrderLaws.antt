@@ -1,20 +1,23 @@
 -- Declarations in turn.
-use Rattle.std.proofs.Common.{◌≡◌, List, [], ◌∷◌, Option, Some, None, map, refl, sym, ap, ◌∙◌}
+use Rattle.std.proofs.Common.{◌≡◌, ℕ, List, [], ◌∷◌, ◌++◌, Option, Some, None, Result, OnOk, map, refl, sym, ap, subst, ◌∙◌}
 use Rattle.std.specs.List.{filter_map, cons_option}
 use Rattle.ob_tree.specs.declared.ident.Ident.{Ident}
 use Rattle.ob_tree.specs.declared.ident.IdentDef.{IdentDef}
 use Rattle.ob_tree.specs.declared.ident.Mark.{Mark}
 use Rattle.ob_tree.specs.declared.decl.Decl.{Decl}
-use Rattle.std.specs.Prelude.{true}
+use Rattle.std.specs.Prelude.{true, false}
 use Rattle.ob_types.specs.declared.types.TypeRef.{TypeRef}
 use Rattle.ob_rules.specs.declared.notes.Notebook.{Notebook}
-use Rattle.ob_rules.specs.Judged.{Notes}
+use Rattle.ob_types.specs.declared.typed.TypedType.{TypedType}
+use Rattle.ob_rules.specs.Judged.{Notes, paired}
 use Rattle.ob_rules.specs.Books.{book_after}
 use Rattle.ob_rules.specs.Names.{Around}
-use Rattle.ob_rules.specs.Types.{Typing, marked}
-use Rattle.ob_rules.specs.Declarations.{Declared, Contents, together, then_declared, in_order, plain_of, declaration, variables_with, variable_marked, variable_with, paired_typing}
+use Rattle.ob_rules.specs.Types.{Typing, Written, marked, with_types}
+use Rattle.ob_rules.specs.Headings.{mark_or_hidden}
+use Rattle.ob_rules.specs.Declarations.{Declared, Contents, together, behind_part, then_declared, declare, typing_as, types_made, type_entity, type_declared, in_order, plain_of, declaration, variables_with, variable_marked, variable_with, paired_typing}
 use Rattle.ob_rules.proofs.BookLaws.{after_none, after_joined}
-use Rattle.ob_cdecl.specs.Order.{declared_by, plain_declared, plain_in_order, typing_only}
+use Rattle.ob_cdecl.specs.Seen.{holds_types}
+use Rattle.ob_cdecl.specs.Order.{declared_by, plain_declared, plain_in_order, typing_only, type_around}
 use Rattle.ob_cdecl.proofs.ContentsLaws.{added_in_turn, adds_nothing}
 
 -- A DECLARATION, AND WHAT STANDS BEHIND IT
@@ -92,11 +95,43 @@ only_paired : (u : Around) (x : Ident) (n : Notes) (m : Option Mark) (t : Typing
 only_paired u x n None t = refl
 only_paired u x n (Some m) t = refl
 
+same_behind : (a : Declared) (f g : Around → Declared) → f a.around ≡ g a.around → then_declared a f ≡ then_declared a g
+same_behind a f g e = ap (behind_part a.part) e
+
 pub only_type : (ds : List IdentDef) (t : Typing) (u : Around) → variables_with ds (typing_only (Some t.of)) u ≡ variables_with ds (Some t) u
 only_type [] t u = refl
 only_type (d ∷ ds) t u =
     ap (λ a. then_declared a (λ v. variables_with ds (typing_only (Some t.of)) v)) (sym (only_paired u d.ident (marked u true d).notes (marked u true d).node t))
-    ∙ later (one_variable d (Some t) u)
-  where
-    later : (a : Declared) → then_declared a (λ v. variables_with ds (typing_only (Some t.of)) v) ≡ then_declared a (λ v. variables_with ds (Some t) v)
-    later a = ap (λ r. then_declared a (λ v. r)) (only_type ds t a.around)
+    ∙ same_behind (one_variable d (Some t) u) (λ v. variables_with ds (typing_only (Some t.of)) v) (λ v. variables_with ds (Some t) v) (only_type ds t (one_variable d (Some t) u).around)
+
+-- with the types that it makes
+typed_same : (ds : List IdentDef) (t : Typing) (u v : Around) (ts : List TypedType) → v ≡ with_types u ts → ts ≡ t.made → variables_with ds (typing_only (Some t.of)) v ≡ variables_with ds (Some t) (with_types u t.made)
+typed_same ds t u v ts e f = only_type ds t v ∙ ap (variables_with ds (Some t)) (e ∙ ap (with_types u) f)
+
+pub sound_around : {T F : Type 0} (r : Result T F) (ds : List IdentDef) (t : Typing) (u v w : Around) (ts : List TypedType) → v ≡ with_types u ts → ts ≡ t.made → OnOk r (w ≡ (variables_with ds (typing_only (Some t.of)) v).around) → OnOk r (w ≡ (variables_with ds (Some t) (with_types u t.made)).around)
+sound_around r ds t u v w ts e f h = let P : Declared → Type 0 = λ x. OnOk r (w ≡ x.around) in subst P (typed_same ds t u v ts e f) h
+
+pub sound_notes : {T F : Type 0} (r : Result T F) (ds : List IdentDef) (t : Typing) (u v : Around) (ts : List TypedType) (b c : Notebook) → v ≡ with_types u ts → ts ≡ t.made → OnOk r (c ≡ book_after b (variables_with ds (typing_only (Some t.of)) v).part.notes) → OnOk r (c ≡ book_after b (variables_with ds (Some t) (with_types u t.made)).part.notes)
+sound_notes r ds t u v ts b c e f h = let P : Declared → Type 0 = λ x. OnOk r (c ≡ book_after b x.part.notes) in subst P (typed_same ds t u v ts e f) h
+
+pub sound_contents : {T F : Type 0} (r : Result T F) (ds : List IdentDef) (t : Typing) (u v : Around) (ts : List TypedType) (a b c : Contents) → v ≡ with_types u ts → ts ≡ t.made → b ≡ together a (holds_types t.made) → OnOk r (c ≡ together b (variables_with ds (typing_only (Some t.of)) v).part.contents) → OnOk r (c ≡ together a (together (holds_types t.made) (variables_with ds (Some t) (with_types u t.made)).part.contents))
+sound_contents r ds t u v ts a b c e f g h =
+    let X = (variables_with ds (Some t) (with_types u t.made)).part.contents in
+    let P : Declared → Type 0 = λ x. OnOk r (c ≡ together b x.part.contents) in
+    let Q : Contents → Type 0 = λ x. OnOk r (c ≡ x) in
+    subst Q (ap (λ y. together y X) g ∙ added_in_turn a (holds_types t.made) X) (subst P (typed_same ds t u v ts e f) h)
+
+-- TYPES
+
+pub type_around_is : {T F : Type 0} (r : Result T F) (u v w : Around) (d : IdentDef) (n : Written) (m : Option Mark) (o : Option Typing) (x : List ℕ) (k : Mark) → v ≡ u → m ≡ (marked u false d).node → x ≡ u.path ++ d.ident.name → k ≡ mark_or_hidden m → o ≡ (typing_as u x k n n.name).node → OnOk r (w ≡ declare (with_types v (types_made (paired m o))) d.ident (type_entity (paired m o))) → OnOk r (w ≡ type_around d n u)
+unfolding type_around
+type_around_is r u v w d n m o x k ev em ex ek eo h =
+    let F : Around → Option (Mark × Typing) → Around = λ a p. declare (with_types a (types_made p)) d.ident (type_entity p) in
+    let M = (marked u false d).node in
+    let typed : o ≡ (typing_as u (u.path ++ d.ident.name) (mark_or_hidden M) n n.name).node = eo ∙ ap (λ y. (typing_as u y k n n.name).node) ex ∙ ap (λ y. (typing_as u (u.path ++ d.ident.name) y n n.name).node) (ek ∙ ap mark_or_hidden em) in
+    let Q : Around → Type 0 = λ y. OnOk r (w ≡ y) in
+    subst Q (ap (λ a. F a (paired m o)) ev ∙ ap (F u) (ap (λ y. paired y o) em ∙ ap (paired M) typed)) h
+
+pub type_opened : (d : IdentDef) (n : Written) (u : Around) → type_around d n u ≡ (type_declared d n u).around
+unfolding type_around
+type_opened d n u = refl

@@ -5,12 +5,13 @@ use Rattle.ob_tree.specs.declared.decl.Decl.{Decl}
 use Rattle.ob_types.specs.declared.types.TypeRef.{TypeRef}
 use Rattle.std.specs.Prelude.{[], map, bytes_eq}
 use Rattle.ob_tree.specs.declared.ident.Import.{Import}
+use Rattle.ob_tree.specs.declared.ident.IdentDef.{IdentDef}
 use Rattle.ob_types.specs.declared.desc.Desc.{Desc}
 use Rattle.ob_types.specs.declared.typed.TypedType.{TypedType}
 use Rattle.ob_rules.specs.declared.entity.Coming.{Coming}
 use Rattle.ob_rules.specs.Names.{Around, is_among, is_out}
-use Rattle.ob_rules.specs.Types.{Typing}
-use Rattle.ob_rules.specs.Declarations.{Declared, Declaration, Written_procedure, no_part, plain_of, procedure_of, declaration, in_order, import_declared, target_of, coming_in, described}
+use Rattle.ob_rules.specs.Types.{Typing, Written}
+use Rattle.ob_rules.specs.Declarations.{Declared, Declaration, Written_procedure, no_part, plain_of, procedure_of, declaration, in_order, import_declared, target_of, coming_in, described, type_declared}
 
 -- what is no procedure
 abbrev pub declared_by : Option (Around → Declared) → Around → Declared
@@ -53,3 +54,7 @@ coming_within ds = filter_map coming_in (filter_map procedure_of (map declaratio
 
 abbrev pub described_here : List TypedType → TypedType → TypedType
 described_here bound t = described (find (λ b. bytes_eq b.name t.name) bound) t
+
+-- what stands around behind the declaration of a type
+unfoldable pub type_around : IdentDef → Written → Around → Around
+type_around d n u = (type_declared d n u).around

@@ -13,6 +13,7 @@ ghost use Rattle.ob_rules.specs.Headings.{mark_or_hidden};
 ghost use Rattle.ob_rules.specs.Declarations as spec;
 ghost use Rattle.ob_cfield.specs.Makes.{typing_of};
 ghost use Rattle.ob_cdecl.specs.Seen.{contents_of, holds_types};
+ghost use Rattle.ob_cdecl.specs.Order.{type_around};
 
 use crate::contents::Contents;
 use crate::decls::declare_new;
@@ -142,8 +143,7 @@ fn declare_type<E: Imports>(
     }
 }
 
-/// The declaration of a type: from here on it is known.
-pub fn type_declared<E: Imports>(
+fn type_judged<E: Imports>(
     alloc: Global,
     scope: &mut Scope<'_, E>,
     book: &mut Notebook,
@@ -151,7 +151,7 @@ pub fn type_declared<E: Imports>(
     d: &IdentDef,
     node: &TypeNode,
 ) -> Result<(), AllocError>
-    ensures around { OnOk result (around_of E.types scope.new ≡ (spec.type_declared d.now (written node.now) (around_of E.types scope.old)).around) }
+    ensures around { OnOk result (around_of E.types scope.new ≡ type_around d.now (written node.now) (around_of E.types scope.old)) }
     ensures noted { OnOk result (book.new ≡ book_after book.old (spec.type_declared d.now (written node.now) (around_of E.types scope.old)).part.notes) }
     ensures added { OnOk result (contents_of contents.new ≡ spec.together (contents_of contents.old) (spec.type_declared d.now (written node.now) (around_of E.types scope.old)).part.contents) }
 {
@@ -166,4 +166,20 @@ pub fn type_declared<E: Imports>(
         node,
     )?;
     declare_type(alloc, scope, book, contents, &d.ident, mark, t)
+}
+
+/// The declaration of a type: from here on it is known.
+pub fn type_declared<E: Imports>(
+    alloc: Global,
+    scope: &mut Scope<'_, E>,
+    book: &mut Notebook,
+    contents: &mut Contents,
+    d: &IdentDef,
+    node: &TypeNode,
+) -> Result<(), AllocError>
+    ensures around { OnOk result (around_of E.types scope.new ≡ (spec.type_declared d.now (written node.now) (around_of E.types scope.old)).around) }
+    ensures noted { OnOk result (book.new ≡ book_after book.old (spec.type_declared d.now (written node.now) (around_of E.types scope.old)).part.notes) }
+    ensures added { OnOk result (contents_of contents.new ≡ spec.together (contents_of contents.old) (spec.type_declared d.now (written node.now) (around_of E.types scope.old)).part.contents) }
+{
+    type_judged(alloc, scope, book, contents, d, node)
 }

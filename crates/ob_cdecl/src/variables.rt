@@ -2,10 +2,11 @@
 
 #![tactic(auto, using(ob_rules::proofs::BookLaws::after_none, ob_rules::proofs::BookLaws::after_joined))]
 
-ghost use Rattle.std.specs.Prelude.{◌≡◌, ◌++◌, IfOk, OnOk, codes, true};
+ghost use Rattle.std.specs.Prelude.{◌≡◌, ◌++◌, Some, IfOk, OnOk, codes, true};
 ghost use Rattle.std.specs.Option.{option_map, option_copied};
 ghost use Rattle.ob_known.specs.Scopes.{around_of};
 ghost use Rattle.ob_rules.specs.Books.{book_after};
+ghost use Rattle.ob_rules.specs.Types as types;
 ghost use Rattle.ob_rules.specs.Types.{written, marked, with_types};
 ghost use Rattle.ob_rules.specs.Declarations as spec;
 ghost use Rattle.ob_cfield.specs.Makes.{typing_of};
@@ -24,7 +25,7 @@ use ob_types::{TypeRef, Variable};
 use std::alloc::{AllocError, Global};
 
 fn variable_of<E: Imports>(scope: &Scope<'_, E>, name: Name) -> Variable
-    ensures { result ≡ spec.variable_of (is_module_level (around_of E.types scope.now)) (around_of E.types scope.now) name }
+    ensures { result ≡ spec.variable_of (types.is_module_level (around_of E.types scope.now)) (around_of E.types scope.now) name }
 {
     if is_module_level(scope) {
         return Variable::Module {

@@ -7,12 +7,13 @@ use Rattle.ob_tree.specs.declared.stmt.Stmt.{Stmt}
 use Rattle.ob_tree.specs.declared.names.QName.{QName}
 use Rattle.ob_types.specs.declared.desc.Desc.{Desc}
 use Rattle.ob_types.specs.declared.typed.TypedModule.{TypedModule}
+use Rattle.ob_rules.specs.Judged.{Notes, joined}
 use Rattle.ob_rules.specs.Names.{Around}
 use Rattle.ob_rules.specs.Statements.{judging}
 use Rattle.ob_rules.specs.Headings.{Heads, add_heading, reversed}
 use Rattle.ob_chead.specs.declared.head.Head.{Head as Kept}
 use Rattle.ob_chead.specs.Kept.{AreKept}
-use Rattle.ob_rules.specs.Declarations.{Contents, Part, Written_procedure, with_part, only_notes, name_judged, module_from, imports_declared, declaration, procedure_of, block, headings_in_order, around_module, checked_part}
+use Rattle.ob_rules.specs.Declarations.{Contents, Declared, Part, nothing_later, pointers_judged, Written_procedure, with_part, only_notes, name_judged, module_from, imports_declared, declaration, procedure_of, block, headings_in_order, around_module, checked_part}
 
 -- a sequence of declarations with its statements
 abbrev pub block_of : List Decl → List Stmt → Around → Part
@@ -51,3 +52,7 @@ pub record HeadsAt (n : ℕ) (ps : List Decl) (total : Heads) (v : Around) (kept
   pub scope : so_far.around.scope ≡ n
   pub heads : AreKept (suc n) kept (reversed so_far.before)
   pub whole : heads_of ps so_far ≡ total
+
+-- what is said of the declarations but for the procedures
+abbrev pub plain_notes : Declared → Notes
+plain_notes d = joined (nothing_later d.part.notes) (pointers_judged d.around d.part.notes.later)

@@ -2,8 +2,10 @@
 
 #![tactic(auto, using(ob_rules::proofs::BookLaws::after_none, ob_rules::proofs::BookLaws::after_joined))]
 
-ghost use Rattle.std.specs.Prelude.{◌≡◌, ◌∷◌, ◌++◌, [], codes, Some, IfOk, OnOk};
+ghost use Rattle.std.specs.Prelude.{◌≡◌, ◌∷◌, ◌++◌, ◌+◌, [], codes, Some, IfOk, OnOk};
 ghost use Rattle.std.specs.Option.{option_map, option_copied};
+ghost use Rattle.ob_known.specs.Scopes.{around_of};
+ghost use Rattle.ob_known.specs.Bodies.{names_in, restored};
 ghost use Rattle.ob_rules.specs.Headings as headings;
 ghost use Rattle.ob_rules.specs.Declarations as spec;
 ghost use Rattle.ob_cfield.specs.Makes.{parameters_of};
@@ -15,6 +17,7 @@ use ob_cfield::Parameters;
 use ob_chead::BoundAs;
 use ob_cname::{Member, find_member};
 use ob_cdecl::Contents;
+use ob_known::{Imports, Inside, Outside, Scope};
 use ob_rules::Received;
 use ob_tree::{Ident, List, Mark, Name, ObjName, Pos};
 use ob_trees::{ProcedureTrees, StmtTrees, copy_name, copy_type};
@@ -224,4 +227,22 @@ pub(crate) fn procedure_contents<T: Types>(
             })
         }
     }
+}
+
+/// From here on the body of the procedure is judged. Gives what ends it.
+pub(crate) fn enter<E: Imports>(
+    alloc: Global,
+    scope: &mut Scope<'_, E>,
+    inside: Inside,
+    named: &Named,
+    parameters: Option<&Parameters>,
+) -> Result<Outside, AllocError>
+    requires { inside.scope ≡ (around_of E.types scope.old).scope + 1 }
+    ensures body { (h : headings.Head) → h.inside ≡ names_in inside → h.known ≡ (around_of E.types scope.old).known → h.path ≡ named.now.path → h.self ≡ named.now.receiver → h.bound ≡ option_map bound_seen named.now.bound → h.parameters ≡ option_map parameters_of (option_copied parameters.entry) → OnOk result (around_of E.types scope.new ≡ spec.around_body (around_of E.types scope.old) h) }
+    ensures outside { IfOk result (λ o. restored o (around_of E.types scope.new) ≡ around_of E.types scope.old) }
+{
+    let path = body_path(alloc, &named.path)?;
+    let received = received_by(named.receiver.as_ref(), named.bound.as_ref())?;
+    let of = result_in(parameters)?;
+    scope.enter_body(alloc, inside, path, received, of)
 }

@@ -5,6 +5,7 @@ mod block;
 mod bodies;
 mod headings;
 mod module;
+mod plain;
 
 pub use block::block;
 pub use module::{Checked, check_module};
