@@ -6,6 +6,10 @@ use Rattle.ob_types.specs.declared.typed.TypedVariable.{TypedVariable}
 use Rattle.ob_types.specs.declared.typed.TypedType.{TypedType}
 use Rattle.ob_types.specs.declared.typed.TypedProcedure.{TypedProcedure}
 use Rattle.ob_types.specs.declared.typed.TypedStmt.{TypedStmt}
+use Rattle.ob_rules.specs.declared.notes.Notebook.{Notebook}
+use Rattle.ob_rules.specs.Judged.{no_notes}
+use Rattle.ob_rules.specs.Books.{book_after}
+use Rattle.ob_rules.proofs.BookLaws.{after_none}
 use Rattle.ob_rules.specs.Declarations.{Contents, no_contents, together}
 use Rattle.ob_cdecl.specs.Seen.{holds_body, holds_constant, holds_variable, holds_types}
 
@@ -37,3 +41,6 @@ adds_body c ss rs e = same (sym (append-nil c.constants)) (sym (append-nil c.typ
 
 pub adds_all : (c d e : Contents) → e.constants ≡ c.constants ++ d.constants → e.types ≡ c.types ++ d.types → e.variables ≡ c.variables ++ d.variables → e.procedures ≡ c.procedures ++ d.procedures → e.body ≡ c.body ++ d.body → e.bound ≡ c.bound ++ d.bound → e ≡ together c d
 adds_all c d e p q r s t u = same p q r s t u
+
+pub notes_nothing : (b : Notebook) → b ≡ book_after b no_notes
+notes_nothing b = sym (after_none b)

@@ -15,11 +15,7 @@ use ob_trees::copy_desc;
 use ob_types::{Desc, TypedType, Types};
 use std::alloc::{AllocError, Global};
 
-fn described(
-    alloc: Global,
-    t: &TypedType,
-    desc: Option<&Desc>,
-) -> Result<TypedType, AllocError>
+fn described(alloc: Global, t: &TypedType, desc: Option<&Desc>) -> Result<TypedType, AllocError>
     ensures { IfOk result (λ r. r ≡ described_by (option_copied desc.entry) t.now) }
 {
     let name = ObjName::new(alloc, t.name.as_bytes())?;

@@ -52,7 +52,13 @@ fn import_declared<E: Imports>(
     let target = target_of(item);
     let system = is_system(&target.name);
     book.breaks_if(system, 5, target.pos);
-    declare_new(alloc, scope, book, &item.ident, import_entity(system, &target))
+    declare_new(
+        alloc,
+        scope,
+        book,
+        &item.ident,
+        import_entity(system, &target),
+    )
 }
 
 /// The imports of a module, in turn: from here on the names of the modules are known.

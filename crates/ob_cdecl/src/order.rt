@@ -5,6 +5,7 @@
 ghost use Rattle.std.specs.Prelude.{◌≡◌, OnOk};
 ghost use Rattle.ob_known.specs.Scopes.{around_of};
 ghost use Rattle.ob_rules.specs.Books.{book_after};
+ghost use Rattle.ob_rules.specs.Judged.{no_notes};
 ghost use Rattle.ob_rules.specs.Declarations as spec;
 ghost use Rattle.ob_cdecl.specs.Seen.{contents_of};
 ghost use Rattle.ob_cdecl.specs.Growing.{Grows};
@@ -19,8 +20,18 @@ use ob_rules::Notebook;
 use ob_tree::Decl;
 use std::alloc::{AllocError, Global};
 
+// Nothing is said, and nothing added.
+#[tactic(auto, using(crate::proofs::ContentsLaws::adds_nothing, crate::proofs::ContentsLaws::notes_nothing))]
+fn say_nothing(book: &mut Notebook, contents: &mut Contents)
+    ensures noted { book.new ≡ book_after book.old no_notes }
+    ensures added { contents_of contents.new ≡ spec.together (contents_of contents.old) spec.no_contents }
+{
+    let _book = &*book;
+    let _contents = &*contents;
+}
+
 // A declaration that is no procedure.
-#[tactic(auto, using(crate::proofs::ContentsLaws::adds_nothing, ob_rules::proofs::BookLaws::after_none))]
+#[tactic(auto, using(crate::proofs::ContentsLaws::adds_nothing, crate::proofs::ContentsLaws::notes_nothing))]
 fn plain_declared<E: Imports>(
     alloc: Global,
     scope: &mut Scope<'_, E>,
@@ -43,8 +54,14 @@ fn plain_declared<E: Imports>(
         Decl::Variables { names, node } => {
             variables_declared(alloc, scope, book, contents, names.as_slice(), node)
         }
-        Decl::Procedure { .. } => Ok(()),
-        Decl::Forward(_) => Ok(()),
+        Decl::Procedure { .. } => {
+            say_nothing(book, contents);
+            Ok(())
+        }
+        Decl::Forward(_) => {
+            say_nothing(book, contents);
+            Ok(())
+        }
     }
 }
 

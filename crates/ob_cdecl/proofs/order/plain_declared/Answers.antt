@@ -1,12 +1,6 @@
-use Rattle.std.proofs.Common.{sym, ap, ◌∙◌}
-use Rattle.ob_tree.specs.declared.decl.Decl.{Decl}
-use Rattle.ob_rules.specs.declared.notes.Notebook.{Notebook}
-use Rattle.ob_rules.specs.Books.{book_after}
-use Rattle.ob_cdecl.specs.Order.{plain_declared}
 use Rattle.ob_known.specs.Scopes.{around_of}
 use Rattle.ob_rules.specs.Types.{written}
 use Rattle.ob_rules.specs.Expressions.{phrase_of}
-use Rattle.ob_rules.proofs.BookLaws.{after_none}
 use Rattle.ob_cdecl.proofs.Growing.{grows_not, constant_grows_ok, type_grows_ok, variables_grow_ok}
 use Rattle.ob_cdecl.proofs.order.plain_declared.Goals as goal
 
@@ -22,18 +16,8 @@ pub returns-in-Variables-clause-grows : goal.returns-in-Variables-clause-grows
 returns-in-Variables-clause-grows g c =
     variables_grow_ok c.variables_declared.result c.as_slice.result.now (written c.in-Variables.node) (around_of g.E.Types.types c.args.scope.now) (around_of g.E.Types.types c.variables_declared.new.scope) c.variables_declared.ensures.around
 
-pub returns-in-Procedure-clause-noted : goal.returns-in-Procedure-clause-noted
-returns-in-Procedure-clause-noted g c =
-    let F : Decl → Notebook = λ x. book_after c.args.book.now (plain_declared x (around_of g.E.Types.types c.args.scope.now)).part.notes in
-    sym (after_none c.args.book.now) ∙ ap F (sym c.in-Procedure.is)
-
 pub returns-in-Procedure-clause-grows : goal.returns-in-Procedure-clause-grows
 returns-in-Procedure-clause-grows g c = grows_not (around_of g.E.Types.types c.args.scope.now)
-
-pub returns-in-Forward-clause-noted : goal.returns-in-Forward-clause-noted
-returns-in-Forward-clause-noted g c =
-    let F : Decl → Notebook = λ x. book_after c.args.book.now (plain_declared x (around_of g.E.Types.types c.args.scope.now)).part.notes in
-    sym (after_none c.args.book.now) ∙ ap F (sym c.in-Forward.is)
 
 pub returns-in-Forward-clause-grows : goal.returns-in-Forward-clause-grows
 returns-in-Forward-clause-grows g c = grows_not (around_of g.E.Types.types c.args.scope.now)
