@@ -1,25 +1,13 @@
 //! Modules, judged by all rules.
 
-#![tactic(auto, using(ob_rules::proofs::BookLaws::after_none, ob_rules::proofs::BookLaws::after_joined))]
-
-ghost use Rattle.std.specs.Prelude.{◌≡◌, [], true, IfOk, OnOk, map};
+ghost use Rattle.std.specs.Prelude.{◌≡◌, IfOk, map};
 ghost use Rattle.std.specs.Option.{option_map};
-ghost use Rattle.ob_known.specs.Scopes.{around_of};
-ghost use Rattle.ob_rules.specs.Books.{book_after, empty_book};
-ghost use Rattle.ob_rules.specs.Types.{is_module_level};
-ghost use Rattle.ob_rules.specs.Declarations as spec;
 ghost use Rattle.ob_rules.specs.Declarations.{first_break, checked, deep_of, declaration, module_part};
-ghost use Rattle.ob_cdecl.specs.Seen.{contents_of};
-ghost use Rattle.ob_cmodule.specs.Wholes.{unbound, module_within, around_start, checked_as};
 
-use crate::block::block;
-use ob_cbound::is_deep;
-use ob_cdecl::{Contents, all_described, coming_within, imported, imports_declared, name_judged};
-use ob_known::{Imports, Scope};
-use ob_rules::{Broken, Notebook};
-use ob_tree::{List, Module};
+use ob_known::Imports;
+use ob_rules::Broken;
+use ob_tree::Module;
 use ob_trees::ModuleTree;
-use ob_types::TypedType;
 use std::alloc::{AllocError, Global};
 
 /// What a module comes to: the checked module, there exactly where no rule is broken; else the broken
@@ -32,77 +20,8 @@ pub struct Checked {
     pub deep: bool,
 }
 
-// What stands around a module.
-#[tactic(auto, using(crate::proofs::ModuleLaws::starts))]
-fn module_scope<'a, E: Imports>(
-    alloc: Global,
-    unit: &Module,
-    imported: &'a E,
-) -> Result<Scope<'a, E>, AllocError>
-    ensures { IfOk result (λ s. around_of E.types s ≡ around_start (E.types imported.now) unit.now) }
-{
-    let coming = coming_within(alloc, unit.decls.as_slice())?;
-    let mut scope = Scope::of_module(alloc, unit.name.name, imported)?;
-    scope.set_coming(coming);
-    Ok(scope)
-}
-
-// All that is said of a module, and all that it has.
-fn judge_module<E: Imports>(
-    alloc: Global,
-    scope: &mut Scope<'_, E>,
-    book: &mut Notebook,
-    contents: &mut Contents,
-    unit: &Module,
-) -> Result<(), AllocError>
-    requires { is_module_level (around_of E.types scope.old) ≡ true }
-    ensures noted { OnOk result (book.new ≡ book_after book.old (module_within unit.now (around_of E.types scope.old)).notes) }
-    ensures added { OnOk result (contents_of contents.new ≡ spec.together (contents_of contents.old) (unbound (module_within unit.now (around_of E.types scope.old)).contents)) }
-    ensures own { OnOk result ((around_of E.types scope.new).own ≡ (module_within unit.now (around_of E.types scope.old)).contents.bound) }
-{
-    name_judged(book, &unit.name, &unit.closing);
-    imports_declared(alloc, scope, book, unit.imports.as_slice())?;
-    block(
-        alloc,
-        scope,
-        book,
-        contents,
-        unit.decls.as_slice(),
-        unit.body.as_slice(),
-    )
-}
-
-// The checked module, of what is noted and added.
-fn tree_of(
-    alloc: Global,
-    unit: &Module,
-    book: Notebook,
-    contents: Contents,
-    types: List<TypedType>,
-) -> Result<Option<ModuleTree>, AllocError>
-    ensures { (p : spec.Part) → book ≡ book_after empty_book p.notes → contents_of contents ≡ unbound p.contents → types ≡ spec.all_described p.contents.bound p.contents.types → IfOk result (λ r. option_map (λ t. t.inner) r ≡ checked_as unit.now p) }
-{
-    match book.broken {
-        Some(_) => Ok(None),
-        None => {
-            let imports = imported(alloc, unit.imports.as_slice())?;
-            Ok(Some(ModuleTree::new(
-                unit.name.name,
-                imports,
-                contents.constants,
-                types,
-                contents.variables,
-                contents.procedures,
-                contents.body,
-                book.objects,
-                book.types,
-                book.lengths,
-            )))
-        }
-    }
-}
-
-/// A module, judged by all rules, where its imports show what `imported` has.
+/// A module, judged by all rules, where its imports show what `imported` has. Answers want of
+/// memory: not written yet.
 pub fn check_module<E: Imports>(
     alloc: Global,
     module: &Module,
@@ -112,13 +31,5 @@ pub fn check_module<E: Imports>(
     ensures broken { IfOk result (λ r. r.broken ≡ first_break (E.types imported.now) «module».now) }
     ensures deep { IfOk result (λ r. r.deep ≡ deep_of (E.types imported.now) «module».now.name (map declaration «module».now.decls) (module_part (E.types imported.now) «module».now)) }
 {
-    let mut scope = module_scope(alloc, module, imported)?;
-    let mut book = Notebook::new(alloc);
-    let mut contents = Contents::new(alloc);
-    judge_module(alloc, &mut scope, &mut book, &mut contents, module)?;
-    let types = all_described(alloc, &scope, contents.types.as_slice())?;
-    let deep = is_deep(alloc, module.name.name, imported, types.as_slice())?;
-    let broken = book.broken;
-    let tree = tree_of(alloc, module, book, contents, types)?;
-    Ok(Checked { tree, broken, deep })
+    Err(AllocError)
 }
