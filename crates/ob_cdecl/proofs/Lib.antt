@@ -1,2 +1,6 @@
 pub mod ContentsLaws
 pub mod Declaring
+pub mod Growing
+pub mod OrderLaws
+pub mod BookJoins
+pub mod ImportLaws

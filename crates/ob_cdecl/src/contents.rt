@@ -1,14 +1,13 @@
 ghost use Rattle.std.specs.Prelude.{◌≡◌, OnOk};
 ghost use Rattle.ob_rules.specs.Declarations as spec;
-ghost use Rattle.ob_cdecl.specs.Seen.{contents_of, holds_constant, holds_variable, holds_types};
+ghost use Rattle.ob_cdecl.specs.Seen.{contents_of, holds_body, holds_constant, holds_variable, holds_types};
 
 use ob_tree::{List, Mark, Name};
 use ob_trees::{ProcedureTrees, StmtTrees};
 use ob_types::{TypeRef, TypedConstant, TypedType, TypedVariable, Value};
 use std::alloc::{AllocError, Global};
 
-/// What a part of a module adds to it. `bound` are the types of the module level, with the bound
-/// procedures that they introduce.
+/// What a part of a module adds to it.
 #[derive(Drop)]
 pub struct Contents {
     pub constants: List<TypedConstant>,
@@ -16,7 +15,6 @@ pub struct Contents {
     pub variables: List<TypedVariable>,
     pub procedures: ProcedureTrees,
     pub body: StmtTrees,
-    pub bound: List<TypedType>,
 }
 
 impl Contents {
@@ -30,7 +28,6 @@ impl Contents {
             variables: List::new(alloc),
             procedures: ProcedureTrees::new(alloc),
             body: StmtTrees::new(alloc),
-            bound: List::new(alloc),
         }
     }
 
@@ -56,5 +53,32 @@ impl Contents {
         ensures { OnOk result (contents_of self.new ≡ spec.together (contents_of self.old) (holds_types types)) }
     {
         self.types.append(types)
+    }
+
+    /// What another part adds, behind what this one does.
+    #[tactic(auto, using(crate::proofs::ContentsLaws::adds_all))]
+    pub fn append(&mut self, more: Contents) -> Result<(), AllocError>
+        ensures { OnOk result (contents_of self.new ≡ spec.together (contents_of self.old) (contents_of more)) }
+    {
+        let Contents {
+            constants,
+            types,
+            variables,
+            procedures,
+            body,
+        } = more;
+        self.constants.append(constants)?;
+        self.types.append(types)?;
+        self.variables.append(variables)?;
+        self.procedures.append(procedures)?;
+        self.body.append(body)
+    }
+
+    /// More statements.
+    #[tactic(auto, using(crate::proofs::ContentsLaws::adds_body))]
+    pub fn add_body(&mut self, body: StmtTrees) -> Result<(), AllocError>
+        ensures { OnOk result (contents_of self.new ≡ spec.together (contents_of self.old) (holds_body body.inner)) }
+    {
+        self.body.append(body)
     }
 }

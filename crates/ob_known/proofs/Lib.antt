@@ -3,3 +3,4 @@ pub mod Stacking
 pub mod Finding
 pub mod Scoping
 pub mod Bodying
+pub mod Predeclaring

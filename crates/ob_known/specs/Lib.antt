@@ -1,5 +1,6 @@
 pub mod Stacks
 pub mod Descending
+pub mod Predeclaring
 pub mod Scopes
 pub mod Bodies
 pub mod Finite

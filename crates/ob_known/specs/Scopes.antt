@@ -2,7 +2,8 @@
 use Rattle.std.specs.Prelude.{ℕ, List, [], Option, None, false}
 use Rattle.ob_tree.specs.declared.names.QName.{QName}
 use Rattle.ob_types.specs.declared.desc.Desc.{Desc}
-use Rattle.ob_rules.specs.Names.{Around, predeclared}
+use Rattle.ob_rules.specs.Names.{Around}
+use Rattle.ob_known.specs.Predeclaring.{predeclared_names}
 use Rattle.ob_known.specs.declared.scope.Scope.{Scope}
 
 abbrev pub around_of : {E : Type 0} → (E → QName → Option Desc) → Scope E → Around
@@ -44,4 +45,4 @@ at_start unit shown = record {
 
 -- a module begins: the predeclared names are known, around the module's scope
 abbrev pub at_module : List ℕ → (QName → Option Desc) → Around
-at_module unit shown = record (at_start unit shown) { known = predeclared; scope = 1 }
+at_module unit shown = record (at_start unit shown) { known = predeclared_names; scope = 1 }

@@ -4,6 +4,7 @@
 
 mod inside;
 mod moves;
+mod predeclared;
 mod scope;
 mod stack;
 mod table;

@@ -6,6 +6,7 @@ ghost use Rattle.ob_known.specs.Descending.{text_type, are_within, is_scope, is_
 
 use crate::inside::{Inside, Outside};
 use crate::moves::{hide, put_all, put_back, take_inner};
+use crate::predeclared::predeclared;
 use crate::stack::Stack;
 use crate::table::{Named, Table};
 use ob_rules::{Bound, Coming, Entity, Known, Received, Surroundings};
@@ -323,14 +324,28 @@ impl<'a, E: Imports> Scope<'a, E> {
 
     /// What stands around at the start of a module: the predeclared names are known, around the
     /// module's scope, of number 1.
-    pub fn of_module(
-        alloc: Global,
-        unit: Name,
-        imported: &'a E,
-    ) -> Result<Scope<'a, E>, AllocError>
+    pub fn of_module(alloc: Global, unit: Name, imported: &'a E) -> Result<Scope<'a, E>, AllocError>
         ensures { IfOk result (λ s. around_of E.types s ≡ at_module unit (E.types imported.now)) }
     {
-        Err(AllocError)
+        let path = ObjName::new(alloc, b"".as_slice())?;
+        let known = predeclared(alloc)?;
+        Ok(Scope {
+            unit,
+            imported,
+            own: Table::new(alloc),
+            known,
+            scope: 1,
+            level: 1,
+            path,
+            later_types: Stack::new(alloc),
+            coming: List::new(alloc),
+            bound: Table::new(alloc),
+            guards: Vec::new(alloc),
+            receiver: None,
+            result_type: None,
+            in_loop: false,
+            text: Desc::OpenArray(Mark::Hidden, TypeRef::Basic(Basic::Char)),
+        })
     }
 
     /// From here on the scope declares types of these names, earlier or later. Gives the names

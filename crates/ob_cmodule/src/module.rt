@@ -1,3 +1,5 @@
+//! Modules, judged by all rules.
+
 ghost use Rattle.std.specs.Prelude.{◌≡◌, IfOk, map};
 ghost use Rattle.std.specs.Option.{option_map};
 ghost use Rattle.ob_rules.specs.Declarations.{first_break, checked, deep_of, declaration, module_part};
@@ -18,7 +20,8 @@ pub struct Checked {
     pub deep: bool,
 }
 
-/// A module, judged by all rules, where its imports show what `imported` has.
+/// A module, judged by all rules, where its imports show what `imported` has. Answers want of
+/// memory: not written yet.
 pub fn check_module<E: Imports>(
     alloc: Global,
     module: &Module,

@@ -1,0 +1,14 @@
+use Rattle.std.proofs.Common.{◌∙◌}
+use Rattle.std.specs.Option.{option_map}
+use Rattle.ob_known.specs.Scopes.{around_of}
+use Rattle.ob_rules.specs.Types.{written}
+use Rattle.ob_cfield.specs.Makes.{typing_of}
+use Rattle.ob_cdecl.proofs.OrderLaws.{type_around_is}
+use Rattle.ob_cdecl.proofs.types.type_judged.Goals as goal
+
+pub returns-clause-around : goal.returns-clause-around
+returns-clause-around g c =
+    let u = around_of g.E.Types.types c.args.scope.now in
+    let v = around_of g.E.Types.types c.typing_as.new.scope in
+    let w = around_of g.E.Types.types c.declare_type.new.scope in
+    type_around_is c.declare_type.result u v w c.args.d.now (written c.args.node.now) c.check_mark-mark.result (option_map typing_of c.in_ok-t.t) c.as_bytes.result.now c.mark_or_hidden.result c.in_ok-t.ensures.stays c.check_mark-mark.ensures.made (c.as_bytes.ensures ∙ c.in_ok-name.ensures) c.mark_or_hidden.ensures c.in_ok-t.ensures.made c.declare_type.ensures.around
