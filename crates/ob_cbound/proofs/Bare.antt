@@ -8,6 +8,7 @@ use Rattle.ob_types.specs.declared.typed.TypedType.{TypedType}
 use Rattle.ob_tree.specs.declared.names.QName.{QName}
 use Rattle.ob_rules.specs.declared.notes.Notebook.{Notebook}
 use Rattle.ob_rules.specs.Books.{book_after}
+use Rattle.ob_rules.specs.Judged.{no_notes}
 use Rattle.ob_rules.specs.Shapes.{Map, Member, AField, AMethod, member}
 use Rattle.ob_rules.specs.Names.{Around, map_of}
 use Rattle.ob_rules.specs.Headings.{Head, BoundAs, Binding, bind_one, bind_by, bind_method, redefined, bind_all, bind_records, bindings, counts, counts_if, counted, of_record, answers, reversed}
@@ -67,7 +68,8 @@ bare_counted all (h ∷ hs) = ap (λ b. cond b (bare h ∷ filter (counts (map b
 
 bare_bindings : (u : Around) (hs : List Head) → bindings u (map bare hs) ≡ bindings u hs
 bare_bindings u hs =
-    ap (λ l. bind_records u l _ (reversed u.own)) (bare_counted hs hs) ∙ bare_records u (counted hs) _ (reversed u.own)
+    let s : Binding = record { own = u.own; bound = []; notes = no_notes } in
+    ap (λ l. bind_records u l s (reversed u.own)) (bare_counted hs hs) ∙ bare_records u (counted hs) s (reversed u.own)
 
 bindings_seen : (u : Around) (n : ℕ) (hs : List Kept) (ss : List Head) → AreKept n hs ss → bindings u (map seen hs) ≡ bindings u ss
 bindings_seen u n hs ss k = ap (bindings u) (are_seen n hs ss k) ∙ bare_bindings u ss

@@ -1,4 +1,4 @@
--- Binding from what is around goes on as from the start.
+-- Binding from what is around goes on rest from the start.
 use Rattle.std.proofs.Common.{◌≡◌, ℕ, Bool, true, false, List, [], ◌∷◌, ◌++◌, Option, Some, None, refl, sym, ap, subst, ◌∙◌}
 use Rattle.std.specs.Prelude.{bytes_eq, not, ◌&&◌}
 use Rattle.ob_tree.specs.declared.names.QName.{QName}
@@ -10,9 +10,9 @@ use Rattle.ob_rules.specs.Books.{book_after}
 use Rattle.ob_rules.specs.Judged.{Notes, joined, no_notes, notes_if, broken_at}
 use Rattle.ob_rules.specs.Shapes.{Map, Member, AField, AMethod, member, same_name}
 use Rattle.ob_rules.specs.Names.{Around, map_of, type_desc, out_string}
-use Rattle.ob_rules.specs.Headings.{Head, BoundAs, Binding, bind_one, bind_in, bind_by, bind_method, redefined, redefines}
+use Rattle.ob_rules.specs.Headings.{Head, BoundAs, Binding, bind_one, bind_in, bind_by, bind_method, redefined, of_record, counts}
 use Rattle.ob_rules.proofs.BookLaws.{after_none, after_joined}
-use Rattle.ob_cbound.specs.Running.{Step, run, start, put, one, one_if, chosen, pairs, record_bound}
+use Rattle.ob_cbound.specs.Running.{Step, run, start, put, one, one_if, chosen, record_bound}
 
 same_desc : (u : Around) (own x : List TypedType) (y : List Bound) (q : QName) (a b : Bool) → type_desc a b (record u { own = own; bound = y }) q ≡ type_desc a b (record u { own = own }) q
 same_desc u own x y q true b = refl
@@ -63,40 +63,40 @@ chosen_follows : (u : Around) (x : List TypedType) (y : List Bound) (s : Binding
 chosen_follows u x y s t n h l true = one_rebases u x y s t n h l
 chosen_follows u x y s t n h l false = record { notes = t; same = refl; noted = l }
 
-pub chosen_rebases : (name : List ℕ) → Rebases (chosen name)
-chosen_rebases name u x y s t n p l = chosen_follows u x y s t n p.0 l _
+pub chosen_rebases : (hs : List Head) (name : List ℕ) → Rebases (chosen hs name)
+chosen_rebases hs name u x y s t n h l = chosen_follows u x y s t n h l (of_record name h && counts hs h)
 
-pub run_rebases : {X : Type 0} (f : Step X) → Rebases f → (u : Around) (x : List TypedType) (y : List Bound) (s : Binding) (t n : Notes) (as : List X) → Later n s.notes t → Follows n (run f u s as) (run f (record u { own = x; bound = y }) (record s { notes = t }) as)
+pub run_rebases : {X : Type 0} (f : Step X) → Rebases f → (u : Around) (x : List TypedType) (y : List Bound) (s : Binding) (t n : Notes) (rest : List X) → Later n s.notes t → Follows n (run f u s rest) (run f (record u { own = x; bound = y }) (record s { notes = t }) rest)
 run_rebases f r u x y s t n [] l = record { notes = t; same = refl; noted = l }
-run_rebases f r u x y s t n (a ∷ as) l =
+run_rebases f r u x y s t n (a ∷ rest) l =
     let w : Around = record u { own = x; bound = y } in
     let e = r u x y s t n a l in
-    subst (λ k. Follows n (run f u (f u s a) as) (run f w k as)) (sym e.same) (run_rebases f r u x y (f u s a) e.notes n as e.noted)
+    subst (λ k. Follows n (run f u (f u s a) rest) (run f w k rest)) (sym e.same) (run_rebases f r u x y (f u s a) e.notes n rest e.noted)
 
-pub record_rebases : (hs : List Head) (cs : List Bool) → Rebases (record_bound hs cs)
-record_rebases hs cs u x y s t n name l = run_rebases (chosen name) (chosen_rebases name) u x y s t n (pairs hs cs) l
+pub record_rebases : (hs : List Head) → Rebases (record_bound hs)
+record_rebases hs u x y s t n name l = run_rebases (chosen hs name) (chosen_rebases hs name) u x y s t n hs l
 
 -- A STEP OF A LOOP
 
 -- from the start, one and then the rest
-goes_on : {X : Type 0} (f : Step X) → Rebases f → (v : Around) (a : X) (as : List X) → Follows (f v (start v) a).notes (run f v (start v) (a ∷ as)) (run f (put v (f v (start v) a)) (start (put v (f v (start v) a))) as)
-goes_on f r v a as =
+goes_on : {X : Type 0} (f : Step X) → Rebases f → (v : Around) (a : X) (rest : List X) → Follows (f v (start v) a).notes (run f v (start v) (a ∷ rest)) (run f (put v (f v (start v) a)) (start (put v (f v (start v) a))) rest)
+goes_on f r v a rest =
     let s = f v (start v) a in
-    run_rebases f r v s.own s.bound s no_notes s.notes as (λ b. sym (after_none (book_after b s.notes)))
+    run_rebases f r v s.own s.bound s no_notes s.notes rest (λ b. sym (after_none (book_after b s.notes)))
 
-pub more_around : {X : Type 0} (f : Step X) → Rebases f → (v w total : Around) (a : X) (as all : List X) → all ≡ a ∷ as → w ≡ put v (f v (start v) a) → put v (run f v (start v) all) ≡ total → put w (run f w (start w) as) ≡ total
-more_around f r v w total a as all step is inv =
-    let e = goes_on f r v a as in
-    ap (λ x. put x (run f x (start x) as)) is
+pub more_around : {X : Type 0} (f : Step X) → Rebases f → (v w total : Around) (a : X) (rest all : List X) → all ≡ a ∷ rest → w ≡ put v (f v (start v) a) → put v (run f v (start v) all) ≡ total → put w (run f w (start w) rest) ≡ total
+more_around f r v w total a rest all step is inv =
+    let e = goes_on f r v a rest in
+    ap (λ x. put x (run f x (start x) rest)) is
     ∙ ap (λ k. put (put v (f v (start v) a)) k) e.same
     ∙ ap (λ l. put v (run f v (start v) l)) (sym step)
     ∙ inv
 
-pub more_notes : {X : Type 0} (f : Step X) → Rebases f → (v w : Around) (a : X) (as all : List X) (b c total : Notebook) → all ≡ a ∷ as → w ≡ put v (f v (start v) a) → c ≡ book_after b (f v (start v) a).notes → book_after b (run f v (start v) all).notes ≡ total → book_after c (run f w (start w) as).notes ≡ total
-more_notes f r v w a as all b c total step is noted inv =
-    let e = goes_on f r v a as in
+pub more_notes : {X : Type 0} (f : Step X) → Rebases f → (v w : Around) (a : X) (rest all : List X) (b c total : Notebook) → all ≡ a ∷ rest → w ≡ put v (f v (start v) a) → c ≡ book_after b (f v (start v) a).notes → book_after b (run f v (start v) all).notes ≡ total → book_after c (run f w (start w) rest).notes ≡ total
+more_notes f r v w a rest all b c total step is noted inv =
+    let e = goes_on f r v a rest in
     let N : Binding → Notes = λ k. k.notes in
-    ap (λ x. book_after c (run f x (start x) as).notes) is
+    ap (λ x. book_after c (run f x (start x) rest).notes) is
     ∙ ap (λ k. book_after c (N k)) e.same
     ∙ ap (λ k. book_after k e.notes) noted
     ∙ sym (e.noted b)

@@ -2,7 +2,7 @@
 use Rattle.std.specs.Prelude.{ℕ, Bool, true, false, ◌&&◌, List, [], ◌∷◌, Option}
 use Rattle.ob_rules.specs.Judged.{no_notes}
 use Rattle.ob_rules.specs.Names.{Around}
-use Rattle.ob_rules.specs.Headings.{Head, BoundAs, Binding, bind_one, of_record}
+use Rattle.ob_rules.specs.Headings.{Head, BoundAs, Binding, bind_one, of_record, counts}
 
 abbrev pub Step : Type 0 → Type 0
 Step X = Around → Binding → X → Binding
@@ -27,15 +27,10 @@ abbrev pub one_if : Bool → Around → Binding → Head → Binding
 one_if true u s h = one u s h
 one_if false u s h = s
 
--- a heading of the record of that name that counts
-abbrev pub chosen : List ℕ → Step (Head × Bool)
-chosen x u s p = one_if (p.1 && of_record x p.0) u s p.0
-
-abbrev pub pairs : List Head → List Bool → List (Head × Bool)
-pairs [] cs = []
-pairs (h ∷ hs) [] = []
-pairs (h ∷ hs) (c ∷ cs) = (h, c) ∷ pairs hs cs
+-- a heading of the record of that name, where it counts
+abbrev pub chosen : List Head → List ℕ → Step Head
+chosen all x u s h = one_if (of_record x h && counts all h) u s h
 
 -- all of the record of that name
-abbrev pub record_bound : List Head → List Bool → Step (List ℕ)
-record_bound hs cs u s x = run (chosen x) u s (pairs hs cs)
+abbrev pub record_bound : List Head → Step (List ℕ)
+record_bound hs u s x = run (chosen hs x) u s hs

@@ -14,7 +14,7 @@ ghost use Rattle.ob_rules.specs.Names.{map_of, bound_for};
 ghost use Rattle.ob_rules.specs.Shapes.{AMethod};
 ghost use Rattle.ob_rules.specs.Operators.{signatures_match as match_at};
 ghost use Rattle.ob_chead.specs.Kept.{AreKept, seen, bound_seen};
-ghost use Rattle.ob_cbound.specs.Running.{run, start, put, one, chosen, pairs, record_bound};
+ghost use Rattle.ob_cbound.specs.Running.{run, start, put, one, chosen, record_bound};
 
 use ob_cfield::Parameters;
 use ob_chead::{BoundAs, Head, answer_of, is_same_kind};
@@ -23,7 +23,7 @@ use ob_known::{Imports, Scope};
 use ob_rules::{Bound, Notebook, Surroundings};
 use ob_tree::{List, Mark, Name, ObjName, QName};
 use ob_trees::{copy_name, copy_signature};
-use ob_types::{Method, Signature, Types, TypedType, signatures_match};
+use ob_types::{Method, Signature, TypedType, Types, signatures_match};
 use std::alloc::{AllocError, Global};
 
 fn signature_if(
@@ -156,12 +156,7 @@ fn redefined<E: Imports>(
     }
 }
 
-fn is_alike<T: Types>(
-    types: &T,
-    bound: &BoundAs,
-    parameters: &Parameters,
-    method: &Method,
-) -> bool
+fn is_alike<T: Types>(types: &T, bound: &BoundAs, parameters: &Parameters, method: &Method) -> bool
     ensures { result ≡ spec.same_kind method.now.receiver bound.now.receiver && match_at (T.types types.now) (Some method.now.signature) (Some parameters.now.signature) }
 {
     is_same_kind(method.receiver, bound.receiver)
@@ -292,78 +287,6 @@ fn is_of(head: &Head, name: &[u8]) -> bool
     }
 }
 
-fn bind_chosen<E: Imports>(
-    alloc: Global,
-    scope: &mut Scope<'_, E>,
-    book: &mut Notebook,
-    head: &Head,
-    counts: bool,
-    name: &[u8],
-) -> Result<(), AllocError>
-    ensures around { OnOk result (around_of E.types scope.new ≡ put (around_of E.types scope.old) (chosen name.now (around_of E.types scope.old) (start (around_of E.types scope.old)) (seen head.now, counts))) }
-    ensures noted { OnOk result (book.new ≡ book_after book.old (chosen name.now (around_of E.types scope.old) (start (around_of E.types scope.old)) (seen head.now, counts)).notes) }
-{
-    if counts && is_of(head, name) {
-        bind_one(alloc, scope, book, head)
-    } else {
-        Ok(())
-    }
-}
-
-fn bind_record<E: Imports>(
-    alloc: Global,
-    scope: &mut Scope<'_, E>,
-    book: &mut Notebook,
-    heads: &[Head],
-    counting: &[bool],
-    name: &[u8],
-) -> Result<(), AllocError>
-    ensures around { OnOk result (around_of E.types scope.new ≡ put (around_of E.types scope.old) (record_bound (map seen heads.now) counting.now (around_of E.types scope.old) (start (around_of E.types scope.old)) name.now)) }
-    ensures noted { OnOk result (book.new ≡ book_after book.old (record_bound (map seen heads.now) counting.now (around_of E.types scope.old) (start (around_of E.types scope.old)) name.now).notes) }
-{
-    let mut first = heads;
-    let mut second = counting;
-    'heads: while let [head, more @ ..] = first {
-        match second {
-            [] => return Ok(()),
-            [flag, flags @ ..] => {
-                bind_chosen(alloc, scope, book, head, *flag, name)?;
-                first = more;
-                second = flags;
-            }
-        }
-    }
-    Ok(())
-}
-
-fn bind_records<E: Imports>(
-    alloc: Global,
-    scope: &mut Scope<'_, E>,
-    book: &mut Notebook,
-    heads: &[Head],
-    counting: &[bool],
-    names: &[ObjName],
-) -> Result<(), AllocError>
-    ensures around { OnOk result (around_of E.types scope.new ≡ put (around_of E.types scope.old) (run (record_bound (map seen heads.now) counting.now) (around_of E.types scope.old) (start (around_of E.types scope.old)) names.now)) }
-    ensures noted { OnOk result (book.new ≡ book_after book.old (run (record_bound (map seen heads.now) counting.now) (around_of E.types scope.old) (start (around_of E.types scope.old)) names.now).notes) }
-{
-    'names: for name in names {
-        bind_record(alloc, scope, book, heads, counting, name.as_bytes())?;
-    }
-    Ok(())
-}
-
-fn names_of(alloc: Global, types: &[TypedType]) -> Result<List<ObjName>, AllocError>
-    ensures { IfOk result (λ r. r ≡ map (λ t. t.name) types.now) }
-{
-    let mut names = List::new(alloc);
-    'types: for t in types {
-        let name = t.name.clone()?;
-        names.push(name)?;
-    }
-    Ok(names)
-}
-
 fn is_there(bound: &Option<BoundAs>) -> bool
     ensures { result ≡ is_some (option_map bound_seen bound.now) }
 {
@@ -392,14 +315,65 @@ fn counts(heads: &[Head], head: &Head) -> bool
     head.is_bound && is_there(&head.bound) && counts_if(heads, head)
 }
 
-fn counting(alloc: Global, heads: &[Head]) -> Result<List<bool>, AllocError>
-    ensures { IfOk result (λ r. r ≡ map (λ h. spec.counts (map seen heads.now) (seen h)) heads.now) }
+fn bind_chosen<E: Imports>(
+    alloc: Global,
+    scope: &mut Scope<'_, E>,
+    book: &mut Notebook,
+    heads: &[Head],
+    head: &Head,
+    name: &[u8],
+) -> Result<(), AllocError>
+    ensures around { OnOk result (around_of E.types scope.new ≡ put (around_of E.types scope.old) (chosen (map seen heads.now) name.now (around_of E.types scope.old) (start (around_of E.types scope.old)) (seen head.now))) }
+    ensures noted { OnOk result (book.new ≡ book_after book.old (chosen (map seen heads.now) name.now (around_of E.types scope.old) (start (around_of E.types scope.old)) (seen head.now)).notes) }
 {
-    let mut all = List::new(alloc);
-    'heads: for head in heads {
-        all.push(counts(heads, head))?;
+    if is_of(head, name) && counts(heads, head) {
+        bind_one(alloc, scope, book, head)
+    } else {
+        Ok(())
     }
-    Ok(all)
+}
+
+fn bind_record<E: Imports>(
+    alloc: Global,
+    scope: &mut Scope<'_, E>,
+    book: &mut Notebook,
+    heads: &[Head],
+    name: &[u8],
+) -> Result<(), AllocError>
+    ensures around { OnOk result (around_of E.types scope.new ≡ put (around_of E.types scope.old) (record_bound (map seen heads.now) (around_of E.types scope.old) (start (around_of E.types scope.old)) name.now)) }
+    ensures noted { OnOk result (book.new ≡ book_after book.old (record_bound (map seen heads.now) (around_of E.types scope.old) (start (around_of E.types scope.old)) name.now).notes) }
+{
+    'heads: for head in heads {
+        bind_chosen(alloc, scope, book, heads, head, name)?;
+    }
+    Ok(())
+}
+
+fn bind_records<E: Imports>(
+    alloc: Global,
+    scope: &mut Scope<'_, E>,
+    book: &mut Notebook,
+    heads: &[Head],
+    names: &[ObjName],
+) -> Result<(), AllocError>
+    ensures around { OnOk result (around_of E.types scope.new ≡ put (around_of E.types scope.old) (run (record_bound (map seen heads.now)) (around_of E.types scope.old) (start (around_of E.types scope.old)) names.now)) }
+    ensures noted { OnOk result (book.new ≡ book_after book.old (run (record_bound (map seen heads.now)) (around_of E.types scope.old) (start (around_of E.types scope.old)) names.now).notes) }
+{
+    'names: for name in names {
+        bind_record(alloc, scope, book, heads, name.as_bytes())?;
+    }
+    Ok(())
+}
+
+fn names_of(alloc: Global, types: &[TypedType]) -> Result<List<ObjName>, AllocError>
+    ensures { IfOk result (λ r. r ≡ map (λ t. t.name) types.now) }
+{
+    let mut names = List::new(alloc);
+    'types: for t in types {
+        let name = t.name.clone()?;
+        names.push(name)?;
+    }
+    Ok(names)
 }
 
 fn bind_all<E: Imports>(
@@ -411,17 +385,9 @@ fn bind_all<E: Imports>(
     ensures around { OnOk result (around_of E.types scope.new ≡ with_bound (around_of E.types scope.old) (spec.bindings (around_of E.types scope.old) (map seen heads.now))) }
     ensures noted { OnOk result (book.new ≡ book_after book.old (spec.bindings (around_of E.types scope.old) (map seen heads.now)).notes) }
 {
-    let flags = counting(alloc, heads)?;
     let names = names_of(alloc, scope.own_types())?;
     scope.unbind(alloc);
-    bind_records(
-        alloc,
-        scope,
-        book,
-        heads,
-        flags.as_slice(),
-        names.as_slice(),
-    )?;
+    bind_records(alloc, scope, book, heads, names.as_slice())?;
     scope.set_coming(List::new(alloc));
     Ok(())
 }

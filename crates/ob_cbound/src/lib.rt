@@ -5,7 +5,6 @@
 mod bindings;
 mod depth;
 mod fields;
-mod parts;
 mod pointers;
 
 pub use bindings::bind;

@@ -7,6 +7,6 @@ use Rattle.ob_cbound.proofs.bindings.bind_records.Given as goal
 
 abbrev pub invariant-names : goal.invariant-names
 invariant-names g l = record {
-  around : put (around_of g.E.Types.types l.scope) (run (record_bound (map seen l.heads) l.counting) (around_of g.E.Types.types l.scope) (start (around_of g.E.Types.types l.scope)) (drop l.name-index l.names)) ≡ put (around_of g.E.Types.types l.fn.scope) (run (record_bound (map seen l.heads) l.counting) (around_of g.E.Types.types l.fn.scope) (start (around_of g.E.Types.types l.fn.scope)) l.names);
-  notes : book_after l.book (run (record_bound (map seen l.heads) l.counting) (around_of g.E.Types.types l.scope) (start (around_of g.E.Types.types l.scope)) (drop l.name-index l.names)).notes ≡ book_after l.fn.book (run (record_bound (map seen l.heads) l.counting) (around_of g.E.Types.types l.fn.scope) (start (around_of g.E.Types.types l.fn.scope)) l.names).notes;
+  around : put (around_of g.E.Types.types l.scope) (run (record_bound (map seen l.heads)) (around_of g.E.Types.types l.scope) (start (around_of g.E.Types.types l.scope)) (drop l.name-index l.names)) ≡ put (around_of g.E.Types.types l.fn.scope) (run (record_bound (map seen l.heads)) (around_of g.E.Types.types l.fn.scope) (start (around_of g.E.Types.types l.fn.scope)) l.names);
+  notes : book_after l.book (run (record_bound (map seen l.heads)) (around_of g.E.Types.types l.scope) (start (around_of g.E.Types.types l.scope)) (drop l.name-index l.names)).notes ≡ book_after l.fn.book (run (record_bound (map seen l.heads)) (around_of g.E.Types.types l.fn.scope) (start (around_of g.E.Types.types l.fn.scope)) l.names).notes;
 }
