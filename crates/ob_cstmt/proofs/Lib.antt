@@ -1,1 +1,3 @@
-pub mod RowSteps
+pub mod StmtViews
+pub mod Steps
+pub mod Calls
