@@ -1,3 +1,2 @@
 pub mod StmtViews
 pub mod Steps
-pub mod Calls

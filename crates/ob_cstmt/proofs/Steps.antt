@@ -1,5 +1,5 @@
 -- The walk, one part further.
-use Rattle.std.proofs.Common.{◌≡◌, refl, sym, ap, ◌∙◌, subst, ℕ, ◌+◌, ◌<◌, ◌≤◌, Bool, true, List, [], ◌∷◌, ◌++◌, map, drop, length, get_or, Option, Some, None, ℤ}
+use Rattle.std.proofs.Common.{◌≡◌, refl, sym, ap, ◌∙◌, subst, ℕ, ◌+◌, ◌<◌, ◌≤◌, Bool, true, List, [], ◌∷◌, ◌++◌, map, drop, length, get_or, Option, Some, None, ℤ, Result, Ok, Err, OnOk}
 use Rattle.std.proofs.lemmas.List.{drop_more, drop_all}
 use Rattle.std.specs.Option.{option_map}
 use Rattle.ob_tree.specs.declared.pos.Pos.{Pos}
@@ -9,13 +9,16 @@ use Rattle.ob_types.specs.declared.typed.Variable.{Variable}
 use Rattle.ob_types.specs.declared.typed.Label.{Label}
 use Rattle.ob_types.specs.declared.typed.TypedExpr.{TypedExpr}
 use Rattle.ob_types.specs.declared.typed.TypedStmt.{TypedStmt}
+use Rattle.ob_types.specs.declared.typed.TypedStmt.TheVariants as stmt
 use Rattle.ob_types.specs.declared.typed.TypedBranch.{TypedBranch, roll-TypedBranch}
 use Rattle.ob_types.specs.declared.typed.TypedCase.{TypedCase, roll-TypedCase}
 use Rattle.ob_rules.specs.declared.notes.Notebook.{Notebook}
 use Rattle.ob_rules.specs.declared.meant.Selects.{Selects}
 use Rattle.ob_rules.specs.declared.values.Place.{Place}
+use Rattle.ob_rules.specs.declared.values.Valued.{Valued}
+use Rattle.ob_rules.specs.Values.{tree}
 use Rattle.ob_rules.specs.Judged.{Judged, Notes, sound, silent, noted, joined, no_notes, both, paired, if_sound, made, ◌▷◌}
-use Rattle.ob_rules.specs.Names.{Around}
+use Rattle.ob_rules.specs.Names.{Around, map_of}
 use Rattle.ob_rules.specs.Shapes.{Map}
 use Rattle.ob_rules.specs.Books.{book_after}
 use Rattle.ob_rules.specs.Expressions.{Ranged}
@@ -165,3 +168,73 @@ for_noted map at v n x y z w a b step body k =
     ∙ after_joined k1 (joined x y) (joined z w)
     ∙ sym (parts_noted map at v r k1)
     ∙ after_joined k n (spec.for_parts map at v r).notes
+
+abbrev judged_for : Around → Pos → Judged Place → Judged Valued → Judged Valued → Judged ℤ → Judged (List TypedStmt) → Judged (List TypedStmt)
+judged_for u at v a b step body = noted v.notes (spec.for_with (map_of u) at v.node a b step body)
+
+pub for_is : (u : Around) (at : Pos) (v : Judged Place) (a b : Judged Valued) (step : Judged ℤ) (body : Judged (List TypedStmt)) (m : Map) (place : Option Place) (x y : Option TypedExpr) (s : Option ℤ) (w r : Option (List TypedStmt))
+    → m ≡ map_of u → place ≡ v.node → x ≡ (spec.bound_if (map_of u) at place a).node → y ≡ (spec.bound_if (map_of u) at place b).node → s ≡ step.node → w ≡ body.node
+    → r ≡ for_parts_node m at place x y s w → r ≡ (judged_for u at v a b step body).node
+for_is u at v a b step body m place x y s w r em ep ex ey es ew er =
+    let first = spec.bound_if (map_of u) at v.node a in
+    let last = spec.bound_if (map_of u) at v.node b in
+    er
+    ∙ ap (λ z. for_parts_node z at place x y s w) em
+    ∙ ap (λ z. for_parts_node (map_of u) at z x y s w) ep
+    ∙ ap (λ z. for_parts_node (map_of u) at v.node z y s w) (ex ∙ ap (λ z. (spec.bound_if (map_of u) at z a).node) ep)
+    ∙ ap (λ z. for_parts_node (map_of u) at v.node first.node z s w) (ey ∙ ap (λ z. (spec.bound_if (map_of u) at z b).node) ep)
+    ∙ ap (λ z. for_parts_node (map_of u) at v.node first.node last.node z w) es
+    ∙ ap (λ z. for_parts_node (map_of u) at v.node first.node last.node step.node z) ew
+    ∙ for_made (map_of u) at v.node first last step body
+
+pub for_says : (u : Around) (at : Pos) (v : Judged Place) (a b : Judged Valued) (step : Judged ℤ) (body : Judged (List TypedStmt)) (place : Option Place) (k k1 k2 k3 k4 k5 : Notebook)
+    → place ≡ v.node → k1 ≡ book_after k v.notes → k2 ≡ book_after k1 (spec.bound_if (map_of u) at place a).notes → k3 ≡ book_after k2 (spec.bound_if (map_of u) at place b).notes → k4 ≡ book_after k3 step.notes → k5 ≡ book_after k4 body.notes
+    → k5 ≡ book_after k (judged_for u at v a b step body).notes
+for_says u at v a b step body place k k1 k2 k3 k4 k5 ep e1 e2 e3 e4 e5 =
+    let first = spec.bound_if (map_of u) at v.node a in
+    let last = spec.bound_if (map_of u) at v.node b in
+    let s2 : k2 ≡ book_after (book_after k v.notes) first.notes = e2 ∙ ap (λ z. book_after z (spec.bound_if (map_of u) at place a).notes) e1 ∙ ap (λ z. book_after (book_after k v.notes) (spec.bound_if (map_of u) at z a).notes) ep in
+    let s3 : k3 ≡ book_after (book_after (book_after k v.notes) first.notes) last.notes = e3 ∙ ap (λ z. book_after z (spec.bound_if (map_of u) at place b).notes) s2 ∙ ap (λ z. book_after (book_after (book_after k v.notes) first.notes) (spec.bound_if (map_of u) at z b).notes) ep in
+    let s4 : k4 ≡ book_after (book_after (book_after (book_after k v.notes) first.notes) last.notes) step.notes = e4 ∙ ap (λ z. book_after z step.notes) s3 in
+    e5 ∙ ap (λ z. book_after z body.notes) s4 ∙ for_noted (map_of u) at v.node v.notes first.notes last.notes step.notes body.notes first.node last.node step.node body.node k
+
+-- CASE of its parts
+pub case_of_parts : (u : Around) (at : Pos) (x : Judged Valued) (ds : List spec.Labelled) (o : Option (List spec.Judging)) (m : Map) (value : Option Valued) (selects : Option Selects) (cs : Option (List TypedCase)) (e : Option (Option (List TypedStmt))) (r : Option (List TypedStmt))
+    → m ≡ map_of u → value ≡ x.node → selects ≡ spec.selects_if m value → cs ≡ (spec.cases u selects [] ds).node → e ≡ (spec.in_turn_if o u).node
+    → r ≡ (if_sound (paired value (paired cs e)) (λ p. spec.one (stmt.Case (tree p.0) p.1.0 p.1.1 at))).node → r ≡ (spec.case_with u at x ds o).node
+case_of_parts u at x ds o m value selects cs e r em ev es ec ee er =
+    let f = λ (p : Valued × (List TypedCase × Option (List TypedStmt))). spec.one (stmt.Case (tree p.0) p.1.0 p.1.1 at) in
+    let selected : selects ≡ spec.selects_if (map_of u) x.node = es ∙ ap (λ z. spec.selects_if z value) em ∙ ap (λ z. spec.selects_if (map_of u) z) ev in
+    er
+    ∙ ap (λ z. (if_sound (paired z (paired cs e)) f).node) ev
+    ∙ ap (λ z. (if_sound (paired x.node (paired z e)) f).node) (ec ∙ ap (λ z. (spec.cases u z [] ds).node) selected)
+    ∙ ap (λ z. (if_sound (paired x.node (paired (spec.cases u (spec.selects_if (map_of u) x.node) [] ds).node z)) f).node) ee
+
+pub case_says : (u : Around) (at : Pos) (x : Judged Valued) (ds : List spec.Labelled) (o : Option (List spec.Judging)) (m : Map) (value : Option Valued) (selects : Option Selects) (k k1 k2 k3 : Notebook)
+    → m ≡ map_of u → value ≡ x.node → selects ≡ spec.selects_if m value → k1 ≡ book_after k x.notes → k2 ≡ book_after k1 (spec.cases u selects [] ds).notes → k3 ≡ book_after k2 (spec.in_turn_if o u).notes
+    → k3 ≡ book_after k (spec.case_with u at x ds o).notes
+case_says u at x ds o m value selects k k1 k2 k3 em ev es e1 e2 e3 =
+    let selected : selects ≡ spec.selects_if (map_of u) x.node = es ∙ ap (λ z. spec.selects_if z value) em ∙ ap (λ z. spec.selects_if (map_of u) z) ev in
+    let cs = spec.cases u (spec.selects_if (map_of u) x.node) [] ds in
+    let other = spec.in_turn_if o u in
+    let s2 : k2 ≡ book_after k1 cs.notes = e2 ∙ ap (λ z. book_after k1 (spec.cases u z [] ds).notes) selected in
+    pair_noted (λ p. stmt.Case (tree p.0) p.1.0 p.1.1 at ∷ []) x (both cs other) k k1 k3 e1 (e3 ∙ ap (λ z. book_after z other.notes) s2 ∙ after_joined k1 cs.notes other.notes)
+
+-- LOOP of its body
+pub loop_made : (u : Around) (at : Pos) (fs : List spec.Judging) (x r : Option (List TypedStmt)) → x ≡ (spec.in_turn fs (spec.in_loop u)).node → r ≡ (if_sound x (λ b. spec.one (stmt.Loop b at))).node → r ≡ (spec.loop_statement at fs u).node
+loop_made u at fs x r ex er = er ∙ ap (λ y. (if_sound y (λ b. spec.one (stmt.Loop b at))).node) ex
+
+pub loop_noted : (u : Around) (at : Pos) (fs : List spec.Judging) (k l : Notebook) → l ≡ book_after k (spec.in_turn fs (spec.in_loop u)).notes → l ≡ book_after k (spec.loop_statement at fs u).notes
+loop_noted u at fs k l e = e ∙ sym (made_noted (λ b. stmt.Loop b at ∷ []) k (spec.in_turn fs (spec.in_loop u)))
+
+-- ELSE
+pub some_made : {A : Type 0} (j : Judged A) (x : Option A) → x ≡ j.node → option_map (λ b. Some b) x ≡ (made (λ b. Some b) j).node
+some_made j x e = ap (λ y. option_map (λ b. Some b) y) e ∙ by_node j.node
+  where
+    by_node : {A : Type 0} (o : Option A) → option_map (λ b. Some b) o ≡ (if_sound o (λ b. sound (Some b))).node
+    by_node None = refl
+    by_node (Some b) = refl
+
+pub always : {T E P : Type 0} (r : Result T E) → P → OnOk r P
+always (Ok x) p = p
+always (Err e) p = tt
