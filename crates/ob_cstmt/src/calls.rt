@@ -12,6 +12,8 @@ use ob_trees::StmtTree;
 use std::alloc::{AllocError, Global};
 
 /// A call, with or without round brackets. Rules 3 and 27, and those of the designator.
+///
+/// Answers want of memory: not written yet.
 pub fn call_statement<S: Surroundings>(
     alloc: Global,
     here: &S,
