@@ -1,5 +1,5 @@
 -- What each alternative of a statement says, by its parts.
-use Rattle.std.proofs.Common.{◌≡◌, List, [], sym, ap, ◌∙◌, map, Option, Some, None, refl}
+use Rattle.std.proofs.Common.{◌≡◌, List, [], sym, ap, ◌∙◌, map, Option, Some, None}
 use Rattle.std.specs.Option.{option_map}
 use Rattle.ob_tree.specs.declared.pos.Pos.{Pos}
 use Rattle.ob_tree.specs.declared.ident.Ident.{Ident}
@@ -20,18 +20,15 @@ use Rattle.ob_rules.specs.Phrases.{Phrase, Behind}
 use Rattle.ob_rules.specs.Expressions.{Named, Ranged, Tailed, expr_rule, selector_rule, designator_rule, element_rule, tail_rule, phrase_of, named_of, ranged_of}
 use Rattle.ob_rules.specs.Statements.{Judging, Conditional, Labelled, GuardedBody, stmt_rule, branch_rule, case_rule, guarded_rule, judging, conditional_of, labelled_of, guarded_of, call_statement, assignment, if_statement, case, while_statement, repeat_statement, for, loop_statement, exit, return, with_statement, phrase_if}
 
-abbrev ranged : Phrase → Option Phrase → Ranged
-ranged low high = record { low = low; high = high }
-
 pub named_start : (d : Designator) → (named_of d).ident ≡ d.ident
 named_start d = ap (λ n. n.ident) (fold_out-Designator Phrase Behind Named Ranged Tailed expr_rule selector_rule designator_rule element_rule tail_rule d)
 
-pub phrase_if_is : (o : Option Expr) → option_map phrase_of o ≡ phrase_if o
-phrase_if_is None = refl
-phrase_if_is (Some x) = refl
+ranged_by : (low : Expr) (high : Option Expr) → ranged_of (record { low = low; high = high }) ≡ record { low = phrase_of low; high = phrase_if high }
+ranged_by low None = fold_out-Element Phrase Behind Named Ranged Tailed expr_rule selector_rule designator_rule element_rule tail_rule (record { low = low; high = None })
+ranged_by low (Some y) = fold_out-Element Phrase Behind Named Ranged Tailed expr_rule selector_rule designator_rule element_rule tail_rule (record { low = low; high = Some y })
 
 pub ranged_is : (x : Element) → ranged_of x ≡ record { low = phrase_of x.low; high = phrase_if x.high }
-ranged_is x = fold_out-Element Phrase Behind Named Ranged Tailed expr_rule selector_rule designator_rule element_rule tail_rule x ∙ ap (λ (o : Option Phrase). ranged (phrase_of x.low) o) (phrase_if_is x.high)
+ranged_is x = ranged_by x.low x.high
 
 pub judging_empty : (u : Around) → judging s.Empty u ≡ sound []
 judging_empty u = ap (λ f. f u) (ap judging (sym s.rolls-Empty) ∙ fold-roll-Stmt Judging Conditional Labelled GuardedBody stmt_rule branch_rule case_rule guarded_rule Stmt-F.Empty)
@@ -43,10 +40,12 @@ pub judging_assign : (d : Designator) (at : Pos) (x : Expr) (u : Around) → jud
 judging_assign d at x u = ap (λ f. f u) (ap judging (sym (s.rolls-Assign d at x)) ∙ fold-roll-Stmt Judging Conditional Labelled GuardedBody stmt_rule branch_rule case_rule guarded_rule (Stmt-F.Assign d at x))
 
 pub judging_if : (at : Pos) (bs : List Branch) (o : Option (List Stmt)) (u : Around) → judging (s.If at bs o) u ≡ if_statement (map conditional_of bs) (option_map (λ b. map judging b) o) u
-judging_if at bs o u = ap (λ f. f u) (ap judging (sym (s.rolls-If at bs o)) ∙ fold-roll-Stmt Judging Conditional Labelled GuardedBody stmt_rule branch_rule case_rule guarded_rule (Stmt-F.If at bs o))
+judging_if at bs None u = ap (λ f. f u) (ap judging (sym (s.rolls-If at bs None)) ∙ fold-roll-Stmt Judging Conditional Labelled GuardedBody stmt_rule branch_rule case_rule guarded_rule (Stmt-F.If at bs None))
+judging_if at bs (Some b) u = ap (λ f. f u) (ap judging (sym (s.rolls-If at bs (Some b))) ∙ fold-roll-Stmt Judging Conditional Labelled GuardedBody stmt_rule branch_rule case_rule guarded_rule (Stmt-F.If at bs (Some b)))
 
 pub judging_case : (at : Pos) (x : Expr) (cs : List Case) (o : Option (List Stmt)) (u : Around) → judging (s.Case at x cs o) u ≡ case u at (phrase_of x) (map labelled_of cs) (option_map (λ b. map judging b) o)
-judging_case at x cs o u = ap (λ f. f u) (ap judging (sym (s.rolls-Case at x cs o)) ∙ fold-roll-Stmt Judging Conditional Labelled GuardedBody stmt_rule branch_rule case_rule guarded_rule (Stmt-F.Case at x cs o))
+judging_case at x cs None u = ap (λ f. f u) (ap judging (sym (s.rolls-Case at x cs None)) ∙ fold-roll-Stmt Judging Conditional Labelled GuardedBody stmt_rule branch_rule case_rule guarded_rule (Stmt-F.Case at x cs None))
+judging_case at x cs (Some b) u = ap (λ f. f u) (ap judging (sym (s.rolls-Case at x cs (Some b))) ∙ fold-roll-Stmt Judging Conditional Labelled GuardedBody stmt_rule branch_rule case_rule guarded_rule (Stmt-F.Case at x cs (Some b)))
 
 pub judging_while : (at : Pos) (x : Expr) (body : List Stmt) (u : Around) → judging (s.While at x body) u ≡ while_statement at (phrase_of x) (map judging body) u
 judging_while at x body u = ap (λ f. f u) (ap judging (sym (s.rolls-While at x body)) ∙ fold-roll-Stmt Judging Conditional Labelled GuardedBody stmt_rule branch_rule case_rule guarded_rule (Stmt-F.While at x body))
@@ -67,7 +66,8 @@ pub judging_return : (at : Pos) (x : Option Expr) (u : Around) → judging (s.Re
 judging_return at x u = ap (λ f. f u) (ap judging (sym (s.rolls-Return at x)) ∙ fold-roll-Stmt Judging Conditional Labelled GuardedBody stmt_rule branch_rule case_rule guarded_rule (Stmt-F.Return at x))
 
 pub judging_with : (at : Pos) (bs : List GuardedBranch) (o : Option (List Stmt)) (u : Around) → judging (s.With at bs o) u ≡ with_statement at (map guarded_of bs) (option_map (λ b. map judging b) o) u
-judging_with at bs o u = ap (λ f. f u) (ap judging (sym (s.rolls-With at bs o)) ∙ fold-roll-Stmt Judging Conditional Labelled GuardedBody stmt_rule branch_rule case_rule guarded_rule (Stmt-F.With at bs o))
+judging_with at bs None u = ap (λ f. f u) (ap judging (sym (s.rolls-With at bs None)) ∙ fold-roll-Stmt Judging Conditional Labelled GuardedBody stmt_rule branch_rule case_rule guarded_rule (Stmt-F.With at bs None))
+judging_with at bs (Some b) u = ap (λ f. f u) (ap judging (sym (s.rolls-With at bs (Some b))) ∙ fold-roll-Stmt Judging Conditional Labelled GuardedBody stmt_rule branch_rule case_rule guarded_rule (Stmt-F.With at bs (Some b)))
 
 pub conditional_is : (b : Branch) → conditional_of b ≡ record { test = phrase_of b.test; body = map judging b.body }
 conditional_is b = fold_out-Branch Judging Conditional Labelled GuardedBody stmt_rule branch_rule case_rule guarded_rule b
