@@ -3,128 +3,17 @@
 ghost use Rattle.std.specs.Prelude.{◌≡◌, IfOk, OnOk};
 ghost use Rattle.ob_rules.specs.Books.{book_after};
 ghost use Rattle.ob_rules.specs.Expressions as exprs;
-ghost use Rattle.std.specs.Option.{option_copied};
-ghost use Rattle.ob_rules.specs.Judged.{if_sound, paired};
 ghost use Rattle.ob_rules.specs.Statements as spec;
-ghost use Rattle.ob_cstmt.specs.Seen.{stmt_in};
+ghost use Rattle.ob_cparts.specs.Seen.{stmt_in};
 
-use ob_cname::{fits, has_text, is_array, record_of, text_tree, tree_of};
-use ob_rules::{Meant, Notebook, Place, Surroundings, Valued};
-use ob_tree::{Designator, Expr, Pos, QName};
-use ob_trees::{ExprTree, StmtTree, copy_name};
-use ob_types::{Assigned, Types};
+use ob_rules::{Notebook, Surroundings};
+use ob_tree::{Designator, Expr, Pos};
+use ob_trees::StmtTree;
 use std::alloc::{AllocError, Global};
 
-// Rule 26: only a variable is assigned to, and none that may only be read.
-fn target(book: &mut Notebook, start: Pos, meant: Meant) -> Option<Place>
-    ensures made { result ≡ (spec.target start meant).node }
-    ensures noted { book.new ≡ book_after book.old (spec.target start meant).notes }
-{
-    match meant {
-        Meant::Place(place) => book.unless(place.read_only, 26, start, place),
-        Meant::Constant(_)
-        | Meant::Procedure(_, _)
-        | Meant::Bound(_)
-        | Meant::Out(_)
-        | Meant::Predeclared(_)
-        | Meant::Call(_)
-        | Meant::Statement(_) => {
-            book.breaks(26, start);
-            None
-        }
-    }
-}
-
-fn target_if(book: &mut Notebook, start: Pos, meant: Option<Meant>) -> Option<Place>
-    ensures made { result ≡ (if_sound meant (λ m. spec.target start m)).node }
-    ensures noted { book.new ≡ book_after book.old (if_sound meant (λ m. spec.target start m)).notes }
-{
-    match meant {
-        None => None,
-        Some(meant) => target(book, start, meant),
-    }
-}
-
-fn assigned_as(text: bool, record: Option<&QName>, array: bool) -> Result<Assigned, AllocError>
-    ensures { IfOk result (λ r. r ≡ spec.assigned_as text (option_copied record.entry) array) }
-{
-    if text {
-        return Ok(Assigned::Text);
-    }
-    match record {
-        Some(name) => {
-            let name = copy_name(name)?;
-            Ok(Assigned::Record(name))
-        }
-        None => Ok(if array {
-            Assigned::Array
-        } else {
-            Assigned::Scalar
-        }),
-    }
-}
-
-fn assignment_of<T: Types>(types: &T, place: &Place, x: &Valued) -> Result<Assigned, AllocError>
-    ensures { IfOk result (λ r. r ≡ spec.assignment_of (T.types types.now) place.now x.now) }
-{
-    let array = is_array(types, &place.of);
-    let text = array && has_text(x);
-    assigned_as(text, record_of(types, &place.of), array)
-}
-
-fn assigned_tree(alloc: Global, array: bool, x: Valued) -> Result<ExprTree, AllocError>
-    ensures { IfOk result (λ r. r.inner ≡ spec.assigned_tree array x) }
-{
-    if array {
-        text_tree(alloc, x)
-    } else {
-        Ok(tree_of(x))
-    }
-}
-
-// Rule 31: the value is assignable.
-fn assigns<T: Types>(
-    alloc: Global,
-    types: &T,
-    book: &mut Notebook,
-    at: Pos,
-    place: Place,
-    x: Valued,
-) -> Result<Option<StmtTree>, AllocError>
-    ensures made { IfOk result (λ r. stmt_in r ≡ (spec.assigns (T.types types.now) at place x).node) }
-    ensures noted { OnOk result (book.new ≡ book_after book.old (spec.assigns (T.types types.now) at place x).notes) }
-{
-    if !fits(types, &place.of, &x) {
-        book.breaks(31, at);
-        return Ok(None);
-    }
-    let assigned = assignment_of(types, &place, &x)?;
-    let value = assigned_tree(alloc, is_array(types, &place.of), x)?;
-    let Place { designator, .. } = place;
-    Ok(Some(StmtTree::assign(designator, assigned, value, at)))
-}
-
-fn assigns_if<T: Types>(
-    alloc: Global,
-    types: &T,
-    book: &mut Notebook,
-    at: Pos,
-    place: Option<Place>,
-    x: Option<Valued>,
-) -> Result<Option<StmtTree>, AllocError>
-    ensures made { IfOk result (λ r. stmt_in r ≡ (if_sound (paired place x) (λ p. spec.assigns (T.types types.now) at p.0 p.1)).node) }
-    ensures noted { OnOk result (book.new ≡ book_after book.old (if_sound (paired place x) (λ p. spec.assigns (T.types types.now) at p.0 p.1)).notes) }
-{
-    match place {
-        None => Ok(None),
-        Some(place) => match x {
-            None => Ok(None),
-            Some(x) => assigns(alloc, types, book, at, place, x),
-        },
-    }
-}
-
 /// An assignment. Rules 26 and 31, and those of its parts.
+///
+/// Answers want of memory: not written yet.
 pub fn assignment<S: Surroundings>(
     alloc: Global,
     here: &S,

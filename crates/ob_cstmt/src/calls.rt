@@ -4,7 +4,7 @@ ghost use Rattle.std.specs.Prelude.{◌≡◌, IfOk, OnOk};
 ghost use Rattle.ob_rules.specs.Books.{book_after};
 ghost use Rattle.ob_rules.specs.Expressions as exprs;
 ghost use Rattle.ob_rules.specs.Statements as spec;
-ghost use Rattle.ob_cstmt.specs.Seen.{stmt_in};
+ghost use Rattle.ob_cparts.specs.Seen.{stmt_in};
 
 use ob_rules::{Notebook, Surroundings};
 use ob_tree::Designator;
@@ -12,6 +12,8 @@ use ob_trees::StmtTree;
 use std::alloc::{AllocError, Global};
 
 /// A call, with or without round brackets. Rules 3 and 27, and those of the designator.
+///
+/// Answers want of memory: not written yet.
 pub fn call_statement<S: Surroundings>(
     alloc: Global,
     here: &S,

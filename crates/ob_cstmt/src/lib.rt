@@ -3,14 +3,11 @@
 
 mod assign;
 mod calls;
-mod cases;
-mod compounds;
 mod conditions;
-mod given;
 mod guards;
+mod labels;
 mod loops;
 mod returns;
-mod rows;
 mod walk;
 
 pub use walk::check_stmts;

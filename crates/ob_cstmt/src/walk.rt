@@ -4,7 +4,7 @@
 ghost use Rattle.std.specs.Prelude.{◌≡◌, IfOk, OnOk, map};
 ghost use Rattle.ob_rules.specs.Books.{book_after};
 ghost use Rattle.ob_rules.specs.Statements as spec;
-ghost use Rattle.ob_cstmt.specs.Seen.{stmts_in};
+ghost use Rattle.ob_cparts.specs.Seen.{stmts_in};
 
 use ob_rules::{Notebook, Surroundings};
 use ob_tree::Stmt;
@@ -13,6 +13,8 @@ use std::alloc::{AllocError, Global};
 
 /// Statements in turn: none where one breaks a rule, or a declaration that it names does. What is
 /// broken, and what they name, is noted in the book. What stands around is in the end as it was.
+///
+/// Answers want of memory: not written yet.
 pub fn check_stmts<S: Surroundings>(
     alloc: Global,
     here: &mut S,

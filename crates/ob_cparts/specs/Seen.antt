@@ -7,7 +7,7 @@ use Rattle.ob_rules.specs.declared.values.Place.{Place}
 use Rattle.ob_rules.specs.Judged.{if_sound, paired}
 use Rattle.ob_rules.specs.Shapes.{Map}
 use Rattle.ob_rules.specs.Statements.{one, for_made}
-use Rattle.ob_cstmt.specs.declared.guards.Test.{Test}
+use Rattle.ob_cparts.specs.declared.guards.Test.{Test}
 use Rattle.ob_types.specs.declared.typed.Label.{Label}
 use Rattle.ob_types.specs.declared.typed.TypedExpr.{TypedExpr}
 use Rattle.ob_types.specs.declared.typed.TypedStmt.{TypedStmt}

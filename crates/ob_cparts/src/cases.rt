@@ -1,20 +1,17 @@
 //! The labels of CASE.
 
-ghost use Rattle.std.specs.Prelude.{◌≡◌, IfOk, OnOk};
+ghost use Rattle.std.specs.Prelude.{◌≡◌};
 ghost use Rattle.std.specs.List.{list_any};
 ghost use Rattle.std.specs.Option.{option_copied};
 ghost use Rattle.ob_rules.specs.declared.meant.Selects.TheVariants as selecting;
 ghost use Rattle.ob_rules.specs.Books.{book_after};
-ghost use Rattle.ob_rules.specs.Expressions as exprs;
 ghost use Rattle.ob_rules.specs.Judged.{if_sound, paired};
 ghost use Rattle.ob_rules.specs.Statements as spec;
 
-use ob_cexpr::{check_expr, start_of};
-use ob_cname::{is, types, width};
-use ob_rules::{Notebook, Selects, Surroundings, Valued};
-use ob_tree::{Element, Expr, Pos};
+use ob_cname::{is, width};
+use ob_rules::{Notebook, Selects, Valued};
+use ob_tree::Pos;
 use ob_types::{Basic, Label, Types, Value, Width};
-use std::alloc::{AllocError, Global};
 
 fn selects_by(character: bool, width: Option<Width>) -> Option<Selects>
     ensures { result ≡ spec.selects_by character width }
@@ -35,7 +32,9 @@ pub fn selects<T: Types>(types: &T, x: &Valued) -> Option<Selects>
     selects_by(is(types, Basic::Char, x), width(types, x))
 }
 
-fn selecting<T: Types>(
+/// The value of CASE, where it is sound. Rule 33 where it is neither integer nor character. Takes no
+/// memory.
+pub fn case_value_if<T: Types>(
     types: &T,
     book: &mut Notebook,
     start: Pos,
@@ -51,20 +50,6 @@ fn selecting<T: Types>(
             book.wants(fit, 33, start, value)
         }
     }
-}
-
-/// The value of CASE. Rule 33, and those of the expression.
-pub fn case_value<S: Surroundings>(
-    alloc: Global,
-    here: &S,
-    book: &mut Notebook,
-    x: &Expr,
-) -> Result<Option<Valued>, AllocError>
-    ensures made { IfOk result (λ r. r ≡ (spec.case_judged (S.around here.now) (exprs.phrase_of x.now)).node) }
-    ensures noted { OnOk result (book.new ≡ book_after book.old (spec.case_judged (S.around here.now) (exprs.phrase_of x.now)).notes) }
-{
-    let value = check_expr(alloc, here, book, x)?;
-    Ok(selecting(types(here), book, start_of(x), value))
 }
 
 /// What the labels are to be, where the value is sound.
@@ -204,7 +189,10 @@ fn label_between(
     }
 }
 
-fn label_if(
+/// A label of its bounds, where they are sound, after the labels before it. Rule 33 where it is no
+/// number of what is selected by, an empty range, or has a number that a label before it has. Takes
+/// no memory.
+pub fn label_if(
     book: &mut Notebook,
     selects: Option<Selects>,
     at: Pos,
@@ -222,19 +210,4 @@ fn label_if(
             Some(high) => label_between(book, selects, at, before, low, high),
         },
     }
-}
-
-/// A label. Rule 33, and those of its bounds.
-pub fn check_label<S: Surroundings>(
-    alloc: Global,
-    here: &S,
-    book: &mut Notebook,
-    selects: Option<Selects>,
-    before: &[Label],
-    element: &Element,
-) -> Result<Option<Label>, AllocError>
-    ensures made { IfOk result (λ r. r ≡ (spec.label (S.around here.now) selects before.now (exprs.ranged_of element.now)).node) }
-    ensures noted { OnOk result (book.new ≡ book_after book.old (spec.label (S.around here.now) selects before.now (exprs.ranged_of element.now)).notes) }
-{
-    Err(AllocError)
 }

@@ -3,7 +3,7 @@
 ghost use Rattle.std.specs.Prelude.{◌≡◌, Some, IfOk, OnOk};
 ghost use Rattle.std.specs.Option.{option_map};
 ghost use Rattle.ob_rules.specs.Statements as spec;
-ghost use Rattle.ob_cstmt.specs.Seen.{branch_of, branches_in, case_of, cases_in, else_in, expr_in, rejoined, stmt_in, stmts_in, singly};
+ghost use Rattle.ob_cparts.specs.Seen.{branch_of, branches_in, case_of, cases_in, else_in, expr_in, rejoined, stmt_in, stmts_in, singly};
 
 use ob_tree::List;
 use ob_trees::{BranchTrees, CaseTrees, ExprTree, StmtTree, StmtTrees};

@@ -12,7 +12,7 @@ use Rattle.ob_rules.specs.Names.{Around}
 use Rattle.ob_rules.specs.Books.{book_after}
 use Rattle.ob_rules.specs.Statements.{Judging, in_turn, branch_of as judged_branch, case_of as judged_case}
 use Rattle.ob_rules.proofs.RowLaws.{both_noted}
-use Rattle.ob_cstmt.specs.Seen.{rejoined, singly, branch_of, case_of}
+use Rattle.ob_cparts.specs.Seen.{rejoined, singly, branch_of, case_of}
 
 pub ends : {A : Type 0} (a : Option (List A)) → rejoined a (Some []) ≡ a
 ends None = refl

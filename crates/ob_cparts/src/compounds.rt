@@ -6,7 +6,7 @@ ghost use Rattle.ob_types.specs.declared.typed.TypedStmt.TheVariants as stmt;
 ghost use Rattle.ob_rules.specs.Judged.{if_sound, paired};
 ghost use Rattle.ob_rules.specs.Statements as spec;
 ghost use Rattle.ob_rules.specs.Values as values;
-ghost use Rattle.ob_cstmt.specs.Seen.{branches_in, cases_in, else_in, expr_in, stmt_in, stmts_in};
+ghost use Rattle.ob_cparts.specs.Seen.{branches_in, cases_in, else_in, expr_in, stmt_in, stmts_in};
 
 use ob_cname::tree_of;
 use ob_rules::Valued;
@@ -23,6 +23,7 @@ fn or_empty(alloc: Global, otherwise: Option<StmtTrees>) -> StmtTrees
     }
 }
 
+/// IF of its parts, where they are sound. Takes no memory.
 pub fn if_made(
     alloc: Global,
     branches: Option<BranchTrees>,
@@ -39,6 +40,7 @@ pub fn if_made(
     }
 }
 
+/// CASE of its parts, where they are sound. Takes no memory.
 pub fn case_made(
     at: Pos,
     value: Option<Valued>,
@@ -59,6 +61,7 @@ pub fn case_made(
     }
 }
 
+/// WHILE of its parts, where they are sound. Takes no memory.
 pub fn while_made(at: Pos, test: Option<ExprTree>, body: Option<StmtTrees>) -> Option<StmtTree>
     ensures { stmt_in result ≡ (if_sound (paired (expr_in test) (stmts_in body)) (λ p. spec.one (stmt.While p.0 p.1 at))).node }
 {
@@ -71,6 +74,7 @@ pub fn while_made(at: Pos, test: Option<ExprTree>, body: Option<StmtTrees>) -> O
     }
 }
 
+/// REPEAT of its parts, where they are sound. Takes no memory.
 pub fn repeat_made(at: Pos, body: Option<StmtTrees>, test: Option<ExprTree>) -> Option<StmtTree>
     ensures { stmt_in result ≡ (if_sound (paired (stmts_in body) (expr_in test)) (λ p. spec.one (stmt.Repeat p.0 p.1 at))).node }
 {
@@ -83,6 +87,7 @@ pub fn repeat_made(at: Pos, body: Option<StmtTrees>, test: Option<ExprTree>) -> 
     }
 }
 
+/// LOOP of its body, where that is sound. Takes no memory.
 pub fn loop_made(at: Pos, body: Option<StmtTrees>) -> Option<StmtTree>
     ensures { stmt_in result ≡ (if_sound (stmts_in body) (λ b. spec.one (stmt.Loop b at))).node }
 {
@@ -92,6 +97,7 @@ pub fn loop_made(at: Pos, body: Option<StmtTrees>) -> Option<StmtTree>
     }
 }
 
+/// WITH of its parts, where they are sound. Takes no memory.
 pub fn with_made(
     at: Pos,
     branches: Option<BranchTrees>,

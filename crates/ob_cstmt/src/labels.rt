@@ -1,0 +1,112 @@
+//! The value of CASE, and its labels.
+
+ghost use Rattle.std.specs.Prelude.{◌≡◌, IfOk, OnOk, map};
+ghost use Rattle.ob_rules.specs.Books.{book_after};
+ghost use Rattle.ob_rules.specs.Expressions as exprs;
+ghost use Rattle.ob_rules.specs.Statements as spec;
+
+use ob_cexpr::{check_constant, check_expr, start_of};
+use ob_cname::types;
+use ob_cparts::{add_label, case_value_if, label_if, with_label};
+use ob_rules::{Notebook, Selects, Surroundings, Valued};
+use ob_tree::{Element, Expr, List};
+use ob_types::{Label, Value};
+use std::alloc::{AllocError, Global};
+
+/// The value of CASE. Rule 33, and those of the expression.
+pub fn case_value<S: Surroundings>(
+    alloc: Global,
+    here: &S,
+    book: &mut Notebook,
+    x: &Expr,
+) -> Result<Option<Valued>, AllocError>
+    ensures made { IfOk result (λ r. r ≡ (spec.case_judged (S.around here.now) (exprs.phrase_of x.now)).node) }
+    ensures noted { OnOk result (book.new ≡ book_after book.old (spec.case_judged (S.around here.now) (exprs.phrase_of x.now)).notes) }
+{
+    let value = check_expr(alloc, here, book, x)?;
+    Ok(case_value_if(types(here), book, start_of(x), value))
+}
+
+// The upper bound of a label, none where it has no other.
+fn check_high<S: Surroundings>(
+    alloc: Global,
+    here: &S,
+    book: &mut Notebook,
+    high: &Option<Expr>,
+) -> Result<Option<Option<Value>>, AllocError>
+    ensures made { IfOk result (λ r. r ≡ (spec.high_if (S.around here.now) (spec.phrase_if high.now)).node) }
+    ensures noted { OnOk result (book.new ≡ book_after book.old (spec.high_if (S.around here.now) (spec.phrase_if high.now)).notes) }
+{
+    match high {
+        None => Ok(Some(None)),
+        Some(high) => match check_constant(alloc, here, book, high)? {
+            None => Ok(None),
+            Some(high) => Ok(Some(Some(high))),
+        },
+    }
+}
+
+fn check_bounds<S: Surroundings>(
+    alloc: Global,
+    here: &S,
+    book: &mut Notebook,
+    selects: Option<Selects>,
+    before: &[Label],
+    low: &Expr,
+    high: &Option<Expr>,
+) -> Result<Option<Label>, AllocError>
+    ensures made { IfOk result (λ r. r ≡ (spec.label (S.around here.now) selects before.now (record { low = exprs.phrase_of low.now; high = spec.phrase_if high.now })).node) }
+    ensures noted { OnOk result (book.new ≡ book_after book.old (spec.label (S.around here.now) selects before.now (record { low = exprs.phrase_of low.now; high = spec.phrase_if high.now })).notes) }
+{
+    let start = start_of(low);
+    let lower = check_constant(alloc, here, book, low)?;
+    let upper = check_high(alloc, here, book, high)?;
+    Ok(label_if(book, selects, start, before, lower, upper))
+}
+
+/// A label. Rule 33, and those of its bounds.
+#[tactic(auto, using(crate::proofs::StmtViews::ranged_is))]
+fn check_label<S: Surroundings>(
+    alloc: Global,
+    here: &S,
+    book: &mut Notebook,
+    selects: Option<Selects>,
+    before: &[Label],
+    element: &Element,
+) -> Result<Option<Label>, AllocError>
+    ensures made { IfOk result (λ r. r ≡ (spec.label (S.around here.now) selects before.now (exprs.ranged_of element.now)).node) }
+    ensures noted { OnOk result (book.new ≡ book_after book.old (spec.label (S.around here.now) selects before.now (exprs.ranged_of element.now)).notes) }
+{
+    check_bounds(
+        alloc,
+        here,
+        book,
+        selects,
+        before,
+        &element.low,
+        &element.high,
+    )
+}
+
+/// The labels of one alternative, after those before it, which they join. Rule 33, and those of
+/// their bounds.
+pub fn check_labels<S: Surroundings>(
+    alloc: Global,
+    here: &S,
+    book: &mut Notebook,
+    selects: Option<Selects>,
+    before: &mut List<Label>,
+    labels: &[Element],
+) -> Result<Option<List<Label>>, AllocError>
+    ensures made { IfOk result (λ r. r ≡ (spec.labels (S.around here.now) selects before.old (map exprs.ranged_of labels.now)).found.node) }
+    ensures noted { OnOk result (book.new ≡ book_after book.old (spec.labels (S.around here.now) selects before.old (map exprs.ranged_of labels.now)).found.notes) }
+    ensures before { OnOk result (before.new ≡ (spec.labels (S.around here.now) selects before.old (map exprs.ranged_of labels.now)).before) }
+{
+    let mut all = Some(List::new(alloc));
+    'labels: for element in labels {
+        let label = check_label(alloc, here, book, selects, before.as_slice(), element)?;
+        add_label(before, label)?;
+        all = with_label(all, label)?;
+    }
+    Ok(all)
+}
