@@ -128,7 +128,15 @@ pub fn call_procedure(
 {
     match actuals {
         None => Ok(None),
-        Some(actuals) => call_by(book, place, at, Callee::Declared(name), signature, count, actuals),
+        Some(actuals) => call_by(
+            book,
+            place,
+            at,
+            Callee::Declared(name),
+            signature,
+            count,
+            actuals,
+        ),
     }
 }
 
@@ -227,7 +235,15 @@ fn call_of_out(
     ensures made { signature.now ≡ spec.out_signature procedure → IfOk result (λ r. r ≡ (spec.called_with place at (spec.out_signature procedure) count (λ xs. e.Call (callee.Out procedure) xs at None) actuals.inner).node) }
     ensures noted { signature.now ≡ spec.out_signature procedure → OnOk result (book.new ≡ book_after book.old (spec.called_with place at (spec.out_signature procedure) count (λ xs. e.Call (callee.Out procedure) xs at None) actuals.inner).notes) }
 {
-    call_by(book, place, at, Callee::Out(procedure), signature, count, actuals)
+    call_by(
+        book,
+        place,
+        at,
+        Callee::Out(procedure),
+        signature,
+        count,
+        actuals,
+    )
 }
 
 /// The call of a procedure of Out with these actual parameters, which are judged already; `count`
