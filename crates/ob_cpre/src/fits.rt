@@ -216,7 +216,15 @@ fn fit_there<S: Surroundings>(
     ensures noted { OnOk result (book.new ≡ book_after book.old (spec.call_fit (S.around here.now) place procedure at parameters.items).notes) }
 {
     let misplaced = misplaced(place, is_function(procedure));
-    fit_unless(alloc, types(here), book, misplaced, procedure, at, parameters)
+    fit_unless(
+        alloc,
+        types(here),
+        book,
+        misplaced,
+        procedure,
+        at,
+        parameters,
+    )
 }
 
 /// The call of a predeclared procedure, but MAX and MIN, with these parameters, which are judged
