@@ -10,7 +10,7 @@ use Rattle.ob_env.specs.Faces.{face_of}
 use Rattle.ob_env.specs.Stale.{first_among}
 use Rattle.ob_env.specs.Fit.{misfit, steps_of}
 use Rattle.ob_env.specs.Mapped.{map_of}
-use Rattle.ob_env.specs.Walking.{faces_of}
+use Rattle.ob_env.specs.Faces.{faces_of}
 use Rattle.ob_env.specs.Building.{object_answer, objects_answer, unfit_answer}
 
 mapped_else : {A B : Type 0} (g : A → B) (o p : Option A) → option_map g (or_else o p) ≡ or_else (option_map g o) (option_map g p)

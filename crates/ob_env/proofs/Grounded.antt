@@ -26,7 +26,7 @@ use Rattle.ob_env.specs.Faces.{Face, object_named, face_named}
 use Rattle.ob_env.specs.Stale.{first_among}
 use Rattle.ob_env.specs.Fit.{chain_described, is_within, is as is_kind, is_held, names_types, stands, has_bases, has_plain_result, is_closed_field, is_plain_method, keeps_places, fits, steps_of, unless, misfit, first_unfit, if_some}
 use Rattle.ob_env.specs.Mapped.{map_of}
-use Rattle.ob_env.specs.Walking.{faces_of}
+use Rattle.ob_env.specs.Faces.{faces_of}
 use Rattle.ob_env.specs.Building.{unfit_answer}
 
 left_of : (a b : Bool) → (a && b) ≡ true → a ≡ true

@@ -18,7 +18,7 @@ use Rattle.ob_sym.specs.Grammar.{IsObjectOf, object_of}
 use Rattle.ob_sym.proofs.Seen.{seen_is}
 use Rattle.ob_env.specs.Faces.{print_in}
 use Rattle.ob_env.specs.Found.{object_by_name, interface_by_name, object_found, carried_print, CarryPrints}
-use Rattle.ob_env.specs.Walking.{faces_of}
+use Rattle.ob_env.specs.Faces.{faces_of}
 use Rattle.ob_env.specs.Laws.{described_found}
 
 carries : (m : List ℕ) (o : Object) (a : Aspect) → IsObjectOf m o → option_map print_from (text_of (object_of m o.name) o.desc a) ≡ carried_print o a

@@ -13,7 +13,7 @@ use Rattle.ob_env.specs.Faces.{Face, Wanted, wanted_of, face_of, print_in}
 use Rattle.ob_env.specs.Stale.{Found, AsWanted, IsAbsent, IsChanged, StaleUse, prints_agree, found_as, unmet, first_among, first_stale}
 use Rattle.ob_env.specs.Answer.{Stands, if_fit, if_coherent}
 use Rattle.ob_env.specs.Fit.{first_unfit}
-use Rattle.ob_env.specs.Walking.{faces_of}
+use Rattle.ob_env.specs.Faces.{faces_of}
 use Rattle.ob_env.specs.Building.{use_fault, stale_fault, fault_of, Named, stands_as, use_answer, uses_answer, stale_answer, unfit_answer}
 
 -- ---- a step of a list

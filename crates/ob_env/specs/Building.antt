@@ -11,8 +11,8 @@ use Rattle.ob_env.specs.Faces.{Wanted, wanted_of, print_in}
 use Rattle.ob_env.specs.Stale.{Found, AsWanted, IsAbsent, IsChanged, StaleUse, prints_agree, found_as, first_among}
 use Rattle.ob_env.specs.Fit.{misfit, first_unfit}
 use Rattle.ob_env.specs.Mapped.{map_of}
-use Rattle.ob_env.specs.Answer.{Standing, Stands, Stopped, Stale, Unfit, standing}
-use Rattle.ob_env.specs.Walking.{faces_of}
+use Rattle.ob_env.specs.Answer.{Standing, Stands, Stale, Unfit, standing}
+use Rattle.ob_env.specs.Faces.{faces_of}
 
 -- the fault of a use, by what it meets
 abbrev pub use_fault : List ℕ → Wanted Print → Found Print → Option EnvFault
@@ -25,7 +25,6 @@ stale_fault u = use_fault u.client u.wanted u.found
 
 abbrev pub fault_of : Standing Print → Option EnvFault
 fault_of (Stands faces) = None
-fault_of (Stopped walked) = None
 fault_of (Stale u) = stale_fault u
 fault_of (Unfit q) = Some (fault.Unfit q)
 

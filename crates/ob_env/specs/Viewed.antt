@@ -13,7 +13,7 @@ use Rattle.ob_types.specs.TypedView.{module_view}
 use Rattle.ob_layout.specs.Index.{first_by}
 use Rattle.ob_layout.specs.LaidOut.{type_named, viewed}
 use Rattle.ob_env.specs.Faces.{described}
-use Rattle.ob_env.specs.Walking.{faces_of}
+use Rattle.ob_env.specs.Faces.{faces_of}
 use Rattle.ob_env.specs.Laws.{Has, contains, has_left, has_right, either, among, names_of}
 
 -- THE MAP

@@ -3,7 +3,7 @@ ghost use Rattle.std.specs.Option.{option_copied};
 ghost use Rattle.ob_env.specs.Faces.{print_in};
 ghost use Rattle.ob_env.specs.Found.{object_found, module_names, carried_print, CarryPrints};
 ghost use Rattle.ob_env.specs.Tables.{AreTables};
-ghost use Rattle.ob_env.specs.Walking.{faces_of};
+ghost use Rattle.ob_env.specs.Faces.{faces_of};
 ghost use Rattle.ob_env.specs.Marks.{place_of};
 ghost use Rattle.ob_types.specs.Relations.{IsGrounded};
 ghost use Rattle.ob_env.specs.Mapped.{map_of};

@@ -3,7 +3,7 @@ ghost use Rattle.ob_env.specs.Stale.{first_among};
 ghost use Rattle.ob_env.specs.Fit.{is_sound_record, fits, steps_of, stands as stands_well};
 ghost use Rattle.ob_env.specs.Mapped.{map_of};
 ghost use Rattle.ob_env.specs.Marks.{SayWithin};
-ghost use Rattle.ob_env.specs.Walking.{faces_of};
+ghost use Rattle.ob_env.specs.Faces.{faces_of};
 ghost use Rattle.ob_env.specs.Building.{Checks, object_answer, objects_answer, unfit_answer};
 
 use crate::conditions::{

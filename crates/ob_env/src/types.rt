@@ -1,6 +1,6 @@
 ghost use Rattle.std.specs.Prelude.{◌≡◌};
 ghost use Rattle.ob_env.specs.Faces.{described};
-ghost use Rattle.ob_env.specs.Walking.{faces_of};
+ghost use Rattle.ob_env.specs.Faces.{faces_of};
 ghost use Rattle.ob_env.specs.Laws.{described_finite};
 
 use crate::env::Env;

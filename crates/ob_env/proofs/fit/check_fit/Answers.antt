@@ -2,7 +2,7 @@ use Rattle.std.proofs.Common.{◌≡◌, List, Option, ap, subst, ◌∙◌}
 use Rattle.ob_types.specs.declared.face.Interface.{Interface}
 use Rattle.ob_env.specs.declared.fault.EnvFault.{EnvFault}
 use Rattle.ob_env.specs.Fit.{steps_of}
-use Rattle.ob_env.specs.Walking.{faces_of}
+use Rattle.ob_env.specs.Faces.{faces_of}
 use Rattle.ob_env.specs.Building.{Checks}
 use Rattle.ob_env.proofs.Fits.{unfit_is}
 use Rattle.ob_env.proofs.fit.check_fit.Goals as goal

@@ -1,6 +1,6 @@
 use Rattle.std.proofs.Common.{◌≡◌, ◌+◌, length}
 use Rattle.ob_env.specs.Fit.{count_of, steps_of}
-use Rattle.ob_env.specs.Walking.{faces_of}
+use Rattle.ob_env.specs.Faces.{faces_of}
 use Rattle.ob_env.proofs.fit.steps_for.Given as goal
 
 abbrev pub invariant-loop-rest : goal.invariant-loop-rest

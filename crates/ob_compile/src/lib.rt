@@ -1,0 +1,15 @@
+//! The compile of a source: its symbol file and its object file, or the first refusal.
+#![tactic(auto)]
+
+mod compiling;
+mod exports;
+mod fault;
+mod files;
+mod kept;
+mod made;
+mod shape;
+mod source;
+
+pub use compiling::compile;
+pub use fault::{CompileFault, CompileRefusal};
+pub use shape::Built;

@@ -1,0 +1,142 @@
+ghost use Rattle.std.specs.Prelude.{◌≡◌, IfOk, map};
+ghost use Rattle.ob_env.specs.Shown.{blank, unplaced, unnumbered};
+ghost use Rattle.ob_shown.specs.Faces.{shown_object, shown_face, shown_faces};
+
+use ob_tree::List;
+use ob_trees::{copy_desc, copy_method, copy_type};
+use ob_types::{Desc, Field, Interface, Method, Object, RecordDesc, TypeRef};
+use std::alloc::{AllocError, Global};
+
+fn unplaced(field: &Field) -> Result<Field, AllocError>
+    ensures { IfOk result (λ f. f ≡ unplaced field.now) }
+{
+    let of = copy_type(&field.of)?;
+    Ok(Field {
+        name: field.name,
+        mark: field.mark,
+        place: 0,
+        of,
+    })
+}
+
+fn unnumbered(alloc: Global, method: &Method) -> Result<Method, AllocError>
+    ensures { IfOk result (λ m. m ≡ unnumbered method.now) }
+{
+    let mut copy = copy_method(alloc, method)?;
+    copy.number = 0;
+    Ok(copy)
+}
+
+fn all_unplaced(alloc: Global, fields: &[Field]) -> Result<List<Field>, AllocError>
+    ensures { IfOk result (λ l. l ≡ map unplaced fields.now) }
+{
+    let mut all = List::new(alloc);
+    'fields: for field in fields {
+        let one = unplaced(field)?;
+        all.push(one)?;
+    }
+    Ok(all)
+}
+
+fn all_unnumbered(alloc: Global, methods: &[Method]) -> Result<List<Method>, AllocError>
+    ensures { IfOk result (λ l. l ≡ map unnumbered methods.now) }
+{
+    let mut all = List::new(alloc);
+    'methods: for method in methods {
+        let one = unnumbered(alloc, method)?;
+        all.push(one)?;
+    }
+    Ok(all)
+}
+
+fn copy_base(base: &Option<TypeRef>) -> Result<Option<TypeRef>, AllocError>
+    ensures { IfOk result (λ b. b ≡ base.now) }
+{
+    match base {
+        None => Ok(None),
+        Some(t) => {
+            let t = copy_type(t)?;
+            Ok(Some(t))
+        }
+    }
+}
+
+fn blank_record(alloc: Global, described: &RecordDesc) -> Result<Desc, AllocError>
+    ensures { IfOk result (λ d. d ≡ blank (Desc.Record described.now)) }
+{
+    let base = copy_base(&described.base)?;
+    let fields = all_unplaced(alloc, described.fields.as_slice())?;
+    let methods = all_unnumbered(alloc, described.methods.as_slice())?;
+    Ok(Desc::Record(RecordDesc {
+        mark: described.mark,
+        base,
+        fields,
+        methods,
+        words: 0,
+        procedures: 0,
+    }))
+}
+
+fn blank(alloc: Global, desc: &Desc) -> Result<Desc, AllocError>
+    ensures { IfOk result (λ d. d ≡ blank desc.now) }
+{
+    match desc {
+        Desc::Record(described) => blank_record(alloc, described),
+        Desc::Const(_)
+        | Desc::Var(..)
+        | Desc::Proc(_)
+        | Desc::Alias(..)
+        | Desc::Array(..)
+        | Desc::OpenArray(..)
+        | Desc::Pointer(..)
+        | Desc::ProcType(..) => copy_desc(alloc, desc),
+    }
+}
+
+fn shown_object(alloc: Global, object: &Object) -> Result<Object, AllocError>
+    ensures { IfOk result (λ o. o ≡ shown_object object.now) }
+{
+    let desc = blank(alloc, &object.desc)?;
+    let name = object.name.clone()?;
+    Ok(Object {
+        name,
+        desc,
+        shape: object.shape,
+        layout: object.layout,
+    })
+}
+
+fn shown_objects(alloc: Global, objects: &[Object]) -> Result<List<Object>, AllocError>
+    ensures { IfOk result (λ l. l ≡ map shown_object objects.now) }
+{
+    let mut all = List::new(alloc);
+    'objects: for object in objects {
+        let one = shown_object(alloc, object)?;
+        all.push(one)?;
+    }
+    Ok(all)
+}
+
+fn shown_face(alloc: Global, face: &Interface) -> Result<Interface, AllocError>
+    ensures { IfOk result (λ i. i ≡ shown_face face.now) }
+{
+    let objects = shown_objects(alloc, face.objects.as_slice())?;
+    Ok(Interface {
+        module: face.module,
+        imports: List::new(alloc),
+        objects,
+        uses: List::new(alloc),
+    })
+}
+
+/// Interfaces without places, numbers and words.
+pub fn shown_faces(alloc: Global, faces: &[Interface]) -> Result<List<Interface>, AllocError>
+    ensures { IfOk result (λ l. l ≡ shown_faces faces.now) }
+{
+    let mut all = List::new(alloc);
+    'faces: for face in faces {
+        let one = shown_face(alloc, face)?;
+        all.push(one)?;
+    }
+    Ok(all)
+}
