@@ -5,7 +5,7 @@ use Rattle.ob_types.specs.declared.face.Interface.{Interface}
 use Rattle.ob_format.specs.Format.{whole}
 use Rattle.ob_sym.specs.Grammar.{face as face_form}
 use Rattle.ob_env.specs.Faces.{Face, face_of}
-use Rattle.ob_env.specs.Walk.{file_limit}
+use Rattle.ob_walk.specs.Walk.{file_limit}
 use Rattle.ob_cmp.specs.Verdicts.{no_face}
 
 -- what a symbol file has, of whatever module

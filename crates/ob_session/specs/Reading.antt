@@ -1,11 +1,34 @@
 -- A script that is read by pieces.
-use Rattle.std.specs.Prelude.{◌≡◌, ℕ, ◌+◌, List, [], ◌∷◌, ◌++◌, Bool, true, false, ◌==◌, ◌&&◌, not, if◌then◌else◌, length, Option, Some, None, Result, Ok, Err}
+use Rattle.std.specs.Prelude.{◌≡◌, ℕ, ◌≤◌, ◌<◌, ◌+◌, List, [], ◌∷◌, ◌++◌, Bool, true, false, ◌==◌, ◌&&◌, not, if◌then◌else◌, length, Option, Some, None, Result, Ok, Err}
+use Rattle.ob_io.specs.Io.{Rose}
 use Rattle.ob_lines.specs.Lines.{lines_of}
 use Rattle.ob_lines.specs.Splits.{Stops, GoesOn}
-use Rattle.ob_session.specs.declared.reading.NextFault.{NextFault}
-use Rattle.ob_session.specs.declared.reading.NextFault.TheVariants as fault
-use Rattle.ob_session.specs.declared.reading.Next.{Next}
-use Rattle.ob_session.specs.declared.reading.Next.TheVariants as next
+use Rattle.ob_session.specs.declared.next.NextFault.{NextFault}
+use Rattle.ob_session.specs.declared.next.NextFault.TheVariants as fault
+use Rattle.ob_session.specs.declared.next.Next.{Next}
+use Rattle.ob_session.specs.declared.next.Next.TheVariants as next
+
+-- the fault of the script is answered only where its count rose
+pub record NextCause {T : Type 0} (before now : ℕ) (result : Result T NextFault) : Type 0 where
+  pub later : before ≤ now
+  pub failed : result ≡ Err fault.Failed → Rose before now
+
+-- the next bytes, of which there are none only at the end; a read that failed takes none
+abbrev pub Fills : List ℕ → List ℕ → List ℕ → Result (Unit {0}) NextFault → Type 0
+Fills old new ahead (Ok u) = (ahead ++ new ≡ old) × (ahead ≡ [] → old ≡ [])
+Fills old new ahead (Err e) = (ahead ++ new ≡ old) × (ahead ≡ [])
+
+-- the first of some bytes
+abbrev pub TakesFirst : List ℕ → List ℕ → Option ℕ → Type 0
+TakesFirst old new None = (old ≡ []) × (new ≡ [])
+TakesFirst old new (Some b) = old ≡ b ∷ new
+
+-- more bytes are taken, and not too many
+abbrev pub TakesMore : ℕ → Next → Type 0
+TakesMore at (next.Line taken) = (at < taken) × (taken ≤ 1048576)
+TakesMore at (next.Last taken) = (at < taken) × (taken ≤ 1048576)
+TakesMore at next.End = Unit {0}
+TakesMore at next.Passes = Unit {0}
 
 -- the first byte, or none at the end; a read that failed takes none
 abbrev pub Takes : List ℕ → List ℕ → Result (Option ℕ) NextFault → Type 0

@@ -1,13 +1,15 @@
-// A library with one function.
+//! The session: what the program does.
 #![tactic(auto)]
 
-ghost use Rattle.std.specs.Prelude.{◌≡◌};
-ghost use Rattle.ob_session.specs.Echo.{echo_of};
+mod commanding;
+mod comparing;
+mod compiling;
+mod demo;
+mod files;
+mod line;
+mod next;
+mod reading;
+mod script;
 
-// The `ensures` clause is the contract: what `echo` returns is `echo_of` of its argument, a definition
-// in `specs/Echo.antt`, which a caller's clause can cite too.
-pub fn echo(x: usize) -> usize
-    ensures { result ≡ echo_of x }
-{
-    x
-}
+pub use ob_printing::Stop;
+pub use script::session;

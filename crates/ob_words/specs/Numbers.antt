@@ -10,7 +10,7 @@ abbrev pub is_number : List ℕ → Bool
 is_number text = nat_le 1 (length text) && (nat_le (length text) 10 && list_all is_digit text)
 
 -- the value of digits behind others of this value
-unfoldable pub value_from : ℕ → List ℕ → ℕ
+abbrev pub value_from : ℕ → List ℕ → ℕ
 value_from n [] = n
 value_from n (b ∷ bs) = value_from (n * 10 + (b - 48)) bs
 

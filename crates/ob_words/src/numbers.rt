@@ -31,7 +31,7 @@ fn up_to(most: u32, number: u32) -> Option<u32>
 }
 
 // The value of digits behind others of this value, where it is at most so much.
-#[tactic(auto, using(crate::proofs::Values::over, crate::proofs::Values::none_left, crate::proofs::Values::one_more))]
+#[tactic(auto, using(crate::proofs::Values::over))]
 fn value_of(most: u32, before: u32, digits: &[u8]) -> Option<u32>
     requires most { most ≤ 1000000000 }
     requires before { before ≤ most }

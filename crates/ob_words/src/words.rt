@@ -1,4 +1,4 @@
-ghost use Rattle.std.specs.Prelude.{◌≡◌, ◌≤◌, ◌⊎◌, IfOk, IfErr, map, [], option_map};
+ghost use Rattle.std.specs.Prelude.{◌≡◌, ◌≤◌, ◌⊎◌, ◌↔◌, IsTrue, IfOk, IfErr, map, [], option_map};
 ghost use Rattle.clap.specs.Words.{IsAmong, fault_of, found_of, kind_of, matches_of, rows_of};
 ghost use Rattle.ob_words.specs.Settings.{chosen, number_or, oberon, settings_of, SettingsAre};
 
@@ -47,14 +47,10 @@ fn chosen(turns: Option<u32>, heap: Option<u32>) -> Option<Settings>
     Some(Settings { turns, heap })
 }
 
-fn fault_of(error: &Error) -> WordsFault
-    ensures { result ≡ WordsFault.Refused → kind_of error.now ≡ ErrorKind.OutOfMemory → ⊥ }
+fn is_memory(error: &Error) -> bool
+    ensures { IsTrue result ↔ (kind_of error.now ≡ ErrorKind.OutOfMemory) }
 {
-    if error.kind() == ErrorKind::OutOfMemory {
-        WordsFault::Memory
-    } else {
-        WordsFault::Refused
-    }
+    error.kind() == ErrorKind::OutOfMemory
 }
 
 /// The settings that the words behind the program's name say: `--turns N` and `--heap N`, each at
@@ -77,6 +73,11 @@ pub fn settings(alloc: Global, words: &[String]) -> Result<Settings, WordsFault>
                 None => Err(WordsFault::Refused),
             }
         }
-        Err(error) => Err(fault_of(&error)),
+        Err(error) => {
+            if is_memory(&error) {
+                return Err(WordsFault::Memory);
+            }
+            Err(WordsFault::Refused)
+        }
     }
 }
