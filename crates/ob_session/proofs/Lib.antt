@@ -1,3 +1,6 @@
 pub mod Opens
 pub mod Nexts
 pub mod Goings
+pub mod Decoded
+pub mod Said
+pub mod Commands

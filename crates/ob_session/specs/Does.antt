@@ -6,7 +6,7 @@ use Rattle.ob_load.specs.Standing.{Standing, Stands}
 use Rattle.ob_printing.specs.declared.stop.Stop.{Stop}
 use Rattle.ob_printing.specs.declared.stop.Stop.TheVariants.{Sink, Folder, Memory}
 use Rattle.ob_session.specs.Folds.{Answer}
-use Rattle.ob_session.specs.Bytes.{World, Change, changed}
+use Rattle.ob_session.specs.Bytes.{World, Change, Said, changed}
 
 -- the system and the folder have what the model keeps
 pub record Shows (s : Standing) (there : Files) (w : World) : Type 0 where
@@ -23,6 +23,33 @@ LineDoes before now old files new a (Ok refused) = (now ≡ before ++ a.text) ×
 LineDoes before now old files new a (Err Sink) = AddsFront before now a.text × SameFiles files (changed old a.changes)
 LineDoes before now old files new a (Err Folder) = (now ≡ before) × ((k : ℕ) × SameFiles files (changed old (take k a.changes)))
 LineDoes before now old files new a (Err Memory) = ((now ≡ before) ⊎ (now ≡ before ++ a.opening)) × SameFiles files old
+
+-- What a line that changes nothing does: it prints its text. At a fault of the sink a front of it was written, and else nothing.
+abbrev pub SaidDoes : Bool → List ℕ → List ℕ → Said → Result Bool Stop → Type 0
+SaidDoes told before now s (Ok refused) = (told ≡ true → now ≡ before ++ s.text) × (refused ≡ s.refused)
+SaidDoes told before now s (Err Sink) = told ≡ true → AddsFront before now s.text
+SaidDoes told before now s (Err Folder) = told ≡ true → now ≡ before
+SaidDoes told before now s (Err Memory) = told ≡ true → now ≡ before
+
+-- What a line that leaves the system does to the files.
+abbrev pub FilesDo : List ℕ → List ℕ → Files → Files → Answer World Change → Result Bool Stop → Type 0
+FilesDo before now old files a (Ok refused) = (now ≡ before ++ a.text) × SameFiles files (changed old a.changes) × (refused ≡ a.refused)
+FilesDo before now old files a (Err Sink) = AddsFront before now a.text × SameFiles files (changed old a.changes)
+FilesDo before now old files a (Err Folder) = (now ≡ before) × ((k : ℕ) × SameFiles files (changed old (take k a.changes)))
+FilesDo before now old files a (Err Memory) = (now ≡ before) × SameFiles files old
+
+-- What a line that leaves system and files does, and of which the first printed line may stand alone where memory was wanting.
+abbrev pub TextDoes : List ℕ → List ℕ → Answer World Change → Result Bool Stop → Type 0
+TextDoes before now a (Ok refused) = (now ≡ before ++ a.text) × (refused ≡ a.refused)
+TextDoes before now a (Err Sink) = AddsFront before now a.text
+TextDoes before now a (Err Folder) = ⊥
+TextDoes before now a (Err Memory) = (now ≡ before) ⊎ (now ≡ before ++ a.opening)
+
+-- the fault of a folder is answered only where its count rose
+pub record FolderCause {T : Type 0} (before now : ℕ) (result : Result T Stop) : Type 0 where
+  pub later : before ≤ now
+  pub failed : result ≡ Err Folder → Rose before now
+  pub no_sink : result ≡ Err Sink → ⊥
 
 -- a fault is answered only where the count of its object rose, and the counts never fall
 pub record Cause {T : Type 0} (s t f g : ℕ) (result : Result T Stop) : Type 0 where

@@ -1,10 +1,10 @@
 -- The words of the session's contract.
-use Rattle.std.specs.Prelude.{◌≡◌, ℕ, ◌+◌, ◌-◌, ◌<◌, ◌≤◌, List, [], ◌∷◌, ◌++◌, Bool, true, false, ◌||◌, nat_lt, nat_eq, length, take, ◌⊎◌}
+use Rattle.std.specs.Prelude.{◌≡◌, ℕ, ◌+◌, ◌≤◌, List, [], ◌∷◌, ◌++◌, Bool, true, false, ◌||◌, nat_lt, nat_eq, length, take, ◌⊎◌}
 use Rattle.ob_io.specs.Io.{Rose, SameFiles}
 use Rattle.ob_link.specs.Files.{Files}
 use Rattle.ob_printing.specs.declared.stop.Stop.{Stop}
 use Rattle.ob_printing.specs.declared.stop.Stop.TheVariants.{Sink, Folder, Memory}
-use Rattle.ob_lines.specs.Lines.{lines_of, within, exceeds, done_lines, line_of}
+use Rattle.ob_lines.specs.Lines.{done_lines, line_of}
 use Rattle.ob_session.specs.Folds.{Answer, Answers, text_from, changes_from, world_from, refused_from, session_text, session_status, session_changes}
 
 -- the statuses of a session that was not cut short
@@ -24,7 +24,7 @@ next_of answer w n (l ∷ ls) = answer w n (line_of l)
 
 -- Of the lines that are done these were done whole, and of the next one a piece of its text was written and the first of its
 -- changes were made. Where memory was wanting none was made, and the piece is at most the first line of a demo; where the folder
--- failed nothing of it was written; where the sink failed all its changes were made.
+-- failed nothing of it was written; where the sink failed all its changes were made; where the script failed nothing of it was done.
 pub record IsCut {W C : Type 0} (kind : Kind W C) (before now : List ℕ) (old new : Files) (lines : List (List ℕ)) (status : ℕ) : Type 0 where
   pub past : List (List ℕ)
   pub rest : List (List ℕ)
@@ -38,6 +38,7 @@ pub record IsCut {W C : Type 0} (kind : Kind W C) (before now : List ℕ) (old n
   pub sink : status ≡ 4 → length (next_of kind.answer (world_from kind.answer kind.first 1 past) (1 + length past) rest).changes ≤ made
   pub memory : status ≡ 5 → (made ≡ 0) × ((piece ≡ []) ⊎ (piece ≡ (next_of kind.answer (world_from kind.answer kind.first 1 past) (1 + length past) rest).opening))
   pub folder : status ≡ 6 → piece ≡ []
+  pub read : status ≡ 3 → (made ≡ 0) × (piece ≡ [])
 
 -- How a session of a kind ends over this script: whole, or cut short.
 pub record Ends {W C : Type 0} (kind : Kind W C) (before now : List ℕ) (old new : Files) (script : List ℕ) (status : ℕ) : Type 0 where

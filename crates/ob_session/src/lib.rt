@@ -6,9 +6,11 @@ mod comparing;
 mod compiling;
 mod demo;
 mod files;
+mod found;
 mod line;
 mod next;
 mod reading;
+mod saying;
 mod script;
 
 pub use ob_printing::Stop;

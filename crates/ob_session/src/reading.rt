@@ -1,4 +1,4 @@
-ghost use Rattle.std.specs.Prelude.{◌≡◌, ◌≤◌, ◌<◌, ◌++◌, ◌+◌, true, false, [], List, ℕ, IfOk, length};
+ghost use Rattle.std.specs.Prelude.{◌≡◌, ◌≤◌, ◌<◌, ◌++◌, ◌+◌, true, [], ℕ, IfOk, length, Err};
 ghost use Rattle.ob_session.specs.Reading.{Fills, NextCause, NextDoes, Takes, TakesFirst, TakesMore};
 
 use crate::next::{Next, NextFault};
@@ -50,6 +50,7 @@ impl Input {
     fn fill<I: Source>(&mut self, script: &mut I) -> Result<(), NextFault>
         requires { self.old ≡ [] }
         ensures fills { I.tells script.old ≡ true → Fills (I.left script.old) (I.left script.new) self.new result }
+        ensures empty { result ≡ Err NextFault.Failed → self.new ≡ [] }
         ensures told { I.tells script.new ≡ I.tells script.old }
         ensures cause { NextCause (I.faults script.old) (I.faults script.new) result }
     {
@@ -79,6 +80,7 @@ impl Input {
     /// Takes the next byte of a script; None at its end.
     pub fn next<I: Source>(&mut self, script: &mut I) -> Result<Option<u8>, NextFault>
         ensures takes { I.tells script.old ≡ true → Takes (self.old ++ I.left script.old) (self.new ++ I.left script.new) result }
+        ensures empty { result ≡ Err NextFault.Failed → self.new ≡ [] }
         ensures told { I.tells script.new ≡ I.tells script.old }
         ensures cause { NextCause (I.faults script.old) (I.faults script.new) result }
     {
@@ -102,6 +104,7 @@ pub fn next_line<I: Source>(
 ) -> Result<Next, NextFault>
     requires { taken ≤ 1048576 }
     ensures does { I.tells script.old ≡ true → (whole : ℕ) → taken + length (input.old ++ I.left script.old) ≡ whole → NextDoes whole taken (input.old ++ I.left script.old) (input.new ++ I.left script.new) line.new.items result }
+    ensures empty { result ≡ Err NextFault.Failed → input.new ≡ [] }
     ensures more { IfOk result (TakesMore taken) }
     ensures told { I.tells script.new ≡ I.tells script.old }
     ensures cause { NextCause (I.faults script.old) (I.faults script.new) result }
