@@ -64,19 +64,19 @@ fn put_verdict<S: Sink>(out: &mut S, verdict: &Verdict) -> Result<(), Failed>
     put_all(out, &texts)
 }
 
-#[tactic(auto, using(ob_io::specs::Fronts::front_more, ob_io::specs::Fronts::front_later))]
+// Prints a line for each verdict.
+#[tactic(auto, using(crate::proofs::Along::along_more, crate::proofs::Along::along_cut, crate::proofs::Along::along_done))]
 fn put_verdicts<S: Sink>(out: &mut S, verdicts: &[Verdict]) -> Result<(), Failed>
     ensures told { S.tells out.new ≡ S.tells out.old }
     ensures bytes { S.tells out.old ≡ true → WritesAll (S.taken out.old) (S.taken out.new) result (flat_map verdict_line verdicts.now) }
     ensures cause { HasCause (S.faults out.old) (S.faults out.new) result }
 {
-    match verdicts {
-        [] => Ok(()),
-        [first, rest @ ..] => {
-            put_verdict(out, first)?;
-            put_verdicts(out, rest)
-        }
+    let mut rest = verdicts;
+    'verdicts: while let [first, more @ ..] = rest {
+        put_verdict(out, first)?;
+        rest = more;
     }
+    Ok(())
 }
 
 // Prints texts, and a line for each verdict.
@@ -156,19 +156,19 @@ fn put_use<S: Sink>(out: &mut S, stale: &Stale) -> Result<(), Failed>
     put_all(out, &texts)
 }
 
-#[tactic(auto, using(ob_io::specs::Fronts::front_more, ob_io::specs::Fronts::front_later))]
+// Prints a line for each use.
+#[tactic(auto, using(crate::proofs::Along::along_more, crate::proofs::Along::along_cut, crate::proofs::Along::along_done))]
 fn put_uses<S: Sink>(out: &mut S, uses: &[Stale]) -> Result<(), Failed>
     ensures told { S.tells out.new ≡ S.tells out.old }
     ensures bytes { S.tells out.old ≡ true → WritesAll (S.taken out.old) (S.taken out.new) result (flat_map stale_line uses.now) }
     ensures cause { HasCause (S.faults out.old) (S.faults out.new) result }
 {
-    match uses {
-        [] => Ok(()),
-        [first, rest @ ..] => {
-            put_use(out, first)?;
-            put_uses(out, rest)
-        }
+    let mut rest = uses;
+    'uses: while let [first, more @ ..] = rest {
+        put_use(out, first)?;
+        rest = more;
     }
+    Ok(())
 }
 
 // Prints texts, and a line for each use.

@@ -18,15 +18,15 @@ use Rattle.ob_words.specs.declared.asked.Settings.{Settings}
 use Rattle.ob_lines.specs.Lines as line
 use Rattle.ob_lines.specs.Lines.{Line, lines_of, line_of, within, exceeds, done_lines}
 use Rattle.ob_lines.specs.Splits.{Stops, GoesOn}
-use Rattle.ob_session.specs.declared.next.NextFault.TheVariants as fault
-use Rattle.ob_session.specs.declared.next.Next.TheVariants as next
+use Rattle.ob_pieces.specs.declared.next.NextFault.TheVariants as fault
+use Rattle.ob_pieces.specs.declared.next.Next.TheVariants as next
 use Rattle.ob_session.specs.Folds.{Answer, Answers, text_from, refused_from, world_from, changes_from, session_text, session_status, session_changes}
-use Rattle.ob_session.specs.Bytes.{World, Change, Making, answer, start, changed, compile_answer, load_answer, demo_answer, demo_from, no_files, compiled_in}
+use Rattle.ob_session.specs.Bytes.{World, Change, Making, answer, start, changed, compile_answer, load_answer, demo_answer, demo_made, compiled_in}
 use Rattle.ob_session.specs.Does.{Shows, LineDoes}
-use Rattle.ob_session.specs.Reading.{NextDoes, ended, is_open}
+use Rattle.ob_pieces.specs.Reading.{NextDoes, ended, is_open}
 use Rattle.ob_session.specs.Session.{Kind, Going, Ends, IsCut, next_of, StatusIs, is_whole}
 use Rattle.ob_session.specs.Stand.{bytes, Goes, Pieces}
-use Rattle.ob_session.proofs.Opens.{ended_line, ended_open}
+use Rattle.ob_pieces.specs.Opens.{ended_line, ended_open}
 
 -- A FLUSH
 
@@ -122,7 +122,7 @@ answer_files s w n (line.Compile name) = compile_files w name (compiled_in w (w.
 answer_files s w n (line.Compare old new) = refl
 answer_files s w n (line.Check m) = refl
 answer_files s w n (line.Show m) = refl
-answer_files s w n (line.Demo k) = demo_files s w k (demo_from k k 1 (0, start s no_files))
+answer_files s w n (line.Demo k) = demo_files s w k (demo_made k)
 answer_files s w n (line.Command m name) = load_files s w m name (file_plan w.files w.loaded m name)
 answer_files s w n line.Unknown = refl
 answer_files s w n line.Nothing = refl
@@ -307,7 +307,7 @@ opens_so s w n (line.Compile name) = opens_compile w name (compiled_in w (w.file
 opens_so s w n (line.Compare old new) = record { left = _; is = refl }
 opens_so s w n (line.Check m) = record { left = _; is = refl }
 opens_so s w n (line.Show m) = record { left = _; is = refl }
-opens_so s w n (line.Demo k) = opens_demo s w k (demo_from k k 1 (0, start s no_files))
+opens_so s w n (line.Demo k) = opens_demo s w k (demo_made k)
 opens_so s w n (line.Command m name) = opens_load s w m name (file_plan w.files w.loaded m name)
 opens_so s w n line.Unknown = record { left = _; is = refl }
 opens_so s w n line.Nothing = record { left = _; is = refl }

@@ -1,6 +1,9 @@
-pub mod Opens
-pub mod Nexts
 pub mod Goings
 pub mod Decoded
 pub mod Said
+pub mod Fine
+pub mod Tallies
 pub mod Commands
+pub mod Changes
+pub mod Empty
+pub mod Compiles

@@ -124,34 +124,51 @@ check_said m c = record { text = check_text m c; refused = is_refused c }
 
 -- ---- a demo
 
--- the objects of all modules so far, and the world with their files
+abbrev pub no_files : Files
+no_files name = None
+
+-- the name of the source of module i
+abbrev pub source_name : ℕ → List ℕ
+source_name i = module_name i ++ codes ".Mod"
+
+-- the objects of modules, and the files that were made
 abbrev pub Making : Type 0
-Making = Option (ℕ × World)
+Making = Option (ℕ × Files)
 
-abbrev pub made_more : ℕ → World → Result (Compiled Print) (compile.Refusal Print) → Making
-made_more objects w (Ok c) = Some (objects + length c.shows.objects, record w { files = changed w.files (files_of c) })
-made_more objects w (Err r) = None
+abbrev pub made_of : Files → Result (Compiled Print) (compile.Refusal Print) → Making
+made_of files (Ok c) = Some (length c.shows.objects, changed files (files_of c))
+made_of files (Err r) = None
 
-abbrev pub and_more : Making → (ℕ × World → Making) → Making
+abbrev pub compiled_file : Files → List ℕ → Result (Compiled Print) (compile.Refusal Print)
+compiled_file files name = compiled prints (symbol_entry files) (files name)
+
+-- module i of n: its source is put into the folder and compiled
+abbrev pub made_one : ℕ → ℕ → Files → Making
+made_one n i files =
+    let there = put files (source_name i) (source n i) in
+    made_of there (compiled_file there (source_name i))
+
+abbrev pub and_more : Making → (ℕ × Files → Making) → Making
 and_more None more = None
 and_more (Some x) more = more x
 
--- so many modules of n, from module i on
-abbrev pub demo_from : ℕ → ℕ → ℕ → ℕ × World → Making
-demo_from n zero i x = Some x
-demo_from n (suc more) i x = and_more (made_more x.0 x.1 (compiled_in x.1 (Some (source n i)))) (demo_from n more (suc i))
+-- so many modules of n, from module i on, behind so many objects
+abbrev pub demo_from : ℕ → ℕ → ℕ → ℕ → Files → Making
+demo_from n zero i objects files = Some (objects, files)
+demo_from n (suc more) i objects files = and_more (made_one n i files) (λ x. demo_from n more (suc i) (objects + x.0) x.1)
 
--- the last module's command over the files that were made
+-- all modules of a demo, in an empty folder
+unfoldable pub demo_made : ℕ → Making
+demo_made n = demo_from n n 1 0 no_files
+
+-- the last module's command over the files that were made, in a fresh system
 abbrev pub demo_ran : World → List ℕ → Answer World Change → Answer World Change
 demo_ran w opening a = record { world = w; changes = []; opening = opening; text = opening ++ a.text; refused = a.refused }
 
 -- that a module of a demo is refused does not come
 abbrev pub demo_answer : Settings → World → ℕ → Making → Answer World Change
 demo_answer s w n None = says w (denied [])
-demo_answer s w n (Some x) = demo_ran w (demo_text n x.0) (command_answer s x.1 (module_name n) (codes "Go"))
-
-abbrev pub no_files : Files
-no_files name = None
+demo_answer s w n (Some x) = demo_ran w (demo_text n x.0) (command_answer s (start s x.1) (module_name n) (codes "Go"))
 
 -- ---- A LINE OF THE SCRIPT
 
@@ -161,7 +178,7 @@ answer s w n (line.Compile name) = compile_answer w name (compiled_in w (w.files
 answer s w n (line.Compare old new) = says w (compared old new (sym_file w.files old) (sym_file w.files new))
 answer s w n (line.Check m) = says w (check_said m (check_of w.files m))
 answer s w n (line.Show m) = says w (shown (symbol_name m) (sym_file w.files (symbol_name m)))
-answer s w n (line.Demo k) = demo_answer s w k (demo_from k k 1 (0, start s no_files))
+answer s w n (line.Demo k) = demo_answer s w k (demo_made k)
 answer s w n (line.Command m command) = command_answer s w m command
 answer s w n line.Unknown = says w (denied (unknown_text n))
 answer s w n line.Nothing = says w (told [])

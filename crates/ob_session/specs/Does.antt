@@ -1,6 +1,7 @@
 -- What the calls of a session do, by their answers.
 use Rattle.std.specs.Prelude.{◌≡◌, ℕ, ◌≤◌, List, [], ◌∷◌, ◌++◌, Bool, true, take, Result, Ok, Err, ◌⊎◌}
 use Rattle.ob_io.specs.Io.{AddsFront, Rose, SameFiles}
+use Rattle.ob_io.specs.declared.traits.Failed.{Failed}
 use Rattle.ob_link.specs.Files.{Files}
 use Rattle.ob_load.specs.Standing.{Standing, Stands}
 use Rattle.ob_printing.specs.declared.stop.Stop.{Stop}
@@ -31,12 +32,20 @@ SaidDoes told before now s (Err Sink) = told ≡ true → AddsFront before now s
 SaidDoes told before now s (Err Folder) = told ≡ true → now ≡ before
 SaidDoes told before now s (Err Memory) = told ≡ true → now ≡ before
 
--- What a line that leaves the system does to the files.
-abbrev pub FilesDo : List ℕ → List ℕ → Files → Files → Answer World Change → Result Bool Stop → Type 0
-FilesDo before now old files a (Ok refused) = (now ≡ before ++ a.text) × SameFiles files (changed old a.changes) × (refused ≡ a.refused)
-FilesDo before now old files a (Err Sink) = AddsFront before now a.text × SameFiles files (changed old a.changes)
-FilesDo before now old files a (Err Folder) = (now ≡ before) × ((k : ℕ) × SameFiles files (changed old (take k a.changes)))
-FilesDo before now old files a (Err Memory) = (now ≡ before) × SameFiles files old
+-- What a line that leaves the system does: these changes of the files, and then this text.
+abbrev pub FilesDo : List ℕ → List ℕ → Files → Files → List Change → List ℕ → Bool → Result Bool Stop → Type 0
+FilesDo before now old files changes text value (Ok refused) = (now ≡ before ++ text) × SameFiles files (changed old changes) × (refused ≡ value)
+FilesDo before now old files changes text value (Err Sink) = AddsFront before now text × SameFiles files (changed old changes)
+FilesDo before now old files changes text value (Err Folder) = (now ≡ before) × ((k : ℕ) × SameFiles files (changed old (take k changes)))
+FilesDo before now old files changes text value (Err Memory) = (now ≡ before) × SameFiles files old
+
+abbrev pub AnswerDo : List ℕ → List ℕ → Files → Files → Answer World Change → Result Bool Stop → Type 0
+AnswerDo before now old files a result = FilesDo before now old files a.changes a.text a.refused result
+
+-- the changes are made in order, or at a fault the first of them
+abbrev pub ChangesDo : Files → Files → List Change → Result (Unit {0}) Failed → Type 0
+ChangesDo old files changes (Ok u) = SameFiles files (changed old changes)
+ChangesDo old files changes (Err e) = (k : ℕ) × SameFiles files (changed old (take k changes))
 
 -- What a line that leaves system and files does, and of which the first printed line may stand alone where memory was wanting.
 abbrev pub TextDoes : List ℕ → List ℕ → Answer World Change → Result Bool Stop → Type 0

@@ -7,7 +7,7 @@ use Rattle.ob_words.specs.declared.asked.Settings.{Settings}
 use Rattle.ob_session.specs.Folds.{text_from}
 use Rattle.ob_session.specs.Bytes.{World, Change, answer, start, changed}
 use Rattle.ob_session.specs.Does.{Shows}
-use Rattle.ob_session.specs.Reading.{ended}
+use Rattle.ob_pieces.specs.Reading.{ended}
 use Rattle.ob_session.specs.Session.{Kind, Going}
 
 -- the session over bytes, with these settings and over these files

@@ -4,14 +4,14 @@
 mod commanding;
 mod comparing;
 mod compiling;
+mod counting;
 mod demo;
 mod files;
 mod found;
 mod line;
-mod next;
-mod reading;
 mod saying;
 mod script;
+mod tally;
 
 pub use ob_printing::Stop;
 pub use script::session;

@@ -9,8 +9,7 @@ ghost use Rattle.ob_session.specs.Stand.{bytes, Pieces};
 ghost use Rattle.ob_session.specs.Session.{Ends, Causes, StatusIs};
 
 use crate::line::do_line;
-use crate::next::{Next, NextFault};
-use crate::reading::{Input, next_line};
+use ob_pieces::{Input, Next, NextFault, next_line};
 use ob_io::{Folder, Sink, Source};
 use ob_load::System;
 use ob_printing::Stop;

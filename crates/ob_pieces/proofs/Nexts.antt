@@ -5,9 +5,9 @@ use Rattle.std.proofs.lemmas.Bool.{or_right, lt-ltb, le-ltb}
 use Rattle.std.proofs.lemmas.List.{append-nil, length-append}
 use Rattle.ob_lines.specs.Lines.{lines_of, within, exceeds, passes}
 use Rattle.ob_lines.specs.Splits.{Stops, GoesOn}
-use Rattle.ob_session.specs.declared.next.Next.TheVariants as next
-use Rattle.ob_session.specs.Reading.{is_open, NextDoes}
-use Rattle.ob_session.proofs.Opens.{open_more, line_ended, line_last, Begins, begins, begins_all}
+use Rattle.ob_pieces.specs.declared.next.Next.TheVariants as next
+use Rattle.ob_pieces.specs.Reading.{is_open, NextDoes}
+use Rattle.ob_pieces.specs.Opens.{open_more, line_ended, line_last, Begins, begins, begins_all}
 
 stops : (whole at : ℕ) (l : List ℕ) (ls lines : List (List ℕ)) → lines ≡ l ∷ ls → passes whole at l ≡ true → Stops whole at lines
 unfolding within exceeds

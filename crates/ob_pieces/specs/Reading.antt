@@ -3,10 +3,10 @@ use Rattle.std.specs.Prelude.{◌≡◌, ℕ, ◌≤◌, ◌<◌, ◌+◌, List,
 use Rattle.ob_io.specs.Io.{Rose}
 use Rattle.ob_lines.specs.Lines.{lines_of}
 use Rattle.ob_lines.specs.Splits.{Stops, GoesOn}
-use Rattle.ob_session.specs.declared.next.NextFault.{NextFault}
-use Rattle.ob_session.specs.declared.next.NextFault.TheVariants as fault
-use Rattle.ob_session.specs.declared.next.Next.{Next}
-use Rattle.ob_session.specs.declared.next.Next.TheVariants as next
+use Rattle.ob_pieces.specs.declared.next.NextFault.{NextFault}
+use Rattle.ob_pieces.specs.declared.next.NextFault.TheVariants as fault
+use Rattle.ob_pieces.specs.declared.next.Next.{Next}
+use Rattle.ob_pieces.specs.declared.next.Next.TheVariants as next
 
 -- the fault of the script is answered only where its count rose
 pub record NextCause {T : Type 0} (before now : ℕ) (result : Result T NextFault) : Type 0 where

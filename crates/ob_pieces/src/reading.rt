@@ -1,5 +1,5 @@
 ghost use Rattle.std.specs.Prelude.{◌≡◌, ◌≤◌, ◌<◌, ◌++◌, ◌+◌, true, [], ℕ, IfOk, length, Err};
-ghost use Rattle.ob_session.specs.Reading.{Fills, NextCause, NextDoes, Takes, TakesFirst, TakesMore};
+ghost use Rattle.ob_pieces.specs.Reading.{Fills, NextCause, NextDoes, Takes, TakesFirst, TakesMore};
 
 use crate::next::{Next, NextFault};
 use ob_io::Source;

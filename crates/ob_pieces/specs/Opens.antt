@@ -3,7 +3,7 @@ use Rattle.std.proofs.Common.{◌≡◌, ℕ, ◌+◌, ◌<◌, ◌≤◌, List,
 use Rattle.std.specs.Prelude.{cond, ◌&&◌, ◌==◌, not, suc}
 use Rattle.std.proofs.lemmas.Bool.{false≢true}
 use Rattle.ob_lines.specs.Lines.{lines_of, onto}
-use Rattle.ob_session.specs.Reading.{is_open, ended, before_ended}
+use Rattle.ob_pieces.specs.Reading.{is_open, ended, before_ended}
 
 first_differs : (x y : Bool) → (not x && y) ≡ true → x ≡ false
 first_differs true y e = absurd (false≢true e)
@@ -53,13 +53,13 @@ onto_begins : (b : ℕ) (x : List (List ℕ)) → (l : List ℕ) × (ls : List (
 onto_begins b [] = (b ∷ [], [], refl, omega arith)
 onto_begins b (l ∷ ls) = (b ∷ l, ls, refl, omega arith)
 
+ends_now : (b : ℕ) (bs : List ℕ) → (b == 10) ≡ true → lines_of (b ∷ bs) ≡ [] ∷ lines_of bs
+unfolding lines_of
+ends_now b bs e = ap (λ t. cond t ([] ∷ lines_of bs) (onto b (lines_of bs))) e
+
 some : (b : ℕ) (bs : List ℕ) (t : Bool) → (b == 10) ≡ t → Begins (b ∷ bs) 0
 some b bs false e = let o = onto_begins b (lines_of bs) in record { line = o.0; others = o.1; is = step b bs e ∙ o.2; most = omega arith }
-some b bs true e = record { line = []; others = lines_of bs; is = some_end b bs e; most = omega arith }
-  where
-    some_end : (b : ℕ) (bs : List ℕ) → (b == 10) ≡ true → lines_of (b ∷ bs) ≡ [] ∷ lines_of bs
-    unfolding lines_of
-    some_end b bs e = ap (λ t. cond t ([] ∷ lines_of bs) (onto b (lines_of bs))) e
+some b bs true e = record { line = []; others = lines_of bs; is = ends_now b bs e; most = omega arith }
 
 -- what comes behind a line that has not ended belongs to it
 pub begins : (l : List ℕ) (b : ℕ) (more : List ℕ) → is_open l ≡ true → Begins (l ++ b ∷ more) (length l)
