@@ -101,11 +101,7 @@ fn which_text(which: Which) -> &'static [u8]
 }
 
 /// Prints why a compile of a file is refused. It takes no memory.
-pub fn refuse_compile<O: Sink>(
-    name: &str,
-    why: &CompileRefusal,
-    out: &mut O,
-) -> Result<bool, Stop>
+pub fn refuse_compile<O: Sink>(name: &str, why: &CompileRefusal, out: &mut O) -> Result<bool, Stop>
     ensures does { PrintDoes (O.tells out.old) (O.taken out.old) (O.taken out.new) (refused name.now (reason_answered why.now)) true result }
     ensures told { O.tells out.new ≡ O.tells out.old }
     ensures cause { SinkCause (O.faults out.old) (O.faults out.new) result }

@@ -26,14 +26,7 @@ pub fn refuse<O: Sink>(
     ensures told { O.tells out.new ≡ O.tells out.old }
     ensures cause { SinkCause (O.faults out.old) (O.faults out.new) result }
 {
-    let texts = [
-        b"refused ",
-        name,
-        b": ",
-        first,
-        second,
-        third,
-    ];
+    let texts = [b"refused ", name, b": ", first, second, third];
     tell(&texts, true, out)
 }
 
@@ -80,7 +73,7 @@ fn put_verdicts<S: Sink>(out: &mut S, verdicts: &[Verdict]) -> Result<(), Failed
 }
 
 // Prints texts, and a line for each verdict.
-#[tactic(auto, using(ob_io::specs::Fronts::front_more, ob_io::specs::Fronts::front_later, crate::proofs::Befores::all_before))]
+#[tactic(auto, using(crate::proofs::Befores::then_before, crate::proofs::Befores::cut_before))]
 fn put_with_verdicts<S: Sink>(
     out: &mut S,
     texts: &[&[u8]],
@@ -172,7 +165,7 @@ fn put_uses<S: Sink>(out: &mut S, uses: &[Stale]) -> Result<(), Failed>
 }
 
 // Prints texts, and a line for each use.
-#[tactic(auto, using(ob_io::specs::Fronts::front_more, ob_io::specs::Fronts::front_later, crate::proofs::Befores::all_before))]
+#[tactic(auto, using(crate::proofs::Befores::then_before, crate::proofs::Befores::cut_before))]
 fn put_with_uses<S: Sink>(out: &mut S, texts: &[&[u8]], uses: &[Stale]) -> Result<(), Failed>
     ensures told { S.tells out.new ≡ S.tells out.old }
     ensures bytes { S.tells out.old ≡ true → WritesAll (S.taken out.old) (S.taken out.new) result (before texts.now (flat_map stale_line uses.now)) }
@@ -210,15 +203,7 @@ pub fn put_stale<O: Sink>(name: &Name, uses: &[Stale], out: &mut O) -> Result<bo
     ensures cause { SinkCause (O.faults out.old) (O.faults out.new) result }
 {
     if uses.is_empty() {
-        return tell(
-            &[
-                b"check ",
-                name.as_bytes(),
-                b": up to date\n",
-            ],
-            false,
-            out,
-        );
+        return tell(&[b"check ", name.as_bytes(), b": up to date\n"], false, out);
     }
     put_some(name.as_bytes(), uses, out)
 }

@@ -41,7 +41,13 @@ pub fn refuse_load<O: Sink>(name: &Name, why: &LoadRefusal, out: &mut O) -> Resu
     let name_bytes = name.as_bytes();
     match why {
         LoadRefusal::NoObject { module } => {
-            refuse(name_bytes, b"", module.as_bytes(), b" has no object file\n", out)
+            refuse(
+                name_bytes,
+                b"",
+                module.as_bytes(),
+                b" has no object file\n",
+                out,
+            )
         }
         LoadRefusal::Damaged { module } => {
             refuse(name_bytes, b"", module.as_bytes(), b" damaged\n", out)

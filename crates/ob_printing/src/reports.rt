@@ -37,13 +37,7 @@ fn put_index<O: Sink>(text: &[u8], name: &[u8], at: u32, out: &mut O) -> Result<
     ensures cause { SinkCause (O.faults out.old) (O.faults out.new) result }
 {
     let mut index = Buffer::new();
-    let texts = [
-        text,
-        name,
-        b" ",
-        index.format(at).as_bytes(),
-        b"\n",
-    ];
+    let texts = [text, name, b" ", index.format(at).as_bytes(), b"\n"];
     tell(&texts, true, out)
 }
 

@@ -151,7 +151,7 @@ goes_start s before old script system h =
       ended_so = λ e more. refl;
     }
 
-going_on : (s : Settings) (before mid now : List ℕ) (old there there2 : Files) (all : List (List ℕ)) (w : World) (n : ℕ) (rest : List (List ℕ)) (l : List ℕ) (ls : List (List ℕ)) (b r c : Bool) → Going (bytes s old) before mid old there all w n rest b → rest ≡ l ∷ ls → now ≡ mid ++ (answer s w n (line_of l)).text → there2 ≡ changed there (answer s w n (line_of l)).changes → r ≡ (answer s w n (line_of l)).refused → c ≡ (b || r) → Going (bytes s old) before now old there2 all (answer s w n (line_of l)).world (n + 1) ls c
+abbrev going_on : (s : Settings) (before mid now : List ℕ) (old there there2 : Files) (all : List (List ℕ)) (w : World) (n : ℕ) (rest : List (List ℕ)) (l : List ℕ) (ls : List (List ℕ)) (b r c : Bool) → Going (bytes s old) before mid old there all w n rest b → rest ≡ l ∷ ls → now ≡ mid ++ (answer s w n (line_of l)).text → there2 ≡ changed there (answer s w n (line_of l)).changes → r ≡ (answer s w n (line_of l)).refused → c ≡ (b || r) → Going (bytes s old) before now old there2 all (answer s w n (line_of l)).world (n + 1) ls c
 going_on s before mid now old there there2 all w n rest l ls b r c g e1 e2 f e3 e4 =
     let a = answer s w n (line_of l) in
     let first = start s old in
@@ -168,7 +168,7 @@ going_on s before mid now old there there2 all w n rest l ls b r c g e1 e2 f e3 
     }
 
 -- a line that was done, by what was taken of the script
-done_more : (s : Settings) (before mid now : List ℕ) (old there there2 : Files) (all : List (List ℕ)) (w : World) (n : ℕ) (rest : List (List ℕ)) (line : List ℕ) (ls : List (List ℕ)) (new : Standing) (b r c : Bool) → Going (bytes s old) before mid old there all w n rest b → rest ≡ line ∷ ls → there ≡ w.files → LineDoes mid now there there2 new (answer s w n (line_of line)) (Ok r) → c ≡ (b || r) → Going (bytes s old) before now old there2 all (answer s w n (line_of line)).world (n + 1) ls c
+abbrev done_more : (s : Settings) (before mid now : List ℕ) (old there there2 : Files) (all : List (List ℕ)) (w : World) (n : ℕ) (rest : List (List ℕ)) (line : List ℕ) (ls : List (List ℕ)) (new : Standing) (b r c : Bool) → Going (bytes s old) before mid old there all w n rest b → rest ≡ line ∷ ls → there ≡ w.files → LineDoes mid now there there2 new (answer s w n (line_of line)) (Ok r) → c ≡ (b || r) → Going (bytes s old) before now old there2 all (answer s w n (line_of line)).world (n + 1) ls c
 done_more s before mid now old there there2 all w n rest line ls new b r c g e files d q =
     let f : there2 ≡ changed there (answer s w n (line_of line)).changes = d.1.files ∙ answer_files s w n (line_of line) ∙ ap (λ x. changed x (answer s w n (line_of line)).changes) (sym files) in
     going_on s before mid now old there there2 all w n rest line ls b r c g e d.0 f d.2 q

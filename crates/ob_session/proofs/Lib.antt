@@ -7,3 +7,4 @@ pub mod Commands
 pub mod Changes
 pub mod Empty
 pub mod Compiles
+pub mod Makes

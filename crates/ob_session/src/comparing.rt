@@ -205,7 +205,13 @@ pub fn do_check<F: Folder, O: Sink>(
     match check_client(alloc, folder, name) {
         Ok(uses) => put_stale(name, uses.as_slice(), out),
         Err(CheckFault::NoObject) => {
-            refuse(name.as_bytes(), b"", name.as_bytes(), b" has no object file\n", out)
+            refuse(
+                name.as_bytes(),
+                b"",
+                name.as_bytes(),
+                b" has no object file\n",
+                out,
+            )
         }
         Err(CheckFault::Damaged(module)) => {
             refuse(name.as_bytes(), b"", module.as_bytes(), b" damaged\n", out)

@@ -81,9 +81,7 @@ fn write_named<F: Folder, O: Sink>(
 {
     match read_symbols(alloc, folder, symbol_name) {
         Ok(old) => match count(alloc, &old, &built.face) {
-            Ok(counts) => {
-                write_counted(folder, built, counts, object_name, symbol_name, out)
-            }
+            Ok(counts) => { write_counted(folder, built, counts, object_name, symbol_name, out) }
             Err(_) => Err(Stop::Memory),
         },
         Err(stop) => Err(stop),

@@ -58,11 +58,7 @@ fn against_face(
     }
 }
 
-fn against(
-    alloc: Global,
-    old: &SymbolFile,
-    face: &Interface,
-) -> Result<List<Verdict>, AllocError>
+fn against(alloc: Global, old: &SymbolFile, face: &Interface) -> Result<List<Verdict>, AllocError>
     requires old { HasSpelling old.now }
     requires face { face_form.fits face.now }
     ensures { IfOk result (λ l. l ≡ verdicts (stood face.now.module (found_as old.now)) (face_of face.now)) }

@@ -85,11 +85,7 @@ fn keep_built(alloc: Global, folder: &mut MemFolder, built: &Built) -> Result<()
 
 // Compiles a file of the folder and keeps its files: how many objects it has; none where it is
 // refused.
-fn make_from(
-    alloc: Global,
-    folder: &mut MemFolder,
-    name: &str,
-) -> Result<Option<usize>, AllocError>
+fn make_from(alloc: Global, folder: &mut MemFolder, name: &str) -> Result<Option<usize>, AllocError>
     ensures { MakesOne (made_of (file_in folder.old.pairs) (compiled_file (file_in folder.old.pairs) name.now)) (file_in folder.new.pairs) result }
 {
     match compile(alloc, folder, name) {
@@ -126,11 +122,7 @@ fn make_one(
 
 // Makes all modules of a demo, from this one on and behind so many objects: the objects of all;
 // none where one is refused.
-fn make_all(
-    alloc: Global,
-    folder: &mut MemFolder,
-    count: u32,
-) -> Result<Option<usize>, AllocError>
+fn make_all(alloc: Global, folder: &mut MemFolder, count: u32) -> Result<Option<usize>, AllocError>
     requires some { 1 ≤ count }
     requires few { count ≤ 60 }
     requires empty { folder.old.pairs ≡ [] }

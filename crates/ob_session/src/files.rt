@@ -30,11 +30,7 @@ fn symbols_in(alloc: Global, bytes: &[u8]) -> Result<SymbolFile, AllocError>
 }
 
 /// Reads a symbol file by its file name, of whatever module.
-pub fn read_symbols<F: Shelf>(
-    alloc: Global,
-    folder: &mut F,
-    name: &str,
-) -> Result<SymbolFile, Stop>
+pub fn read_symbols<F: Shelf>(alloc: Global, folder: &mut F, name: &str) -> Result<SymbolFile, Stop>
     ensures found { F.tells folder.old ≡ true → IfOk result (λ s. sym_file (F.files folder.old) name.now ≡ found_as s) }
     ensures fits { IfOk result HasSpelling }
     ensures told { F.tells folder.new ≡ F.tells folder.old }

@@ -13,10 +13,6 @@ pub fn do_unknown<O: Sink>(n: u32, out: &mut O) -> Result<bool, Stop>
     ensures cause { SinkCause (O.faults out.old) (O.faults out.new) result }
 {
     let mut number = Buffer::new();
-    let texts = [
-        b"? line ",
-        number.format(n).as_bytes(),
-        b"\n",
-    ];
+    let texts = [b"? line ", number.format(n).as_bytes(), b"\n"];
     tell(&texts, true, out)
 }

@@ -9,9 +9,9 @@ ghost use Rattle.ob_session.specs.Stand.{bytes, Pieces};
 ghost use Rattle.ob_session.specs.Session.{Ends, Causes, StatusIs};
 
 use crate::line::do_line;
-use ob_pieces::{Input, Next, NextFault, next_line};
 use ob_io::{Folder, Sink, Source};
 use ob_load::System;
+use ob_pieces::{Input, Next, NextFault, next_line};
 use ob_printing::Stop;
 use ob_words::{Settings, WordsFault, settings};
 use std::alloc::Global;
@@ -100,10 +100,10 @@ fn run_lines<F: Folder, I: Source, O: Sink>(
                 n += 1;
             }
             Ok(Next::Last(_)) => {
-                return match do_flushed(alloc, settings, system, folder, n, &line, out) {
-                    Ok(this) => verdict(either(refused, this)),
-                    Err(stop) => status_of(stop),
-                };
+                match do_flushed(alloc, settings, system, folder, n, &line, out) {
+                    Ok(this) => return verdict(either(refused, this)),
+                    Err(stop) => return status_of(stop),
+                }
             }
             Ok(Next::End) => return verdict(refused),
             Ok(Next::Passes) => return 7,
@@ -111,7 +111,7 @@ fn run_lines<F: Folder, I: Source, O: Sink>(
             Err(NextFault::Memory) => return 5,
         }
     }
-    7
+    unreachable!()
 }
 
 // Does a script.
@@ -136,7 +136,15 @@ fn run_script<F: Folder, I: Source, O: Sink>(
     let Ok(mut input) = Input::new(alloc) else {
         return 5;
     };
-    run_lines(alloc, settings, &mut system, &mut input, folder, script, out)
+    run_lines(
+        alloc,
+        settings,
+        &mut system,
+        &mut input,
+        folder,
+        script,
+        out,
+    )
 }
 
 /// Does all that the program does: the lines of a script over the files of a folder, into a sink.

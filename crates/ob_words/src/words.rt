@@ -4,8 +4,8 @@ ghost use Rattle.ob_words.specs.Settings.{chosen, number_or, oberon, settings_of
 
 use crate::asked::{Settings, WordsFault};
 use crate::numbers::number_of;
-use clap::{Arg, ArgAction, ArgMatches, Command, Error};
 use clap::error::ErrorKind;
+use clap::{Arg, ArgAction, ArgMatches, Command, Error};
 use std::alloc::Global;
 
 // What the words say by themselves.
@@ -16,9 +16,7 @@ fn matches<'a>(alloc: Global, words: &'a [String]) -> Result<ArgMatches<'a>, Err
     let turns = Arg::new(alloc, "turns")
         .long("turns")
         .action(ArgAction::Set);
-    let heap = Arg::new(alloc, "heap")
-        .long("heap")
-        .action(ArgAction::Set);
+    let heap = Arg::new(alloc, "heap").long("heap").action(ArgAction::Set);
     let command = Command::new(alloc, "oberon")
         .no_binary_name(true)
         .disable_help_flag(true)

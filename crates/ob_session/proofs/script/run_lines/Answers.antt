@@ -16,5 +16,5 @@ lines-init g c = (
   omega arith,
   omega arith,
   λ ti tf to. subst (λ (x : List ℕ). Goes c.args.settings (g.O.Sink.taken c.args.out.now) (g.O.Sink.taken c.args.out.now) (g.F.Shelf.files c.args.folder.now) (g.F.Shelf.files c.args.folder.now) (g.I.Source.left c.args.script.now) c.args.system.now 1 0 (x ++ g.I.Source.left c.args.script.now) false false) (sym c.requires.input)
-    (goes_start c.args.settings (g.O.Sink.taken c.args.out.now) (g.F.Shelf.files c.args.folder.now) (g.I.Source.left c.args.script.now) c.args.system.now (c.requires.system (g.F.Shelf.files c.args.folder.now))),
+      (goes_start c.args.settings (g.O.Sink.taken c.args.out.now) (g.F.Shelf.files c.args.folder.now) (g.I.Source.left c.args.script.now) c.args.system.now (c.requires.system (g.F.Shelf.files c.args.folder.now))),
 )
