@@ -9,7 +9,7 @@ use itoa::Buffer;
 use ob_compile::CompileRefusal;
 use ob_io::Sink;
 use ob_rules::Broken;
-use ob_tree::{Pos, QName, Which};
+use ob_tree::{Name, Pos, QName, Which};
 
 // Prints that a text is refused for what stands at a place.
 fn refuse_at<O: Sink>(name: &[u8], what: &[u8], at: Pos, out: &mut O) -> Result<bool, Stop>
@@ -82,6 +82,21 @@ fn refuse_for<O: Sink>(
     tell(&texts, true, out)
 }
 
+// Prints that a text is refused for an object that a client uses.
+fn refuse_client<O: Sink>(
+    name: &[u8],
+    object: &QName,
+    why: &[u8],
+    client: &Name,
+    out: &mut O,
+) -> Result<bool, Stop>
+    ensures does { PrintDoes (O.tells out.old) (O.taken out.old) (O.taken out.new) (refused name.now (of_object object.now (why.now ++ (client.now ++ codes "\n")))) true result }
+    ensures told { O.tells out.new ≡ O.tells out.old }
+    ensures cause { SinkCause (O.faults out.old) (O.faults out.new) result }
+{
+    refuse_for(name, object, why, client.as_bytes(), out)
+}
+
 fn which_text(which: Which) -> &'static [u8]
     ensures { result.now ≡ which_text which }
 {
@@ -126,10 +141,10 @@ pub fn refuse_compile<O: Sink>(name: &str, why: &CompileRefusal, out: &mut O) ->
             refuse(name, b"cycle through ", module.as_bytes(), b"\n", out)
         }
         CompileRefusal::Absent { client, object } => {
-            refuse_for(name, object, b" absent for ", client.as_bytes(), out)
+            refuse_client(name, object, b" absent for ", client, out)
         }
         CompileRefusal::Changed { client, object, .. } => {
-            refuse_for(name, object, b" changed for ", client.as_bytes(), out)
+            refuse_client(name, object, b" changed for ", client, out)
         }
         CompileRefusal::Unfit(object) => refuse_for(name, object, b" unfit", b"", out),
         CompileRefusal::Limit(which) => refuse(name, b"", b"", which_text(*which), out),

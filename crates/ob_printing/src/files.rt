@@ -11,7 +11,7 @@ use crate::stop::Stop;
 use itoa::Buffer;
 use ob_cmp::{Kind, Stale, Verdict};
 use ob_io::{Failed, Sink};
-use ob_tree::Name;
+use ob_tree::{Name, QName};
 use ob_types::Aspect;
 
 /// Prints why a name is refused: three texts, of which the last one ends the line.
@@ -43,18 +43,22 @@ fn kind_text(kind: Kind) -> &'static [u8]
     }
 }
 
+// Prints a line of two words.
+fn put_words<S: Sink>(out: &mut S, first: &[u8], second: &[u8]) -> Result<(), Failed>
+    ensures told { S.tells out.new ≡ S.tells out.old }
+    ensures bytes { S.tells out.old ≡ true → WritesAll (S.taken out.old) (S.taken out.new) result (first.now ++ (codes " " ++ (second.now ++ codes "\n"))) }
+    ensures cause { HasCause (S.faults out.old) (S.faults out.new) result }
+{
+    let texts = [first, b" ", second, b"\n"];
+    put_all(out, &texts)
+}
+
 fn put_verdict<S: Sink>(out: &mut S, verdict: &Verdict) -> Result<(), Failed>
     ensures told { S.tells out.new ≡ S.tells out.old }
     ensures bytes { S.tells out.old ≡ true → WritesAll (S.taken out.old) (S.taken out.new) result (verdict_line verdict.now) }
     ensures cause { HasCause (S.faults out.old) (S.faults out.new) result }
 {
-    let texts = [
-        verdict.object.as_bytes(),
-        b" ",
-        kind_text(verdict.kind),
-        b"\n",
-    ];
-    put_all(out, &texts)
+    put_words(out, verdict.object.as_bytes(), kind_text(verdict.kind))
 }
 
 // Prints a line for each verdict.
@@ -131,22 +135,36 @@ fn how_text(absent: bool) -> &'static [u8]
     if absent { b"absent" } else { b"changed" }
 }
 
+// Prints a line of an object and two words.
+fn put_object<S: Sink>(
+    out: &mut S,
+    object: &QName,
+    first: &[u8],
+    second: &[u8],
+) -> Result<(), Failed>
+    ensures told { S.tells out.new ≡ S.tells out.old }
+    ensures bytes { S.tells out.old ≡ true → WritesAll (S.taken out.old) (S.taken out.new) result (object.now.«module» ++ (codes "." ++ (object.now.object ++ (codes " " ++ (first.now ++ (codes " " ++ (second.now ++ codes "\n"))))))) }
+    ensures cause { HasCause (S.faults out.old) (S.faults out.new) result }
+{
+    let texts = [
+        object.module.as_bytes(),
+        b".",
+        object.object.as_bytes(),
+        b" ",
+        first,
+        b" ",
+        second,
+        b"\n",
+    ];
+    put_all(out, &texts)
+}
+
 fn put_use<S: Sink>(out: &mut S, stale: &Stale) -> Result<(), Failed>
     ensures told { S.tells out.new ≡ S.tells out.old }
     ensures bytes { S.tells out.old ≡ true → WritesAll (S.taken out.old) (S.taken out.new) result (stale_line stale.now) }
     ensures cause { HasCause (S.faults out.old) (S.faults out.new) result }
 {
-    let texts = [
-        stale.object.module.as_bytes(),
-        b".",
-        stale.object.object.as_bytes(),
-        b" ",
-        aspect_text(stale.aspect),
-        b" ",
-        how_text(stale.absent),
-        b"\n",
-    ];
-    put_all(out, &texts)
+    put_object(out, &stale.object, aspect_text(stale.aspect), how_text(stale.absent))
 }
 
 // Prints a line for each use.

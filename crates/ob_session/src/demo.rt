@@ -149,16 +149,16 @@ fn put_demo<O: Sink>(count: u32, objects: usize, out: &mut O) -> Result<bool, St
     ensures told { O.tells out.new ≡ O.tells out.old }
     ensures cause { SinkCause (O.faults out.old) (O.faults out.new) result }
 {
-    let mut modules = Buffer::new();
     let mut number = Buffer::new();
-    let modules = modules.format(count).as_bytes();
+    let mut modules = Buffer::new();
+    let mut all = Buffer::new();
     let texts = [
         b"demo ",
-        modules,
+        number.format(count).as_bytes(),
         b": ",
-        modules,
+        modules.format(count).as_bytes(),
         b" modules, ",
-        number.format(objects).as_bytes(),
+        all.format(objects).as_bytes(),
         b" objects\n",
     ];
     tell(&texts, false, out)
