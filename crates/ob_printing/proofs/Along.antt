@@ -1,5 +1,5 @@
 -- The lines of a list, printed one by one.
-use Rattle.std.proofs.Common.{◌≡◌, ◌≤◌, ℕ, List, [], ◌∷◌, ◌++◌, length, refl, sym, ap, ◌∙◌, append_assoc, arith}
+use Rattle.std.proofs.Common.{◌≡◌, ◌≤◌, ◌-◌, ℕ, zero, suc, List, [], ◌∷◌, ◌++◌, length, take, drop, get_or, refl, sym, ap, ◌∙◌, append_assoc, arith}
 use Rattle.std.specs.List.{flat_map}
 use Rattle.std.proofs.lemmas.List.{append-nil}
 use Rattle.ob_io.specs.Io.{AddsFront}
@@ -29,3 +29,15 @@ along_cut line before mid now all rest more x a e f =
 pub along_done : {A : Type 0} (line : A → List ℕ) (before now : List ℕ) (all rest : List A) → Along line before now all rest → length rest ≤ 0 → now ≡ before ++ flat_map line all
 along_done line before now all [] a h = a.written ∙ ap (λ f. before ++ f) (sym (a.whole ∙ append-nil a.front))
 along_done line before now all (x ∷ rest) a h = absurd (omega (arith, h))
+
+-- a list with a first item
+
+all_taken : {A : Type 0} (n : ℕ) (xs : List A) → length xs ≤ n → take n xs ≡ xs
+all_taken zero [] l = refl
+all_taken zero (x ∷ xs) l = absurd (omega (arith, l))
+all_taken (suc n) [] l = refl
+all_taken (suc n) (x ∷ xs) l = ap (λ r. x ∷ r) (all_taken n xs (omega (arith, l)))
+
+pub front_is : {A : Type 0} (xs : List A) (x : A) → 1 ≤ length xs → x ≡ get_or xs 0 x → xs ≡ x ∷ take (length xs - 1) (drop 1 xs)
+front_is [] x long is = absurd (omega (arith, long))
+front_is (y ∷ ys) x long is = ap (λ z. z ∷ ys) (sym is) ∙ ap (λ l. x ∷ l) (sym (all_taken (length (y ∷ ys) - 1) ys (omega arith)))

@@ -176,8 +176,10 @@ fn put_uses<S: Sink>(out: &mut S, uses: &[Stale]) -> Result<(), Failed>
 {
     let mut rest = uses;
     'uses: while let [first, more @ ..] = rest {
-        put_use(out, first)?;
-        rest = more;
+        match put_use(out, first) {
+            Ok(()) => rest = more,
+            Err(fault) => return Err(fault),
+        }
     }
     Ok(())
 }
