@@ -1,0 +1,108 @@
+//! Calls of bound procedures.
+
+ghost use Rattle.std.specs.Prelude.{◌≡◌, IfOk, OnOk, ℕ, ◌&&◌, ◌∷◌, is_none};
+ghost use Rattle.ob_tree.specs.declared.pos.Pos.{Pos as APos};
+ghost use Rattle.ob_types.specs.declared.typed.TypedExpr.TheVariants as e;
+ghost use Rattle.std.specs.Option.{option_copied};
+ghost use Rattle.ob_rules.specs.Books.{book_after};
+ghost use Rattle.ob_rules.specs.Names.{map_of};
+ghost use Rattle.ob_rules.specs.Shapes as shapes;
+ghost use Rattle.ob_rules.specs.Judged as judged;
+ghost use Rattle.ob_rules.specs.Phrases as phrases;
+ghost use Rattle.ob_rules.specs.Calls as spec;
+ghost use Rattle.ob_ccall.specs.Rows.{row_seen};
+
+use ob_cname::{base_record, types};
+use ob_rules::{Chosen, Notebook, Place, Surroundings, Valued, Where};
+use ob_tree::{Name, Pos, QName};
+use ob_trees::ActualTrees;
+use ob_types::{Receiver, TypeRef};
+use std::alloc::{AllocError, Global};
+
+fn base_in<'a, S: Surroundings>(here: &'a S, owner: &QName) -> Option<&'a QName>
+    ensures { option_copied result ≡ shapes.base_record (map_of (S.around here.now)) owner.now }
+{
+    base_record(types(here), owner)
+}
+
+// The same, in at most so many records.
+#[tactic(auto, unfolding(ob_rules::specs::Calls::nearest_sound))]
+fn nearest_sound<S: Surroundings>(here: &S, left: u32, owner: &QName, name: &Name) -> bool
+    ensures { result ≡ spec.nearest_sound (S.around here.now) left owner.now name.now }
+{
+    if left == 0 {
+        return true;
+    }
+    if owner.module.as_bytes() != here.unit().as_bytes() {
+        return true;
+    }
+    match here.bound_for(owner, name) {
+        Some(bound) => bound.signature.is_some(),
+        None => match base_in(here, owner) {
+            None => true,
+            Some(base) => nearest_sound(here, left - 1, base, name),
+        },
+    }
+}
+
+fn where_from(chosen: &Chosen) -> &QName
+    ensures { result.now ≡ spec.where_from chosen.now chosen.now.base }
+{
+    match &chosen.base {
+        None => &chosen.owner,
+        Some(base) => base,
+    }
+}
+
+/// Whether the nearest declaration of the procedure that is called keeps all rules. Takes no memory.
+pub fn is_nearest_sound<S: Surroundings>(here: &S, chosen: &Chosen) -> bool
+    ensures { result ≡ spec.nearest_sound (S.around here.now) 201 (spec.where_from chosen.now chosen.now.base) chosen.now.method.name }
+{
+    nearest_sound(here, 201, where_from(chosen), &chosen.method.name)
+}
+
+fn is_place_read_only(place: &Place, pointed: &Option<TypeRef>) -> bool
+    ensures { (start : APos) → result ≡ (phrases.record_receiver start place.now pointed.now).read_only }
+{
+    match pointed {
+        None => place.read_only,
+        Some(_) => false,
+    }
+}
+
+/// Whether rule 26 is broken by a read-only record that is the receiver of a VAR record; that of a
+/// super call is not asked.
+pub fn is_receiver_read_only(chosen: &Chosen) -> bool
+    ensures { result ≡ (spec.is_record_receiver chosen.now.method.receiver && ((phrases.receiver_place chosen.now).read_only && is_none chosen.now.base)) }
+{
+    match chosen.method.receiver {
+        Receiver::Pointer => false,
+        Receiver::Record => {
+            is_place_read_only(&chosen.receiver, &chosen.pointed) && chosen.base.is_none()
+        }
+    }
+}
+
+/// What was made of a part, unless the part breaks a rule besides, which is noted already.
+pub fn unless_broken(broken: bool, call: Option<Valued>) -> Option<Valued>
+    ensures { (rule : ℕ) (at : APos) (n : judged.Notes) → result ≡ (judged.also broken rule at (record { node = call; notes = n })).node }
+{
+    if broken { None } else { call }
+}
+
+/// The call of a bound procedure with these actual parameters, which are judged already; `count` are
+/// written. None where they are none, or the call breaks rule 24 or 27.
+pub fn call_bound(
+    alloc: Global,
+    book: &mut Notebook,
+    place: Where,
+    at: Pos,
+    chosen: Chosen,
+    count: usize,
+    actuals: Option<ActualTrees>,
+) -> Result<Option<Valued>, AllocError>
+    ensures made { IfOk result (λ r. r ≡ (judged.if_sound (row_seen actuals) (spec.called_with place at chosen.method.signature count (λ xs. e.Call (spec.bound_callee chosen chosen.base) (spec.receiver_actual chosen.method.receiver chosen ∷ xs) at chosen.method.signature.result))).node) }
+    ensures noted { OnOk result (book.new ≡ book_after book.old (judged.if_sound (row_seen actuals) (spec.called_with place at chosen.method.signature count (λ xs. e.Call (spec.bound_callee chosen chosen.base) (spec.receiver_actual chosen.method.receiver chosen ∷ xs) at chosen.method.signature.result))).notes) }
+{
+    Err(AllocError)
+}
