@@ -1,3 +1,4 @@
 pub mod Chains
 pub mod ExprViews
 pub mod Rows
+pub mod Selectors

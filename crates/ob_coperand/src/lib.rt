@@ -12,9 +12,11 @@ mod values;
 pub use literals::{character, integer, string};
 pub use operands::{bracketed, combined_if, opposite_if, related_if, signed_if};
 pub use phrases::{
-    is_callable, is_guardable, is_one_type, name_behind, name_in, start_of, takes_type,
-    type_in_round,
+    formal_at, is_one_type, name_behind, name_in, start_of, type_in_round, where_behind,
 };
 pub use selectors::{guard_misfit, guard_named, index_step, select_step, up_step};
 pub use tests::{other_test, type_test};
-pub use values::{constant_if, element_if, set_if, value_if};
+pub use values::{
+    constant_if, element_if, held_signature, no_type, row_with, set_if, there, type_parameter,
+    value_if,
+};

@@ -1,12 +1,15 @@
 //! What an expression is before it is judged.
 
-ghost use Rattle.std.specs.Prelude.{◌≡◌, map};
+ghost use Rattle.std.specs.Prelude.{◌≡◌, map, drop};
+ghost use Rattle.std.specs.Option.{option_copied};
+ghost use Rattle.ob_coperand.specs.Plain.{first_of};
 ghost use Rattle.ob_rules.specs.Designators as designators;
 ghost use Rattle.ob_rules.specs.Expressions as spec;
 
 use ob_cname::is_type_name;
-use ob_rules::{Meant, Predeclared, Surroundings};
+use ob_rules::{Surroundings, Where};
 use ob_tree::{Designator, Expr, Ident, Pos, Qualident, Selector};
+use ob_types::{Mode, TypeRef};
 
 // The name, where nothing but a name behind a dot stands behind it.
 fn name_alone(d: &Designator) -> Option<Qualident>
@@ -99,36 +102,31 @@ pub fn name_behind(selectors: &[Selector]) -> Option<Ident>
     }
 }
 
-/// Whether a type's name in round brackets behind it is a parameter.
-pub fn takes_type(meant: &Meant) -> bool
-    ensures { result ≡ designators.takes_type meant.now }
+/// Where a selector stands: a call that something follows is not asked for its result as a statement.
+pub fn where_behind(place: Where, last: bool) -> Where
+    ensures { result ≡ designators.where_of place last }
 {
-    match meant {
-        Meant::Predeclared(Predeclared::Max | Predeclared::Min) => true,
-        _ => false,
+    match place {
+        Where::AsStatement => {
+            if last {
+                Where::AsStatement
+            } else {
+                Where::Elsewhere
+            }
+        }
+        Where::InExpression => Where::InExpression,
+        Where::Elsewhere => Where::Elsewhere,
     }
 }
 
-/// Whether it is a procedure.
-pub fn is_callable(meant: &Meant) -> bool
-    ensures { result ≡ designators.is_callable meant.now }
+/// The formal parameter of that number, from 0. Takes no memory.
+#[tactic(auto, using(crate::proofs::RowLaws::first_at, crate::proofs::RowLaws::none_at))]
+pub fn formal_at(params: &[(Mode, TypeRef)], number: usize) -> Option<&(Mode, TypeRef)>
+    ensures { option_copied result ≡ first_of (drop number params.now) }
 {
-    match meant {
-        Meant::Procedure(_, _) | Meant::Bound(_) | Meant::Out(_) | Meant::Predeclared(_) => true,
-        Meant::Place(_) | Meant::Constant(_) | Meant::Call(_) | Meant::Statement(_) => false,
-    }
-}
-
-/// Whether a guard behind it breaks rule 23: it is a constant or a procedure.
-pub fn is_guardable(meant: &Meant) -> bool
-    ensures { result ≡ designators.is_guardable meant.now }
-{
-    match meant {
-        Meant::Constant(_)
-        | Meant::Procedure(_, _)
-        | Meant::Bound(_)
-        | Meant::Out(_)
-        | Meant::Predeclared(_) => true,
-        Meant::Place(_) | Meant::Call(_) | Meant::Statement(_) => false,
+    if number < params.len() {
+        Some(&params[number])
+    } else {
+        None
     }
 }

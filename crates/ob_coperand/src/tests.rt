@@ -45,7 +45,12 @@ fn is_testable<T: Types>(types: &T, x: &Valued) -> bool
     points(types, x) || is_var_record(x)
 }
 
-fn testable_by<T: Types>(types: &T, book: &mut Notebook, at: Pos, x: Option<Valued>) -> Option<Valued>
+fn testable_by<T: Types>(
+    types: &T,
+    book: &mut Notebook,
+    at: Pos,
+    x: Option<Valued>,
+) -> Option<Valued>
     ensures made { result ≡ (spec.untestable (T.types types.now) at (plain x)).node }
     ensures noted { book.new ≡ book_after book.old (spec.untestable (T.types types.now) at (plain x)).notes }
 {
@@ -151,12 +156,7 @@ fn test_pointer<T: Types>(
 ) -> Result<Option<Valued>, AllocError>
     ensures { IfOk result (λ r. r ≡ spec.test_of (T.types types.now) x t.now (Some of)) }
 {
-    let guard = if_extends(
-        types,
-        Guarded::Pointer,
-        Some(&of),
-        pointed_record(types, t),
-    )?;
+    let guard = if_extends(types, Guarded::Pointer, Some(&of), pointed_record(types, t))?;
     pointer_test(alloc, x, guard)
 }
 

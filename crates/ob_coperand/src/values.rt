@@ -1,21 +1,24 @@
 //! What stands alone: constants, sets and designators as values.
 
-ghost use Rattle.std.specs.Prelude.{◌≡◌, IfOk, OnOk};
-ghost use Rattle.std.specs.Option.{option_map};
+ghost use Rattle.std.specs.Prelude.{◌≡◌, IfOk, OnOk, Some};
+ghost use Rattle.std.specs.Option.{option_copied, option_map};
 ghost use Rattle.ob_rules.specs.Books.{book_after};
 ghost use Rattle.ob_rules.specs.Judged as judged;
+ghost use Rattle.ob_rules.specs.Names as names;
 ghost use Rattle.ob_rules.specs.Names.{map_of};
+ghost use Rattle.ob_rules.specs.Shapes as shapes;
+ghost use Rattle.ob_coperand.specs.Plain.{onto, alone, none_named};
 ghost use Rattle.ob_rules.specs.Operators as operators;
 ghost use Rattle.ob_rules.specs.Expressions as spec;
 ghost use Rattle.ob_rules.specs.Values as values;
 ghost use Rattle.ob_rules.specs.declared.meant.Meant.TheVariants as means;
 
-use ob_cname::types;
+use ob_cname::{type_named, types};
 use ob_cvalue::{element, set_of};
 use ob_rules::{Computed, ElementOf, Meant, Notebook, Surroundings, Valued};
-use ob_tree::{Pos, QName};
+use ob_tree::{Pos, QName, Qualident};
 use ob_trees::{ExprTree, copy_signature};
-use ob_types::{ExprType, Signature, Value, is_plain};
+use ob_types::{ExprType, Signature, TypeRef, Types, Value, is_plain, signature_within};
 use std::alloc::{AllocError, Global};
 
 fn constant_of(book: &mut Notebook, start: Pos, x: Valued) -> Option<Value>
@@ -70,10 +73,7 @@ pub fn element_if<S: Surroundings>(
 }
 
 /// The set of these elements.
-pub fn set_if(
-    alloc: Global,
-    elements: Option<Vec<ElementOf>>,
-) -> Result<Option<Valued>, AllocError>
+pub fn set_if(alloc: Global, elements: Option<Vec<ElementOf>>) -> Result<Option<Valued>, AllocError>
     ensures { IfOk result (λ r. r ≡ option_map (λ xs. operators.set_of xs.items) elements) }
 {
     match elements {
@@ -129,6 +129,87 @@ pub fn value_if(
         Some(Meant::Bound(_) | Meant::Out(_) | Meant::Predeclared(_)) => {
             book.breaks(39, at);
             Ok(None)
+        }
+    }
+}
+
+/// What there is, as a part that may be left out.
+pub fn there<A: Drop>(x: Option<A>) -> Option<Option<A>>
+    ensures { result ≡ (judged.if_sound x (λ v. judged.sound (Some v))).node }
+{
+    match x {
+        None => None,
+        Some(x) => Some(Some(x)),
+    }
+}
+
+/// A parameter of MAX or MIN that is no type's name.
+pub fn no_type(x: Option<Valued>) -> Option<Option<TypeRef>>
+    ensures { result ≡ (judged.if_sound x (λ v. none_named)).node }
+{
+    match x {
+        None => None,
+        Some(_) => Some(None),
+    }
+}
+
+/// The type of that name as a parameter of MAX or MIN. None where the name breaks a rule.
+pub fn type_parameter<S: Surroundings>(
+    alloc: Global,
+    here: &S,
+    book: &mut Notebook,
+    name: &Qualident,
+) -> Result<Option<Option<TypeRef>>, AllocError>
+    ensures made { IfOk result (λ r. r ≡ (judged.made (λ t. Some t) (names.type_named (S.around here.now) name.now)).node) }
+    ensures noted { OnOk result (book.new ≡ book_after book.old (judged.made (λ t. Some t) (names.type_named (S.around here.now) name.now)).notes) }
+{
+    match type_named(alloc, here, book, name)? {
+        None => Ok(None),
+        Some(t) => Ok(Some(Some(t))),
+    }
+}
+
+/// The row with one more at its end. None where one of them is none.
+pub fn row_with<A: Drop>(row: Option<Vec<A>>, x: Option<A>) -> Result<Option<Vec<A>>, AllocError>
+    ensures { IfOk result (λ r. option_map (λ v. v.items) r ≡ onto (option_map (λ v. v.items) row) (alone x)) }
+{
+    match row {
+        None => Ok(None),
+        Some(mut all) => match x {
+            None => Ok(None),
+            Some(x) => {
+                all.push(x)?;
+                Ok(Some(all))
+            }
+        },
+    }
+}
+
+fn signature_in<'a, T: Types>(types: &'a T, t: &'a TypeRef) -> Option<&'a Signature>
+    ensures { option_copied result ≡ shapes.signature_at (T.types types.now) t.now }
+{
+    signature_within(types, t)
+}
+
+fn signature_at<'a, S: Surroundings>(here: &'a S, t: &'a TypeRef) -> Option<&'a Signature>
+    ensures { option_copied result ≡ shapes.signature_at (map_of (S.around here.now)) t.now }
+{
+    signature_in(types(here), t)
+}
+
+/// The parameters of the procedures that a variable of the type holds. None where it holds none.
+pub fn held_signature<S: Surroundings>(
+    alloc: Global,
+    here: &S,
+    t: &TypeRef,
+) -> Result<Option<Signature>, AllocError>
+    ensures { IfOk result (λ r. r ≡ shapes.signature_at (map_of (S.around here.now)) t.now) }
+{
+    match signature_at(here, t) {
+        None => Ok(None),
+        Some(signature) => {
+            let signature = copy_signature(alloc, signature)?;
+            Ok(Some(signature))
         }
     }
 }

@@ -7,7 +7,7 @@ use Rattle.ob_rules.specs.Operators.{opposite, signed}
 use Rattle.ob_rules.specs.Books.{book_after}
 use Rattle.ob_rules.specs.Expressions as spec
 use Rattle.ob_rules.proofs.BookLaws.{after_none}
-use Rattle.ob_cexpr.specs.Plain.{plain}
+use Rattle.ob_coperand.specs.Plain.{plain}
 use Rattle.ob_cexpr.proofs.Chains.{then_noted, then_chain, then_chain_noted, relation_noted, chain_step, tails_from, tailed_as, tails_over}
 use Rattle.ob_cexpr.proofs.ExprViews.{value_nil, value_not, value_signed, value_chain, value_relate}
 use Rattle.ob_cexpr.proofs.walk.+walk.Goals as goal
