@@ -1,8 +1,14 @@
 -- Selectors behind what comes before them, as they are noted.
-use Rattle.std.proofs.Common.{◌≡◌, refl, sym, ap, ◌∙◌, ℕ, zero, suc, ◌+◌, ◌<◌, Bool, true, false, List, [], ◌∷◌, Option, Some, None, map, drop, length, get_or, eqb, arith}
+use Rattle.std.proofs.Common.{◌≡◌, refl, sym, ap, ◌∙◌, ℕ, zero, suc, ◌+◌, ◌<◌, ◌≤◌, Bool, true, false, List, [], ◌∷◌, Option, Some, None, map, drop, length, get_or, eqb, arith}
 use Rattle.std.proofs.lemmas.List.{length-drop}
+use Rattle.std.proofs.lemmas.Bool.Decides.{nat_tests}
 use Rattle.ob_tree.specs.declared.pos.Pos.{Pos}
 use Rattle.ob_tree.specs.declared.ident.Ident.{Ident}
+use Rattle.ob_tree.specs.declared.expr.Designator.{Designator}
+use Rattle.ob_tree.specs.declared.expr.Selector.{Selector}
+use Rattle.ob_rules.specs.Expressions.{behind_of, named_of, meant_by}
+use Rattle.ob_cexpr.proofs.ExprViews.{named_is}
+use Rattle.ob_cexpr.proofs.Chains.{map_over}
 use Rattle.ob_types.specs.declared.types.TypeRef.{TypeRef}
 use Rattle.ob_rules.specs.declared.notes.Notebook.{Notebook}
 use Rattle.ob_rules.specs.declared.values.Valued.{Valued}
@@ -11,10 +17,11 @@ use Rattle.ob_rules.specs.declared.entity.Entity.{Entity}
 use Rattle.ob_rules.specs.declared.meant.Meant.{Meant}
 use Rattle.ob_rules.specs.declared.meant.Meant.TheVariants as means
 use Rattle.ob_rules.specs.declared.meant.Where.{Where}
-use Rattle.ob_rules.specs.Judged.{Judged, Notes, joined, no_notes, noted, if_sound, made, sound, silent, breaks, wants, ◌▷◌}
+use Rattle.ob_rules.specs.Judged.{Judged, Notes, joined, no_notes, broken_at, noted, if_sound, made, sound, silent, breaks, wants, ◌▷◌}
 use Rattle.ob_rules.specs.Books.{book_after}
 use Rattle.ob_rules.specs.Names.{Around, map_of, named}
 use Rattle.ob_rules.specs.Shapes.{Map, array_of, is_array, pointed}
+use Rattle.ob_rules.specs.Values.{is_integer}
 use Rattle.ob_rules.specs.Phrases.{Phrase, Behind, Dot, Index, Up, Round}
 use Rattle.ob_rules.specs.Designators.{index, index_if, index_into, indexed, implicitly, step_index, all_visited, visited, visit, is_one_type, go_on_with, step, through, where_of, nothing_behind, behind, from_front, from_front_with, front, front_of, is_module, dot_of, designates}
 use Rattle.ob_rules.proofs.BookLaws.{after_none, after_joined}
@@ -32,8 +39,8 @@ into_node map at p i None = refl
 into_node map at p i (Some a) = refl
 
 into_noted : (map : Map) (at : Pos) (p : Place) (i : Judged Valued) (a : Option (Option ℕ × TypeRef)) (k : Notebook) → book_after k (index_into map at p i a).notes ≡ book_after (book_after k i.notes) (index_into map at p (plain i.node) a).notes
-into_noted map at p i None k = of_two k i.notes _
-into_noted map at p i (Some a) k = of_two k i.notes _
+into_noted map at p i None k = of_two k i.notes (broken_at 22 at)
+into_noted map at p i (Some a) k = of_two k i.notes (if_sound i.node (λ x. wants (is_integer map x) 22 at (indexed p at x a))).notes
 
 by_node : (map : Map) (at : Pos) (i : Judged Valued) (o : Option Place) → (index_if o i (λ q. index_into map at q i (array_of map q.of))).node ≡ (index_if o (plain i.node) (λ q. index_into map at q (plain i.node) (array_of map q.of))).node
 by_node map at i None = refl
@@ -72,13 +79,13 @@ index_node map at i (means.Statement s) = refl
 
 pub index_noted : (map : Map) (at : Pos) (i : Judged Valued) (m : Meant) (k : Notebook) → book_after k (step_index map at i m).notes ≡ book_after (book_after k i.notes) (step_index map at (plain i.node) m).notes
 index_noted map at i (means.Place p) k = variable_noted map at i p k
-index_noted map at i (means.Constant v) k = of_two k i.notes _
-index_noted map at i (means.Procedure n s) k = of_two k i.notes _
-index_noted map at i (means.Bound c) k = of_two k i.notes _
-index_noted map at i (means.Out o) k = of_two k i.notes _
-index_noted map at i (means.Predeclared f) k = of_two k i.notes _
-index_noted map at i (means.Call x) k = of_two k i.notes _
-index_noted map at i (means.Statement s) k = of_two k i.notes _
+index_noted map at i (means.Constant v) k = of_two k i.notes (broken_at 22 at)
+index_noted map at i (means.Procedure n s) k = of_two k i.notes (broken_at 22 at)
+index_noted map at i (means.Bound c) k = of_two k i.notes (broken_at 22 at)
+index_noted map at i (means.Out o) k = of_two k i.notes (broken_at 22 at)
+index_noted map at i (means.Predeclared f) k = of_two k i.notes (broken_at 22 at)
+index_noted map at i (means.Call x) k = of_two k i.notes (broken_at 22 at)
+index_noted map at i (means.Statement s) k = of_two k i.notes (broken_at 22 at)
 
 -- an index behind what comes before
 pub index_step_node : (map : Map) (at : Pos) (i : Judged Valued) (m : Meant) (x : Option Valued) (r : Option Meant) → x ≡ i.node → r ≡ (step_index map at (plain x) m).node → r ≡ (step_index map at i m).node
@@ -112,7 +119,9 @@ one_noted : (u : Around) (w : Where) (start : Pos) (b : Behind) (bs : List Behin
     → book_after k (goes_on u w start (b ∷ bs) m).notes ≡ book_after (book_after k (step_or u w start b (nothing_behind bs) m).notes) (goes_on u w start bs (step_or u w start b (nothing_behind bs) m).node).notes
 one_noted u w start b bs None k =
     of_two k (all_visited u (b ∷ bs)) no_notes ∙ ap (λ c. book_after c no_notes) (visit_one u b bs k) ∙ sym (of_two (book_after k (visited_one u b)) (all_visited u bs) no_notes)
-one_noted u w start b bs (Some m) k = of_two k (step u (where_of w (nothing_behind bs)) start m b (nothing_behind bs)).notes _
+one_noted u w start b bs (Some m) k =
+    let j = step u (where_of w (nothing_behind bs)) start m b (nothing_behind bs) in
+    of_two k j.notes (goes_on u w start bs j.node).notes
 
 if_node : (u : Around) (w : Where) (start : Pos) (b : Behind) (bs : List Behind) (t : Bool) (m : Option Meant) → (goes_on u w start (behind t (b ∷ bs)) m).node ≡ (goes_on u w start bs (step_if u w start b t (nothing_behind bs) m).node).node
 if_node u w start b bs true m = refl
@@ -147,12 +156,30 @@ none_taken false = refl
 
 pub is_last : {A : Type 0} (f : A → Behind) (xs : List A) → eqb (length xs) 0 ≡ nothing_behind (map f xs)
 is_last f [] = refl
-is_last f (x ∷ xs) = refl
+is_last f (x ∷ xs) = grind (arith, nat_tests)
 
 pub last_by : {A : Type 0} (f : A → Behind) (xs : List A) (i n : ℕ) → n + (i + 1) ≡ length xs → eqb n 0 ≡ nothing_behind (map f (drop (i + 1) xs))
 last_by f xs i n e =
     let n_is : n ≡ length (drop (i + 1) xs) = omega (arith, length-drop (i + 1) xs) in
     ap (λ m. eqb m 0) n_is ∙ is_last f (drop (i + 1) xs)
+
+end_node : (u : Around) (w : Where) (start : Pos) (t : Bool) (x : Option Meant) → (goes_on u w start (behind t []) x).node ≡ x
+end_node u w start true None = refl
+end_node u w start true (Some m) = refl
+end_node u w start false None = refl
+end_node u w start false (Some m) = refl
+
+end_noted : (u : Around) (w : Where) (start : Pos) (t : Bool) (x : Option Meant) (k : Notebook) → book_after k (goes_on u w start (behind t []) x).notes ≡ k
+end_noted u w start true None k = after_none k
+end_noted u w start true (Some m) k = after_none k
+end_noted u w start false None k = after_none k
+end_noted u w start false (Some m) k = after_none k
+
+pub selectors_end : (u : Around) (w : Where) (start : Pos) (t : Bool) (sel : List Selector) (i : ℕ) (x whole : Option Meant) → length sel ≤ i → whole ≡ (goes_on u w start (behind t (map behind_of (drop i sel))) x).node → x ≡ whole
+selectors_end u w start t sel i x whole h ew = sym (ew ∙ ap (λ ss. (goes_on u w start (behind t ss) x).node) (map_over behind_of sel i h) ∙ end_node u w start t x)
+
+pub selectors_end_noted : (u : Around) (w : Where) (start : Pos) (t : Bool) (sel : List Selector) (i : ℕ) (x : Option Meant) (k end : Notebook) → length sel ≤ i → end ≡ book_after k (goes_on u w start (behind t (map behind_of (drop i sel))) x).notes → k ≡ end
+selectors_end_noted u w start t sel i x k end h ee = sym (ee ∙ ap (λ ss. book_after k (goes_on u w start (behind t ss) x).notes) (map_over behind_of sel i h) ∙ end_noted u w start t x k)
 
 -- THE FRONT
 
@@ -183,3 +210,15 @@ front_noted u w x bs o k l end eo el ee =
     let j = front_judged u x (dot_of bs) in
     ee ∙ ap (λ y. book_after l (behind_front u w x.pos bs y).notes) eo ∙ ap (λ c. book_after c (behind_front u w x.pos bs j.node).notes) el ∙ after_joined k j.notes (behind_front u w x.pos bs j.node).notes
     ∙ ap (λ i. book_after k i.notes) (sym (front_is u w x bs))
+
+-- a designator, whose front is judged first
+pub meant_node : (u : Around) (w : Where) (d : Designator) (sel : List Selector) (dot : Option Ident) (o : Option Front) (r : Option Meant) → sel ≡ d.selectors → dot ≡ dot_of (map behind_of sel) → o ≡ (front_judged u d.ident dot).node
+    → r ≡ (behind_front u w d.ident.pos (map behind_of sel) o).node → r ≡ (meant_by w (named_of d) u).node
+meant_node u w d sel dot o r es ed eo er =
+    front_node u w d.ident (map behind_of sel) o r (eo ∙ ap (λ y. (front_judged u d.ident y).node) ed) er ∙ ap (λ ss. (designates u w d.ident (map behind_of ss)).node) es ∙ ap (λ n. (meant_by w n u).node) (sym (named_is d))
+
+pub meant_noted : (u : Around) (w : Where) (d : Designator) (sel : List Selector) (dot : Option Ident) (o : Option Front) (k l end : Notebook) → sel ≡ d.selectors → dot ≡ dot_of (map behind_of sel) → o ≡ (front_judged u d.ident dot).node
+    → l ≡ book_after k (front_judged u d.ident dot).notes → end ≡ book_after l (behind_front u w d.ident.pos (map behind_of sel) o).notes → end ≡ book_after k (meant_by w (named_of d) u).notes
+meant_noted u w d sel dot o k l end es ed eo el ee =
+    front_noted u w d.ident (map behind_of sel) o k l end (eo ∙ ap (λ y. (front_judged u d.ident y).node) ed) (el ∙ ap (λ y. book_after k (front_judged u d.ident y).notes) ed) ee
+    ∙ ap (λ ss. book_after k (designates u w d.ident (map behind_of ss)).notes) es ∙ ap (λ n. book_after k (meant_by w n u).notes) (sym (named_is d))

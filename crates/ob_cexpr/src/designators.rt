@@ -170,7 +170,7 @@ fn visit_selectors<S: Surroundings>(
     book: &mut Notebook,
     selectors: &[Selector],
 ) -> Result<(), AllocError>
-    ensures noted { OnOk result (book.new ≡ book_after book.old (designators.all_visited (S.around here.now) (map spec.behind_of selectors.now))) }
+    ensures { OnOk result (book.new ≡ book_after book.old (designators.all_visited (S.around here.now) (map spec.behind_of selectors.now))) }
 {
     'selectors: for selector in selectors {
         visit_selector(alloc, here, book, selector)?;
@@ -185,7 +185,7 @@ fn visit_selector<S: Surroundings>(
     book: &mut Notebook,
     selector: &Selector,
 ) -> Result<(), AllocError>
-    ensures noted { OnOk result (book.new ≡ book_after book.old (visited_one (S.around here.now) (spec.behind_of selector.now))) }
+    ensures { OnOk result (book.new ≡ book_after book.old (visited_one (S.around here.now) (spec.behind_of selector.now))) }
 {
     match selector {
         Selector::Field { .. } => Ok(()),
@@ -208,7 +208,7 @@ fn visit_arguments<S: Surroundings>(
     book: &mut Notebook,
     arguments: &[Expr],
 ) -> Result<(), AllocError>
-    ensures noted { OnOk result (book.new ≡ book_after book.old (designators.visited (S.around here.now) (map spec.phrase_of arguments.now))) }
+    ensures { OnOk result (book.new ≡ book_after book.old (designators.visited (S.around here.now) (map spec.phrase_of arguments.now))) }
 {
     'arguments: for argument in arguments {
         visit_argument(alloc, here, book, argument)?;
@@ -223,7 +223,7 @@ fn visit_argument<S: Surroundings>(
     book: &mut Notebook,
     argument: &Expr,
 ) -> Result<(), AllocError>
-    ensures noted { OnOk result (book.new ≡ book_after book.old (designators.visit (designators.is_one_type (S.around here.now) (spec.phrase_of argument.now).name) (S.around here.now) (spec.phrase_of argument.now))) }
+    ensures { OnOk result (book.new ≡ book_after book.old (designators.visit (designators.is_one_type (S.around here.now) (spec.phrase_of argument.now).name) (S.around here.now) (spec.phrase_of argument.now))) }
 {
     if is_one_type(here, argument) {
         return Ok(());
