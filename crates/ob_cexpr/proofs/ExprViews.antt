@@ -2,6 +2,7 @@
 use Rattle.std.proofs.Common.{◌≡◌, List, ℕ, sym, ap, ◌∙◌, map}
 use Rattle.std.specs.Option.{option_map}
 use Rattle.ob_tree.specs.declared.pos.Pos.{Pos}
+use Rattle.ob_tree.specs.declared.ident.Ident.{Ident}
 use Rattle.ob_tree.specs.declared.expr.Sign.{Sign}
 use Rattle.ob_tree.specs.declared.expr.Relation.{Relation}
 use Rattle.ob_tree.specs.declared.expr.Expr.{Expr}
@@ -17,7 +18,7 @@ use Rattle.ob_rules.specs.declared.values.Valued.{Valued}
 use Rattle.ob_rules.specs.declared.meant.Where.TheVariants.{InExpression}
 use Rattle.ob_rules.specs.Judged.{Judged, sound, made, each_sound, ◌▷◌}
 use Rattle.ob_rules.specs.Names.{Around, map_of}
-use Rattle.ob_rules.specs.Phrases.{Phrase, Behind, Index, Round}
+use Rattle.ob_rules.specs.Phrases.{Phrase, Behind, Dot, Index, Up, Round}
 use Rattle.ob_rules.specs.Values.{constant}
 use Rattle.ob_rules.specs.Constants.{text_value}
 use Rattle.ob_rules.specs.Operators.{opposite, signed, set_of}
@@ -58,3 +59,9 @@ behind_index at i = ap behind_of (sym (s.rolls-Index at i)) ∙ fold-roll-Select
 
 pub behind_call : (at : Pos) (xs : List Expr) → behind_of (s.Call at xs) ≡ Round at (map phrase_of xs)
 behind_call at xs = ap behind_of (sym (s.rolls-Call at xs)) ∙ fold-roll-Selector Phrase Behind Named Ranged Tailed expr_rule selector_rule designator_rule element_rule tail_rule (Selector-F.Call at xs)
+
+pub behind_field : (at : Pos) (x : Ident) → behind_of (s.Field at x) ≡ Dot at x
+behind_field at x = ap behind_of (sym (s.rolls-Field at x)) ∙ fold-roll-Selector Phrase Behind Named Ranged Tailed expr_rule selector_rule designator_rule element_rule tail_rule (Selector-F.Field at x)
+
+pub behind_up : (at : Pos) → behind_of (s.Deref at) ≡ Up at
+behind_up at = ap behind_of (sym (s.rolls-Deref at)) ∙ fold-roll-Selector Phrase Behind Named Ranged Tailed expr_rule selector_rule designator_rule element_rule tail_rule (Selector-F.Deref at)

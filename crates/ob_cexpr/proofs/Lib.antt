@@ -1,3 +1,5 @@
 pub mod Chains
+pub mod ConstantLaws
 pub mod ExprViews
 pub mod Rows
+pub mod Selectors

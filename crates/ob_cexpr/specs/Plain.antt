@@ -1,29 +1,33 @@
--- Parts whose notes are written down already.
-use Rattle.std.specs.Prelude.{ℕ, Bool, true, false, List, [], ◌∷◌, ◌++◌, map, Option, Some, None}
+-- Parts whose notes are written down already, and rows of parts.
+use Rattle.std.specs.Prelude.{Bool, true, false, List, [], ◌∷◌, map, Option, Some, None}
 use Rattle.ob_tree.specs.declared.pos.Pos.{Pos}
 use Rattle.ob_tree.specs.declared.expr.Element.{Element}
 use Rattle.ob_rules.specs.declared.values.Valued.{Valued}
-use Rattle.ob_rules.specs.Operators.{set_of}
-use Rattle.ob_rules.specs.Expressions.{element_value, ranged_of}
+use Rattle.ob_rules.specs.declared.meant.ElementOf.{ElementOf}
 use Rattle.ob_rules.specs.declared.meant.Meant.{Meant}
 use Rattle.ob_rules.specs.declared.meant.Where.{Where}
-use Rattle.ob_rules.specs.Judged.{Judged, no_notes, noted, silent, made, each_sound}
+use Rattle.ob_rules.specs.Operators.{set_of}
+use Rattle.ob_rules.specs.Expressions.{element_value, ranged_of}
+use Rattle.ob_rules.specs.Judged.{Judged, Notes, no_notes, noted, silent, made, each_sound}
 use Rattle.ob_rules.specs.Names.{Around}
-use Rattle.ob_rules.specs.Phrases.{Behind}
-use Rattle.ob_rules.specs.Designators.{all_visited, go_on_with, step, through, where_of, nothing_behind}
+use Rattle.ob_rules.specs.Phrases.{Phrase, Behind, Dot, Index, Up, Round}
+use Rattle.ob_rules.specs.Designators.{all_visited, visited, go_on_with, step, through, where_of, behind}
+use Rattle.ob_cplace.specs.declared.front.Front.{Front}
+use Rattle.ob_coperand.specs.Plain.{plain}
 
-abbrev pub plain : {A : Type 0} → Option A → Judged A
-plain o = record { node = o; notes = no_notes }
+-- the elements of a set
+abbrev pub elements_judged : Around → List Element → Judged (List ElementOf)
+elements_judged u xs = each_sound (map (λ x. element_value u x) (map ranged_of xs))
 
--- what a row comes to with more of it
-abbrev pub onto : {A : Type 0} → Option (List A) → Option (List A) → Option (List A)
-onto None ys = None
-onto (Some xs) None = None
-onto (Some xs) (Some ys) = Some (xs ++ ys)
+-- a set of these elements
+unfoldable pub set_judged : Around → List Element → Judged Valued
+set_judged u xs = made set_of (elements_judged u xs)
 
-abbrev pub alone : {A : Type 0} → Option A → Option (List A)
-alone None = None
-alone (Some x) = Some (x ∷ [])
+-- the values of one selector
+abbrev pub visited_one : Around → Behind → Notes
+visited_one u (Index at i) = (i.value u).notes
+visited_one u (Round at ps) = visited u ps
+visited_one u b = no_notes
 
 -- selectors behind what the ones before came to
 abbrev pub goes_on : Around → Where → Pos → List Behind → Option Meant → Judged Meant
@@ -31,9 +35,15 @@ goes_on u w start bs m = go_on_with u bs (λ n. through u w start bs n) m
 
 -- one selector behind what the ones before came to
 abbrev pub step_or : Around → Where → Pos → Behind → Bool → Option Meant → Judged Meant
-step_or u w start b last None = noted (all_visited u (b ∷ [])) silent
+step_or u w start b last None = record { node = None; notes = visited_one u b }
 step_or u w start b last (Some m) = step u (where_of w last) start m b last
 
--- a set of these elements
-unfoldable pub set_judged : Around → List Element → Judged Valued
-set_judged u xs = made set_of (each_sound (map (λ x. element_value u x) (map ranged_of xs)))
+-- the same, unless it was taken with the front
+abbrev pub step_if : Around → Where → Pos → Behind → Bool → Bool → Option Meant → Judged Meant
+step_if u w start b true last m = plain m
+step_if u w start b false last m = step_or u w start b last m
+
+-- selectors behind the front
+abbrev pub behind_front : Around → Where → Pos → List Behind → Option Front → Judged Meant
+behind_front u w start bs None = noted (all_visited u bs) silent
+behind_front u w start bs (Some f) = through u w start (behind f.with_name bs) f.meant

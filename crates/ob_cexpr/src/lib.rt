@@ -1,11 +1,10 @@
 //! Expressions and designators, judged by the rules.
 #![tactic(auto, using(ob_rules::proofs::BookLaws::after_none, ob_rules::proofs::BookLaws::after_joined))]
 
-mod literals;
-mod operands;
-mod phrases;
-mod tests;
+mod calls;
+mod designators;
 mod walk;
 
-pub use phrases::{name_in, start_of};
-pub use walk::{check_constant, check_designator, check_expr};
+pub use designators::check_designator;
+pub use ob_coperand::{name_in, start_of};
+pub use walk::{check_constant, check_expr};

@@ -4,19 +4,21 @@
 ghost use Rattle.std.specs.Prelude.{◌≡◌, IfOk, OnOk, map};
 ghost use Rattle.ob_rules.specs.Books.{book_after};
 ghost use Rattle.ob_rules.specs.Expressions as spec;
-ghost use Rattle.ob_cexpr.specs.Plain.{plain};
+ghost use Rattle.ob_coperand.specs.Plain.{plain};
 
-use crate::literals::{character, integer, string};
-use crate::operands::{bracketed, combined_if, opposite_if, related_if, signed_if};
-use crate::phrases::name_in;
-use crate::tests::{other_test, type_test};
-use ob_rules::{Meant, Notebook, Surroundings, Valued, Where};
-use ob_tree::{Designator, Expr, Pos, Relation, Tail};
+use crate::designators::check_designator;
+use ob_coperand::{
+    bracketed, character, combined_if, constant_if, integer, name_in, opposite_if, other_test,
+    related_if, signed_if, start_of, string, type_test, value_if,
+};
+use ob_rules::{Notebook, Surroundings, Valued, Where};
+use ob_tree::{Expr, Pos, Relation, Tail};
 use ob_types::Value;
 use std::alloc::{AllocError, Global};
 
 /// What an expression comes to: none where it breaks a rule, or a declaration that it names does.
-/// What is broken, and what it names, is noted in the book.
+/// What is broken, and what it names, is noted in the book. Of a set it answers want of memory: not
+/// written yet.
 #[cycle(walk)]
 pub fn check_expr<S: Surroundings>(
     alloc: Global,
@@ -28,10 +30,13 @@ pub fn check_expr<S: Surroundings>(
     ensures noted { OnOk result (book.new ≡ book_after book.old ((spec.phrase_of e.now).value (S.around here.now)).notes) }
 {
     match e {
-        Expr::Designator(_) => Err(AllocError),
-        Expr::Int { pos, text } => integer(book, *pos, text.as_slice()),
-        Expr::Char { pos, text } => character(book, *pos, text.as_slice()),
-        Expr::Str { text, .. } => string(alloc, book, text.as_slice()),
+        Expr::Designator(d) => {
+            let m = check_designator(alloc, here, book, Where::InExpression, d)?;
+            value_if(alloc, book, d.ident.pos, m)
+        }
+        Expr::Int { pos, text } => Ok(integer(book, *pos, text.as_slice())),
+        Expr::Char { pos, text } => Ok(character(book, *pos, text.as_slice())),
+        Expr::Str { text, .. } => string(alloc, text.as_slice()),
         Expr::Nil(_) => Ok(Some(Valued::Constant(Value::Nil))),
         Expr::Set { .. } => Err(AllocError),
         Expr::Paren { inner, .. } => {
@@ -125,25 +130,9 @@ fn check_test<S: Surroundings>(
         Some(name) => type_test(alloc, here, book, at, x, &name),
         None => {
             let y = check_expr(alloc, here, book, right)?;
-            other_test(alloc, here, book, at, x, y)
+            Ok(other_test(here, book, at, x, y))
         }
     }
-}
-
-/// What a designator comes to that stands in an expression, as a statement, or elsewhere: none where
-/// it breaks a rule, or a declaration that it names does. What is broken, and what it names, is
-/// noted in the book.
-pub fn check_designator<S: Surroundings>(
-    alloc: Global,
-    here: &S,
-    book: &mut Notebook,
-    place: Where,
-    d: &Designator,
-) -> Result<Option<Meant>, AllocError>
-    ensures made { IfOk result (λ r. r ≡ (spec.meant_by place (spec.named_of d.now) (S.around here.now)).node) }
-    ensures noted { OnOk result (book.new ≡ book_after book.old (spec.meant_by place (spec.named_of d.now) (S.around here.now)).notes) }
-{
-    Err(AllocError)
 }
 
 /// The constant that an expression is: none where it breaks a rule, rule 10 where it is no constant
@@ -157,5 +146,9 @@ pub fn check_constant<S: Surroundings>(
     ensures made { IfOk result (λ r. r ≡ (spec.constant_value (S.around here.now) (spec.phrase_of e.now)).node) }
     ensures noted { OnOk result (book.new ≡ book_after book.old (spec.constant_value (S.around here.now) (spec.phrase_of e.now)).notes) }
 {
-    Err(AllocError)
+    let before = book.set_aside();
+    let x = check_expr(alloc, here, book, e)?;
+    let quiet = book.is_quiet();
+    book.put_back(before);
+    Ok(constant_if(book, start_of(e), x, quiet))
 }

@@ -8,6 +8,8 @@ ghost use Rattle.ob_rules.specs.Names.{map_of};
 ghost use Rattle.ob_rules.specs.Operators as operators;
 ghost use Rattle.ob_rules.specs.Expressions as spec;
 
+use ob_cname::types;
+use ob_cvalue::{combined, opposite, related, signed};
 use ob_rules::{Notebook, Place, Surroundings, Valued};
 use ob_tree::{Operator, Pos, Relation, Sign};
 use std::alloc::{AllocError, Global};
@@ -23,7 +25,10 @@ pub fn opposite_if<S: Surroundings>(
     ensures made { IfOk result (λ r. r ≡ (judged.if_sound x (λ v. operators.opposite (map_of (S.around here.now)) at v)).node) }
     ensures noted { OnOk result (book.new ≡ book_after book.old (judged.if_sound x (λ v. operators.opposite (map_of (S.around here.now)) at v)).notes) }
 {
-    Err(AllocError)
+    match x {
+        None => Ok(None),
+        Some(x) => opposite(alloc, types(here), book, at, x),
+    }
 }
 
 /// A sign before a value.
@@ -38,7 +43,10 @@ pub fn signed_if<S: Surroundings>(
     ensures made { IfOk result (λ r. r ≡ (judged.if_sound x (λ v. operators.signed (map_of (S.around here.now)) sign at v)).node) }
     ensures noted { OnOk result (book.new ≡ book_after book.old (judged.if_sound x (λ v. operators.signed (map_of (S.around here.now)) sign at v)).notes) }
 {
-    Err(AllocError)
+    match x {
+        None => Ok(None),
+        Some(x) => signed(alloc, types(here), book, sign, at, x),
+    }
 }
 
 /// An operator between two operands.
@@ -54,7 +62,13 @@ pub fn combined_if<S: Surroundings>(
     ensures made { IfOk result (λ r. r ≡ (judged.if_sound (judged.paired x y) (λ p. operators.combined (map_of (S.around here.now)) operator at p.0 p.1)).node) }
     ensures noted { OnOk result (book.new ≡ book_after book.old (judged.if_sound (judged.paired x y) (λ p. operators.combined (map_of (S.around here.now)) operator at p.0 p.1)).notes) }
 {
-    Err(AllocError)
+    match x {
+        None => Ok(None),
+        Some(x) => match y {
+            None => Ok(None),
+            Some(y) => combined(alloc, types(here), book, operator, at, x, y),
+        },
+    }
 }
 
 /// A relation, but IS, of two operands.
@@ -70,7 +84,13 @@ pub fn related_if<S: Surroundings>(
     ensures made { IfOk result (λ r. r ≡ (judged.if_sound (judged.paired x y) (λ p. operators.related (map_of (S.around here.now)) relation at p.0 p.1)).node) }
     ensures noted { OnOk result (book.new ≡ book_after book.old (judged.if_sound (judged.paired x y) (λ p. operators.related (map_of (S.around here.now)) relation at p.0 p.1)).notes) }
 {
-    Err(AllocError)
+    match x {
+        None => Ok(None),
+        Some(x) => match y {
+            None => Ok(None),
+            Some(y) => related(alloc, types(here), book, relation, at, x, y),
+        },
+    }
 }
 
 /// A value in round brackets, which is no variable that is tested or passed.

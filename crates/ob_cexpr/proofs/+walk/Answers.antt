@@ -1,0 +1,170 @@
+use Rattle.std.proofs.Common.{◌≡◌, refl, sym, ap, ◌∙◌, map, drop, ◌+◌, ◌∷◌, [], Some, arith, length}
+use Rattle.std.proofs.lemmas.Result.{IfOk-weaker, on_ok_weaker}
+use Rattle.ob_tree.specs.declared.expr.Expr.TheVariants as expr
+use Rattle.ob_rules.specs.Judged.{sound, ◌▷◌}
+use Rattle.ob_rules.specs.Values.{constant}
+use Rattle.ob_rules.specs.Constants.{text_value}
+use Rattle.ob_rules.specs.Phrases.{Index}
+use Rattle.ob_rules.specs.declared.meant.Where.TheVariants.{InExpression}
+use Rattle.ob_rules.specs.Designators as designators
+use Rattle.ob_rules.specs.Names.{map_of}
+use Rattle.ob_rules.specs.Operators.{opposite, signed}
+use Rattle.ob_rules.specs.Books.{book_after}
+use Rattle.ob_rules.specs.Expressions as spec
+use Rattle.ob_rules.proofs.BookLaws.{after_none}
+use Rattle.ob_coperand.specs.Plain.{plain}
+use Rattle.ob_cexpr.specs.Plain.{goes_on, visited_one}
+use Rattle.ob_cexpr.proofs.Rows.{on_ok_from}
+use Rattle.ob_cexpr.proofs.Selectors.{selectors_end, selectors_end_noted, meant_node, meant_noted, index_step_node, index_step_noted, visit_step, argument_step, selector_step, not_taken, last_by}
+use Rattle.ob_cexpr.proofs.Chains.{map_from, map_over, then_noted, then_chain, then_chain_noted, relation_noted, chain_step, tails_from, tailed_as, tails_over}
+use Rattle.ob_cexpr.proofs.ExprViews.{named_is, behind_field, behind_index, behind_up, value_str, value_designator, value_nil, value_not, value_signed, value_chain, value_relate}
+use Rattle.ob_cexpr.proofs.+walk.Goals as goal
+
+pub walk::check_expr-returns-in-Nil-clause-noted : goal.walk::check_expr-returns-in-Nil-clause-noted
+walk::check_expr-returns-in-Nil-clause-noted g t c =
+    let u = g.S.Surroundings.around c.args.here.now in
+    sym (after_none c.args.book.now) ∙ ap (λ j. book_after c.args.book.now j.notes) (sym (ap (λ y. (spec.phrase_of y).value u) c.in-Nil.is ∙ value_nil c.in-Nil.field-0 u))
+
+pub walk::check_expr-returns-in_ok-x-in-Not-clause-noted : goal.walk::check_expr-returns-in_ok-x-in-Not-clause-noted
+walk::check_expr-returns-in_ok-x-in-Not-clause-noted g t c =
+    let u = g.S.Surroundings.around c.args.here.now in
+    let v = (spec.phrase_of c.get-in-Not.result.now).value u in
+    let whole : (spec.phrase_of c.args.e.now).value u ≡ (v ▷ λ x. opposite (map_of u) c.in-Not.pos x) =
+    ap (λ y. (spec.phrase_of y).value u) (c.in-Not.is ∙ ap (λ o. expr.Not c.in-Not.pos o) (sym c.get-in-Not.ensures)) ∙ value_not c.in-Not.pos c.get-in-Not.result.now u in
+    on_ok_weaker c.opposite_if.result (λ h. then_noted v (λ x. opposite (map_of u) c.in-Not.pos x) c.in_ok-x-in-Not.x c.args.book.now c.check_expr-in-Not.new.book c.opposite_if.new.book c.in_ok-x-in-Not.ensures.made c.in_ok-x-in-Not.ensures.noted h ∙ ap (λ j. book_after c.args.book.now j.notes) (sym whole)) c.opposite_if.ensures.noted
+
+pub walk::check_expr-returns-in_ok-x-in-Signed-clause-noted : goal.walk::check_expr-returns-in_ok-x-in-Signed-clause-noted
+walk::check_expr-returns-in_ok-x-in-Signed-clause-noted g t c =
+    let u = g.S.Surroundings.around c.args.here.now in
+    let v = (spec.phrase_of c.get-in-Signed.result.now).value u in
+    let whole : (spec.phrase_of c.args.e.now).value u ≡ (v ▷ λ x. signed (map_of u) c.in-Signed.sign c.in-Signed.pos x) =
+    ap (λ y. (spec.phrase_of y).value u) (c.in-Signed.is ∙ ap (λ o. expr.Signed c.in-Signed.sign c.in-Signed.pos o) (sym c.get-in-Signed.ensures)) ∙ value_signed c.in-Signed.sign c.in-Signed.pos c.get-in-Signed.result.now u in
+    on_ok_weaker c.signed_if.result (λ h. then_noted v (λ x. signed (map_of u) c.in-Signed.sign c.in-Signed.pos x) c.in_ok-x-in-Signed.x c.args.book.now c.check_expr-in-Signed.new.book c.signed_if.new.book c.in_ok-x-in-Signed.ensures.made c.in_ok-x-in-Signed.ensures.noted h ∙ ap (λ j. book_after c.args.book.now j.notes) (sym whole)) c.signed_if.ensures.noted
+
+pub walk::check_expr-returns-in_ok-x-in-Chain-clause-made : goal.walk::check_expr-returns-in_ok-x-in-Chain-clause-made
+walk::check_expr-returns-in_ok-x-in-Chain-clause-made g t c =
+    let u = g.S.Surroundings.around c.args.here.now in
+    let v = (spec.phrase_of c.get-in-Chain.result.now).value u in
+    let ts = map spec.tailed_of c.as_slice-in-Chain.result.now in
+    let whole : (spec.phrase_of c.args.e.now).value u ≡ spec.combine_all u ts v =
+    ap (λ y. (spec.phrase_of y).value u) (c.in-Chain.is ∙ ap (λ o. expr.Chain o c.in-Chain.tails) (sym c.get-in-Chain.ensures) ∙ ap (λ o. expr.Chain c.get-in-Chain.result.now o) (sym c.as_slice-in-Chain.ensures)) ∙ value_chain c.get-in-Chain.result.now c.as_slice-in-Chain.result.now u in
+    IfOk-weaker c.check_tails.result _ _ (λ r h. then_chain u ts v c.in_ok-x-in-Chain.x r c.in_ok-x-in-Chain.ensures.made h ∙ ap (λ j. j.node) (sym whole)) c.check_tails.ensures.made
+
+pub walk::check_expr-returns-in_ok-x-in-Chain-clause-noted : goal.walk::check_expr-returns-in_ok-x-in-Chain-clause-noted
+walk::check_expr-returns-in_ok-x-in-Chain-clause-noted g t c =
+    let u = g.S.Surroundings.around c.args.here.now in
+    let v = (spec.phrase_of c.get-in-Chain.result.now).value u in
+    let ts = map spec.tailed_of c.as_slice-in-Chain.result.now in
+    let whole : (spec.phrase_of c.args.e.now).value u ≡ spec.combine_all u ts v =
+    ap (λ y. (spec.phrase_of y).value u) (c.in-Chain.is ∙ ap (λ o. expr.Chain o c.in-Chain.tails) (sym c.get-in-Chain.ensures) ∙ ap (λ o. expr.Chain c.get-in-Chain.result.now o) (sym c.as_slice-in-Chain.ensures)) ∙ value_chain c.get-in-Chain.result.now c.as_slice-in-Chain.result.now u in
+    on_ok_weaker c.check_tails.result (λ h. then_chain_noted u ts v c.in_ok-x-in-Chain.x c.args.book.now c.check_expr-in-Chain.new.book c.check_tails.new.book c.in_ok-x-in-Chain.ensures.made c.in_ok-x-in-Chain.ensures.noted h ∙ ap (λ j. book_after c.args.book.now j.notes) (sym whole)) c.check_tails.ensures.noted
+
+pub walk::check_expr-returns-in_ok-x-in-Relate-clause-noted : goal.walk::check_expr-returns-in_ok-x-in-Relate-clause-noted
+walk::check_expr-returns-in_ok-x-in-Relate-clause-noted g t c =
+    let u = g.S.Surroundings.around c.args.here.now in
+    let v = (spec.phrase_of c.get-in-Relate.result.now).value u in
+    let r = spec.phrase_of c.get-in-Relate-2.result.now in
+    let whole : (spec.phrase_of c.args.e.now).value u ≡ spec.relation_of u c.in-Relate.relation c.in-Relate.pos v r =
+    ap (λ y. (spec.phrase_of y).value u) (c.in-Relate.is ∙ ap (λ o. expr.Relate o c.in-Relate.relation c.in-Relate.pos c.in-Relate.right) (sym c.get-in-Relate.ensures) ∙ ap (λ o. expr.Relate c.get-in-Relate.result.now c.in-Relate.relation c.in-Relate.pos o) (sym c.get-in-Relate-2.ensures)) ∙ value_relate c.get-in-Relate.result.now c.in-Relate.relation c.in-Relate.pos c.get-in-Relate-2.result.now u in
+    on_ok_weaker c.check_relation.result (λ h. relation_noted u c.in-Relate.relation c.in-Relate.pos r v c.in_ok-x-in-Relate.x c.args.book.now c.check_expr-in-Relate.new.book c.check_relation.new.book c.in_ok-x-in-Relate.ensures.made c.in_ok-x-in-Relate.ensures.noted h ∙ ap (λ j. book_after c.args.book.now j.notes) (sym whole)) c.check_relation.ensures.noted
+
+pub walk::check_tails-tails-preserved : goal.walk::check_tails-tails-preserved
+walk::check_tails-tails-preserved g t c =
+    let u = g.S.Surroundings.around c.args.here.now in
+    let i = c.tails.tail-index in
+    let rest = map spec.tailed_of (drop (i + 1) c.args.tails.now) in
+    let split : map spec.tailed_of (drop i c.args.tails.now) ≡ tailed_as c.tail-item.result ∷ rest = tails_from c.args.tails.now i c.tail-item.result c.tails-test.true ∙ ap (λ y. tailed_as y ∷ rest) (sym c.tail-item.is) in
+    chain_step u (tailed_as c.tail-item.result) rest c.tails.all c.in_ok-operand.operand c.in_ok-all.all c.tails.book c.check_expr.new.book c.combined_if.new.book _ _
+    c.in_ok-operand.ensures.made c.in_ok-operand.ensures.noted c.in_ok-all.ensures.made c.in_ok-all.ensures.noted
+    (c.tails.invariant.0 ∙ ap (λ ts. (spec.combine_all u ts (plain c.tails.all)).node) split)
+    (c.tails.invariant.1 ∙ ap (λ ts. book_after c.tails.book (spec.combine_all u ts (plain c.tails.all)).notes) split)
+
+pub walk::check_tails-returns-clause-noted : goal.walk::check_tails-returns-clause-noted
+walk::check_tails-returns-clause-noted g t c =
+    tails_over (g.S.Surroundings.around c.args.here.now) c.args.tails.now c.tails.tail-index c.tails.all c.tails.book _ c.tails-test.false c.tails.invariant.1
+
+pub walk::check_expr-returns-in_ok-m-in-Designator-clause-noted : goal.walk::check_expr-returns-in_ok-m-in-Designator-clause-noted
+walk::check_expr-returns-in_ok-m-in-Designator-clause-noted g t c =
+    let u = g.S.Surroundings.around c.args.here.now in
+    let d = c.in-Designator.d in
+    let v = spec.meant_by InExpression (spec.named_of d) u in
+    let whole : (spec.phrase_of c.args.e.now).value u ≡ (v ▷ λ m. spec.value_meant d.ident.pos m) = ap (λ y. (spec.phrase_of y).value u) c.in-Designator.is ∙ value_designator d u ∙ ap (λ n. v ▷ λ m. spec.value_meant n.ident.pos m) (named_is d) in
+    on_ok_weaker c.value_if.result (λ h. then_noted v (λ m. spec.value_meant d.ident.pos m) c.in_ok-m-in-Designator.m c.args.book.now c.check_designator.new.book c.value_if.new.book c.in_ok-m-in-Designator.ensures.made c.in_ok-m-in-Designator.ensures.noted h ∙ ap (λ j. book_after c.args.book.now j.notes) (sym whole)) c.value_if.ensures.noted
+
+pub designators::check_designator-returns-clause-made : goal.designators::check_designator-returns-clause-made
+designators::check_designator-returns-clause-made g t c =
+    IfOk-weaker c.check_behind.result _ _ (λ r h. meant_node (g.S.Surroundings.around c.args.here.now) c.args.place c.args.d.now c.as_slice-selectors.result.now c.name_behind.result c.in_ok-front.front r c.as_slice-selectors.ensures c.name_behind.ensures c.in_ok-front.ensures.made h) c.check_behind.ensures.made
+
+pub designators::check_designator-returns-clause-noted : goal.designators::check_designator-returns-clause-noted
+designators::check_designator-returns-clause-noted g t c =
+    on_ok_weaker c.check_behind.result (λ h. meant_noted (g.S.Surroundings.around c.args.here.now) c.args.place c.args.d.now c.as_slice-selectors.result.now c.name_behind.result c.in_ok-front.front c.args.book.now c.front_named.new.book c.check_behind.new.book c.as_slice-selectors.ensures c.name_behind.ensures c.in_ok-front.ensures.made c.in_ok-front.ensures.noted h) c.check_behind.ensures.noted
+
+pub designators::check_selectors-selectors-preserved : goal.designators::check_selectors-selectors-preserved
+designators::check_selectors-selectors-preserved g t c =
+    let u = g.S.Surroundings.around c.args.here.now in
+    let i = c.selectors.selector-index in
+    let rest = map spec.behind_of (drop (i + 1) c.args.selectors.now) in
+    let split : map spec.behind_of (drop i c.args.selectors.now) ≡ spec.behind_of c.selector-item.result ∷ rest = map_from spec.behind_of c.args.selectors.now i c.selector-item.result c.selectors-test.true ∙ ap (λ y. spec.behind_of y ∷ rest) (sym c.selector-item.is) in
+    let step = selector_step u c.args.place c.args.start (spec.behind_of c.selector-item.result) rest c.selectors.taken _ c.selectors.all c.in_ok-all.all c.selectors.book c.check_selector.new.book _ _
+    (last_by spec.behind_of c.args.selectors.now i _ (omega (arith, c.selectors.invariant.2))) c.in_ok-all.ensures.made c.in_ok-all.ensures.noted
+    (c.selectors.invariant.0 ∙ ap (λ bs. (goes_on u c.args.place c.args.start (designators.behind c.selectors.taken bs) c.selectors.all).node) split)
+    (c.selectors.invariant.1 ∙ ap (λ bs. book_after c.selectors.book (goes_on u c.args.place c.args.start (designators.behind c.selectors.taken bs) c.selectors.all).notes) split) in
+    (step.0, step.1, omega (arith, c.selectors.invariant.2))
+
+pub designators::visit_selectors-selectors-preserved : goal.designators::visit_selectors-selectors-preserved
+designators::visit_selectors-selectors-preserved g t c =
+    let u = g.S.Surroundings.around c.args.here.now in
+    let i = c.selectors.selector-index in
+    let rest = map spec.behind_of (drop (i + 1) c.args.selectors.now) in
+    let split : map spec.behind_of (drop i c.args.selectors.now) ≡ spec.behind_of c.selector-item.result ∷ rest = map_from spec.behind_of c.args.selectors.now i c.selector-item.result c.selectors-test.true ∙ ap (λ y. spec.behind_of y ∷ rest) (sym c.selector-item.is) in
+    visit_step u (spec.behind_of c.selector-item.result) rest c.selectors.book c.visit_selector.new.book _ c.in_ok-visit_selector.ensures (c.selectors.invariant ∙ ap (λ bs. book_after c.selectors.book (designators.all_visited u bs)) split)
+
+pub designators::visit_arguments-arguments-preserved : goal.designators::visit_arguments-arguments-preserved
+designators::visit_arguments-arguments-preserved g t c =
+    let u = g.S.Surroundings.around c.args.here.now in
+    let i = c.arguments.argument-index in
+    let rest = map spec.phrase_of (drop (i + 1) c.args.arguments.now) in
+    let split : map spec.phrase_of (drop i c.args.arguments.now) ≡ spec.phrase_of c.argument-item.result ∷ rest = map_from spec.phrase_of c.args.arguments.now i c.argument-item.result c.arguments-test.true ∙ ap (λ y. spec.phrase_of y ∷ rest) (sym c.argument-item.is) in
+    argument_step u (spec.phrase_of c.argument-item.result) rest c.arguments.book c.visit_argument.new.book _ c.in_ok-visit_argument.ensures (c.arguments.invariant ∙ ap (λ ps. book_after c.arguments.book (designators.visited u ps)) split)
+
+pub walk::check_expr-returns-in-Str-clause-noted : goal.walk::check_expr-returns-in-Str-clause-noted
+walk::check_expr-returns-in-Str-clause-noted g t c =
+    let u = g.S.Surroundings.around c.args.here.now in
+    let whole : (spec.phrase_of c.args.e.now).value u ≡ sound (constant (text_value c.in-Str.text)) = ap (λ y. (spec.phrase_of y).value u) c.in-Str.is ∙ value_str c.in-Str.pos c.in-Str.text u in
+    on_ok_from c.string.result (sym (after_none c.args.book.now) ∙ ap (λ j. book_after c.args.book.now j.notes) (sym whole))
+
+pub designators::check_step-returns-in_ok-i-in-Index-clause-noted : goal.designators::check_step-returns-in_ok-i-in-Index-clause-noted
+designators::check_step-returns-in_ok-i-in-Index-clause-noted g t c =
+    let u = g.S.Surroundings.around c.args.here.now in
+    let i = c.in-Index.index in
+    let whole : spec.behind_of c.args.selector.now ≡ Index c.in-Index.pos (spec.phrase_of i) = ap spec.behind_of c.in-Index.is ∙ behind_index c.in-Index.pos i in
+    on_ok_weaker c.index_step.result (λ h. index_step_noted (map_of u) c.in-Index.pos ((spec.phrase_of i).value u) c.args.meant c.in_ok-i-in-Index.i c.args.book.now c.check_expr.new.book c.index_step.new.book c.in_ok-i-in-Index.ensures.made c.in_ok-i-in-Index.ensures.noted h
+    ∙ ap (λ b. book_after c.args.book.now (designators.step u c.args.place c.args.start c.args.meant b c.args.last).notes) (sym whole)) c.index_step.ensures.noted
+
+pub designators::visit_selector-returns-in-Field : goal.designators::visit_selector-returns-in-Field
+designators::visit_selector-returns-in-Field g t c =
+    let u = g.S.Surroundings.around c.args.here.now in
+    sym (after_none c.args.book.now) ∙ ap (λ b. book_after c.args.book.now (visited_one u b)) (sym (ap spec.behind_of c.in-Field.is ∙ behind_field c.in-Field.pos c.in-Field.ident))
+
+pub designators::visit_selector-returns-in-Deref : goal.designators::visit_selector-returns-in-Deref
+designators::visit_selector-returns-in-Deref g t c =
+    let u = g.S.Surroundings.around c.args.here.now in
+    sym (after_none c.args.book.now) ∙ ap (λ b. book_after c.args.book.now (visited_one u b)) (sym (ap spec.behind_of c.in-Deref.is ∙ behind_up c.in-Deref.field-0))
+
+pub designators::visit_selectors-returns : goal.designators::visit_selectors-returns
+designators::visit_selectors-returns g t c =
+    let u = g.S.Surroundings.around c.args.here.now in
+    sym (c.selectors.invariant ∙ ap (λ bs. book_after c.selectors.book (designators.all_visited u bs)) (map_over spec.behind_of c.args.selectors.now c.selectors.selector-index c.selectors-test.false) ∙ after_none c.selectors.book)
+
+pub designators::visit_arguments-returns : goal.designators::visit_arguments-returns
+designators::visit_arguments-returns g t c =
+    let u = g.S.Surroundings.around c.args.here.now in
+    sym (c.arguments.invariant ∙ ap (λ ps. book_after c.arguments.book (designators.visited u ps)) (map_over spec.phrase_of c.args.arguments.now c.arguments.argument-index c.arguments-test.false) ∙ after_none c.arguments.book)
+
+pub designators::check_selectors-returns-clause-made : goal.designators::check_selectors-returns-clause-made
+designators::check_selectors-returns-clause-made g t c =
+    selectors_end (g.S.Surroundings.around c.args.here.now) c.args.place c.args.start c.selectors.taken c.args.selectors.now c.selectors.selector-index c.selectors.all _ c.selectors-test.false c.selectors.invariant.0
+
+pub designators::check_selectors-returns-clause-noted : goal.designators::check_selectors-returns-clause-noted
+designators::check_selectors-returns-clause-noted g t c =
+    selectors_end_noted (g.S.Surroundings.around c.args.here.now) c.args.place c.args.start c.selectors.taken c.args.selectors.now c.selectors.selector-index c.selectors.all c.selectors.book _ c.selectors-test.false c.selectors.invariant.1

@@ -1,0 +1,27 @@
+use Rattle.std.proofs.Common.{◌≡◌, ◌+◌, drop, map, length, Some}
+use Rattle.ob_rules.specs.Books.{book_after}
+use Rattle.ob_rules.specs.Designators as designators
+use Rattle.ob_rules.specs.Expressions as spec
+use Rattle.ob_coperand.specs.Plain.{plain}
+use Rattle.ob_cexpr.specs.Plain.{goes_on}
+use Rattle.ob_cexpr.proofs.+walk.Given as goal
+
+-- what came before, and the rest behind it, is the whole
+abbrev pub invariant-walk::check_tails-tails : goal.invariant-walk::check_tails-tails
+invariant-walk::check_tails-tails g l =
+    ((spec.combine_all (g.S.Surroundings.around l.here) (map spec.tailed_of l.tails) (plain l.fn.first)).node ≡ (spec.combine_all (g.S.Surroundings.around l.here) (map spec.tailed_of (drop l.tail-index l.tails)) (plain l.all)).node)
+    × (book_after l.initial.book (spec.combine_all (g.S.Surroundings.around l.here) (map spec.tailed_of l.tails) (plain l.fn.first)).notes ≡ book_after l.book (spec.combine_all (g.S.Surroundings.around l.here) (map spec.tailed_of (drop l.tail-index l.tails)) (plain l.all)).notes)
+
+abbrev pub invariant-designators::check_selectors-selectors : goal.invariant-designators::check_selectors-selectors
+invariant-designators::check_selectors-selectors g l =
+    ((goes_on (g.S.Surroundings.around l.here) l.place l.start (designators.behind l.fn.with_name (map spec.behind_of l.selectors)) (Some l.fn.meant)).node ≡ (goes_on (g.S.Surroundings.around l.here) l.place l.start (designators.behind l.taken (map spec.behind_of (drop l.selector-index l.selectors))) l.all).node)
+    × (book_after l.initial.book (goes_on (g.S.Surroundings.around l.here) l.place l.start (designators.behind l.fn.with_name (map spec.behind_of l.selectors)) (Some l.fn.meant)).notes ≡ book_after l.book (goes_on (g.S.Surroundings.around l.here) l.place l.start (designators.behind l.taken (map spec.behind_of (drop l.selector-index l.selectors))) l.all).notes)
+    × (l.left + l.selector-index ≡ length l.selectors)
+
+abbrev pub invariant-designators::visit_selectors-selectors : goal.invariant-designators::visit_selectors-selectors
+invariant-designators::visit_selectors-selectors g l =
+    book_after l.initial.book (designators.all_visited (g.S.Surroundings.around l.here) (map spec.behind_of l.selectors)) ≡ book_after l.book (designators.all_visited (g.S.Surroundings.around l.here) (map spec.behind_of (drop l.selector-index l.selectors)))
+
+abbrev pub invariant-designators::visit_arguments-arguments : goal.invariant-designators::visit_arguments-arguments
+invariant-designators::visit_arguments-arguments g l =
+    book_after l.initial.book (designators.visited (g.S.Surroundings.around l.here) (map spec.phrase_of l.arguments)) ≡ book_after l.book (designators.visited (g.S.Surroundings.around l.here) (map spec.phrase_of (drop l.argument-index l.arguments)))

@@ -1,0 +1,3 @@
+pub mod LiteralLaws
+pub mod RowLaws
+pub mod TestLaws
