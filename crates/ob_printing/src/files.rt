@@ -164,7 +164,12 @@ fn put_use<S: Sink>(out: &mut S, stale: &Stale) -> Result<(), Failed>
     ensures bytes { S.tells out.old ≡ true → WritesAll (S.taken out.old) (S.taken out.new) result (stale_line stale.now) }
     ensures cause { HasCause (S.faults out.old) (S.faults out.new) result }
 {
-    put_object(out, &stale.object, aspect_text(stale.aspect), how_text(stale.absent))
+    put_object(
+        out,
+        &stale.object,
+        aspect_text(stale.aspect),
+        how_text(stale.absent),
+    )
 }
 
 // Prints a line for each use.

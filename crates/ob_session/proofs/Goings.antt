@@ -135,7 +135,7 @@ goes_start s before old script system h =
     record {
       w = start s old;
       shows = h;
-      whole = refl;
+      whole = omega arith;
       going = record {
         past = [];
         split = refl;

@@ -2,9 +2,4 @@ pub mod Goings
 pub mod Decoded
 pub mod Said
 pub mod Fine
-pub mod Tallies
 pub mod Commands
-pub mod Changes
-pub mod Empty
-pub mod Compiles
-pub mod Makes

@@ -2,9 +2,7 @@ pub mod Folds
 pub mod Files
 pub mod Found
 pub mod Bytes
-pub mod Tally
 pub mod Does
-pub mod Making
 pub mod Running
 pub mod Session
 pub mod Stand

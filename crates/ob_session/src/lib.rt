@@ -4,14 +4,12 @@
 mod commanding;
 mod comparing;
 mod compiling;
-mod counting;
 mod demo;
 mod files;
 mod found;
 mod line;
 mod saying;
 mod script;
-mod tally;
 
 pub use ob_printing::Stop;
 pub use script::session;

@@ -39,11 +39,11 @@ returns-in-Show-clause-does g c = λ w h tf to.
     subst (λ (l : Line). LineDoes (g.O.Sink.taken c.args.out.now) (g.O.Sink.taken c.do_show.new.out) (g.F.Shelf.files c.args.folder.now) (g.F.Shelf.files c.do_show.new.folder) c.args.system.now (answer c.args.settings w c.args.n l) c.do_show.result) (sym e)
     (said_by (g.O.Sink.tells c.args.out.now) w (λ (f : Files). shown (symbol_name c.in-Show.name) (sym_file f (symbol_name c.in-Show.name))) (g.O.Sink.taken c.args.out.now) (g.O.Sink.taken c.do_show.new.out) (g.F.Shelf.files c.args.folder.now) (g.F.Shelf.files c.do_show.new.folder) c.args.system.now c.do_show.result to h (c.do_show.ensures.files tf) (c.do_show.ensures.does tf))
 
-pub do_demo-requires-first : goal.do_demo-requires-first
-do_demo-requires-first g c = (fine_demo c.args.line.now c.in-Demo.count (sym c.words_of.ensures ∙ ap line_view c.in-Demo.is)).0
+pub do_demo-requires-clause-first : goal.do_demo-requires-clause-first
+do_demo-requires-clause-first g c = (fine_demo c.args.line.now c.in-Demo.count (sym c.words_of.ensures ∙ ap line_view c.in-Demo.is)).0
 
-pub do_demo-requires-few : goal.do_demo-requires-few
-do_demo-requires-few g c = (fine_demo c.args.line.now c.in-Demo.count (sym c.words_of.ensures ∙ ap line_view c.in-Demo.is)).1
+pub do_demo-requires-clause-few : goal.do_demo-requires-clause-few
+do_demo-requires-clause-few g c = (fine_demo c.args.line.now c.in-Demo.count (sym c.words_of.ensures ∙ ap line_view c.in-Demo.is)).1
 
 pub returns-in-Demo-clause-does : goal.returns-in-Demo-clause-does
 returns-in-Demo-clause-does g c = λ w h tf to.
