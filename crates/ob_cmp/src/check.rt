@@ -79,11 +79,7 @@ fn add_if(stale: &mut List<Stale>, of: &Use, found: Option<Print>) -> Result<(),
 }
 
 // Adds the use where the interface that is there does not meet it.
-fn check_use(
-    stale: &mut List<Stale>,
-    face: &Option<Interface>,
-    of: &Use,
-) -> Result<(), AllocError>
+fn check_use(stale: &mut List<Stale>, face: &Option<Interface>, of: &Use) -> Result<(), AllocError>
     requires { FaceFits face.now }
     ensures { OnOk result (stale.new ≡ stale.old ++ stale_in face.now (wanted_of of.now)) }
 {

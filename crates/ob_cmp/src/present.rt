@@ -32,11 +32,7 @@ fn named_face(face: Interface, module: &Name) -> Result<Option<Interface>, Check
 }
 
 // What bytes are as the symbol file of a module.
-fn as_face(
-    alloc: Global,
-    bytes: &[u8],
-    module: &Name,
-) -> Result<Option<Interface>, CheckFault>
+fn as_face(alloc: Global, bytes: &[u8], module: &Name) -> Result<Option<Interface>, CheckFault>
     ensures sees { SeesFace «module».now (face_found «module».now (whole face_form bytes.now)) result }
     ensures fits { IfOk result FaceFits }
     ensures folder { IsErrOf result CheckFault.Folder → ⊥ }

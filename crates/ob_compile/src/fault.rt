@@ -28,7 +28,10 @@ pub enum CompileRefusal {
     /// The module imports one that imports it, through others or itself.
     Cycle(Name),
     /// A client was compiled against an object that is no longer there.
-    Absent { client: Name, object: QName },
+    Absent {
+        client: Name,
+        object: QName,
+    },
     /// A client was compiled against another print of the object.
     Changed {
         client: Name,

@@ -111,11 +111,7 @@ fn generated(alloc: Global, view: &View<'_>, face: Interface) -> Result<Built, C
 }
 
 // Within the limits of sizes, both files.
-fn with_sizes(
-    alloc: Global,
-    view: &View<'_>,
-    face: Interface,
-) -> Result<Built, CompileFault>
+fn with_sizes(alloc: Global, view: &View<'_>, face: Interface) -> Result<Built, CompileFault>
     ensures { (c : Compiled Print) → c.tree ≡ module_view view.now.«module».now → c.against ≡ faces_of view.now.env.now → face ≡ interface_by prints c → length face.objects ≡ length c.shows.objects → Compiles (within c (exceeds prints c)) result }
 {
     match first_limit(alloc, view.env(), view.module(), face.objects.len()) {

@@ -61,11 +61,7 @@ fn stopped_by(stop: WalkStop) -> CompileFault
 }
 
 // A module over the interfaces of its imports.
-fn of_walk<F: Shelf>(
-    alloc: Global,
-    folder: &mut F,
-    module: &Module,
-) -> Result<Built, CompileFault>
+fn of_walk<F: Shelf>(alloc: Global, folder: &mut F, module: &Module) -> Result<Built, CompileFault>
     ensures told { F.tells folder.new ≡ F.tells folder.old }
     ensures files { F.tells folder.old ≡ true → F.files folder.new ≡ F.files folder.old }
     ensures compiles { F.tells folder.old ≡ true → Compiles (of_reached prints «module».now (env_answer prints.same prints.keeps (symbol_entry (F.files folder.old)) «module».now.name.name (map imported «module».now.imports))) result }
@@ -130,11 +126,7 @@ fn unread(fault: TextFault) -> CompileFault
 }
 
 /// What a text of at most so many bytes comes to.
-pub fn of_text<F: Shelf>(
-    alloc: Global,
-    folder: &mut F,
-    text: &[u8],
-) -> Result<Built, CompileFault>
+pub fn of_text<F: Shelf>(alloc: Global, folder: &mut F, text: &[u8]) -> Result<Built, CompileFault>
     requires { length text.now ≤ 1048576 }
     ensures told { F.tells folder.new ≡ F.tells folder.old }
     ensures files { F.tells folder.old ≡ true → F.files folder.new ≡ F.files folder.old }

@@ -41,11 +41,7 @@ pub fn count_of_base(
 
 // The bound procedures of a record of the module.
 #[cycle(counts)]
-fn count_of_record(
-    view: &View<'_>,
-    steps: usize,
-    described: &RecordDesc,
-) -> Result<u32, AllocError>
+fn count_of_record(view: &View<'_>, steps: usize, described: &RecordDesc) -> Result<u32, AllocError>
     ensures { IfOk result (λ n. n ≡ base_of (counted (described (faces_of view.now.env.now)) (module_view view.now.«module».now) steps) described.now.base + length described.now.methods) }
 {
     let below = count_of_base(view, steps, &described.base)?;

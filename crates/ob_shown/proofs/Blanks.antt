@@ -4,10 +4,9 @@ use Rattle.std.specs.Prelude.{map as each, bytes_eq}
 use Rattle.std.specs.Option.{option_map}
 use Rattle.ob_format.specs.Format.{◌>>=◌}
 use Rattle.ob_tree.specs.declared.names.QName.{QName}
-use Rattle.ob_types.specs.declared.desc.Desc.{Desc}
 use Rattle.ob_types.specs.declared.face.Object.{Object}
 use Rattle.ob_types.specs.declared.face.Interface.{Interface}
-use Rattle.ob_env.specs.Faces.{described, face_of}
+use Rattle.ob_env.specs.Faces.{face_of}
 use Rattle.ob_env.specs.Found.{object_by_name, interface_by_name, object_found}
 use Rattle.ob_env.specs.Laws.{described_found}
 use Rattle.ob_env.specs.Shown.{blank, shown}

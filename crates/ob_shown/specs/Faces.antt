@@ -1,5 +1,5 @@
 -- Interfaces as the rules of the language see them: without places, numbers and words.
-use Rattle.std.specs.Prelude.{◌≡◌, ◌⊎◌, List, [], ◌∷◌, map as each, Option, None}
+use Rattle.std.specs.Prelude.{List, [], map as each}
 use Rattle.std.specs.Option.{option_map}
 use Rattle.std.proofs.Common.{ap}
 use Rattle.ob_types.specs.declared.face.Object.{Object}

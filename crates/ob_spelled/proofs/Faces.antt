@@ -1,11 +1,7 @@
 -- What the conditions of a symbol file come to.
-use Rattle.std.proofs.Common.{◌≡◌, ◌≢◌, ℕ, ◌<◌, ◌≤◌, ◌^◌, Bool, true, false, not, List, [], ◌∷◌, length, Option, Some, None, refl, subst, arith}
-use Rattle.std.specs.Prelude.{IfSome, IsTrue, codes, bytes_eq}
-use Rattle.std.specs.Option.{option_map}
-use Rattle.std.specs.List.{list_all, AllByRecursion, IsDistinct}
-use Rattle.std.specs.List.Sorted.{IsStrictlySortedBy}
-use Rattle.std.specs.Ordering.{nat_cmp}
-use Rattle.std.specs.Cmp.Lexicographic.{slice_cmp}
+use Rattle.std.proofs.Common.{◌≡◌, ◌≢◌, ℕ, ◌<◌, ◌≤◌, ◌^◌, Bool, true, false, List, [], ◌∷◌, length, Option, Some, None, subst, arith}
+use Rattle.std.specs.Prelude.{IfSome, codes}
+use Rattle.std.specs.List.{list_all, AllByRecursion}
 use Rattle.std.specs.Cmp.{IsTotalOrder}
 use Rattle.std.proofs.lemmas.Cmp.{nat_list_cmp_total, on_total}
 use Rattle.ob_format.specs.Format.{few, rising, list_of, text32, optional}
@@ -16,8 +12,8 @@ use Rattle.ob_types.specs.declared.face.Interface.{Interface}
 use Rattle.ob_types.specs.Spelled.{use_form, by_object}
 use Rattle.ob_desc.specs.Grammar.{shape_text, layout_text, IsSpelled}
 use Rattle.ob_obj.specs.Grammar.{by_name as by_bytes, is_import as is_allowed}
-use Rattle.ob_sym.specs.Grammar.{face as face_form, head, body, object_in, object_of, by_name, IsObjectOf, IsSound}
-use Rattle.ob_spelled.specs.Prints.{HasPrints}
+use Rattle.ob_sym.specs.Grammar.{face as face_form, head, body, object_in, object_of, by_name, IsObjectOf}
+use Rattle.ob_spelled.specs.Prints.{HasPrints, AllHavePrints}
 use Rattle.ob_spelled.proofs.Sorted.{both_true, rises_sorted}
 
 layout_short : (o : Option (List ℕ)) → IfSome o (λ t. length t < 2 ^ 32) → (optional text32).fits o
@@ -54,3 +50,6 @@ object_list m os a r n = ((omega (arith, n), objects_in m os a), rises_sorted by
 pub is_face : (f : Interface) → AllByRecursion (IsObjectOf f.«module») f.objects → name.fits f.«module» → (few 64 name by_bytes).fits f.imports → rises by_name f.objects ≡ true → (rising use_form by_object).fits f.uses → length f.objects ≤ 4096 → list_all is_allowed f.imports ≡ true → face_form.fits f
 unfolding face_form head body
 is_face f a m is r us n al = (((m, is), (object_list f.«module» f.objects a r n, us)), record { objects = n; imports = all_allowed f.imports al })
+
+pub from_parts : (f : Interface) (objects frame order : Bool) → (AllHavePrints f → objects ≡ true → AllByRecursion (λ o. IsObjectOf f.«module» o) f.objects) → (frame ≡ true → name.fits f.«module» × ((few 64 name by_bytes).fits f.imports × (rising use_form by_object).fits f.uses)) → (order ≡ true → (rises by_name f.objects ≡ true) × ((length f.objects ≤ 4096) × (list_all is_allowed f.imports ≡ true))) → objects ≡ true → frame ≡ true → AllHavePrints f → order ≡ true → face_form.fits f
+from_parts f objects frame order a b c x y p z = let u = b y in let v = c z in is_face f (a p x) u.0 u.1.0 v.0 u.1.1 v.1.0 v.1.1

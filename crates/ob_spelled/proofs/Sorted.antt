@@ -1,7 +1,6 @@
 -- Lists whose items rise or differ, and what the conditions of an object file come to.
-use Rattle.std.proofs.Common.{◌≡◌, ℕ, ◌<◌, ◌≤◌, Bool, true, false, not, List, [], ◌∷◌, length, refl, arith}
-use Rattle.std.specs.Prelude.{nat_le, nat_lt, ◌&&◌, IsTrue, FitsSigned, pos}
-use Rattle.std.specs.Int.{w32}
+use Rattle.std.proofs.Common.{◌≡◌, ℕ, ◌<◌, ◌≤◌, Bool, true, false, not, List, [], ◌∷◌, length, refl, subst, arith}
+use Rattle.std.specs.Prelude.{nat_le, nat_lt, ◌&&◌, IsTrue, ℤ}
 use Rattle.std.specs.List.{list_all, AllByRecursion, IsDistinct}
 use Rattle.std.specs.List.Sorted.{IsStrictlySortedBy}
 use Rattle.std.specs.Cmp.{IsTotalOrder}
@@ -16,7 +15,8 @@ use Rattle.ob_desc.specs.Grammar.{by_place, by_number as by_method}
 use Rattle.ob_format.specs.Format.{int}
 use Rattle.ob_instr.specs.declared.instr.Instr.{Instr}
 use Rattle.ob_instr.specs.Parts.{most_words}
-use Rattle.ob_instr.specs.Spelling.{operands, instr, opcode, IsInstr}
+use Rattle.ob_instr.specs.declared.opcode.Opcode.{Opcode}
+use Rattle.ob_instr.specs.Spelling.{instr, opcode, IsInstr}
 use Rattle.ob_obj.specs.declared.parts.RecordType.{RecordType}
 use Rattle.ob_obj.specs.declared.file.Head.{Head}
 use Rattle.ob_obj.specs.declared.file.ObjFile.{ObjFile}
@@ -94,8 +94,11 @@ sound_is f p c b d m e k q = record {
 pub is_record : (t : RecordType) → t.words ≤ most_words → t.count ≤ most_words → AllByRecursion (λ d. d.number < t.count) t.definitions → IsRecord t
 is_record t w c n = record { words = w; count = c; numbers = n }
 
-pub is_instr : (i : Instr) → FitsSigned w32 i.a → FitsSigned w32 i.b → (operands i.op < 1 → i.a ≡ pos 0) → (operands i.op < 2 → i.b ≡ pos 0) → IsInstr i
-is_instr i a b f g = record { a_fits = a; b_fits = b; named = (f, g) }
+pub same_instr : (i j : Instr) → IsInstr j → j.op ≡ i.op → j.a ≡ i.a → j.b ≡ i.b → IsInstr i
+same_instr i j h e f g =
+    let x : IsInstr (record { op = i.op; a = j.a; b = j.b }) = subst (λ (o : Opcode). let k : Instr = record { op = o; a = j.a; b = j.b } in IsInstr k) e h in
+    let y : IsInstr (record { op = i.op; a = i.a; b = j.b }) = subst (λ (z : ℤ). let k : Instr = record { op = i.op; a = z; b = j.b } in IsInstr k) f x in
+    subst (λ (z : ℤ). let k : Instr = record { op = i.op; a = i.a; b = z } in IsInstr k) g y
 
 pub instr_fits : (i : Instr) → IsInstr i → instr.fits i
 unfolding instr opcode int

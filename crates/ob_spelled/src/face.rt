@@ -121,12 +121,25 @@ fn has_order(face: &Interface) -> bool
         && are_imports(face.imports.as_slice())
 }
 
+// Whether each object has a spelling.
+fn has_objects(alloc: Global, face: &Interface) -> Result<bool, AllocError>
+    ensures { IfOk result (λ b. AllHavePrints face.now → b ≡ true → AllByRecursion (λ o. IsObjectOf face.now.«module» o) face.now.objects) }
+{
+    are_objects(alloc, &face.module, face.objects.as_slice())
+}
+
 /// Whether it is found that the interface, whose objects carry the prints of their texts, has a
 /// symbol file. What a compile makes has one; this is asked because no law says so yet.
-#[tactic(auto, using(crate::proofs::Faces::is_face))]
+#[tactic(auto, using(crate::proofs::Faces::from_parts))]
 pub fn has_symbol_file(alloc: Global, face: &Interface) -> Result<bool, AllocError>
     ensures { IfOk result (λ b. AllHavePrints face.now → b ≡ true → face_form.fits face.now) }
 {
-    let objects = are_objects(alloc, &face.module, face.objects.as_slice())?;
-    Ok(objects && has_frame(face) && has_order(face))
+    let objects = has_objects(alloc, face)?;
+    if !objects {
+        return Ok(false);
+    }
+    if !has_frame(face) {
+        return Ok(false);
+    }
+    Ok(has_order(face))
 }

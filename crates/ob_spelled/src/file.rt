@@ -80,9 +80,11 @@ pub fn has_object_file(alloc: Global, file: &ObjFile) -> Result<bool, AllocError
     ensures { IfOk result (λ b. b ≡ true → file_form.fits file.now) }
 {
     let body = has_body(alloc, &file.body)?;
-    Ok(has_head(&file.head)
-        && has_globals(&file.globals)
-        && has_links(&file.links)
-        && body
-        && is_sound(file))
+    Ok(
+        has_head(&file.head)
+            && has_globals(&file.globals)
+            && has_links(&file.links)
+            && body
+            && is_sound(file),
+    )
 }

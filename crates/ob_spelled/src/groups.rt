@@ -74,9 +74,11 @@ pub fn has_body(alloc: Global, of: &Body) -> Result<bool, AllocError>
     ensures { IfOk result (λ b. b ≡ true → body.fits of.now) }
 {
     let types = is_type_list(alloc, &of.types)?;
-    Ok(types
-        && is_list(&of.procedures)
-        && is_rising_list(&of.commands)
-        && is_list(&of.code)
-        && is_list(&of.positions))
+    Ok(
+        types
+            && is_list(&of.procedures)
+            && is_rising_list(&of.commands)
+            && is_list(&of.code)
+            && is_list(&of.positions),
+    )
 }

@@ -1,6 +1,6 @@
 //! Parts of an object file.
 
-ghost use Rattle.std.specs.Prelude.{◌≡◌, ◌+◌, ◌<◌, ◌≤◌, ◌^◌, true, length};
+ghost use Rattle.std.specs.Prelude.{◌≡◌, ◌+◌, ◌<◌, ◌≤◌, ◌^◌, true, length, IfSome};
 ghost use Rattle.ob_instr.specs.Parts.{most_words, slots, slots_of};
 ghost use Rattle.ob_instr.specs.Spelling.{IsInstr};
 ghost use Rattle.std.specs.List.{AllByRecursion};
@@ -8,7 +8,7 @@ ghost use Rattle.ob_types.specs.Spelled.{print_form};
 ghost use Rattle.ob_obj.specs.Grammar.{record_parts, IsRecord};
 
 use crate::lists::{Spelled, is_list, is_rising_list};
-use ob_instr::{Instr, Param, Position, Procedure, operands_of};
+use ob_instr::{Instr, Opcode, Param, Position, Procedure, put_instr, take_instr};
 use ob_obj::{Base, Command, Definition, Export, Link, RecordType, StringConst, Variable};
 use ob_tree::Print;
 use ob_types::{Aspect, Use};
@@ -167,13 +167,37 @@ impl Spelled for Position {
     }
 }
 
-// Whether the operands that an operation does not name are 0.
-#[tactic(auto, using(crate::proofs::Sorted::is_instr))]
+// What the nine bytes of an instruction are read as.
+fn read_again(i: Instr) -> Option<Instr>
+    ensures { IfSome result IsInstr }
+{
+    take_instr(&put_instr(i))
+}
+
+fn is_same(a: i32, b: i32) -> bool
+    ensures { result ≡ true → a ≡ b }
+{
+    a == b
+}
+
+fn is_same_opcode(a: Opcode, b: Opcode) -> bool
+    ensures { result ≡ true → a ≡ b }
+{
+    a == b
+}
+
+// Whether the nine bytes of an instruction are read as it is, which they are where the operands
+// that it does not name are 0.
+#[tactic(auto, using(crate::proofs::Sorted::same_instr))]
 fn is_instr(i: Instr) -> bool
     ensures { result ≡ true → IsInstr i }
 {
-    let named = operands_of(i.op);
-    (named >= 1 || i.a == 0) && (named >= 2 || i.b == 0)
+    match read_again(i) {
+        None => false,
+        Some(again) => {
+            is_same_opcode(again.op, i.op) && is_same(again.a, i.a) && is_same(again.b, i.b)
+        }
+    }
 }
 
 impl Spelled for Instr {

@@ -1,5 +1,5 @@
 -- Interfaces that are read carry the prints of their objects' texts.
-use Rattle.std.proofs.Common.{◌≡◌, List, [], ◌∷◌, ◌++◌}
+use Rattle.std.proofs.Common.{List, [], ◌∷◌, ◌++◌}
 use Rattle.std.specs.List.{AllByRecursion}
 use Rattle.ob_types.specs.declared.face.Interface.{Interface}
 use Rattle.ob_format.specs.Format.{list_of}

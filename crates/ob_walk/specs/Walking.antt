@@ -9,7 +9,7 @@ use Rattle.ob_walk.specs.declared.walking.WalkStop.{WalkStop}
 use Rattle.ob_walk.specs.declared.walking.WalkStop.TheVariants as stop
 use Rattle.ob_walk.specs.declared.walking.Looked.{Looked}
 use Rattle.ob_walk.specs.declared.walking.Looked.TheVariants as looked
-use Rattle.ob_env.specs.Faces.{Face, face_of, faces_of}
+use Rattle.ob_env.specs.Faces.{face_of, faces_of}
 use Rattle.ob_walk.specs.Walk.{Entry, Missing, Junk, Holds, Walked, Left, NoInterface, Damaged, Cycle, TooMany}
 
 abbrev pub entry_of : Looked → Entry Print
