@@ -372,6 +372,7 @@ impl<'a, E: Imports> Scope<'a, E> {
     }
 
     /// From here on the record types of that name have one more bound procedure.
+    /// Answers want of memory: not written yet.
     pub fn add_method(
         &mut self,
         alloc: Global,
