@@ -1,3 +1,5 @@
 pub mod Rebasing
 pub mod Chosen
 pub mod Bare
+pub mod Keeping
+pub mod HeightLaws

@@ -5,6 +5,7 @@
 mod bindings;
 mod depth;
 mod fields;
+mod parts;
 mod pointers;
 
 pub use bindings::bind;
