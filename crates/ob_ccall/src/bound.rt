@@ -10,13 +10,16 @@ ghost use Rattle.ob_rules.specs.Shapes as shapes;
 ghost use Rattle.ob_rules.specs.Judged as judged;
 ghost use Rattle.ob_rules.specs.Phrases as phrases;
 ghost use Rattle.ob_rules.specs.Calls as spec;
-ghost use Rattle.ob_ccall.specs.Rows.{row_seen};
+ghost use Rattle.ob_ccall.specs.Rows.{actual_seen, row_seen};
 
+use crate::actuals::Passed;
+use crate::callees::{copy_result, misplaced, result_kind};
 use ob_cname::{base_record, types};
-use ob_rules::{Chosen, Notebook, Place, Surroundings, Valued, Where};
+use ob_cplace::through;
+use ob_rules::{Chosen, Computed, Notebook, Place, Surroundings, Valued, Where};
 use ob_tree::{Name, Pos, QName};
-use ob_trees::ActualTrees;
-use ob_types::{Receiver, TypeRef};
+use ob_trees::{ActualTrees, ExprTree, copy_name};
+use ob_types::{Callee, Family, Passing, Receiver, TypeRef};
 use std::alloc::{AllocError, Global};
 
 fn base_in<'a, S: Surroundings>(here: &'a S, owner: &QName) -> Option<&'a QName>
@@ -90,6 +93,112 @@ pub fn unless_broken(broken: bool, call: Option<Valued>) -> Option<Valued>
     if broken { None } else { call }
 }
 
+fn family_of(chosen: &Chosen) -> Result<Family, AllocError>
+    ensures { IfOk result (λ r. r ≡ spec.family_of chosen.now) }
+{
+    let owner = copy_name(&chosen.introduced)?;
+    Ok(Family {
+        owner,
+        name: chosen.method.name,
+    })
+}
+
+fn bound_callee(chosen: &Chosen) -> Result<Callee, AllocError>
+    ensures { IfOk result (λ r. r ≡ spec.bound_callee chosen.now chosen.now.base) }
+{
+    let family = family_of(chosen)?;
+    let receiver = chosen.method.receiver;
+    match &chosen.base {
+        None => Ok(Callee::Bound { family, receiver }),
+        Some(base) => {
+            let base = copy_name(base)?;
+            Ok(Callee::Super {
+                base,
+                family,
+                receiver,
+            })
+        }
+    }
+}
+
+fn receiver_actual(alloc: Global, chosen: Chosen) -> Result<Passed, AllocError>
+    ensures { IfOk result (λ r. actual_seen r ≡ spec.receiver_actual chosen.method.receiver chosen) }
+{
+    let Chosen {
+        receiver,
+        start,
+        pointed,
+        owner,
+        method,
+        ..
+    } = chosen;
+    match method.receiver {
+        Receiver::Pointer => {
+            let Place { designator, of, .. } = receiver;
+            Ok(Passed {
+                passing: Passing::Scalar,
+                formal: of,
+                value: ExprTree::designator(designator),
+            })
+        }
+        Receiver::Record => {
+            let place = through(alloc, start, receiver, pointed)?;
+            let Place { designator, .. } = place;
+            Ok(Passed {
+                passing: Passing::VariableRecord,
+                formal: TypeRef::Named(owner),
+                value: ExprTree::designator(designator),
+            })
+        }
+    }
+}
+
+fn with_receiver(
+    alloc: Global,
+    chosen: Chosen,
+    actuals: ActualTrees,
+) -> Result<ActualTrees, AllocError>
+    ensures { IfOk result (λ r. r.inner ≡ spec.receiver_actual chosen.method.receiver chosen ∷ actuals.inner) }
+{
+    let first = receiver_actual(alloc, chosen)?;
+    let Passed {
+        passing,
+        formal,
+        value,
+    } = first;
+    ActualTrees::after(alloc, passing, formal, value, actuals)
+}
+
+fn call_to(
+    alloc: Global,
+    book: &mut Notebook,
+    place: Where,
+    at: Pos,
+    chosen: Chosen,
+    count: usize,
+    actuals: ActualTrees,
+) -> Result<Option<Valued>, AllocError>
+    ensures made { IfOk result (λ r. r ≡ (spec.called_with place at chosen.method.signature count (λ xs. e.Call (spec.bound_callee chosen chosen.base) (spec.receiver_actual chosen.method.receiver chosen ∷ xs) at chosen.method.signature.result) actuals.inner).node) }
+    ensures noted { OnOk result (book.new ≡ book_after book.old (spec.called_with place at chosen.method.signature count (λ xs. e.Call (spec.bound_callee chosen chosen.base) (spec.receiver_actual chosen.method.receiver chosen ∷ xs) at chosen.method.signature.result) actuals.inner).notes) }
+{
+    if count != chosen.method.signature.params.len() {
+        book.breaks(24, at);
+        return Ok(None);
+    }
+    if misplaced(place, chosen.method.signature.result.is_some()) {
+        book.breaks(27, at);
+        return Ok(None);
+    }
+    let callee = bound_callee(&chosen)?;
+    let of = copy_result(&chosen.method.signature.result)?;
+    let kind = result_kind(&chosen.method.signature.result)?;
+    let all = with_receiver(alloc, chosen, actuals)?;
+    Ok(Some(Valued::Node(Computed {
+        tree: ExprTree::call(callee, all, at, of),
+        of: kind,
+    })))
+}
+
 /// The call of a bound procedure with these actual parameters, which are judged already; `count` are
 /// written. None where they are none, or the call breaks rule 24 or 27.
 pub fn call_bound(
@@ -104,5 +213,8 @@ pub fn call_bound(
     ensures made { IfOk result (λ r. r ≡ (judged.if_sound (row_seen actuals) (spec.called_with place at chosen.method.signature count (λ xs. e.Call (spec.bound_callee chosen chosen.base) (spec.receiver_actual chosen.method.receiver chosen ∷ xs) at chosen.method.signature.result))).node) }
     ensures noted { OnOk result (book.new ≡ book_after book.old (judged.if_sound (row_seen actuals) (spec.called_with place at chosen.method.signature count (λ xs. e.Call (spec.bound_callee chosen chosen.base) (spec.receiver_actual chosen.method.receiver chosen ∷ xs) at chosen.method.signature.result))).notes) }
 {
-    Err(AllocError)
+    match actuals {
+        None => Ok(None),
+        Some(actuals) => call_to(alloc, book, place, at, chosen, count, actuals),
+    }
 }

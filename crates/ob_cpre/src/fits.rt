@@ -30,7 +30,7 @@ pub enum Few {
 }
 
 #[tactic(auto, using(crate::proofs::FewLaws::nothing, crate::proofs::FewLaws::one, crate::proofs::FewLaws::two, crate::proofs::FewLaws::many))]
-fn few(parameters: Vec<Valued>) -> Few
+fn few_in(parameters: Vec<Valued>) -> Few
     ensures { result ≡ few_of parameters.items }
 {
     let mut rest = parameters;
@@ -167,7 +167,7 @@ fn fit<T: Types>(
     ensures made { IfOk result (λ r. r ≡ (spec.if_fit at (spec.fit (T.types types.now) procedure at parameters.items)).node) }
     ensures noted { OnOk result (book.new ≡ book_after book.old (spec.if_fit at (spec.fit (T.types types.now) procedure at parameters.items)).notes) }
 {
-    fit_few(alloc, types, book, procedure, at, few(parameters))
+    fit_few(alloc, types, book, procedure, at, few_in(parameters))
 }
 
 /// Whether a call breaks rule 27 there: a proper procedure in an expression, or a function as a
@@ -216,7 +216,15 @@ fn fit_there<S: Surroundings>(
     ensures noted { OnOk result (book.new ≡ book_after book.old (spec.call_fit (S.around here.now) place procedure at parameters.items).notes) }
 {
     let misplaced = misplaced(place, is_function(procedure));
-    fit_unless(alloc, types(here), book, misplaced, procedure, at, parameters)
+    fit_unless(
+        alloc,
+        types(here),
+        book,
+        misplaced,
+        procedure,
+        at,
+        parameters,
+    )
 }
 
 /// The call of a predeclared procedure, but MAX and MIN, with these parameters, which are judged

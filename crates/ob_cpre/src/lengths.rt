@@ -43,7 +43,11 @@ fn dimension_length<T: Types>(types: &T, number: u32, place: &Place) -> Option<O
     }
 }
 
-fn length_constant(book: &mut Notebook, length: u32, place: Place) -> Result<Option<Meant>, AllocError>
+fn length_constant(
+    book: &mut Notebook,
+    length: u32,
+    place: Place,
+) -> Result<Option<Meant>, AllocError>
     ensures made { (first : Bool) (at : APos) → IfOk result (λ r. r ≡ (spec.if_fit at (spec.length_of (Some length) first place)).node) }
     ensures noted { (first : Bool) (at : APos) → OnOk result (book.new ≡ book_after book.old (spec.if_fit at (spec.length_of (Some length) first place)).notes) }
 {

@@ -70,11 +70,7 @@ fn new_array(
         Some((None, _)) => unfit(book, at),
         Some((Some(_), _)) => {
             let Place { designator, .. } = place;
-            Some(Meant::Statement(StmtTree::new(
-                designator,
-                Made::Array(base),
-                at,
-            )))
+            Some(Meant::Statement(StmtTree::new(designator, Made::Array(base), at)))
         }
     }
 }
@@ -92,11 +88,7 @@ fn new_fixed<T: Types>(
     match record_name(types, &base)? {
         Some(name) => {
             let Place { designator, .. } = place;
-            Ok(Some(Meant::Statement(StmtTree::new(
-                designator,
-                Made::Record(name),
-                at,
-            ))))
+            Ok(Some(Meant::Statement(StmtTree::new(designator, Made::Record(name), at))))
         }
         None => {
             let array = array_parts(types, &base)?;
@@ -161,12 +153,7 @@ fn new_elements(
         Some((Some(_), _)) => unfit(book, at),
         Some((None, element)) => {
             let Place { designator, .. } = place;
-            Some(Meant::Statement(StmtTree::new_open_array(
-                designator,
-                element,
-                tree_of(n),
-                at,
-            )))
+            Some(Meant::Statement(StmtTree::new_open_array(designator, element, tree_of(n), at)))
         }
     }
 }

@@ -47,7 +47,7 @@ pub fn number_of(x: &Valued) -> Option<i32>
     }
 }
 
-fn update(more: bool, width: Width) -> Update
+fn update_by(more: bool, width: Width) -> Update
     ensures { result ≡ update_of more width }
 {
     if more {
@@ -77,7 +77,7 @@ fn step_by(
                 None => unfit(book, at),
                 Some(_) => {
                     let Place { designator, .. } = place;
-                    let op = update(more, width);
+                    let op = update_by(more, width);
                     let tree = StmtTree::update(op, designator, tree_of(n), at);
                     Some(Meant::Statement(tree))
                 }
