@@ -1,2 +1,4 @@
 pub mod StmtViews
 pub mod Steps
+pub mod Assignments
+pub mod CallLaws

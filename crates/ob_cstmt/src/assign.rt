@@ -3,17 +3,34 @@
 ghost use Rattle.std.specs.Prelude.{◌≡◌, IfOk, OnOk};
 ghost use Rattle.ob_rules.specs.Books.{book_after};
 ghost use Rattle.ob_rules.specs.Expressions as exprs;
+ghost use Rattle.ob_rules.specs.Judged.{◌▷◌};
 ghost use Rattle.ob_rules.specs.Statements as spec;
+ghost use Rattle.ob_rules.specs.declared.meant.Where.TheVariants.{Elsewhere};
 ghost use Rattle.ob_cparts.specs.Seen.{stmt_in};
 
-use ob_rules::{Notebook, Surroundings};
+use ob_cexpr::{check_designator, check_expr};
+use ob_cname::types;
+use ob_cparts::{assigns_if, target_if};
+use ob_rules::{Notebook, Place, Surroundings, Where};
 use ob_tree::{Designator, Expr, Pos};
 use ob_trees::StmtTree;
 use std::alloc::{AllocError, Global};
 
+// What is assigned to. Rule 26, and those of the designator.
+fn assigned_place<S: Surroundings>(
+    alloc: Global,
+    here: &S,
+    book: &mut Notebook,
+    designator: &Designator,
+) -> Result<Option<Place>, AllocError>
+    ensures made { IfOk result (λ r. r ≡ (exprs.meant_by Elsewhere (exprs.named_of designator.now) (S.around here.now) ▷ λ m. spec.target (exprs.named_of designator.now).ident.pos m).node) }
+    ensures noted { OnOk result (book.new ≡ book_after book.old (exprs.meant_by Elsewhere (exprs.named_of designator.now) (S.around here.now) ▷ λ m. spec.target (exprs.named_of designator.now).ident.pos m).notes) }
+{
+    let meant = check_designator(alloc, here, book, Where::Elsewhere, designator)?;
+    Ok(target_if(book, designator.ident.pos, meant))
+}
+
 /// An assignment. Rules 26 and 31, and those of its parts.
-///
-/// Answers want of memory: not written yet.
 pub fn assignment<S: Surroundings>(
     alloc: Global,
     here: &S,
@@ -25,5 +42,7 @@ pub fn assignment<S: Surroundings>(
     ensures made { IfOk result (λ r. stmt_in r ≡ (spec.assignment (S.around here.now) (exprs.named_of designator.now) at (exprs.phrase_of value.now)).node) }
     ensures noted { OnOk result (book.new ≡ book_after book.old (spec.assignment (S.around here.now) (exprs.named_of designator.now) at (exprs.phrase_of value.now)).notes) }
 {
-    Err(AllocError)
+    let place = assigned_place(alloc, here, book, designator)?;
+    let x = check_expr(alloc, here, book, value)?;
+    assigns_if(alloc, types(here), book, at, place, x)
 }
