@@ -1,12 +1,11 @@
 -- How long the chains are, one type after the other.
-use Rattle.std.proofs.Common.{◌≡◌, ℕ, zero, suc, ◌+◌, ◌-◌, ◌<◌, ◌≤◌, Bool, true, false, List, [], ◌∷◌, length, drop, map, Option, Some, None, refl, sym, ap, subst, ◌∙◌, cond, arith}
+use Rattle.std.proofs.Common.{◌≡◌, ℕ, zero, suc, ◌+◌, ◌-◌, ◌≤◌, Bool, true, false, List, ◌∷◌, Some, refl, sym, ap, subst, ◌∙◌, cond, arith}
 use Rattle.std.specs.Prelude.{◌&&◌, nat_le, nat_lt, bytes_eq, if◌then◌else◌}
 use Rattle.std.specs.List.{find, list_all}
 use Rattle.std.specs.Option.{option_map}
 use Rattle.std.proofs.lemmas.Bool.Decides.{nat_tests}
 use Rattle.std.proofs.lemmas.Slice.Eq.{bytes_eq-Decides}
 use Rattle.ob_tree.specs.declared.names.QName.{QName}
-use Rattle.ob_types.specs.declared.types.Basic.{Basic}
 use Rattle.ob_types.specs.declared.types.TypeRef.{TypeRef}
 use Rattle.ob_types.specs.declared.types.TypeRef.TheVariants as ref
 use Rattle.ob_types.specs.declared.desc.Desc.{Desc}
@@ -16,27 +15,18 @@ use Rattle.ob_rules.specs.Depth.{is_within, chain_of}
 use Rattle.ob_chead.specs.Keys.{key}
 use Rattle.ob_chead.proofs.KeyLaws.{keys_same}
 use Rattle.ob_cbound.specs.declared.depth.Height.{Height}
-use Rattle.ob_cbound.specs.Heights.{HasHeight, HaveHeight, HeightOf, known_height, AreHeights, Measures, MeasuresAll, within_left, greater_of}
+use Rattle.ob_cbound.specs.Heights.{HasHeight, HaveHeight, HeightOf, AreHeights, greater_of}
 
 both_true : (a b : Bool) → a && b ≡ true → (a ≡ true) × (b ≡ true)
 both_true true true e = (refl, refl)
 both_true true false e = absurd cc
 both_true false b e = absurd cc
 
-none_least : (n : ℕ) → true ≡ nat_le 0 n
-none_least n = grind (arith, nat_tests)
-
 none_above : (h : ℕ) → false ≡ nat_le (h + 1) 0
 none_above h = grind (arith, nat_tests)
 
 one_more : (h n : ℕ) → nat_le h n ≡ nat_le (h + 1) (suc n)
 one_more h n = grind (arith, nat_tests)
-
-at_most : (m n : ℕ) → nat_le m n ≡ true → m ≤ n
-at_most m n h = grind (arith, nat_tests)
-
-is_least : (m n : ℕ) → m ≤ n → nat_le m n ≡ true
-is_least m n h = grind (arith, nat_tests)
 
 pub named_more : (types : Map) (q : QName) (d : Desc) (left : ℕ) → types q ≡ Some d → list_all (λ t. is_within types (left - 1) t) (stands_on d) ≡ false → is_within types left (ref.Named q) ≡ false
 named_more types q d zero e f = refl

@@ -1,16 +1,13 @@
 -- Pointers whose base was left for later, one after the other.
-use Rattle.std.proofs.Common.{◌≡◌, ℕ, zero, suc, ◌-◌, ◌<◌, Bool, true, false, List, [], ◌∷◌, ◌++◌, length, Option, Some, None, refl, sym, ap, ap₂, subst, ◌∙◌, cond, arith}
-use Rattle.std.specs.Prelude.{◌&&◌, ◌||◌, not, bytes_eq}
-use Rattle.std.specs.List.{find, filter}
+use Rattle.std.proofs.Common.{◌≡◌, ℕ, suc, true, false, List, ◌∷◌, length, sym, ap, ◌∙◌, cond}
 use Rattle.ob_rules.specs.declared.notes.Later.{Later}
 use Rattle.ob_rules.specs.declared.notes.Notebook.{Notebook}
 use Rattle.ob_rules.specs.Books.{book_after}
-use Rattle.ob_rules.specs.Judged.{Notes, joined, no_notes}
-use Rattle.ob_rules.specs.Names.{Around, is_among}
-use Rattle.ob_rules.specs.Declarations.{Pointers, pointer_name, base_name, is_inline, add_if, notes_of_wrong, pointer_told, pointer_judged, judge_unless, judge_pointer, judge_pointers, judge_base, is_pointer_left}
-use Rattle.ob_rules.proofs.BookLaws.{after_none, after_joined}
+use Rattle.ob_rules.specs.Judged.{Notes}
+use Rattle.ob_rules.specs.Names.{Around}
+use Rattle.ob_rules.specs.Declarations.{Pointers, judge_pointer, judge_pointers, is_pointer_left}
 use Rattle.ob_cbound.specs.declared.pointers.Progress.{Progress}
-use Rattle.ob_cbound.specs.Told.{at_notes, Told, left_pointers, base_judged}
+use Rattle.ob_cbound.specs.Told.{at_notes, Told, left_pointers}
 
 pub told_state : (b book : Notebook) (s : Pointers) (p : Progress) → Told b s p book → at_notes p s.notes ≡ s
 told_state b book s p t = ap (λ x. record { judged = x; unsound = p.unsound; notes = s.notes }) t.judged ∙ ap (λ x. record { judged = s.judged; unsound = x; notes = s.notes }) t.unsound
@@ -18,11 +15,13 @@ told_state b book s p t = ap (λ x. record { judged = x; unsound = p.unsound; no
 -- one more of those in a row
 pub more_pointers : (u : Around) (ls all more : List Later) (l : Later) (fuel : ℕ) (b book : Notebook) (p q : Progress) (t : Notes) (total : Pointers) → all ≡ l ∷ more → is_pointer_left l ≡ true → fuel ≡ suc (length ls) → Told b (judge_pointer u ls fuel l (at_notes p t)) q book → judge_pointers u ls (left_pointers all) (at_notes p t) ≡ total → (n : Notes) × (book ≡ book_after b n) × (judge_pointers u ls (left_pointers more) (at_notes q n) ≡ total)
 more_pointers u ls all more l fuel b book p q t total step is long told inv =
-    let s = judge_pointer u ls fuel l (at_notes p t) in
-    (s.notes, told.noted,
-     ap (judge_pointers u ls (left_pointers more)) (told_state b book s q told ∙ ap (λ k. judge_pointer u ls k l (at_notes p t)) long)
-     ∙ sym (ap (λ x. judge_pointers u ls x (at_notes p t)) (ap left_pointers step ∙ ap (λ c. cond c (l ∷ left_pointers more) (left_pointers more)) is))
-     ∙ inv)
+    let s = judge_pointer u ls fuel l (at_notes p t) in (
+      s.notes,
+      told.noted,
+      ap (judge_pointers u ls (left_pointers more)) (told_state b book s q told ∙ ap (λ k. judge_pointer u ls k l (at_notes p t)) long)
+          ∙ sym (ap (λ x. judge_pointers u ls x (at_notes p t)) (ap left_pointers step ∙ ap (λ c. cond c (l ∷ left_pointers more) (left_pointers more)) is))
+          ∙ inv,
+    )
 
 pub no_pointer : (u : Around) (ls all more : List Later) (l : Later) (s total : Pointers) → all ≡ l ∷ more → is_pointer_left l ≡ false → judge_pointers u ls (left_pointers all) s ≡ total → judge_pointers u ls (left_pointers more) s ≡ total
 no_pointer u ls all more l s total step is inv =

@@ -137,7 +137,12 @@ fn tell(
     ensures { (b : ABook) (t : Notes) → book.old ≡ book_after b t → OnOk result (Told b (spec.pointer_told left.now unsound wrong (at_notes progress.old t)) progress.new book.new) }
 {
     let broken = wrong && !unsound;
-    add_unsound(alloc, progress, broken || (unsound && is_inline(left)), left)?;
+    add_unsound(
+        alloc,
+        progress,
+        broken || (unsound && is_inline(left)),
+        left,
+    )?;
     note_wrong(book, broken, left);
     Ok(())
 }
