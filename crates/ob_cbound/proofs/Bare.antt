@@ -1,6 +1,6 @@
 -- What is seen of the headings is enough for what is bound.
-use Rattle.std.proofs.Common.{◌≡◌, ℕ, Bool, true, false, List, [], ◌∷◌, ◌++◌, map, Option, Some, None, refl, sym, ap, ◌∙◌, cond}
-use Rattle.std.specs.Prelude.{◌&&◌, bytes_eq, is_some, is_none, not}
+use Rattle.std.proofs.Common.{◌≡◌, ℕ, Bool, true, false, List, [], ◌∷◌, map, Option, Some, None, refl, ap, ◌∙◌, cond}
+use Rattle.std.specs.Prelude.{◌&&◌, bytes_eq, is_some, is_none}
 use Rattle.std.specs.List.{filter, find}
 use Rattle.std.specs.Option.{option_map}
 use Rattle.ob_types.specs.declared.desc.Method.{Method}

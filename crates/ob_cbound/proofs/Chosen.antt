@@ -1,5 +1,5 @@
 -- Which headings are bound, and in which order.
-use Rattle.std.proofs.Common.{◌≡◌, ℕ, Bool, true, false, List, [], ◌∷◌, ◌++◌, map, Option, Some, None, refl, sym, ap, ◌∙◌, cond}
+use Rattle.std.proofs.Common.{◌≡◌, ℕ, Bool, true, false, List, [], ◌∷◌, ◌++◌, map, refl, sym, ap, ◌∙◌, cond}
 use Rattle.std.specs.Prelude.{◌&&◌, reverse}
 use Rattle.std.specs.List.{filter}
 use Rattle.std.proofs.lemmas.List.{reverse-append, reverse-reverse}
@@ -11,7 +11,7 @@ use Rattle.ob_rules.specs.Names.{Around}
 use Rattle.ob_rules.specs.Headings.{Head, Binding, bind_one, bind_all, bind_records, bindings, counts, counted, of_record, reversed}
 use Rattle.ob_rules.specs.Declarations.{with_bound}
 use Rattle.ob_rules.proofs.BookLaws.{after_none}
-use Rattle.ob_cbound.specs.Running.{Step, run, start, put, one, one_if, chosen, record_bound}
+use Rattle.ob_cbound.specs.Running.{run, start, put, one_if, chosen, record_bound}
 use Rattle.ob_cbound.proofs.Rebasing.{Follows, run_rebases, record_rebases}
 
 chosen_all : (all : List Head) (name : List ℕ) (u : Around) (hs : List Head) (s : Binding) → run (chosen all name) u s hs ≡ bind_all u s (filter (of_record name) (filter (counts all) hs))

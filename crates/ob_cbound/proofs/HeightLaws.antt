@@ -1,12 +1,11 @@
 -- How long the chains are, one type after the other.
-use Rattle.std.proofs.Common.{◌≡◌, ℕ, zero, suc, ◌+◌, ◌-◌, ◌<◌, ◌≤◌, Bool, true, false, List, [], ◌∷◌, length, drop, map, Option, Some, None, refl, sym, ap, subst, ◌∙◌, cond, arith}
+use Rattle.std.proofs.Common.{◌≡◌, ℕ, zero, suc, ◌+◌, ◌-◌, ◌≤◌, Bool, true, false, List, ◌∷◌, Some, refl, sym, ap, subst, ◌∙◌, cond, arith}
 use Rattle.std.specs.Prelude.{◌&&◌, nat_le, nat_lt, bytes_eq, if◌then◌else◌}
 use Rattle.std.specs.List.{find, list_all}
 use Rattle.std.specs.Option.{option_map}
 use Rattle.std.proofs.lemmas.Bool.Decides.{nat_tests}
 use Rattle.std.proofs.lemmas.Slice.Eq.{bytes_eq-Decides}
 use Rattle.ob_tree.specs.declared.names.QName.{QName}
-use Rattle.ob_types.specs.declared.types.Basic.{Basic}
 use Rattle.ob_types.specs.declared.types.TypeRef.{TypeRef}
 use Rattle.ob_types.specs.declared.types.TypeRef.TheVariants as ref
 use Rattle.ob_types.specs.declared.desc.Desc.{Desc}
@@ -16,42 +15,18 @@ use Rattle.ob_rules.specs.Depth.{is_within, chain_of}
 use Rattle.ob_chead.specs.Keys.{key}
 use Rattle.ob_chead.proofs.KeyLaws.{keys_same}
 use Rattle.ob_cbound.specs.declared.depth.Height.{Height}
-use Rattle.ob_cbound.specs.Heights.{HasHeight, HaveHeight, HeightOf, known_height, AreHeights, Measures, MeasuresAll, within_left, greater_of}
+use Rattle.ob_cbound.specs.Heights.{HasHeight, HaveHeight, HeightOf, AreHeights, greater_of}
 
 both_true : (a b : Bool) → a && b ≡ true → (a ≡ true) × (b ≡ true)
 both_true true true e = (refl, refl)
 both_true true false e = absurd cc
 both_true false b e = absurd cc
 
-none_least : (n : ℕ) → true ≡ nat_le 0 n
-none_least n = grind (arith, nat_tests)
-
 none_above : (h : ℕ) → false ≡ nat_le (h + 1) 0
 none_above h = grind (arith, nat_tests)
 
 one_more : (h n : ℕ) → nat_le h n ≡ nat_le (h + 1) (suc n)
 one_more h n = grind (arith, nat_tests)
-
-at_most : (m n : ℕ) → nat_le m n ≡ true → m ≤ n
-at_most m n h = grind (arith, nat_tests)
-
-is_least : (m n : ℕ) → m ≤ n → nat_le m n ≡ true
-is_least m n h = grind (arith, nat_tests)
-
-pub basic_height : (types : Map) (b : Basic) (left : ℕ) → Measures types left (ref.Basic b) (Some 0)
-basic_height types b left = (λ n. basic n ∙ none_least n, omega arith)
-  where
-    basic : (n : ℕ) → is_within types n (ref.Basic b) ≡ true
-    basic zero = refl
-    basic (suc n) = refl
-
-pub none_left : (types : Map) (q : QName) (left : ℕ) → left ≡ 0 → is_within types left (ref.Named q) ≡ false
-none_left types q zero e = refl
-none_left types q (suc n) e = absurd (omega arith)
-
-pub none_there : (types : Map) (q : QName) (left : ℕ) → types q ≡ None → is_within types left (ref.Named q) ≡ false
-none_there types q zero e = refl
-none_there types q (suc n) e = ap (chain_of (λ t. is_within types n t)) e
 
 pub named_more : (types : Map) (q : QName) (d : Desc) (left : ℕ) → types q ≡ Some d → list_all (λ t. is_within types (left - 1) t) (stands_on d) ≡ false → is_within types left (ref.Named q) ≡ false
 named_more types q d zero e f = refl
@@ -62,13 +37,6 @@ named_more types q d (suc n) e f =
 pub named_has : (types : Map) (q : QName) (d : Desc) (h : ℕ) → types q ≡ Some d → HaveHeight types (stands_on d) h → HasHeight types (ref.Named q) (h + 1)
 named_has types q d h e f zero = none_above h
 named_has types q d h e f (suc n) = ap (chain_of (λ t. is_within types n t)) e ∙ f n ∙ one_more h n
-
-pub known_measures : (types : Map) (t : TypeRef) (h left : ℕ) → HasHeight types t h → Measures types left t (within_left left h)
-known_measures types t h left f = go (nat_le h left) refl
-  where
-    go : (b : Bool) → nat_le h left ≡ b → Measures types left t (if b then Some h else None)
-    go true e = (f, at_most h left e)
-    go false e = f left ∙ e
 
 -- the name of that key
 pub key_is : (p q : QName) → bytes_eq (key p.«module» p.object) (key q.«module» q.object) ≡ true → p ≡ q
@@ -84,12 +52,6 @@ heights_added types hs e p all k f q = go (bytes_eq e.key (key q.«module» q.ob
     go : (b : Bool) → bytes_eq e.key (key q.«module» q.object) ≡ b → HeightOf types q (option_map (λ h. h.height) (cond b (Some e) (find (λ h. bytes_eq h.key (key q.«module» q.object)) hs)))
     go true g = subst (λ x. HasHeight types (ref.Named x) e.height) (key_is p q (ap (λ x. bytes_eq x (key q.«module» q.object)) (sym k) ∙ g)) f
     go false g = all q
-
-pub no_heights : (types : Map) → AreHeights types []
-no_heights types q = tt
-
-pub height_known : (types : Map) (hs : List Height) (q : QName) (x : List ℕ) (h : ℕ) → AreHeights types hs → x ≡ key q.«module» q.object → known_height hs x ≡ Some h → HasHeight types (ref.Named q) h
-height_known types hs q x h all k e = subst (HeightOf types q) (ap (known_height hs) (sym k) ∙ e) (all q)
 
 -- THE GREATEST
 
@@ -121,24 +83,3 @@ pub more_heights : (types : Map) (part : TypeRef) (more all total : List TypeRef
 more_heights types part more all total most h step f inv n =
     let rest = list_all (λ t. is_within types n t) more in
     inv n ∙ ap (λ l. nat_le most n && list_all (λ t. is_within types n t) l) step ∙ ap (λ b. nat_le most n && (b && rest)) (f n) ∙ sym (and_split most h h n rest)
-
-and_false : (a b c : Bool) → b ≡ false → a && (b && c) ≡ false
-and_false true b c e = ap (λ x. x && c) e
-and_false false b c e = refl
-
-pub some_more : (types : Map) (part : TypeRef) (more all total : List TypeRef) (most left : ℕ) → all ≡ part ∷ more → is_within types left part ≡ false → ((n : ℕ) → list_all (λ t. is_within types n t) total ≡ nat_le most n && list_all (λ t. is_within types n t) all) → list_all (λ t. is_within types left t) total ≡ false
-some_more types part more all total most left step f inv =
-    inv left ∙ ap (λ l. nat_le most left && list_all (λ t. is_within types left t) l) step ∙ and_false (nat_le most left) (is_within types left part) (list_all (λ t. is_within types left t) more) f
-
-and_true : (a : Bool) → a && true ≡ a
-and_true true = refl
-and_true false = refl
-
-pub no_more_heights : (types : Map) (all total : List TypeRef) (most : ℕ) → all ≡ [] → ((n : ℕ) → list_all (λ t. is_within types n t) total ≡ nat_le most n && list_all (λ t. is_within types n t) all) → HaveHeight types total most
-no_more_heights types all total most end inv n = inv n ∙ ap (λ l. nat_le most n && list_all (λ t. is_within types n t) l) end ∙ and_true (nat_le most n)
-
-pub first_heights : (types : Map) (total : List TypeRef) (n : ℕ) → list_all (λ t. is_within types n t) total ≡ nat_le 0 n && list_all (λ t. is_within types n t) total
-first_heights types total n = ap (λ b. b && list_all (λ t. is_within types n t) total) (none_least n)
-
-pub within_of : (types : Map) (t : TypeRef) (left h : ℕ) → Measures types left t (Some h) → true ≡ is_within types left t
-within_of types t left h m = sym (m.0 left ∙ is_least h left m.1)

@@ -1,5 +1,5 @@
 -- Those that name only types that are there.
-use Rattle.std.proofs.Common.{◌≡◌, ℕ, zero, suc, ◌+◌, ◌-◌, ◌<◌, ◌≤◌, Bool, true, false, List, [], ◌∷◌, length, Option, Some, None, refl, sym, ap, ap₂, subst, ◌∙◌, arith}
+use Rattle.std.proofs.Common.{◌≡◌, ℕ, zero, suc, ◌+◌, ◌-◌, ◌<◌, ◌≤◌, Bool, true, false, List, [], ◌∷◌, length, Option, refl, sym, ap, ◌∙◌, arith}
 use Rattle.std.specs.Prelude.{bytes_eq, not}
 use Rattle.std.specs.List.{list_any}
 use Rattle.ob_tree.specs.declared.names.QName.{QName}
@@ -7,7 +7,7 @@ use Rattle.ob_types.specs.declared.desc.Desc.{Desc}
 use Rattle.ob_types.specs.declared.types.TypeRef.TheVariants as ref
 use Rattle.ob_types.specs.declared.typed.TypedType.{TypedType}
 use Rattle.ob_rules.specs.Shapes.{Map, same_name}
-use Rattle.ob_rules.specs.Names.{Around, map_of, type_desc, out_string, in_unit}
+use Rattle.ob_rules.specs.Names.{Around, map_of, type_desc, out_string}
 use Rattle.ob_rules.specs.Depth.{kept, kept_of, keep_if, kept_within, names_held, is_deep, deep_among, is_within}
 use Rattle.ob_known.specs.Scopes.{at_start}
 

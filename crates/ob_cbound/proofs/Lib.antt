@@ -3,3 +3,4 @@ pub mod Chosen
 pub mod Bare
 pub mod Keeping
 pub mod HeightLaws
+pub mod PointerLaws

@@ -1,5 +1,5 @@
 -- How many types the longest chain from a type on has.
-use Rattle.std.specs.Prelude.{◌≡◌, ℕ, Bool, true, false, ◌≤◌, nat_le, nat_lt, bytes_eq, List, Option, Some, None, if◌then◌else◌}
+use Rattle.std.specs.Prelude.{◌≡◌, ℕ, false, ◌≤◌, nat_le, nat_lt, bytes_eq, List, Option, Some, None, if◌then◌else◌}
 use Rattle.std.specs.List.{find, list_all}
 use Rattle.std.specs.Option.{option_map}
 use Rattle.ob_tree.specs.declared.names.QName.{QName}

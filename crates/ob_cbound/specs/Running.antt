@@ -1,8 +1,8 @@
 -- Binding step by step, from what is around.
-use Rattle.std.specs.Prelude.{ℕ, Bool, true, false, ◌&&◌, List, [], ◌∷◌, Option}
+use Rattle.std.specs.Prelude.{ℕ, Bool, true, false, ◌&&◌, List, [], ◌∷◌}
 use Rattle.ob_rules.specs.Judged.{no_notes}
 use Rattle.ob_rules.specs.Names.{Around}
-use Rattle.ob_rules.specs.Headings.{Head, BoundAs, Binding, bind_one, of_record, counts}
+use Rattle.ob_rules.specs.Headings.{Head, Binding, bind_one, of_record, counts}
 
 abbrev pub Step : Type 0 → Type 0
 Step X = Around → Binding → X → Binding

@@ -1,8 +1,7 @@
-use Rattle.std.proofs.Common.{◌≡◌, List, map, ap, ◌∙◌}
+use Rattle.std.proofs.Common.{List, map, ap, ◌∙◌}
 use Rattle.ob_known.specs.Scopes.{around_of}
 use Rattle.ob_rules.specs.declared.entity.Coming.{Coming}
 use Rattle.ob_rules.specs.Names.{Around}
-use Rattle.ob_rules.specs.Headings.{counts}
 use Rattle.ob_chead.specs.Kept.{seen}
 use Rattle.ob_cbound.proofs.Chosen.{Whole, whole_around, whole_notes}
 use Rattle.ob_cbound.proofs.bindings.bind_all.Goals as goal

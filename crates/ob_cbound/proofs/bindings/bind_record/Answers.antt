@@ -1,4 +1,4 @@
-use Rattle.std.proofs.Common.{◌≡◌, ℕ, ◌+◌, ◌<◌, ◌≤◌, ◌∷◌, List, [], drop, length, map, ap, ◌∙◌, arith}
+use Rattle.std.proofs.Common.{◌+◌, drop, map, ap, arith}
 use Rattle.ob_known.specs.Scopes.{around_of}
 use Rattle.ob_rules.specs.Books.{book_after}
 use Rattle.ob_chead.specs.Kept.{seen}

@@ -1,4 +1,4 @@
-use Rattle.std.proofs.Common.{◌≡◌, ◌+◌, ◌<◌, ◌≤◌, ◌∷◌, List, [], drop, length, refl, ap, arith}
+use Rattle.std.proofs.Common.{◌+◌, drop, refl, arith}
 use Rattle.ob_rules.specs.Books.{book_after}
 use Rattle.ob_rules.specs.Declarations.{all_judged, field_judged}
 use Rattle.ob_chead.proofs.ForwardLaws.{step_at, end_at, more_noted, no_more_noted}
