@@ -3,3 +3,4 @@ pub mod ConstantLaws
 pub mod ExprViews
 pub mod Rows
 pub mod Selectors
+pub mod Sets

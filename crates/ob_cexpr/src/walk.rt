@@ -2,23 +2,25 @@
 //! before what stands behind it is looked at.
 
 ghost use Rattle.std.specs.Prelude.{◌≡◌, IfOk, OnOk, map};
+ghost use Rattle.std.specs.Option.{option_map};
 ghost use Rattle.ob_rules.specs.Books.{book_after};
 ghost use Rattle.ob_rules.specs.Expressions as spec;
 ghost use Rattle.ob_coperand.specs.Plain.{plain};
+ghost use Rattle.ob_cexpr.specs.Plain.{elements_judged, set_judged};
 
 use crate::designators::check_designator;
 use ob_coperand::{
-    bracketed, character, combined_if, constant_if, integer, name_in, opposite_if, other_test,
-    related_if, signed_if, start_of, string, type_test, value_if,
+    bracketed, character, combined_if, constant_if, element_if, integer, name_in, opposite_if,
+    other_test, related_if, row_with, set_if, signed_if, start_of, string, there, type_test,
+    value_if,
 };
-use ob_rules::{Notebook, Surroundings, Valued, Where};
-use ob_tree::{Expr, Pos, Relation, Tail};
+use ob_rules::{ElementOf, Notebook, Surroundings, Valued, Where};
+use ob_tree::{Element, Expr, Pos, Relation, Tail};
 use ob_types::Value;
 use std::alloc::{AllocError, Global};
 
 /// What an expression comes to: none where it breaks a rule, or a declaration that it names does.
-/// What is broken, and what it names, is noted in the book. Of a set it answers want of memory: not
-/// written yet.
+/// What is broken, and what it names, is noted in the book.
 #[cycle(walk)]
 pub fn check_expr<S: Surroundings>(
     alloc: Global,
@@ -38,7 +40,7 @@ pub fn check_expr<S: Surroundings>(
         Expr::Char { pos, text } => Ok(character(book, *pos, text.as_slice())),
         Expr::Str { text, .. } => string(alloc, text.as_slice()),
         Expr::Nil(_) => Ok(Some(Valued::Constant(Value::Nil))),
-        Expr::Set { .. } => Err(AllocError),
+        Expr::Set { elements, .. } => check_set(alloc, here, book, elements.as_slice()),
         Expr::Paren { inner, .. } => {
             let x = check_expr(alloc, here, book, inner.get())?;
             Ok(bracketed(x))
@@ -131,6 +133,72 @@ fn check_test<S: Surroundings>(
         None => {
             let y = check_expr(alloc, here, book, right)?;
             Ok(other_test(here, book, at, x, y))
+        }
+    }
+}
+
+#[cycle(walk)]
+fn check_set<S: Surroundings>(
+    alloc: Global,
+    here: &S,
+    book: &mut Notebook,
+    elements: &[Element],
+) -> Result<Option<Valued>, AllocError>
+    ensures made { IfOk result (λ r. r ≡ (set_judged (S.around here.now) elements.now).node) }
+    ensures noted { OnOk result (book.new ≡ book_after book.old (set_judged (S.around here.now) elements.now).notes) }
+{
+    let row = check_elements(alloc, here, book, elements)?;
+    set_if(alloc, row)
+}
+
+#[cycle(walk)]
+fn check_elements<S: Surroundings>(
+    alloc: Global,
+    here: &S,
+    book: &mut Notebook,
+    elements: &[Element],
+) -> Result<Option<Vec<ElementOf>>, AllocError>
+    ensures made { IfOk result (λ r. option_map (λ v. v.items) r ≡ (elements_judged (S.around here.now) elements.now).node) }
+    ensures noted { OnOk result (book.new ≡ book_after book.old (elements_judged (S.around here.now) elements.now).notes) }
+{
+    let mut row = Some(Vec::new(alloc));
+    'elements: for element in elements {
+        let x = check_element(alloc, here, book, element)?;
+        row = row_with(row, x)?;
+    }
+    Ok(row)
+}
+
+#[cycle(walk)]
+fn check_element<S: Surroundings>(
+    alloc: Global,
+    here: &S,
+    book: &mut Notebook,
+    element: &Element,
+) -> Result<Option<ElementOf>, AllocError>
+    ensures made { IfOk result (λ r. r ≡ (spec.element_value (S.around here.now) (spec.ranged_of element.now)).node) }
+    ensures noted { OnOk result (book.new ≡ book_after book.old (spec.element_value (S.around here.now) (spec.ranged_of element.now)).notes) }
+{
+    let low = check_expr(alloc, here, book, &element.low)?;
+    let high = check_high(alloc, here, book, &element.high)?;
+    element_if(alloc, here, book, start_of(&element.low), low, high)
+}
+
+#[cycle(walk)]
+fn check_high<S: Surroundings>(
+    alloc: Global,
+    here: &S,
+    book: &mut Notebook,
+    high: &Option<Expr>,
+) -> Result<Option<Option<Valued>>, AllocError>
+    ensures made { IfOk result (λ r. r ≡ (spec.value_if (S.around here.now) (option_map spec.phrase_of high.now)).node) }
+    ensures noted { OnOk result (book.new ≡ book_after book.old (spec.value_if (S.around here.now) (option_map spec.phrase_of high.now)).notes) }
+{
+    match high {
+        None => Ok(Some(None)),
+        Some(high) => {
+            let x = check_expr(alloc, here, book, high)?;
+            Ok(there(x))
         }
     }
 }

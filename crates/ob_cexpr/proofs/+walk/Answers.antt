@@ -13,8 +13,9 @@ use Rattle.ob_rules.specs.Books.{book_after}
 use Rattle.ob_rules.specs.Expressions as spec
 use Rattle.ob_rules.proofs.BookLaws.{after_none}
 use Rattle.ob_coperand.specs.Plain.{plain}
-use Rattle.ob_cexpr.specs.Plain.{goes_on, visited_one}
+use Rattle.ob_cexpr.specs.Plain.{set_judged, goes_on, visited_one}
 use Rattle.ob_cexpr.proofs.Rows.{on_ok_from}
+use Rattle.ob_cexpr.proofs.Sets.{set_node, set_noted, elements_step, elements_end, elements_end_noted, element_noted, as_set_node, as_set_noted}
 use Rattle.ob_cexpr.proofs.Selectors.{selectors_end, selectors_end_noted, meant_node, meant_noted, index_step_node, index_step_noted, visit_step, argument_step, selector_step, not_taken, last_by}
 use Rattle.ob_cexpr.proofs.Chains.{map_from, map_over, then_noted, then_chain, then_chain_noted, relation_noted, chain_step, tails_from, tailed_as, tails_over}
 use Rattle.ob_cexpr.proofs.ExprViews.{named_is, behind_field, behind_index, behind_up, value_str, value_designator, value_nil, value_not, value_signed, value_chain, value_relate}
@@ -168,3 +169,41 @@ designators::check_selectors-returns-clause-made g t c =
 pub designators::check_selectors-returns-clause-noted : goal.designators::check_selectors-returns-clause-noted
 designators::check_selectors-returns-clause-noted g t c =
     selectors_end_noted (g.S.Surroundings.around c.args.here.now) c.args.place c.args.start c.selectors.taken c.args.selectors.now c.selectors.selector-index c.selectors.all c.selectors.book _ c.selectors-test.false c.selectors.invariant.1
+
+pub walk::check_set-returns-clause-made : goal.walk::check_set-returns-clause-made
+walk::check_set-returns-clause-made g t c =
+    IfOk-weaker c.set_if.result _ _ (λ r h. set_node c.in_ok-row.row (λ v. v.items) (g.S.Surroundings.around c.args.here.now) c.args.elements.now r c.in_ok-row.ensures.made h) c.set_if.ensures
+
+pub walk::check_set-returns-clause-noted : goal.walk::check_set-returns-clause-noted
+walk::check_set-returns-clause-noted g t c =
+    on_ok_from c.set_if.result (set_noted (g.S.Surroundings.around c.args.here.now) c.args.elements.now c.args.book.now c.check_elements.new.book c.in_ok-row.ensures.noted)
+
+pub walk::check_elements-elements-preserved : goal.walk::check_elements-elements-preserved
+walk::check_elements-elements-preserved g t c =
+    elements_step (g.S.Surroundings.around c.args.here.now) c.args.elements.now c.elements.element-index c.element-item.result _ _ c.in_ok-x.x c.elements.book c.check_element.new.book _ _
+    c.elements-test.true c.element-item.is c.in_ok-x.ensures.made c.in_ok-x.ensures.noted c.in_ok-row.ensures c.elements.invariant.0 c.elements.invariant.1
+
+pub walk::check_elements-returns-clause-made : goal.walk::check_elements-returns-clause-made
+walk::check_elements-returns-clause-made g t c =
+    elements_end (g.S.Surroundings.around c.args.here.now) c.args.elements.now c.elements.element-index _ _ c.elements-test.false c.elements.invariant.0
+
+pub walk::check_elements-returns-clause-noted : goal.walk::check_elements-returns-clause-noted
+walk::check_elements-returns-clause-noted g t c =
+    elements_end_noted (g.S.Surroundings.around c.args.here.now) c.args.elements.now c.elements.element-index c.elements.book _ c.elements-test.false c.elements.invariant.1
+
+pub walk::check_element-returns-clause-noted : goal.walk::check_element-returns-clause-noted
+walk::check_element-returns-clause-noted g t c =
+    let u = g.S.Surroundings.around c.args.here.now in
+    let e = c.args.element.now in
+    on_ok_weaker c.element_if.result (λ h. element_noted u e.low e.high c.in_ok-low.low c.in_ok-high.high c.start_of.result c.args.book.now c.check_expr.new.book c.check_high.new.book c.element_if.new.book c.in_ok-low.ensures.made c.in_ok-low.ensures.noted c.in_ok-high.ensures.made c.in_ok-high.ensures.noted c.start_of.ensures h) c.element_if.ensures.noted
+
+pub walk::check_expr-returns-in-Set-clause-made : goal.walk::check_expr-returns-in-Set-clause-made
+walk::check_expr-returns-in-Set-clause-made g t c =
+    let u = g.S.Surroundings.around c.args.here.now in
+    IfOk-weaker c.check_set.result (λ r. r ≡ (set_judged u c.as_slice-in-Set.result.now).node) (λ r. r ≡ ((spec.phrase_of c.args.e.now).value u).node)
+    (λ r h. as_set_node u c.args.e.now c.in-Set.pos c.as_slice-in-Set.result.now c.in-Set.elements r c.in-Set.is c.as_slice-in-Set.ensures h) c.check_set.ensures.made
+
+pub walk::check_expr-returns-in-Set-clause-noted : goal.walk::check_expr-returns-in-Set-clause-noted
+walk::check_expr-returns-in-Set-clause-noted g t c =
+    let u = g.S.Surroundings.around c.args.here.now in
+    on_ok_weaker c.check_set.result (λ h. as_set_noted u c.args.e.now c.in-Set.pos c.as_slice-in-Set.result.now c.in-Set.elements c.args.book.now c.check_set.new.book c.in-Set.is c.as_slice-in-Set.ensures h) c.check_set.ensures.noted
