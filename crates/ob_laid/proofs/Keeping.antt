@@ -1,10 +1,12 @@
 -- Words above the limit are kept as the next number.
-use Rattle.std.proofs.Common.{◌≡◌, ℕ, ◌+◌, ◌*◌, List, [], ◌∷◌, refl, sym, ap, ◌∙◌, arith}
+use Rattle.std.proofs.Common.{◌≡◌, ℕ, ◌+◌, ◌*◌, List, [], ◌∷◌, ◌++◌, suc, map, refl, sym, ap, ◌∙◌, arith}
 use Rattle.std.specs.Prelude.{min}
 use Rattle.ob_types.specs.declared.types.TypeRef.{TypeRef}
 use Rattle.ob_types.specs.declared.desc.Field.{Field}
-use Rattle.ob_layout.specs.LaidOut.{kept, placed}
-use Rattle.ob_laid.specs.Placed.{placed_behind}
+use Rattle.ob_layout.specs.LaidOut.{kept, placed, numbered}
+use Rattle.ob_laid.specs.Placed.{placed_behind, to_field}
+use Rattle.ob_laid.specs.declared.placed.Placed.{Placed}
+use Rattle.ob_types.specs.declared.desc.Method.{Method}
 
 pub kept_plus : (a b : ℕ) → kept (kept a + kept b) ≡ kept (a + b)
 kept_plus a b = grind arith
@@ -24,3 +26,26 @@ behind words at [] = refl
 behind words at (f ∷ fs) =
     let rest : placed_behind words (kept (kept at + words f.of)) fs ≡ placed words (at + words f.of) fs = ap (λ (n : ℕ). placed_behind words n fs) (kept_left at (words f.of)) ∙ behind words (at + words f.of) fs in
     ap (λ (l : List Field). let g : Field = record f { place = kept at } in g ∷ l) rest
+
+-- ---- one more of a list
+
+pub kept_right : (a b : ℕ) → kept (a + kept b) ≡ kept (a + b)
+kept_right a b = grind arith
+
+pushed : (xs : List Placed) (x : Placed) (ys : List Field) → map to_field (xs ++ x ∷ []) ++ ys ≡ map to_field xs ++ to_field x ∷ ys
+pushed [] x ys = refl
+pushed (z ∷ xs) x ys = ap (λ l. to_field z ∷ l) (pushed xs x ys)
+
+pub placed_more : (words : TypeRef → ℕ) (xs : List Placed) (x : Placed) (at : ℕ) (f : Field) (fs whole : List Field) → map to_field xs ++ placed_behind words at (f ∷ fs) ≡ whole → x.field ≡ (let g : Field = record f { place = at } in g) → map to_field (xs ++ x ∷ []) ++ placed_behind words (kept (at + kept (words f.of))) fs ≡ whole
+placed_more words xs x at f fs whole e is =
+    pushed xs x (placed_behind words (kept (at + kept (words f.of))) fs)
+    ∙ ap (λ (g : Field). map to_field xs ++ g ∷ placed_behind words (kept (at + kept (words f.of))) fs) is
+    ∙ ap (λ (n : ℕ). map to_field xs ++ (let g : Field = record f { place = at } in g) ∷ placed_behind words n fs) (kept_right at (words f.of))
+    ∙ e
+
+appended : {A : Type 0} (xs : List A) (x : A) (ys : List A) → (xs ++ x ∷ []) ++ ys ≡ xs ++ x ∷ ys
+appended [] x ys = refl
+appended (z ∷ xs) x ys = ap (λ l. z ∷ l) (appended xs x ys)
+
+pub numbered_more : (xs : List Method) (n : ℕ) (p : Method) (ps whole : List Method) → xs ++ numbered n (p ∷ ps) ≡ whole → (xs ++ (let q : Method = record p { number = n } in q) ∷ []) ++ numbered (suc n) ps ≡ whole
+numbered_more xs n p ps whole e = appended xs (let q : Method = record p { number = n } in q) (numbered (suc n) ps) ∙ e

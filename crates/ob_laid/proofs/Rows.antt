@@ -4,6 +4,7 @@ use Rattle.std.specs.Prelude.{map as each, slice_get, nat_lt, bytes_eq}
 use Rattle.std.specs.Cmp.Lexicographic.{bytes_decides}
 use Rattle.ob_tree.specs.declared.names.QName.{QName}
 use Rattle.ob_types.specs.declared.types.TypeRef.TheVariants as ref
+use Rattle.ob_types.specs.declared.types.Basic.{Basic}
 use Rattle.ob_types.specs.declared.desc.Desc.{Desc}
 use Rattle.ob_types.specs.declared.typed.TypedType.{TypedType}
 use Rattle.ob_types.specs.TypedSyntax.{Module}
@@ -97,3 +98,44 @@ absent_words map m (suc n) x e = sym (ap kept (own_summed map m n x ∙ ap (decl
 -- a name of the module
 pub own_is : (m : Module) (q : QName) → is_own m q ≡ true → own_ref m.name q.object ≡ ref.Named q
 own_is m q e = ap (λ l. own_ref l q.object) (sym ((bytes_decides q.«module» m.name).0 e))
+
+-- ---- as the code asks them
+
+pub found_row : (map : QName → Option Desc) (m : Module) (rows : List (List ℕ)) (k : ℕ) → rows ≡ rows_below map m (length rows) → k < length rows → slice_get rows k ≡ Some (row_at map m k)
+found_row map m rows k e l = subst (λ r. slice_get r k ≡ Some (row_at map m k)) (sym e) (row_found map m (length rows) k l)
+
+pub more_rows : (map : QName → Option Desc) (m : Module) (rows : List (List ℕ)) (row : List ℕ) → rows ≡ rows_below map m (length rows) → 0 < length rows → row ≡ row_at map m (suc (length rows - 1)) → rows ++ row ∷ [] ≡ rows_below map m (length (rows ++ row ∷ []))
+more_rows map m rows row e l is =
+    let s : suc (length rows - 1) ≡ length rows = omega (arith, l) in
+    ap (λ (r : List (List ℕ)). r ++ row ∷ []) e
+    ∙ ap (λ (r : List ℕ). rows_below map m (length rows) ++ r ∷ []) (is ∙ ap (row_at map m) s)
+    ∙ ap (rows_below map m) (sym (length_more rows row))
+
+pub own_kept : (map : QName → Option Desc) (m : Module) (k : ℕ) (q : QName) → is_own m q ≡ true → kept (summed map m k (own_ref m.name q.object)) ≡ kept (summed map m k (ref.Named q))
+own_kept map m k q e = ap (λ t. kept (summed map m k t)) (own_is m q e)
+
+pub basic_words : (map : QName → Option Desc) (m : Module) (k : ℕ) (b : Basic) → 1 ≡ kept (summed map m k (ref.Basic b))
+basic_words map m zero b = refl
+basic_words map m (suc n) b = refl
+
+pub next_is : (map : QName → Option Desc) (m : Module) (n : ℕ) (x : List ℕ) (d : Desc) → Some d ≡ type_named m.types x → kept (declared_words (summed map m n) true (Some d)) ≡ kept (summed map m (suc n) (own_ref m.name x))
+next_is map m n x d e = ap kept (ap (declared_words (summed map m n) true) e ∙ sym (own_summed map m n x))
+
+pub next_none : (map : QName → Option Desc) (m : Module) (n : ℕ) (x : List ℕ) → None ≡ type_named m.types x → 1 ≡ kept (summed map m (suc n) (own_ref m.name x))
+next_none map m n x e = ap kept (ap (declared_words (summed map m n) true) e ∙ sym (own_summed map m n x))
+
+pub count_is : (map : QName → Option Desc) (m : Module) (n : ℕ) (x : List ℕ) (d : Desc) → Some d ≡ type_named m.types x → declared_procedures (counted map m n) true (Some d) ≡ counted map m (suc n) (own_ref m.name x)
+count_is map m n x d e = ap (declared_procedures (counted map m n) true) e ∙ sym (own_counted map m n x)
+
+pub count_none : (map : QName → Option Desc) (m : Module) (n : ℕ) (x : List ℕ) → None ≡ type_named m.types x → 0 ≡ counted map m (suc n) (own_ref m.name x)
+count_none map m n x e = ap (declared_procedures (counted map m n) true) e ∙ sym (own_counted map m n x)
+
+pub count_own : (map : QName → Option Desc) (m : Module) (k : ℕ) (q : QName) → is_own m q ≡ true → counted map m k (own_ref m.name q.object) ≡ counted map m k (ref.Named q)
+count_own map m k q e = ap (counted map m k) (own_is m q e)
+
+pub count_basic : (map : QName → Option Desc) (m : Module) (k : ℕ) (b : Basic) → 0 ≡ counted map m k (ref.Basic b)
+count_basic map m zero b = refl
+count_basic map m (suc n) b = refl
+
+pub count_other : (map : QName → Option Desc) (m : Module) (n : ℕ) (q : QName) (d : Option Desc) → is_own m q ≡ false → d ≡ viewed map m q → declared_procedures (counted map m n) false d ≡ counted map m (suc n) (ref.Named q)
+count_other map m n q d own e = ap (declared_procedures (counted map m n) false) e ∙ ap (λ (b : Bool). declared_procedures (counted map m n) b (viewed map m q)) (sym own)
