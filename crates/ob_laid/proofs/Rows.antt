@@ -44,11 +44,11 @@ not_below k n l e = grind arith
 
 pub row_found : (map : QName → Option Desc) (m : Module) (n k : ℕ) → k < n → slice_get (rows_below map m n) k ≡ Some (row_at map m k)
 row_found map m zero k l = absurd (omega (arith, l))
-row_found map m (suc n) k l = go (nat_lt k n) refl
+row_found map m (suc n) k l = go (nat_lt k n) refl (λ h. row_found map m n k h)
   where
-    go : (b : Bool) → nat_lt k n ≡ b → slice_get (rows_below map m n ++ row_at map m n ∷ []) k ≡ Some (row_at map m k)
-    go true e = let h : k < n = below_is k n e in get_front (rows_below map m n) (row_at map m n ∷ []) k (subst (λ j. k < j) (sym (rows_length map m n)) h) ∙ row_found map m n k h
-    go false e =
+    go : (b : Bool) → nat_lt k n ≡ b → (k < n → slice_get (rows_below map m n) k ≡ Some (row_at map m k)) → slice_get (rows_below map m n ++ row_at map m n ∷ []) k ≡ Some (row_at map m k)
+    go true e more = let h : k < n = below_is k n e in get_front (rows_below map m n) (row_at map m n ∷ []) k (subst (λ j. k < j) (sym (rows_length map m n)) h) ∙ more h
+    go false e more =
         let h : k ≡ n = not_below k n l e in
         get_last (rows_below map m n) (row_at map m n) k (h ∙ sym (rows_length map m n)) ∙ ap (λ j. Some (row_at map m j)) (sym h)
 
@@ -56,15 +56,15 @@ row_found map m (suc n) k l = go (nat_lt k n) refl
 
 placed_at : (f : List ℕ → ℕ) (ts : List TypedType) (x : List ℕ) (n p : ℕ) → position_from n x (type_names ts) ≡ Some p → (n ≤ p) × (slice_get (each (λ t. f t.name) ts) (p - n) ≡ Some (f x))
 placed_at f [] x n p e = absurd cc
-placed_at f (t ∷ ts) x n p e = go (bytes_eq x t.name) refl e
+placed_at f (t ∷ ts) x n p e = go (bytes_eq x t.name) refl (λ h. placed_at f ts x (suc n) p h) e
   where
-    go : (b : Bool) → bytes_eq x t.name ≡ b → cond b (Some n) (position_from (suc n) x (type_names ts)) ≡ Some p → (n ≤ p) × (slice_get (f t.name ∷ each (λ t. f t.name) ts) (p - n) ≡ Some (f x))
-    go true s h =
+    go : (b : Bool) → bytes_eq x t.name ≡ b → (position_from (suc n) x (type_names ts) ≡ Some p → (suc n ≤ p) × (slice_get (each (λ t. f t.name) ts) (p - suc n) ≡ Some (f x))) → cond b (Some n) (position_from (suc n) x (type_names ts)) ≡ Some p → (n ≤ p) × (slice_get (f t.name ∷ each (λ t. f t.name) ts) (p - n) ≡ Some (f x))
+    go true s more h =
         let is : n ≡ p = cc in
         let none : p - n ≡ 0 = omega (arith, is) in
         (omega (arith, is), rw none (ap (λ l. Some (f l)) (sym ((bytes_decides x t.name).0 s))))
-    go false s h =
-        let r = placed_at f ts x (suc n) p h in
+    go false s more h =
+        let r : (suc n ≤ p) × (slice_get (each (λ t. f t.name) ts) (p - suc n) ≡ Some (f x)) = more h in
         let l : suc n ≤ p = r.0 in
         let one : p - n ≡ suc (p - suc n) = omega (arith, l) in
         (omega (arith, l), rw one r.1)
@@ -74,11 +74,11 @@ words_placed map m k x p e = let r = placed_at (λ y. kept (summed map m k (own_
 
 absent : (ts : List TypedType) (x : List ℕ) (n : ℕ) → position_from n x (type_names ts) ≡ None → type_named ts x ≡ None
 absent [] x n e = refl
-absent (t ∷ ts) x n e = go (bytes_eq x t.name) e
+absent (t ∷ ts) x n e = go (bytes_eq x t.name) (λ h. absent ts x (suc n) h) e
   where
-    go : (b : Bool) → cond b (Some n) (position_from (suc n) x (type_names ts)) ≡ None → cond b (Some t.desc) (type_named ts x) ≡ None
-    go true h = absurd cc
-    go false h = absent ts x (suc n) h
+    go : (b : Bool) → (position_from (suc n) x (type_names ts) ≡ None → type_named ts x ≡ None) → cond b (Some n) (position_from (suc n) x (type_names ts)) ≡ None → cond b (Some t.desc) (type_named ts x) ≡ None
+    go true more h = absurd cc
+    go false more h = more h
 
 -- ---- own types
 

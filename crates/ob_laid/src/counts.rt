@@ -2,12 +2,14 @@
 
 ghost use Rattle.std.specs.Prelude.{◌≡◌, ◌+◌, true, false, suc, Some, length, IfOk};
 ghost use Rattle.ob_types.specs.TypedView.{module_view};
+ghost use Rattle.ob_types.specs.declared.types.TypeRef.TheVariants as ref;
 ghost use Rattle.ob_layout.specs.LaidOut.{counted, declared_procedures, base_of};
 ghost use Rattle.ob_env.specs.Faces.{faces_of, described};
 ghost use Rattle.ob_laid.specs.Sums.{own_ref};
 
 use crate::sums::is_own;
 use ob_env::View;
+use ob_tree::QName;
 use ob_types::{Desc, RecordDesc, TypeRef, Types};
 use std::alloc::AllocError;
 
@@ -96,9 +98,28 @@ fn count_of_other(view: &View<'_>, steps: usize, desc: &Desc) -> Result<u32, All
     }
 }
 
+// The bound procedures of the type of that name, in one step more.
+#[cycle(counts)]
+#[tactic(auto, using(crate::proofs::Rows::count_own, crate::proofs::Counting::other_some, crate::proofs::Counting::other_none))]
+fn count_of_name(view: &View<'_>, steps: usize, name: &QName) -> Result<u32, AllocError>
+    ensures { IfOk result (λ n. n ≡ counted (described (faces_of view.now.env.now)) (module_view view.now.«module».now) (suc steps) (ref.Named name.now)) }
+{
+    if is_own(view, name) {
+        let own = own_count(view, steps, name.object.as_bytes())?;
+        return Ok(own);
+    }
+    match view.desc_of(name) {
+        None => Ok(0),
+        Some(desc) => {
+            let other = count_of_other(view, steps, desc)?;
+            Ok(other)
+        }
+    }
+}
+
 /// The bound procedures of a type in so many steps.
 #[cycle(counts)]
-#[tactic(auto, using(crate::proofs::Rows::count_own, crate::proofs::Rows::count_other, crate::proofs::Rows::count_basic))]
+#[tactic(auto, using(crate::proofs::Counting::count_next))]
 pub fn count_at(view: &View<'_>, steps: usize, t: &TypeRef) -> Result<u32, AllocError>
     ensures { IfOk result (λ n. n ≡ counted (described (faces_of view.now.env.now)) (module_view view.now.«module».now) steps t.now) }
 {
@@ -108,11 +129,6 @@ pub fn count_at(view: &View<'_>, steps: usize, t: &TypeRef) -> Result<u32, Alloc
     let TypeRef::Named(name) = t else {
         return Ok(0);
     };
-    if is_own(view, name) {
-        return own_count(view, steps - 1, name.object.as_bytes());
-    }
-    match view.desc_of(name) {
-        None => Ok(0),
-        Some(desc) => count_of_other(view, steps - 1, desc),
-    }
+    let count = count_of_name(view, steps - 1, name)?;
+    Ok(count)
 }

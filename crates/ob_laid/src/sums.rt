@@ -48,7 +48,6 @@ pub fn is_own(view: &View<'_>, name: &QName) -> bool
 }
 
 /// The words of the type of the module that has this name, in so many steps.
-#[tactic(auto, using(crate::proofs::Rows::absent_words, crate::proofs::Rows::found_row, crate::proofs::Rows::words_placed))]
 pub fn own_words(view: &View<'_>, rows: &[List<u32>], steps: usize, name: &[u8]) -> u32
     requires rows { rows.now ≡ rows_below (described (faces_of view.now.env.now)) (module_view view.now.«module».now) (length rows.now) }
     requires steps { steps < length rows.now }
