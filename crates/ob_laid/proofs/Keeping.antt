@@ -36,11 +36,10 @@ pushed : (xs : List Placed) (x : Placed) (ys : List Field) → map to_field (xs 
 pushed [] x ys = refl
 pushed (z ∷ xs) x ys = ap (λ l. to_field z ∷ l) (pushed xs x ys)
 
-pub placed_more : (words : TypeRef → ℕ) (xs : List Placed) (x : Placed) (at : ℕ) (f : Field) (fs whole : List Field) → map to_field xs ++ placed_behind words at (f ∷ fs) ≡ whole → x.field ≡ (let g : Field = record f { place = at } in g) → map to_field (xs ++ x ∷ []) ++ placed_behind words (kept (at + kept (words f.of))) fs ≡ whole
+pub placed_more : (words : TypeRef → ℕ) (xs : List Placed) (x : Placed) (at : ℕ) (f : Field) (fs whole : List Field) → map to_field xs ++ placed_behind words at (f ∷ fs) ≡ whole → x.field ≡ (let g : Field = record f { place = at } in g) → map to_field (xs ++ x ∷ []) ++ placed_behind words (kept (at + words f.of)) fs ≡ whole
 placed_more words xs x at f fs whole e is =
-    pushed xs x (placed_behind words (kept (at + kept (words f.of))) fs)
-    ∙ ap (λ (g : Field). map to_field xs ++ g ∷ placed_behind words (kept (at + kept (words f.of))) fs) is
-    ∙ ap (λ (n : ℕ). map to_field xs ++ (let g : Field = record f { place = at } in g) ∷ placed_behind words n fs) (kept_right at (words f.of))
+    pushed xs x (placed_behind words (kept (at + words f.of)) fs)
+    ∙ ap (λ (g : Field). map to_field xs ++ g ∷ placed_behind words (kept (at + words f.of)) fs) is
     ∙ e
 
 appended : {A : Type 0} (xs : List A) (x : A) (ys : List A) → (xs ++ x ∷ []) ++ ys ≡ xs ++ x ∷ ys

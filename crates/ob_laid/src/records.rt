@@ -1,10 +1,10 @@
 //! Records and types of a module, laid out.
 
-ghost use Rattle.std.specs.Prelude.{◌≡◌, ◌<◌, length, map, IfOk};
+ghost use Rattle.std.specs.Prelude.{◌≡◌, ◌+◌, ◌<◌, length, map, IfOk};
 ghost use Rattle.ob_types.specs.TypedView.{module_view};
 ghost use Rattle.ob_desc.specs.Grammar.{by_place};
 ghost use Rattle.ob_layout.specs.Lists.{in_order};
-ghost use Rattle.ob_layout.specs.LaidOut.{words_in, procedures_in, base_of, placed, numbered as numbered_from, laid_record as record_laid, laid_desc as desc_laid, laid_type as type_laid};
+ghost use Rattle.ob_layout.specs.LaidOut.{words_in, procedures_in, base_of, kept, placed, numbered as numbered_from, laid_record as record_laid, laid_desc as desc_laid, laid_type as type_laid};
 ghost use Rattle.ob_env.specs.Faces.{faces_of, described};
 ghost use Rattle.ob_laid.specs.Placed.{placed_behind, to_field};
 ghost use Rattle.ob_laid.specs.Sums.{own_name, rows_below};
@@ -33,6 +33,16 @@ fn placed_at(field: &Field, place: u32) -> Result<Placed, AllocError>
     })
 }
 
+// The place behind a field, those above the limit as the next number.
+#[tactic(auto, using(crate::proofs::Keeping::kept_right))]
+fn next_place(view: &View<'_>, rows: &[List<u32>], at: u32, field: &Field) -> u32
+    requires rows { rows.now ≡ rows_below (described (faces_of view.now.env.now)) (module_view view.now.«module».now) (length rows.now) }
+    requires steps { 201 < length rows.now }
+    ensures { result ≡ kept (at + words_in (described (faces_of view.now.env.now)) (module_view view.now.«module».now) field.now.of) }
+{
+    plus(at, words_at(view, rows, CHAIN, &field.of))
+}
+
 // Fields one behind the other.
 #[tactic(auto, using(crate::proofs::Keeping::placed_more))]
 fn placed_fields(
@@ -51,7 +61,7 @@ fn placed_fields(
     'fields: for field in fields {
         let one = placed_at(field, at)?;
         all.push(one)?;
-        at = plus(at, words_at(view, rows, CHAIN, &field.of));
+        at = next_place(view, rows, at, field);
     }
     Ok(all)
 }
