@@ -1,5 +1,6 @@
 -- Words above the limit are kept as the next number.
-use Rattle.std.proofs.Common.{◌≡◌, ℕ, ◌+◌, ◌*◌, List, [], ◌∷◌, ◌++◌, suc, map, refl, sym, ap, ◌∙◌, arith}
+use Rattle.std.proofs.Common.{◌≡◌, ℕ, ◌+◌, ◌*◌, ◌<◌, List, [], ◌∷◌, ◌++◌, suc, map, length, drop, get_or, refl, sym, ap, subst, ◌∙◌, arith}
+use Rattle.std.proofs.lemmas.List.{drop_more}
 use Rattle.std.specs.Prelude.{min}
 use Rattle.ob_types.specs.declared.types.TypeRef.{TypeRef}
 use Rattle.ob_types.specs.declared.desc.Field.{Field}
@@ -48,3 +49,12 @@ appended (z ∷ xs) x ys = ap (λ l. z ∷ l) (appended xs x ys)
 
 pub numbered_more : (xs : List Method) (n : ℕ) (p : Method) (ps whole : List Method) → xs ++ numbered n (p ∷ ps) ≡ whole → (xs ++ (let q : Method = record p { number = n } in q) ∷ []) ++ numbered (suc n) ps ≡ whole
 numbered_more xs n p ps whole e = appended xs (let q : Method = record p { number = n } in q) (numbered (suc n) ps) ∙ e
+
+-- a turn of the loop over fields
+pub placed_step : (words : TypeRef → ℕ) (xs : List Placed) (x : Placed) (at next : ℕ) (fs : List Field) (i : ℕ) (f : Field) (ys : List Placed) (whole : List Field) → i < length fs → f ≡ get_or fs i f → map to_field xs ++ placed_behind words at (drop i fs) ≡ whole → x.field ≡ (let g : Field = record f { place = at } in g) → ys ≡ xs ++ x ∷ [] → next ≡ kept (at + words f.of) → map to_field ys ++ placed_behind words next (drop (i + 1) fs) ≡ whole
+placed_step words xs x at next fs i f ys whole l is e one all behind =
+    let d : drop i fs ≡ f ∷ drop (i + 1) fs = drop_more fs i f l ∙ ap (λ (g : Field). g ∷ drop (i + 1) fs) (sym is) in
+    let inv : map to_field xs ++ placed_behind words at (f ∷ drop (i + 1) fs) ≡ whole = subst (λ (l : List Field). map to_field xs ++ placed_behind words at l ≡ whole) d e in
+    ap (λ (l : List Placed). map to_field l ++ placed_behind words next (drop (i + 1) fs)) all
+    ∙ ap (λ (n : ℕ). map to_field (xs ++ x ∷ []) ++ placed_behind words n (drop (i + 1) fs)) behind
+    ∙ placed_more words xs x at f (drop (i + 1) fs) whole inv one

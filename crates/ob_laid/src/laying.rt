@@ -10,11 +10,7 @@ use ob_tree::List;
 use ob_types::{TypedModule, TypedType};
 use std::alloc::{AllocError, Global};
 
-fn types_of(
-    alloc: Global,
-    env: &Env,
-    module: &TypedModule,
-) -> Result<List<TypedType>, AllocError>
+fn types_of(alloc: Global, env: &Env, module: &TypedModule) -> Result<List<TypedType>, AllocError>
     ensures { IfOk result (λ l. l ≡ map (laid_type (described (faces_of env.now)) (module_view «module».now)) «module».now.types) }
 {
     let view = View::new(alloc, module, env)?;

@@ -44,7 +44,7 @@ fn next_place(view: &View<'_>, rows: &[List<u32>], at: u32, field: &Field) -> u3
 }
 
 // Fields one behind the other.
-#[tactic(auto, using(crate::proofs::Keeping::placed_more))]
+
 fn placed_fields(
     alloc: Global,
     view: &View<'_>,
