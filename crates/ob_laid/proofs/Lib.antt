@@ -1,3 +1,5 @@
 pub mod Putting
 pub mod Keeping
 pub mod Rows
+pub mod Counting
+pub mod Options

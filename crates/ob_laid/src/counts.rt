@@ -1,13 +1,15 @@
 //! The bound procedures of types, where those of the module's own records are counted.
 
-ghost use Rattle.std.specs.Prelude.{◌≡◌, ◌+◌, suc, length, IfOk};
+ghost use Rattle.std.specs.Prelude.{◌≡◌, ◌+◌, true, false, suc, Some, length, IfOk};
 ghost use Rattle.ob_types.specs.TypedView.{module_view};
-ghost use Rattle.ob_layout.specs.LaidOut.{counted, base_of};
+ghost use Rattle.ob_types.specs.declared.types.TypeRef.TheVariants as ref;
+ghost use Rattle.ob_layout.specs.LaidOut.{counted, declared_procedures, base_of};
 ghost use Rattle.ob_env.specs.Faces.{faces_of, described};
 ghost use Rattle.ob_laid.specs.Sums.{own_ref};
 
 use crate::sums::is_own;
 use ob_env::View;
+use ob_tree::QName;
 use ob_types::{Desc, RecordDesc, TypeRef, Types};
 use std::alloc::AllocError;
 
@@ -41,27 +43,88 @@ pub fn count_of_base(
 
 // The bound procedures of a record of the module.
 #[cycle(counts)]
+<<<<<<< HEAD
 fn count_of_record(view: &View<'_>, steps: usize, described: &RecordDesc) -> Result<u32, AllocError>
     ensures { IfOk result (λ n. n ≡ base_of (counted (described (faces_of view.now.env.now)) (module_view view.now.«module».now) steps) described.now.base + length described.now.methods) }
+=======
+fn count_of_record(view: &View<'_>, steps: usize, own: &RecordDesc) -> Result<u32, AllocError>
+    ensures { IfOk result (λ n. n ≡ base_of (counted (described (faces_of view.now.env.now)) (module_view view.now.«module».now) steps) own.now.base + length own.now.methods) }
+>>>>>>> 65b21dbdc6f6b839f08e17c12403e0cfd699b44e
 {
-    let below = count_of_base(view, steps, &described.base)?;
-    together(below, described.methods.len())
+    let below = count_of_base(view, steps, &own.base)?;
+    together(below, own.methods.len())
+}
+
+// The bound procedures of a type of the module that is so described.
+#[cycle(counts)]
+fn count_of_desc(view: &View<'_>, steps: usize, desc: &Desc) -> Result<u32, AllocError>
+    ensures { IfOk result (λ n. n ≡ declared_procedures (counted (described (faces_of view.now.env.now)) (module_view view.now.«module».now) steps) true (Some desc.now)) }
+{
+    match desc {
+        Desc::Alias(_, of) => count_at(view, steps, of),
+        Desc::Record(own) => count_of_record(view, steps, own),
+        Desc::Const(_) => Ok(0),
+        Desc::Var(_, _) => Ok(0),
+        Desc::Proc(_) => Ok(0),
+        Desc::Array(_, _, _) => Ok(0),
+        Desc::OpenArray(_, _) => Ok(0),
+        Desc::Pointer(_, _) => Ok(0),
+        Desc::ProcType(_, _) => Ok(0),
+    }
 }
 
 /// The bound procedures of the type of the module that has this name, in one step more.
 #[cycle(counts)]
+#[tactic(auto, using(crate::proofs::Rows::count_none, crate::proofs::Rows::count_is))]
 pub fn own_count(view: &View<'_>, steps: usize, name: &[u8]) -> Result<u32, AllocError>
     ensures { IfOk result (λ n. n ≡ counted (described (faces_of view.now.env.now)) (module_view view.now.«module».now) (suc steps) (own_ref (module_view view.now.«module».now).name name.now)) }
 {
     match view.own_desc(name) {
-        Some(Desc::Alias(_, of)) => count_at(view, steps, of),
-        Some(Desc::Record(described)) => count_of_record(view, steps, described),
-        _ => Ok(0),
+        None => Ok(0),
+        Some(desc) => count_of_desc(view, steps, desc),
+    }
+}
+
+// The bound procedures of a type of another module that is so described.
+#[cycle(counts)]
+fn count_of_other(view: &View<'_>, steps: usize, desc: &Desc) -> Result<u32, AllocError>
+    ensures { IfOk result (λ n. n ≡ declared_procedures (counted (described (faces_of view.now.env.now)) (module_view view.now.«module».now) steps) false (Some desc.now)) }
+{
+    match desc {
+        Desc::Alias(_, of) => count_at(view, steps, of),
+        Desc::Record(other) => Ok(other.procedures),
+        Desc::Const(_) => Ok(0),
+        Desc::Var(_, _) => Ok(0),
+        Desc::Proc(_) => Ok(0),
+        Desc::Array(_, _, _) => Ok(0),
+        Desc::OpenArray(_, _) => Ok(0),
+        Desc::Pointer(_, _) => Ok(0),
+        Desc::ProcType(_, _) => Ok(0),
+    }
+}
+
+// The bound procedures of the type of that name, in one step more.
+#[cycle(counts)]
+#[tactic(auto, using(crate::proofs::Rows::count_own, crate::proofs::Counting::other_some, crate::proofs::Counting::other_none))]
+fn count_of_name(view: &View<'_>, steps: usize, name: &QName) -> Result<u32, AllocError>
+    ensures { IfOk result (λ n. n ≡ counted (described (faces_of view.now.env.now)) (module_view view.now.«module».now) (suc steps) (ref.Named name.now)) }
+{
+    if is_own(view, name) {
+        let own = own_count(view, steps, name.object.as_bytes())?;
+        return Ok(own);
+    }
+    match view.desc_of(name) {
+        None => Ok(0),
+        Some(desc) => {
+            let other = count_of_other(view, steps, desc)?;
+            Ok(other)
+        }
     }
 }
 
 /// The bound procedures of a type in so many steps.
 #[cycle(counts)]
+#[tactic(auto, using(crate::proofs::Counting::count_next))]
 pub fn count_at(view: &View<'_>, steps: usize, t: &TypeRef) -> Result<u32, AllocError>
     ensures { IfOk result (λ n. n ≡ counted (described (faces_of view.now.env.now)) (module_view view.now.«module».now) steps t.now) }
 {
@@ -71,12 +134,6 @@ pub fn count_at(view: &View<'_>, steps: usize, t: &TypeRef) -> Result<u32, Alloc
     let TypeRef::Named(name) = t else {
         return Ok(0);
     };
-    if is_own(view, name) {
-        return own_count(view, steps - 1, name.object.as_bytes());
-    }
-    match view.desc_of(name) {
-        Some(Desc::Alias(_, of)) => count_at(view, steps - 1, of),
-        Some(Desc::Record(described)) => Ok(described.procedures),
-        _ => Ok(0),
-    }
+    let count = count_of_name(view, steps - 1, name)?;
+    Ok(count)
 }

@@ -15,7 +15,8 @@ fn types_of(alloc: Global, env: &Env, module: &TypedModule) -> Result<List<Typed
 {
     let view = View::new(alloc, module, env)?;
     let rows = all_rows(alloc, &view)?;
-    laid_types(alloc, &view, &rows, module.types.as_slice())
+    let types = laid_types(alloc, &view, &rows, module.types.as_slice())?;
+    Ok(types)
 }
 
 /// Lays the module's own records out over its environment: the places of their fields, the numbers

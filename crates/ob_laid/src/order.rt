@@ -38,5 +38,6 @@ pub fn fields_in_order(alloc: Global, found: Vec<Placed>) -> Result<List<Field>,
     ensures { IfOk result (λ l. l ≡ in_order by_place (map to_field found.items)) }
 {
     let set = placed_set(alloc, found)?;
-    fields_in(alloc, set)
+    let fields = fields_in(alloc, set)?;
+    Ok(fields)
 }

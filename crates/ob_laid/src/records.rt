@@ -1,10 +1,10 @@
 //! Records and types of a module, laid out.
 
-ghost use Rattle.std.specs.Prelude.{◌≡◌, ◌<◌, length, map, IfOk};
+ghost use Rattle.std.specs.Prelude.{◌≡◌, ◌+◌, ◌<◌, length, map, IfOk};
 ghost use Rattle.ob_types.specs.TypedView.{module_view};
 ghost use Rattle.ob_desc.specs.Grammar.{by_place};
 ghost use Rattle.ob_layout.specs.Lists.{in_order};
-ghost use Rattle.ob_layout.specs.LaidOut.{words_in, procedures_in, base_of, placed, numbered as numbered_from, laid_record as record_laid, laid_desc as desc_laid, laid_type as type_laid};
+ghost use Rattle.ob_layout.specs.LaidOut.{words_in, procedures_in, base_of, kept, placed, numbered as numbered_from, laid_record as record_laid, laid_desc as desc_laid, laid_type as type_laid};
 ghost use Rattle.ob_env.specs.Faces.{faces_of, described};
 ghost use Rattle.ob_laid.specs.Placed.{placed_behind, to_field};
 ghost use Rattle.ob_laid.specs.Sums.{own_name, rows_below};
@@ -33,7 +33,18 @@ fn placed_at(field: &Field, place: u32) -> Result<Placed, AllocError>
     })
 }
 
+// The place behind a field, those above the limit as the next number.
+#[tactic(auto, using(crate::proofs::Keeping::kept_right))]
+fn next_place(view: &View<'_>, rows: &[List<u32>], at: u32, field: &Field) -> u32
+    requires rows { rows.now ≡ rows_below (described (faces_of view.now.env.now)) (module_view view.now.«module».now) (length rows.now) }
+    requires steps { 201 < length rows.now }
+    ensures { result ≡ kept (at + words_in (described (faces_of view.now.env.now)) (module_view view.now.«module».now) field.now.of) }
+{
+    plus(at, words_at(view, rows, CHAIN, &field.of))
+}
+
 // Fields one behind the other.
+
 fn placed_fields(
     alloc: Global,
     view: &View<'_>,
@@ -50,7 +61,7 @@ fn placed_fields(
     'fields: for field in fields {
         let one = placed_at(field, at)?;
         all.push(one)?;
-        at = plus(at, words_at(view, rows, CHAIN, &field.of));
+        at = next_place(view, rows, at, field);
     }
     Ok(all)
 }
@@ -64,6 +75,7 @@ fn with_number(alloc: Global, method: &Method, number: u32) -> Result<Method, Al
 }
 
 // Bound procedures with the numbers from this one on.
+#[tactic(auto, using(crate::proofs::Keeping::numbered_more))]
 fn numbered(alloc: Global, from: u32, methods: &[Method]) -> Result<List<Method>, AllocError>
     ensures { IfOk result (λ l. l ≡ numbered_from from methods.now) }
 {
@@ -93,18 +105,19 @@ fn copy_base(base: &Option<TypeRef>) -> Result<Option<TypeRef>, AllocError>
 }
 
 // The fields of a record in the order of their places.
+#[tactic(auto, using(crate::proofs::Keeping::behind))]
 fn laid_fields(
     alloc: Global,
     view: &View<'_>,
     rows: &[List<u32>],
-    described: &RecordDesc,
+    own: &RecordDesc,
 ) -> Result<List<Field>, AllocError>
     requires rows { rows.now ≡ rows_below (described (faces_of view.now.env.now)) (module_view view.now.«module».now) (length rows.now) }
     requires steps { 201 < length rows.now }
-    ensures { IfOk result (λ l. l ≡ in_order by_place (placed (words_in (described (faces_of view.now.env.now)) (module_view view.now.«module».now)) (base_of (words_in (described (faces_of view.now.env.now)) (module_view view.now.«module».now)) described.now.base) described.now.fields)) }
+    ensures { IfOk result (λ l. l ≡ in_order by_place (placed (words_in (described (faces_of view.now.env.now)) (module_view view.now.«module».now)) (base_of (words_in (described (faces_of view.now.env.now)) (module_view view.now.«module».now)) own.now.base) own.now.fields)) }
 {
-    let from = words_of_base(view, rows, CHAIN, &described.base);
-    let all = placed_fields(alloc, view, rows, from, described.fields.as_slice())?;
+    let from = words_of_base(view, rows, CHAIN, &own.base);
+    let all = placed_fields(alloc, view, rows, from, own.fields.as_slice())?;
     fields_in_order(alloc, all)
 }
 
@@ -112,12 +125,12 @@ fn laid_fields(
 fn laid_methods(
     alloc: Global,
     view: &View<'_>,
-    described: &RecordDesc,
+    own: &RecordDesc,
 ) -> Result<List<Method>, AllocError>
-    ensures { IfOk result (λ l. l ≡ numbered_from (base_of (procedures_in (described (faces_of view.now.env.now)) (module_view view.now.«module».now)) described.now.base) described.now.methods) }
+    ensures { IfOk result (λ l. l ≡ numbered_from (base_of (procedures_in (described (faces_of view.now.env.now)) (module_view view.now.«module».now)) own.now.base) own.now.methods) }
 {
-    let from = count_of_base(view, CHAIN, &described.base)?;
-    numbered(alloc, from, described.methods.as_slice())
+    let from = count_of_base(view, CHAIN, &own.base)?;
+    numbered(alloc, from, own.methods.as_slice())
 }
 
 fn laid_record(
@@ -125,18 +138,18 @@ fn laid_record(
     view: &View<'_>,
     rows: &[List<u32>],
     name: &[u8],
-    described: &RecordDesc,
+    own: &RecordDesc,
 ) -> Result<RecordDesc, AllocError>
     requires rows { rows.now ≡ rows_below (described (faces_of view.now.env.now)) (module_view view.now.«module».now) (length rows.now) }
     requires steps { 201 < length rows.now }
-    ensures { IfOk result (λ r. r ≡ record_laid (words_in (described (faces_of view.now.env.now)) (module_view view.now.«module».now)) (procedures_in (described (faces_of view.now.env.now)) (module_view view.now.«module».now)) (own_name (module_view view.now.«module».now).name name.now) described.now) }
+    ensures { IfOk result (λ r. r ≡ record_laid (words_in (described (faces_of view.now.env.now)) (module_view view.now.«module».now)) (procedures_in (described (faces_of view.now.env.now)) (module_view view.now.«module».now)) (own_name (module_view view.now.«module».now).name name.now) own.now) }
 {
-    let base = copy_base(&described.base)?;
-    let fields = laid_fields(alloc, view, rows, described)?;
-    let methods = laid_methods(alloc, view, described)?;
+    let base = copy_base(&own.base)?;
+    let fields = laid_fields(alloc, view, rows, own)?;
+    let methods = laid_methods(alloc, view, own)?;
     let procedures = own_count(view, CHAIN - 1, name)?;
     Ok(RecordDesc {
-        mark: described.mark,
+        mark: own.mark,
         base,
         fields,
         methods,
@@ -157,8 +170,8 @@ fn laid_desc(
     ensures { IfOk result (λ d. d ≡ desc_laid (words_in (described (faces_of view.now.env.now)) (module_view view.now.«module».now)) (procedures_in (described (faces_of view.now.env.now)) (module_view view.now.«module».now)) (own_name (module_view view.now.«module».now).name name.now) desc.now) }
 {
     match desc {
-        Desc::Record(described) => {
-            let laid = laid_record(alloc, view, rows, name, described)?;
+        Desc::Record(own) => {
+            let laid = laid_record(alloc, view, rows, name, own)?;
             Ok(Desc::Record(laid))
         }
         Desc::Const(_)

@@ -66,6 +66,7 @@ pub fn own_words(view: &View<'_>, rows: &[List<u32>], steps: usize, name: &[u8])
 }
 
 /// The words of a type in so many steps, those above the limit as the next number.
+#[tactic(auto, using(crate::proofs::Rows::own_kept, crate::proofs::Rows::basic_words, crate::proofs::Keeping::kept_times))]
 pub fn words_at(view: &View<'_>, rows: &[List<u32>], steps: usize, t: &TypeRef) -> u32
     requires rows { rows.now ≡ rows_below (described (faces_of view.now.env.now)) (module_view view.now.«module».now) (length rows.now) }
     requires steps { steps < length rows.now }
@@ -90,6 +91,7 @@ pub fn words_at(view: &View<'_>, rows: &[List<u32>], steps: usize, t: &TypeRef) 
 }
 
 // The words of fields.
+#[tactic(auto, using(crate::proofs::Keeping::kept_more))]
 fn words_of_fields(view: &View<'_>, rows: &[List<u32>], steps: usize, fields: &[Field]) -> u32
     requires rows { rows.now ≡ rows_below (described (faces_of view.now.env.now)) (module_view view.now.«module».now) (length rows.now) }
     requires steps { steps < length rows.now }
@@ -120,18 +122,24 @@ pub fn words_of_base(
 }
 
 // The words of a record of the module.
+<<<<<<< HEAD
 fn words_of_record(view: &View<'_>, rows: &[List<u32>], steps: usize, described: &RecordDesc) -> u32
+=======
+#[tactic(auto, using(crate::proofs::Keeping::kept_plus))]
+fn words_of_record(view: &View<'_>, rows: &[List<u32>], steps: usize, own: &RecordDesc) -> u32
+>>>>>>> 65b21dbdc6f6b839f08e17c12403e0cfd699b44e
     requires rows { rows.now ≡ rows_below (described (faces_of view.now.env.now)) (module_view view.now.«module».now) (length rows.now) }
     requires steps { steps < length rows.now }
-    ensures { result ≡ kept (record_words (summed (described (faces_of view.now.env.now)) (module_view view.now.«module».now) steps) true described.now) }
+    ensures { result ≡ kept (record_words (summed (described (faces_of view.now.env.now)) (module_view view.now.«module».now) steps) true own.now) }
 {
     plus(
-        words_of_base(view, rows, steps, &described.base),
-        words_of_fields(view, rows, steps, described.fields.as_slice()),
+        words_of_base(view, rows, steps, &own.base),
+        words_of_fields(view, rows, steps, own.fields.as_slice()),
     )
 }
 
 // The words of a type of the module that is so described, in one step more.
+#[tactic(auto, using(crate::proofs::Keeping::kept_times))]
 fn words_of_desc(view: &View<'_>, rows: &[List<u32>], steps: usize, desc: &Desc) -> u32
     requires rows { rows.now ≡ rows_below (described (faces_of view.now.env.now)) (module_view view.now.«module».now) (length rows.now) }
     requires steps { steps < length rows.now }
@@ -151,6 +159,7 @@ fn words_of_desc(view: &View<'_>, rows: &[List<u32>], steps: usize, desc: &Desc)
 }
 
 // The words of the type of the module that has this name, in one step more.
+#[tactic(auto, using(crate::proofs::Rows::next_none, crate::proofs::Rows::next_is))]
 fn next_words(view: &View<'_>, rows: &[List<u32>], steps: usize, name: &[u8]) -> u32
     requires rows { rows.now ≡ rows_below (described (faces_of view.now.env.now)) (module_view view.now.«module».now) (length rows.now) }
     requires steps { steps < length rows.now }
@@ -195,6 +204,7 @@ fn next_row(
 }
 
 /// The words of all types of the module, in each number of steps up to the longest chain.
+#[tactic(auto, using(crate::proofs::Rows::more_rows))]
 pub fn all_rows(alloc: Global, view: &View<'_>) -> Result<Vec<List<u32>>, AllocError>
     ensures { IfOk result (λ rows. (rows.items ≡ rows_below (described (faces_of view.now.env.now)) (module_view view.now.«module».now) 202) × (length rows.items ≡ 202)) }
 {
