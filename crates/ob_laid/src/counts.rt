@@ -43,13 +43,8 @@ pub fn count_of_base(
 
 // The bound procedures of a record of the module.
 #[cycle(counts)]
-<<<<<<< HEAD
-fn count_of_record(view: &View<'_>, steps: usize, described: &RecordDesc) -> Result<u32, AllocError>
-    ensures { IfOk result (λ n. n ≡ base_of (counted (described (faces_of view.now.env.now)) (module_view view.now.«module».now) steps) described.now.base + length described.now.methods) }
-=======
 fn count_of_record(view: &View<'_>, steps: usize, own: &RecordDesc) -> Result<u32, AllocError>
     ensures { IfOk result (λ n. n ≡ base_of (counted (described (faces_of view.now.env.now)) (module_view view.now.«module».now) steps) own.now.base + length own.now.methods) }
->>>>>>> 65b21dbdc6f6b839f08e17c12403e0cfd699b44e
 {
     let below = count_of_base(view, steps, &own.base)?;
     together(below, own.methods.len())

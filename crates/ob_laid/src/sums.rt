@@ -122,12 +122,8 @@ pub fn words_of_base(
 }
 
 // The words of a record of the module.
-<<<<<<< HEAD
-fn words_of_record(view: &View<'_>, rows: &[List<u32>], steps: usize, described: &RecordDesc) -> u32
-=======
 #[tactic(auto, using(crate::proofs::Keeping::kept_plus))]
 fn words_of_record(view: &View<'_>, rows: &[List<u32>], steps: usize, own: &RecordDesc) -> u32
->>>>>>> 65b21dbdc6f6b839f08e17c12403e0cfd699b44e
     requires rows { rows.now ≡ rows_below (described (faces_of view.now.env.now)) (module_view view.now.«module».now) (length rows.now) }
     requires steps { steps < length rows.now }
     ensures { result ≡ kept (record_words (summed (described (faces_of view.now.env.now)) (module_view view.now.«module».now) steps) true own.now) }
