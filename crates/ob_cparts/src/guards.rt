@@ -8,8 +8,8 @@ ghost use Rattle.ob_rules.specs.Statements as spec;
 ghost use Rattle.ob_rules.specs.Types.{first_of};
 ghost use Rattle.ob_cparts.specs.Seen.{expr_in, test_in};
 
-use ob_cplace::guard_of;
 use ob_cname::is_pointer;
+use ob_cplace::guard_of;
 use ob_rules::{Entity, Known, Meant, Notebook, Place, Surroundings};
 use ob_tree::{Ident, Pos, QName, Qualident};
 use ob_trees::{ExprTree, copy_type};

@@ -8,8 +8,8 @@ ghost use Rattle.ob_rules.specs.Shapes as shapes;
 ghost use Rattle.ob_rules.specs.Statements as spec;
 ghost use Rattle.ob_cparts.specs.Seen.{expr_in, for_node, for_parts_node, stmt_in, stmts_in};
 
-use ob_cplace::variable_named;
 use ob_cname::{basic_of, fits, named, tree_of, types};
+use ob_cplace::variable_named;
 use ob_rules::{Entity, Notebook, Place, Surroundings, Valued};
 use ob_tree::{Ident, Pos};
 use ob_trees::{ExprTree, StmtTree, StmtTrees};
