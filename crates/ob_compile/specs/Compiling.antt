@@ -1,5 +1,5 @@
 -- What the compile of a source gives, or why it is refused: once for uses that keep texts and for uses that keep prints.
-use Rattle.std.specs.Prelude.{ℕ, List, [], ◌∷◌, ◌++◌, Bool, cond, nat_le, not, length, map as each, Option, Some, None, Result, Ok, Err}
+use Rattle.std.specs.Prelude.{ℕ, List, [], ◌∷◌, ◌++◌, Bool, true, false, cond, nat_le, not, length, map as each, Option, Some, None, Result, Ok, Err}
 use Rattle.std.specs.List.{flat_map}
 use Rattle.std.specs.Option.{option_map}
 use Rattle.ob_tree.specs.declared.names.QName.{QName}
@@ -123,7 +123,7 @@ limit_of_operands keeping c = or_first (exceeded (has_few_operands (viewed (desc
 
 -- sizes, then operands, then code, then files
 abbrev pub exceeds : {K : Type 0} → Keeping K → Compiled K → Option Which
-exceeds keeping c = or_first (first_limit (described c.against) c.tree (length c.shows.objects)) (limit_of_operands keeping c)
+exceeds keeping c = or_first (first_limit (viewed (described c.against) c.tree) c.tree (length c.shows.objects)) (limit_of_operands keeping c)
 
 abbrev pub within : {K : Type 0} → Compiled K → Option Which → Result (Compiled K) (Refusal K)
 within c (Some w) = Err (Limit w)
@@ -139,13 +139,13 @@ abbrev pub of_checked : {K : Type 0} → Keeping K → List (Face K) → Option 
 of_checked keeping faces None = Err NoSource
 of_checked keeping faces (Some m) = Ok (made keeping faces (laid_out (described faces) (module_view m)))
 
-abbrev pub of_break : {K : Type 0} → Keeping K → List (Face K) → Tree → Option BrokenRule → Result (Compiled K) (Refusal K)
-of_break keeping faces tree (Some b) = Err (Broken b)
-of_break keeping faces tree None = of_checked keeping faces (checked (shown faces) tree)
+abbrev pub of_break : {K : Type 0} → Keeping K → List (Face K) → Option TypedModule → Option BrokenRule → Result (Compiled K) (Refusal K)
+of_break keeping faces found (Some b) = Err (Broken b)
+of_break keeping faces found None = of_checked keeping faces found
 
 -- WHAT A TREE IS against these interfaces by the rules alone, whatever limits it exceeds
 abbrev pub by_rules : {K : Type 0} → Keeping K → List (Face K) → Tree → Result (Compiled K) (Refusal K)
-by_rules keeping faces tree = of_break keeping faces tree (first_break (shown faces) tree)
+by_rules keeping faces tree = of_break keeping faces (checked (shown faces) tree) (first_break (shown faces) tree)
 
 abbrev pub and_limits : {K : Type 0} → Keeping K → Result (Compiled K) (Refusal K) → Result (Compiled K) (Refusal K)
 and_limits keeping (Ok c) = within c (exceeds keeping c)

@@ -55,14 +55,27 @@ answered (c.Limit w) = Some (refusal.Limit w)
 abbrev pub built : Compiled Print → Built
 built x = record { face = interface_by prints x; sym = symbol_bytes prints x; obj = object_bytes prints x }
 
+abbrev pub IsBuilt : Result (Compiled Print) (Refusal Print) → Built → Type 0
+IsBuilt (Ok x) b = b ≡ built x
+IsBuilt (Err r) b = ⊥
+
+abbrev pub IsRefused : Result (Compiled Print) (Refusal Print) → CompileRefusal → Type 0
+IsRefused (Ok x) s = ⊥
+IsRefused (Err r) s = answered r ≡ Some s
+
 -- Want of memory and a failed folder say nothing.
 abbrev pub Compiles : Result (Compiled Print) (Refusal Print) → Result Built CompileFault → Type 0
-Compiles (Ok x) (Ok b) = b ≡ built x
-Compiles (Err r) (Ok b) = ⊥
-Compiles (Ok x) (Err (fault.Refused s)) = ⊥
-Compiles (Err r) (Err (fault.Refused s)) = answered r ≡ Some s
+Compiles answer (Ok b) = IsBuilt answer b
+Compiles answer (Err (fault.Refused s)) = IsRefused answer s
 Compiles answer (Err fault.Folder) = Unit {0}
 Compiles answer (Err fault.Memory) = Unit {0}
+
+-- so is what needs no folder, which is then never named
+abbrev pub Makes : Result (Compiled Print) (Refusal Print) → Result Built CompileFault → Type 0
+Makes answer (Ok b) = IsBuilt answer b
+Makes answer (Err (fault.Refused s)) = IsRefused answer s
+Makes answer (Err fault.Folder) = ⊥
+Makes answer (Err fault.Memory) = Unit {0}
 
 -- The folder is named only where its count rose, and the count never falls.
 pub record CompileHasCause (before now : ℕ) (result : Result Built CompileFault) : Type 0 where

@@ -2,13 +2,8 @@
 #![tactic(auto)]
 
 mod compiling;
-mod exports;
 mod fault;
-mod files;
-mod kept;
-mod made;
 mod shape;
-mod source;
 
 pub use compiling::compile;
 pub use fault::{CompileFault, CompileRefusal};

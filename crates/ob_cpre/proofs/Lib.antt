@@ -1,2 +1,0 @@
-pub mod FewLaws
-pub mod LengthLaws
