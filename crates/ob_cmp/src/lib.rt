@@ -4,7 +4,6 @@
 mod check;
 mod comparing;
 mod lookup;
-mod present;
 mod showing;
 mod verdict;
 
