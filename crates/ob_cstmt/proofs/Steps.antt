@@ -1,5 +1,5 @@
 -- The walk, one part further.
-use Rattle.std.proofs.Common.{◌≡◌, refl, sym, ap, ◌∙◌, subst, ℕ, ◌+◌, ◌<◌, ◌≤◌, Bool, true, List, [], ◌∷◌, ◌++◌, map, drop, length, get_or, Option, Some, None, ℤ, Result, Ok, Err, OnOk}
+use Rattle.std.proofs.Common.{◌≡◌, refl, sym, ap, ◌∙◌, subst, ℕ, ◌+◌, ◌<◌, ◌≤◌, Bool, true, List, [], ◌∷◌, ◌++◌, map, drop, length, get_or, Option, Some, None, ℤ, Result, Ok, Err, IfOk, OnOk}
 use Rattle.std.proofs.lemmas.List.{drop_more, drop_all}
 use Rattle.std.specs.Option.{option_map}
 use Rattle.ob_tree.specs.declared.pos.Pos.{Pos}
@@ -25,7 +25,8 @@ use Rattle.ob_rules.specs.Expressions.{Ranged}
 use Rattle.ob_rules.specs.Statements as spec
 use Rattle.ob_rules.proofs.BookLaws.{after_none, after_joined}
 use Rattle.ob_rules.proofs.RowLaws.{made_noted, both_noted}
-use Rattle.ob_cparts.specs.Seen.{rejoined, singly, branch_of, case_of, for_parts_node}
+use Rattle.ob_trees.specs.declared.stmt.StmtTrees.{StmtTrees}
+use Rattle.ob_cparts.specs.Seen.{stmts_in, rejoined, singly, branch_of, case_of, for_parts_node}
 use Rattle.ob_cparts.proofs.RowSteps.{row_made, part_made, row_noted, branch_made, case_made, ends}
 
 -- an element of a row, and those behind it
@@ -238,3 +239,7 @@ some_made j x e = ap (λ y. option_map (λ b. Some b) y) e ∙ by_node j.node
 pub always : {T E P : Type 0} (r : Result T E) → P → OnOk r P
 always (Ok x) p = p
 always (Err e) p = tt
+
+-- a statement alone
+pub alone_made : {E : Type 0} (r : Result (Option StmtTrees) E) (a b : Option (List TypedStmt)) → IfOk r (λ x. stmts_in x ≡ a) → a ≡ b → IfOk r (λ x. stmts_in x ≡ b)
+alone_made r a b h e = subst (λ z. IfOk r (λ x. stmts_in x ≡ z)) e h

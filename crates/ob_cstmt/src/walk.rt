@@ -1,20 +1,34 @@
 //! The walk over statements: each part is judged once, and what it says is noted before what stands
 //! behind it is looked at.
 
-ghost use Rattle.std.specs.Prelude.{◌≡◌, IfOk, OnOk, map};
+ghost use Rattle.std.specs.Prelude.{◌≡◌, [], IfOk, OnOk, map};
+ghost use Rattle.std.specs.Option.{option_map};
 ghost use Rattle.ob_rules.specs.Books.{book_after};
 ghost use Rattle.ob_rules.specs.Statements as spec;
-ghost use Rattle.ob_cparts.specs.Seen.{stmts_in};
+ghost use Rattle.ob_cparts.specs.Seen.{branches_in, cases_in, else_in, stmt_in, stmts_in};
 
-use ob_rules::{Notebook, Surroundings};
-use ob_tree::Stmt;
-use ob_trees::StmtTrees;
+use crate::assign::assignment;
+use crate::calls::call_statement;
+use crate::conditions::condition;
+use crate::guards::check_guard;
+use crate::labels::{case_value, check_labels};
+use crate::loops::{check_bound, check_step_if};
+use crate::returns::check_return;
+use ob_cname::types;
+use ob_cparts::{
+    alone, case_made, exit, for_if, for_variable, if_made, loop_made, repeat_made, selects_if,
+    some_stmts, test_tree, tested_type, variable_meant, while_made, with_branch, with_case,
+    with_made, with_stmts,
+};
+use ob_rules::{Notebook, Selects, Surroundings};
+use ob_tree::{Branch, Case, GuardedBranch, List, Pos, Stmt};
+use ob_trees::{BranchTrees, CaseTrees, StmtTree, StmtTrees};
+use ob_types::{TypeRef, Variable};
 use std::alloc::{AllocError, Global};
 
 /// Statements in turn: none where one breaks a rule, or a declaration that it names does. What is
 /// broken, and what they name, is noted in the book. What stands around is in the end as it was.
-///
-/// Answers want of memory: not written yet.
+#[cycle(walk)]
 pub fn check_stmts<S: Surroundings>(
     alloc: Global,
     here: &mut S,
@@ -25,5 +39,240 @@ pub fn check_stmts<S: Surroundings>(
     ensures noted { OnOk result (book.new ≡ book_after book.old (spec.in_turn (map spec.judging stmts.now) (S.around here.old)).notes) }
     ensures around { OnOk result (S.around here.new ≡ S.around here.old) }
 {
-    Err(AllocError)
+    let mut all = Some(StmtTrees::new(alloc));
+    'stmts: for stmt in stmts {
+        let made = check_stmt(alloc, here, book, stmt)?;
+        all = with_stmts(all, made)?;
+    }
+    Ok(all)
+}
+
+#[cycle(walk)]
+fn check_stmt<S: Surroundings>(
+    alloc: Global,
+    here: &mut S,
+    book: &mut Notebook,
+    stmt: &Stmt,
+) -> Result<Option<StmtTrees>, AllocError>
+    ensures made { IfOk result (λ r. stmts_in r ≡ (spec.judging stmt.now (S.around here.old)).node) }
+    ensures noted { OnOk result (book.new ≡ book_after book.old (spec.judging stmt.now (S.around here.old)).notes) }
+    ensures around { OnOk result (S.around here.new ≡ S.around here.old) }
+{
+    match stmt {
+        Stmt::Empty => Ok(Some(StmtTrees::new(alloc))),
+        Stmt::Call(designator) => {
+            let made = call_statement(alloc, here, book, designator)?;
+            alone(alloc, made)
+        }
+        Stmt::Assign { target, pos, value } => {
+            let made = assignment(alloc, here, book, target, *pos, value)?;
+            alone(alloc, made)
+        }
+        Stmt::If {
+            branches,
+            otherwise,
+            ..
+        } => {
+            let branches = check_branches(alloc, here, book, branches.as_slice())?;
+            let otherwise = check_otherwise(alloc, here, book, otherwise)?;
+            alone(alloc, if_made(alloc, branches, otherwise))
+        }
+        Stmt::Case {
+            pos,
+            value,
+            cases,
+            otherwise,
+        } => {
+            let value = case_value(alloc, here, book, value)?;
+            let selects = selects_if(types(here), value.as_ref());
+            let cases = check_cases(alloc, here, book, cases.as_slice(), selects)?;
+            let otherwise = check_otherwise(alloc, here, book, otherwise)?;
+            alone(alloc, case_made(*pos, value, cases, otherwise))
+        }
+        Stmt::While { pos, test, body } => {
+            let tested = condition(alloc, here, book, test)?;
+            let repeated = check_stmts(alloc, here, book, body.as_slice())?;
+            alone(alloc, while_made(*pos, tested, repeated))
+        }
+        Stmt::Repeat { pos, body, test } => {
+            let repeated = check_stmts(alloc, here, book, body.as_slice())?;
+            let tested = condition(alloc, here, book, test)?;
+            alone(alloc, repeat_made(*pos, repeated, tested))
+        }
+        Stmt::For {
+            pos,
+            variable,
+            start,
+            end,
+            step,
+            body,
+        } => {
+            let place = for_variable(alloc, here, book, *pos, variable)?;
+            let first = check_bound(alloc, here, book, *pos, place.as_ref(), start)?;
+            let last = check_bound(alloc, here, book, *pos, place.as_ref(), end)?;
+            let by = check_step_if(alloc, here, book, *pos, step)?;
+            let repeated = check_stmts(alloc, here, book, body.as_slice())?;
+            alone(
+                alloc,
+                for_if(types(here), *pos, place, first, last, by, repeated),
+            )
+        }
+        Stmt::Loop { pos, body } => {
+            let made = check_loop(alloc, here, book, body.as_slice(), *pos)?;
+            alone(alloc, made)
+        }
+        Stmt::Exit(pos) => alone(alloc, exit(here, book, *pos)),
+        Stmt::Return { pos, value } => {
+            let made = check_return(alloc, here, book, *pos, value)?;
+            alone(alloc, made)
+        }
+        Stmt::With {
+            pos,
+            branches,
+            otherwise,
+        } => {
+            let branches = check_guarded(alloc, here, book, branches.as_slice())?;
+            let otherwise = check_otherwise(alloc, here, book, otherwise)?;
+            alone(alloc, with_made(*pos, branches, otherwise))
+        }
+    }
+}
+
+// The statements behind ELSE, if it is there.
+#[cycle(walk)]
+fn check_otherwise<S: Surroundings>(
+    alloc: Global,
+    here: &mut S,
+    book: &mut Notebook,
+    otherwise: &Option<List<Stmt>>,
+) -> Result<Option<Option<StmtTrees>>, AllocError>
+    ensures made { IfOk result (λ r. else_in r ≡ (spec.in_turn_if (option_map (λ b. map spec.judging b) otherwise.now) (S.around here.old)).node) }
+    ensures noted { OnOk result (book.new ≡ book_after book.old (spec.in_turn_if (option_map (λ b. map spec.judging b) otherwise.now) (S.around here.old)).notes) }
+    ensures around { OnOk result (S.around here.new ≡ S.around here.old) }
+{
+    match otherwise {
+        None => Ok(Some(None)),
+        Some(body) => {
+            let made = check_stmts(alloc, here, book, body.as_slice())?;
+            Ok(some_stmts(made))
+        }
+    }
+}
+
+// The branches of IF.
+#[cycle(walk)]
+fn check_branches<S: Surroundings>(
+    alloc: Global,
+    here: &mut S,
+    book: &mut Notebook,
+    branches: &[Branch],
+) -> Result<Option<BranchTrees>, AllocError>
+    ensures made { IfOk result (λ r. branches_in r ≡ (spec.conditionals (S.around here.old) (map spec.conditional_of branches.now)).node) }
+    ensures noted { OnOk result (book.new ≡ book_after book.old (spec.conditionals (S.around here.old) (map spec.conditional_of branches.now)).notes) }
+    ensures around { OnOk result (S.around here.new ≡ S.around here.old) }
+{
+    let mut all = Some(BranchTrees::new(alloc));
+    'branches: for branch in branches {
+        let test = condition(alloc, here, book, &branch.test)?;
+        let body = check_stmts(alloc, here, book, branch.body.as_slice())?;
+        all = with_branch(all, test, body)?;
+    }
+    Ok(all)
+}
+
+// The alternatives of CASE.
+#[cycle(walk)]
+fn check_cases<S: Surroundings>(
+    alloc: Global,
+    here: &mut S,
+    book: &mut Notebook,
+    cases: &[Case],
+    selects: Option<Selects>,
+) -> Result<Option<CaseTrees>, AllocError>
+    ensures made { IfOk result (λ r. cases_in r ≡ (spec.cases (S.around here.old) selects [] (map spec.labelled_of cases.now)).node) }
+    ensures noted { OnOk result (book.new ≡ book_after book.old (spec.cases (S.around here.old) selects [] (map spec.labelled_of cases.now)).notes) }
+    ensures around { OnOk result (S.around here.new ≡ S.around here.old) }
+{
+    let mut all = Some(CaseTrees::new(alloc));
+    let mut before = List::new(alloc);
+    'cases: for case in cases {
+        let labels = check_labels(
+            alloc,
+            here,
+            book,
+            selects,
+            &mut before,
+            case.labels.as_slice(),
+        )?;
+        let body = check_stmts(alloc, here, book, case.body.as_slice())?;
+        all = with_case(all, labels, body)?;
+    }
+    Ok(all)
+}
+
+// The branches of WITH.
+#[cycle(walk)]
+fn check_guarded<S: Surroundings>(
+    alloc: Global,
+    here: &mut S,
+    book: &mut Notebook,
+    branches: &[GuardedBranch],
+) -> Result<Option<BranchTrees>, AllocError>
+    ensures made { IfOk result (λ r. branches_in r ≡ (spec.with_branches (S.around here.old) (map spec.guarded_of branches.now)).node) }
+    ensures noted { OnOk result (book.new ≡ book_after book.old (spec.with_branches (S.around here.old) (map spec.guarded_of branches.now)).notes) }
+    ensures around { OnOk result (S.around here.new ≡ S.around here.old) }
+{
+    let mut all = Some(BranchTrees::new(alloc));
+    'branches: for branch in branches {
+        let test = check_guard(alloc, here, book, &branch.guard)?;
+        let variable = variable_meant(here, &branch.guard.variable);
+        let of = tested_type(test.as_ref())?;
+        let body = check_guarded_body(alloc, here, book, branch.body.as_slice(), variable, of)?;
+        all = with_branch(all, test_tree(test), body)?;
+    }
+    Ok(all)
+}
+
+// Statements in which the variable has one more guard.
+#[cycle(walk)]
+fn check_guarded_body<S: Surroundings>(
+    alloc: Global,
+    here: &mut S,
+    book: &mut Notebook,
+    body: &[Stmt],
+    variable: Option<Variable>,
+    of: Option<TypeRef>,
+) -> Result<Option<StmtTrees>, AllocError>
+    ensures made { IfOk result (λ r. stmts_in r ≡ (spec.in_turn (map spec.judging body.now) (spec.guarded_around (S.around here.old) variable of)).node) }
+    ensures noted { OnOk result (book.new ≡ book_after book.old (spec.in_turn (map spec.judging body.now) (spec.guarded_around (S.around here.old) variable of)).notes) }
+    ensures around { OnOk result (S.around here.new ≡ S.around here.old) }
+{
+    match variable {
+        None => check_stmts(alloc, here, book, body),
+        Some(variable) => {
+            here.guard(variable, of)?;
+            let made = check_stmts(alloc, here, book, body)?;
+            here.unguard();
+            Ok(made)
+        }
+    }
+}
+
+#[cycle(walk)]
+fn check_loop<S: Surroundings>(
+    alloc: Global,
+    here: &mut S,
+    book: &mut Notebook,
+    body: &[Stmt],
+    at: Pos,
+) -> Result<Option<StmtTree>, AllocError>
+    ensures made { IfOk result (λ r. stmt_in r ≡ (spec.loop_statement at (map spec.judging body.now) (S.around here.old)).node) }
+    ensures noted { OnOk result (book.new ≡ book_after book.old (spec.loop_statement at (map spec.judging body.now) (S.around here.old)).notes) }
+    ensures around { OnOk result (S.around here.new ≡ S.around here.old) }
+{
+    let outer = here.in_loop();
+    here.set_in_loop(true);
+    let repeated = check_stmts(alloc, here, book, body)?;
+    here.set_in_loop(outer);
+    Ok(loop_made(at, repeated))
 }
