@@ -3,3 +3,5 @@ pub mod Adding
 pub mod Filed
 pub mod Stepping
 pub mod Halving
+pub mod Finding
+pub mod Seen

@@ -4,6 +4,7 @@
 mod check;
 mod comparing;
 mod lookup;
+mod present;
 mod showing;
 mod verdict;
 
