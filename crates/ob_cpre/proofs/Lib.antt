@@ -1,0 +1,4 @@
+pub mod CalledLaws
+pub mod FewLaws
+pub mod LengthLaws
+pub mod NewLaws
