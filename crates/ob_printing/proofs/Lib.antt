@@ -1,2 +1,0 @@
-pub mod Befores
-pub mod Along

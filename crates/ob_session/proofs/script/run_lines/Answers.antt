@@ -1,7 +1,0 @@
-use Rattle.std.proofs.Common.{refl, arith}
-use Rattle.ob_session.proofs.Goings.{ends_early}
-use Rattle.ob_session.specs.Stand.{bytes}
-use Rattle.ob_session.proofs.script.run_lines.Goals as goal
-
-pub returns-clause-ends : goal.returns-clause-ends
-returns-clause-ends g c = λ ti tf to. ends_early (bytes c.args.settings (g.F.Shelf.files c.args.folder.now)) (g.O.Sink.taken c.args.out.now) (g.F.Shelf.files c.args.folder.now) (g.I.Source.left c.args.script.now) 5 refl (λ e. omega (arith, e)) refl
