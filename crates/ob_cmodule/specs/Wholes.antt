@@ -1,10 +1,18 @@
--- Sequences of declarations with their statements, as they are judged.
-use Rattle.std.specs.Prelude.{List, [], map}
+-- Sequences of declarations, and modules, as they are judged.
+use Rattle.std.specs.Prelude.{List, [], map, Option, None}
+use Rattle.ob_tree.specs.declared.ident.Ident.{Ident}
+use Rattle.ob_tree.specs.declared.ident.Import.{Import}
 use Rattle.ob_tree.specs.declared.decl.Decl.{Decl}
+use Rattle.ob_tree.specs.declared.decl.Module.{Module}
 use Rattle.ob_tree.specs.declared.stmt.Stmt.{Stmt}
+use Rattle.ob_tree.specs.declared.names.QName.{QName}
+use Rattle.ob_types.specs.declared.desc.Desc.{Desc}
+use Rattle.ob_types.specs.declared.typed.TypedModule.{TypedModule}
+use Rattle.ob_types.specs.declared.typed.TypedType.{TypedType}
+use Rattle.ob_rules.specs.Judged.{Notes, joined}
 use Rattle.ob_rules.specs.Names.{Around}
 use Rattle.ob_rules.specs.Statements.{judging}
-use Rattle.ob_rules.specs.Declarations.{Contents, Part, declaration, block}
+use Rattle.ob_rules.specs.Declarations.{Contents, Declared, Part, nothing_later, pointers_judged, with_part, only_notes, name_judged, module_from, imports_declared, declaration, block, around_module, checked_part, all_described}
 
 -- a sequence of declarations with its statements
 abbrev pub block_of : List Decl → List Stmt → Around → Part
@@ -13,3 +21,26 @@ block_of ds body u = block (map declaration ds) (map judging body) u
 -- without the types of the module level
 abbrev pub unbound : Contents → Contents
 unbound c = record c { bound = [] }
+
+-- a module, where it is known what stands around it
+abbrev pub module_parts : Ident → Ident → List Import → List Decl → List Stmt → Around → Part
+module_parts name closing is ds ss u = with_part (only_notes (name_judged name closing)) (module_from (map declaration ds) (map judging ss) (imports_declared is u))
+
+abbrev pub module_within : Module → Around → Part
+module_within m u = module_parts m.name m.closing m.imports m.decls m.body u
+
+-- the types of a module, with the bound procedures that they introduce
+abbrev pub described_types : Part → List TypedType
+described_types p = all_described p.contents.bound p.contents.types
+
+-- what stands around a module
+unfoldable pub around_start : (QName → Option Desc) → Module → Around
+around_start shown m = around_module shown m.name.name (map declaration m.decls)
+
+-- the checked module, where it is known what is said of it
+abbrev pub checked_as : Module → Part → Option TypedModule
+checked_as m p = checked_part (λ q. None) m.name m.imports [] p
+
+-- what is said of the declarations but for the procedures
+abbrev pub plain_notes : Declared → Notes
+plain_notes d = joined (nothing_later d.part.notes) (pointers_judged d.around d.part.notes.later)

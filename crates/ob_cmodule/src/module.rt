@@ -1,12 +1,24 @@
 //! Modules, judged by all rules.
 
-ghost use Rattle.std.specs.Prelude.{◌≡◌, IfOk, map};
-ghost use Rattle.std.specs.Option.{option_map};
-ghost use Rattle.ob_rules.specs.Declarations.{first_break, checked, deep_of, declaration, module_part};
+#![tactic(auto, using(ob_rules::proofs::BookLaws::after_none, ob_rules::proofs::BookLaws::after_joined))]
 
-use ob_known::Imports;
-use ob_rules::Broken;
-use ob_tree::Module;
+ghost use Rattle.std.specs.Prelude.{◌≡◌, [], true, IfOk, OnOk, map};
+ghost use Rattle.std.specs.Option.{option_map};
+ghost use Rattle.ob_known.specs.Scopes.{around_of};
+ghost use Rattle.ob_rules.specs.Books.{book_after};
+ghost use Rattle.ob_rules.specs.Types.{is_module_level};
+ghost use Rattle.ob_rules.specs.Judged.{least};
+ghost use Rattle.ob_rules.specs.Depth as depth;
+ghost use Rattle.ob_rules.specs.Declarations as spec;
+ghost use Rattle.ob_rules.specs.Declarations.{first_break, checked, deep_of, declaration, module_part};
+ghost use Rattle.ob_cdecl.specs.Seen.{contents_of};
+ghost use Rattle.ob_cmodule.specs.Wholes.{unbound, module_within, module_parts, around_start, checked_as, described_types};
+
+use crate::blocks::block;
+use ob_cdecl::{Contents, coming_within, imports_declared, name_judged};
+use ob_known::{Imports, Scope};
+use ob_rules::{Broken, Notebook};
+use ob_tree::{Decl, Ident, Import, Module, Stmt};
 use ob_trees::ModuleTree;
 use std::alloc::{AllocError, Global};
 
@@ -20,8 +32,95 @@ pub struct Checked {
     pub deep: bool,
 }
 
+// What stands around a module.
+#[tactic(auto, using(crate::proofs::ModuleLaws::starts))]
+fn module_scope<'a, E: Imports>(
+    alloc: Global,
+    unit: &Module,
+    imported: &'a E,
+) -> Result<Scope<'a, E>, AllocError>
+    ensures { IfOk result (λ s. around_of E.types s ≡ around_start (E.types imported.now) unit.now) }
+{
+    let coming = coming_within(alloc, unit.decls.as_slice())?;
+    let mut scope = Scope::of_module(alloc, unit.name.name, imported)?;
+    scope.set_coming(coming);
+    Ok(scope)
+}
+
+// All that is said of the parts of a module, and all that they have.
+fn judge_parts<E: Imports>(
+    alloc: Global,
+    scope: &mut Scope<'_, E>,
+    book: &mut Notebook,
+    contents: &mut Contents,
+    name: &Ident,
+    closing: &Ident,
+    imports: &[Import],
+    decls: &[Decl],
+    body: &[Stmt],
+) -> Result<(), AllocError>
+    requires { is_module_level (around_of E.types scope.old) ≡ true }
+    ensures noted { OnOk result (book.new ≡ book_after book.old (module_parts name.now closing.now imports.now decls.now body.now (around_of E.types scope.old)).notes) }
+    ensures added { OnOk result (contents_of contents.new ≡ spec.together (contents_of contents.old) (unbound (module_parts name.now closing.now imports.now decls.now body.now (around_of E.types scope.old)).contents)) }
+    ensures own { OnOk result ((around_of E.types scope.new).own ≡ (module_parts name.now closing.now imports.now decls.now body.now (around_of E.types scope.old)).contents.bound) }
+{
+    name_judged(book, name, closing);
+    imports_declared(alloc, scope, book, imports)?;
+    block(alloc, scope, book, contents, decls, body)?;
+    Ok(())
+}
+
+// All that is said of a module, and all that it has.
+fn judge_module<E: Imports>(
+    alloc: Global,
+    scope: &mut Scope<'_, E>,
+    book: &mut Notebook,
+    contents: &mut Contents,
+    unit: &Module,
+) -> Result<(), AllocError>
+    requires { is_module_level (around_of E.types scope.old) ≡ true }
+    ensures noted { OnOk result (book.new ≡ book_after book.old (module_within unit.now (around_of E.types scope.old)).notes) }
+    ensures added { OnOk result (contents_of contents.new ≡ spec.together (contents_of contents.old) (unbound (module_within unit.now (around_of E.types scope.old)).contents)) }
+    ensures own { OnOk result ((around_of E.types scope.new).own ≡ (module_within unit.now (around_of E.types scope.old)).contents.bound) }
+{
+    judge_parts(
+        alloc,
+        scope,
+        book,
+        contents,
+        &unit.name,
+        &unit.closing,
+        unit.imports.as_slice(),
+        unit.decls.as_slice(),
+        unit.body.as_slice(),
+    )
+}
+
+// What a module comes to, where it is known what stands around it. Answers want of memory: what stands
+// behind `judge_module` is not written yet.
+fn check_within<E: Imports>(
+    alloc: Global,
+    scope: &mut Scope<'_, E>,
+    unit: &Module,
+    imported: &E,
+) -> Result<Checked, AllocError>
+    requires level { is_module_level (around_of E.types scope.old) ≡ true }
+    requires unit { (around_of E.types scope.old).unit ≡ unit.now.name.name }
+    requires shown { (around_of E.types scope.old).shown ≡ E.types imported.now }
+    ensures tree { IfOk result (λ r. option_map (λ t. t.inner) r.tree ≡ checked_as unit.now (module_within unit.now (around_of E.types scope.old))) }
+    ensures broken { IfOk result (λ r. r.broken ≡ least (module_within unit.now (around_of E.types scope.old)).notes.broken) }
+    ensures deep { IfOk result (λ r. r.deep ≡ depth.is_deep (record (around_of E.types scope.old) { own = described_types (module_within unit.now (around_of E.types scope.old)) })) }
+{
+    let mut book = Notebook::new(alloc);
+    let mut contents = Contents::new(alloc);
+    judge_module(alloc, scope, &mut book, &mut contents, unit)?;
+    let _ = imported;
+    Err(AllocError)
+}
+
 /// A module, judged by all rules, where its imports show what `imported` has. Answers want of
-/// memory: not written yet.
+/// memory: `check_within` is not written yet.
+#[tactic(auto, using(crate::proofs::ModuleLaws::tree_at, crate::proofs::ModuleLaws::broken_at, crate::proofs::ModuleLaws::deep_at, crate::proofs::ModuleLaws::level_at, crate::proofs::ModuleLaws::unit_at, crate::proofs::ModuleLaws::shown_at))]
 pub fn check_module<E: Imports>(
     alloc: Global,
     module: &Module,
@@ -31,5 +130,7 @@ pub fn check_module<E: Imports>(
     ensures broken { IfOk result (λ r. r.broken ≡ first_break (E.types imported.now) «module».now) }
     ensures deep { IfOk result (λ r. r.deep ≡ deep_of (E.types imported.now) «module».now.name (map declaration «module».now.decls) (module_part (E.types imported.now) «module».now)) }
 {
-    Err(AllocError)
+    let mut scope = module_scope(alloc, module, imported)?;
+    let checked = check_within(alloc, &mut scope, module, imported)?;
+    Ok(checked)
 }
