@@ -26,7 +26,8 @@ use Rattle.ob_known.specs.Predeclaring.{predeclared_names}
 use Rattle.ob_known.proofs.Predeclaring.{predeclared_are}
 use Rattle.ob_cdecl.specs.Order.{coming_within, one_import}
 use Rattle.ob_cdecl.proofs.ImportLaws.{imports_nothing}
-use Rattle.ob_cmodule.specs.Wholes.{around_start, block_of, unbound, module_within, module_parts, checked_as, described_types}
+use Rattle.ob_cblock.specs.Blocks.{block_of, unbound}
+use Rattle.ob_cmodule.specs.Wholes.{around_start, module_within, module_parts, checked_as, described_types}
 
 start_with : (QName → Option Desc) → Module → List Known → Around
 start_with shown m ks = record (at_start m.name.name shown) { known = ks; scope = 1; coming = coming_within m.decls }

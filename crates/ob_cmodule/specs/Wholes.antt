@@ -1,4 +1,4 @@
--- Sequences of declarations, and modules, as they are judged.
+-- Modules, as they are judged.
 use Rattle.std.specs.Prelude.{List, [], map, Option, None}
 use Rattle.ob_tree.specs.declared.ident.Ident.{Ident}
 use Rattle.ob_tree.specs.declared.ident.Import.{Import}
@@ -9,18 +9,9 @@ use Rattle.ob_tree.specs.declared.names.QName.{QName}
 use Rattle.ob_types.specs.declared.desc.Desc.{Desc}
 use Rattle.ob_types.specs.declared.typed.TypedModule.{TypedModule}
 use Rattle.ob_types.specs.declared.typed.TypedType.{TypedType}
-use Rattle.ob_rules.specs.Judged.{Notes, joined}
 use Rattle.ob_rules.specs.Names.{Around}
 use Rattle.ob_rules.specs.Statements.{judging}
-use Rattle.ob_rules.specs.Declarations.{Contents, Declared, Part, nothing_later, pointers_judged, with_part, only_notes, name_judged, module_from, imports_declared, declaration, block, around_module, checked_part, all_described}
-
--- a sequence of declarations with its statements
-abbrev pub block_of : List Decl → List Stmt → Around → Part
-block_of ds body u = block (map declaration ds) (map judging body) u
-
--- without the types of the module level
-abbrev pub unbound : Contents → Contents
-unbound c = record c { bound = [] }
+use Rattle.ob_rules.specs.Declarations.{Part, with_part, only_notes, name_judged, module_from, imports_declared, declaration, around_module, checked_part, all_described}
 
 -- a module, where it is known what stands around it
 abbrev pub module_parts : Ident → Ident → List Import → List Decl → List Stmt → Around → Part
@@ -40,7 +31,3 @@ around_start shown m = around_module shown m.name.name (map declaration m.decls)
 -- the checked module, where it is known what is said of it
 abbrev pub checked_as : Module → Part → Option TypedModule
 checked_as m p = checked_part (λ q. None) m.name m.imports [] p
-
--- what is said of the declarations but for the procedures
-abbrev pub plain_notes : Declared → Notes
-plain_notes d = joined (nothing_later d.part.notes) (pointers_judged d.around d.part.notes.later)

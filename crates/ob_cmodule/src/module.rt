@@ -12,9 +12,10 @@ ghost use Rattle.ob_rules.specs.Depth as depth;
 ghost use Rattle.ob_rules.specs.Declarations as spec;
 ghost use Rattle.ob_rules.specs.Declarations.{first_break, checked, deep_of, declaration, module_part};
 ghost use Rattle.ob_cdecl.specs.Seen.{contents_of};
-ghost use Rattle.ob_cmodule.specs.Wholes.{unbound, module_within, module_parts, around_start, checked_as, described_types};
+ghost use Rattle.ob_cblock.specs.Blocks.{unbound};
+ghost use Rattle.ob_cmodule.specs.Wholes.{module_within, module_parts, around_start, checked_as, described_types};
 
-use crate::blocks::block;
+use ob_cblock::block;
 use ob_cdecl::{Contents, coming_within, imports_declared, name_judged};
 use ob_known::{Imports, Scope};
 use ob_rules::{Broken, Notebook};

@@ -6,7 +6,7 @@ ghost use Rattle.ob_rules.specs.Books.{book_after};
 ghost use Rattle.ob_rules.specs.Types.{is_module_level};
 ghost use Rattle.ob_rules.specs.Declarations as spec;
 ghost use Rattle.ob_cdecl.specs.Seen.{contents_of};
-ghost use Rattle.ob_cmodule.specs.Wholes.{block_of, unbound};
+ghost use Rattle.ob_cblock.specs.Blocks.{block_of, unbound};
 
 use ob_cdecl::Contents;
 use ob_known::{Imports, Scope};
