@@ -5,7 +5,6 @@ use Rattle.std.proofs.lemmas.List.{reverse-append, length-map}
 use Rattle.ob_types.specs.declared.desc.RecordDesc.{RecordDesc}
 use Rattle.ob_types.specs.declared.typed.TypedType.{TypedType}
 use Rattle.ob_rules.specs.Headings.{changed_if, change_type}
-use Rattle.ob_known.specs.Naming.{type_name}
 
 reverse_cons : {A : Type 0} (x : A) (xs : List A) → reverse (x ∷ xs) ≡ reverse xs ++ x ∷ []
 reverse_cons x xs = reverse-append (x ∷ []) xs

@@ -1,4 +1,4 @@
-use Rattle.std.proofs.Common.{◌≡◌, ◌++◌, length, map, take, drop, sym, ap, ◌∙◌}
+use Rattle.std.proofs.Common.{length, map, drop, sym, ap, ◌∙◌}
 use Rattle.std.specs.Prelude.{reverse}
 use Rattle.ob_rules.specs.Headings.{change_type, with_method}
 use Rattle.ob_rules.proofs.BookLaws.{on_ok}
