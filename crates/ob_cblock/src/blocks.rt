@@ -110,21 +110,27 @@ fn procedure_if<E: Imports>(
             ..
         } => match next_head(heads) {
             None => Ok(()),
-            Some(head) => procedure(
-                alloc,
-                scope,
-                book,
-                contents,
-                aside,
-                head,
-                decls.as_slice(),
-                body.as_slice(),
-                closing,
-            ),
+            Some(head) => {
+                procedure(
+                    alloc,
+                    scope,
+                    book,
+                    contents,
+                    aside,
+                    head,
+                    decls.as_slice(),
+                    body.as_slice(),
+                    closing,
+                )?;
+                Ok(())
+            }
         },
         Decl::Forward(_) => match next_head(heads) {
             None => Ok(()),
-            Some(head) => add_forward(book, contents, head),
+            Some(head) => {
+                add_forward(book, contents, head)?;
+                Ok(())
+            }
         },
         Decl::Constant { .. } | Decl::NamedType { .. } | Decl::Variables { .. } => Ok(()),
     }
