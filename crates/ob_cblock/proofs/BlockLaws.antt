@@ -72,6 +72,30 @@ pub record Judged (level : Bool) (ds : List Decl) (body : List Stmt) (u v w : Ar
   pub adds : c2 ≡ together c1 (judged_from w ds (heads_of ds v)).contents
   pub does : c3 ≡ together c2 (body_part (in_turn (map judging body) w)).contents
 
+pub judged_all : (level : Bool) (ds : List Decl) (body : List Stmt) (u v w x : Around) (names : List (List ℕ)) (hs : List Kept) (b0 b1 b2 b3 : Notebook) (c0 c1 c2 c3 : Contents)
+    → level ≡ is_module_level u → names ≡ type_names ds → v ≡ record u { later_types = names } → w ≡ around_bound level (headed ds v)
+    → b1 ≡ book_after b0 (declared_notes level ds v) → c1 ≡ together c0 (plain_in_order ds v).part.contents
+    → AreKept (suc (plain_in_order ds v).around.scope) hs (heads_of ds v)
+    → ((n : ℕ) (ss : List Head) → AreKept n hs ss → AreBehind w.known ss → b2 ≡ book_after b1 (judged_from w ds ss).notes)
+    → ((n : ℕ) (ss : List Head) → AreKept n hs ss → AreBehind w.known ss → c2 ≡ together c1 (judged_from w ds ss).contents)
+    → x ≡ w → b3 ≡ book_after b2 (body_part (in_turn (map judging body) x)).notes → c3 ≡ together c2 (body_part (in_turn (map judging body) x)).contents
+    → Judged level ds body u v w b0 b1 b2 b3 c0 c1 c2 c3
+judged_all level ds body u v w x names hs b0 b1 b2 b3 c0 c1 c2 c3 le named inner around declared declares kept judged adds stays said does =
+    let L : List (List ℕ) → Around = λ ns. record u { later_types = ns } in
+    let n = suc (plain_in_order ds v).around.scope in
+    let behind = heads_behind level ds v w around in
+    record {
+      level_is = le;
+      inner = inner ∙ ap L named;
+      around = around;
+      declared = declared;
+      judged = judged n (heads_of ds v) kept behind;
+      said = said ∙ ap (λ y. book_after b2 (body_part (in_turn (map judging body) y)).notes) stays;
+      declares = declares;
+      adds = adds n (heads_of ds v) kept behind;
+      does = does ∙ ap (λ y. together c2 (body_part (in_turn (map judging body) y)).contents) stays;
+    }
+
 four_noted : (b : Notebook) (p q r s : Notes) → book_after (book_after (book_after b (joined p q)) r) s ≡ book_after b (joined p (joined q (joined r s)))
 four_noted b p q r s =
     ap (λ k. book_after (book_after k r) s) (sym (after_joined b p q)) ∙ after_joined (book_after (book_after b p) q) r s ∙ after_joined (book_after b p) q (joined r s) ∙ after_joined b p (joined q (joined r s))
@@ -138,8 +162,8 @@ block_bound level ds body u v w z m names b0 b1 b2 b3 c0 c1 c2 c3 j e f g left i
 abbrev put_back : Marked → List (List ℕ) → Around → Around
 put_back m names x = left_block false m names (record x { coming = [] })
 
-pub block_stays : (level : Bool) (ds : List Decl) (u v w z : Around) (m : Marked) (names : List (List ℕ)) → level ≡ is_module_level u → v ≡ inner_around ds u → w ≡ around_bound level (headed ds v) → Grows v (plain_in_order ds v).around → m.known ≡ length u.known → m.own ≡ length u.own → names ≡ u.later_types → z ≡ left_block level m names w → is_module_level u ≡ false → z ≡ record u { coming = [] }
-block_stays level ds u v w z m names le inner around grows mk mo outer left is =
+pub block_stays : (level : Bool) (ds : List Decl) (u v w z : Around) (m : Marked) (later names : List (List ℕ)) → level ≡ is_module_level u → v ≡ record u { later_types = later } → w ≡ around_bound level (headed ds v) → Grows v (plain_in_order ds v).around → m.known ≡ length u.known → m.own ≡ length u.own → names ≡ u.later_types → z ≡ left_block level m names w → is_module_level u ≡ false → z ≡ record u { coming = [] }
+block_stays level ds u v w z m later names le inner around grows mk mo outer left is =
     let d = (plain_in_order ds v).around in
     let h = headed ds v in
     let start : Heads = record { around = d; before = [] } in

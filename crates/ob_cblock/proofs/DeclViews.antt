@@ -1,5 +1,5 @@
 -- What each alternative of a declaration is, by its parts.
-use Rattle.std.proofs.Common.{◌≡◌, ℕ, List, [], ◌∷◌, Option, Some, None, map, refl, sym, ap, subst, ◌∙◌}
+use Rattle.std.proofs.Common.{◌≡◌, ℕ, List, [], ◌∷◌, drop, Option, Some, None, map, refl, sym, ap, subst, ◌∙◌}
 use Rattle.std.specs.Prelude.{slice_get, true, false}
 use Rattle.ob_tree.specs.declared.ident.Ident.{Ident}
 use Rattle.ob_tree.specs.declared.ident.IdentDef.{IdentDef}
@@ -13,12 +13,13 @@ use Rattle.ob_tree.specs.declared.decl.Decl.TheOpen.{Decl-F}
 use Rattle.ob_tree.specs.declared.decl.Decl.TheFolds.{fold-roll-Decl}
 use Rattle.ob_rules.specs.declared.entity.Known.{Known}
 use Rattle.ob_rules.specs.Names.{Around}
-use Rattle.ob_rules.specs.Headings.{Head, heading_of}
+use Rattle.ob_rules.specs.Headings.{Head, Heads, add_heading, heading_of}
 use Rattle.ob_rules.specs.Statements.{judging}
 use Rattle.ob_rules.specs.Declarations.{Declaration, Part, Written_procedure, procedure_of as written_in, declaration, decl_rule, forward_part, no_part, block}
 use Rattle.ob_chead.specs.declared.head.Head.{Head as Kept}
 use Rattle.ob_chead.specs.Kept.{IsKept, AreKept}
-use Rattle.ob_cblock.specs.Procedures.{IsReady, AreReady, IsBehind, AreBehind, judged_first, procedure_of}
+use Rattle.ob_cblock.specs.Steps.{heading_added}
+use Rattle.ob_cblock.specs.Procedures.{IsReady, AreReady, IsBehind, AreBehind, judged_first, behind_first, procedure_of}
 
 abbrev whole_procedure : Heading → List Decl → List Stmt → Ident → Written_procedure
 whole_procedure h ds ss x = record { heading = heading_of h; forward = false; closing = Some x; inside = block (map declaration ds) (map judging ss) }
@@ -43,6 +44,18 @@ first_procedure u y h ds ss x s rest e = ap (λ o. judged_first u o (s ∷ rest)
 
 pub first_forward : (u : Around) (y : Decl) (h : Heading) (s : Head) (rest : List Head) → y ≡ d.Forward h → judged_first u (written_in (declaration y)) (s ∷ rest) ≡ forward_part s
 first_forward u y h s rest e = ap (λ o. judged_first u o (s ∷ rest)) (ap (λ z. written_in (declaration z)) e ∙ forward_is h)
+
+pub behind_procedure : {A : Type 0} (y : Decl) (h : Heading) (ds : List Decl) (ss : List Stmt) (x : Ident) (hs new : List A) → y ≡ d.Procedure h ds ss x → new ≡ drop 1 hs → new ≡ behind_first (written_in (declaration y)) hs
+behind_procedure y h ds ss x hs new e f = f ∙ ap (λ o. behind_first o hs) (sym (ap (λ z. written_in (declaration z)) e ∙ procedure_is h ds ss x))
+
+pub behind_forward : {A : Type 0} (y : Decl) (h : Heading) (hs new : List A) → y ≡ d.Forward h → new ≡ drop 1 hs → new ≡ behind_first (written_in (declaration y)) hs
+behind_forward y h hs new e f = f ∙ ap (λ o. behind_first o hs) (sym (ap (λ z. written_in (declaration z)) e ∙ forward_is h))
+
+pub behind_none : {A : Type 0} (o : Option Written_procedure) (hs : List A) → o ≡ None → hs ≡ behind_first o hs
+behind_none o hs e = ap (λ p. behind_first p hs) (sym e)
+
+pub added_procedure : (y : Decl) (h : Heading) (ds : List Decl) (ss : List Stmt) (x : Ident) (hs : Heads) → y ≡ d.Procedure h ds ss x → heading_added (written_in (declaration y)) hs ≡ add_heading hs (heading_of h) false
+added_procedure y h ds ss x hs e = ap (λ o. heading_added o hs) (ap (λ z. written_in (declaration z)) e ∙ procedure_is h ds ss x)
 
 -- THE FIRST OF THE HEADINGS
 

@@ -29,6 +29,17 @@ use Rattle.ob_cblock.specs.Steps.{procedures_in}
 use Rattle.ob_cblock.specs.Procedures.{whole, IsReady, AreReady, IsBehind, AreBehind, judged_from, judged_with, judged_first, behind_first, procedure_of, entered, blank}
 use Rattle.ob_cblock.proofs.ContentLaws.{contents_left}
 
+-- THE LAST OF A LIST
+
+drop_front : {A : Type 0} (xs ys : List A) (n : ℕ) → n ≡ length xs → drop n (xs ++ ys) ≡ ys
+drop_front [] ys zero e = refl
+drop_front [] ys (suc n) e = absurd (omega arith)
+drop_front (x ∷ xs) ys zero e = absurd (omega arith)
+drop_front (x ∷ xs) ys (suc n) e = drop_front xs ys n (omega arith)
+
+pub last_of : {A : Type 0} (xs ys all : List A) (n : ℕ) → all ≡ xs ++ ys → n ≡ length ys → drop (length all - n) all ≡ ys
+last_of xs ys all n e f = let long = length-append xs ys in ap (λ l. drop (length l - n) l) e ∙ drop_front xs ys (length (xs ++ ys) - n) (omega (arith, long, f))
+
 -- PROCEDURES IN TURN
 
 step_with : (u : Around) (p : Written_procedure) (ps : List Written_procedure) (hs : List Head) → procedures_judged u (p ∷ ps) hs ≡ with_part (judged_with u p hs) (procedures_judged u ps (drop 1 hs))
@@ -100,6 +111,13 @@ part_end_noted total u left heads n hs b c x y e s = sym (after_none c) ∙ ap (
 pub part_end_added : (total : Around → List Head → Part) (u : Around) (left : List Decl) (heads : List Kept) (n : ℕ) (hs : List Head) (b c : Notebook) (x y : Contents) → left ≡ [] → PartSo total u left heads n hs b c x y → y ≡ together x (total u hs).contents
 part_end_added total u left heads n hs b c x y e s = adds_nothing y ∙ ap (λ l. together y (judged_from u l s.so).contents) (sym e) ∙ s.added
 
+-- all that was known is known again
+pub all_back : (u v z : Around) (full : List Known) (n : ℕ) → record v { known = full } ≡ u → n ≡ length u.known → z ≡ record v { known = drop (length full - n) full } → z ≡ u
+all_back u v z full n e f g =
+    let F : Around → Around = λ x. record x { known = drop (length x.known - n) x.known } in
+    let K : List Known → Around = λ ks. record u { known = ks } in
+    g ∙ ap F e ∙ ap K (last_of [] u.known u.known n refl f)
+
 -- WHAT IS AROUND INSIDE A PROCEDURE
 
 abbrev inside_of : Around → Head → List Known → Around
@@ -131,15 +149,6 @@ pub same_types : (u : Around) (ks : List Known) → map_of (record u { known = k
 same_types u ks = λ i. λ q. by_kind (bytes_eq q.«module» u.unit) (same_name q out_string) u ks q i
 
 -- A PROCEDURE BEHIND ITS HEADING
-
-drop_front : {A : Type 0} (xs ys : List A) (n : ℕ) → n ≡ length xs → drop n (xs ++ ys) ≡ ys
-drop_front [] ys zero e = refl
-drop_front [] ys (suc n) e = absurd (omega arith)
-drop_front (x ∷ xs) ys zero e = absurd (omega arith)
-drop_front (x ∷ xs) ys (suc n) e = drop_front xs ys n (omega arith)
-
-pub last_of : {A : Type 0} (xs ys all : List A) (n : ℕ) → all ≡ xs ++ ys → n ≡ length ys → drop (length all - n) all ≡ ys
-last_of xs ys all n e f = let long = length-append xs ys in ap (λ l. drop (length l - n) l) e ∙ drop_front xs ys (length (xs ++ ys) - n) (omega (arith, long, f))
 
 pub known_here : (n : ℕ) (u v : Around) (full : List Known) (head : Kept) (h : Head) → IsKept n head h → IsBehind full h → v ≡ record u { known = drop (length full - head.behind) full } → v.known ≡ h.known
 known_here n u v full head h k b e = ap (λ x. x.known) e ∙ last_of b.later h.known full head.behind b.is k.behind
@@ -181,3 +190,6 @@ is_deeper u v w head e f = let n = ap (λ x. x.scope) (f ∙ e) in omega (arith,
 
 pub falls_back : (u v w : Around) (o : Outside) → w ≡ v → restored o v ≡ u → are_within u.scope u.known ≡ true → are_within (restored o w).scope (restored o w).known ≡ true
 falls_back u v w o e f fall = subst (λ (x : Around). are_within x.scope x.known ≡ true) (sym (ap (restored o) e ∙ f)) fall
+
+pub same_procedure : (u : Around) (h : Head) (closing : Ident) {ds es : List Decl} {ss rs : List Stmt} → ds ≡ es → ss ≡ rs → procedure_of u h ds ss closing ≡ procedure_of u h es rs closing
+same_procedure u h closing {es = es} {ss = ss} e f = ap (λ l. procedure_of u h l ss closing) e ∙ ap (λ l. procedure_of u h es l closing) f

@@ -1,6 +1,8 @@
 -- What is declared before the procedures, step by step.
 use Rattle.std.proofs.Common.{◌≡◌, ℕ, suc, List, [], ◌∷◌, ◌++◌, Bool, Option, Some, None, map, refl, sym, ap, subst, ◌∙◌}
+use Rattle.std.specs.Prelude.{reverse}
 use Rattle.std.specs.List.{cons_option, filter_map}
+use Rattle.std.proofs.lemmas.List.{reverse-reverse}
 use Rattle.ob_tree.specs.declared.decl.Decl.{Decl}
 use Rattle.ob_rules.specs.declared.notes.Later.{Later}
 use Rattle.ob_rules.specs.declared.notes.Notebook.{Notebook}
@@ -10,9 +12,12 @@ use Rattle.ob_rules.specs.Names.{Around, map_of}
 use Rattle.ob_rules.specs.Headings.{Head, Heads, forwards_judged, reversed}
 use Rattle.ob_rules.specs.Declarations.{Declared, type_name_of, declaration, nothing_later, pointers_judged, all_judged, field_judged, heads_later, with_bound, binding_at}
 use Rattle.ob_rules.proofs.BookLaws.{after_joined}
+use Rattle.ob_chead.specs.declared.head.Head.{Head as Kept}
+use Rattle.ob_chead.specs.Kept.{AreKept}
+use Rattle.ob_cdecl.specs.Order.{plain_in_order}
 use Rattle.ob_cdecl.proofs.BookJoins.{without_later, later_in}
 use Rattle.ob_cblock.specs.Blocks.{plain_notes}
-use Rattle.ob_cblock.specs.Steps.{type_names, binding_of, around_bound, field_notes, bound_notes}
+use Rattle.ob_cblock.specs.Steps.{type_names, headings, headed, binding_of, around_bound, field_notes, bound_notes}
 
 -- THE NAMES OF THE TYPES
 
@@ -59,3 +64,16 @@ bound_noted level later hs u v b c d k e f bind fields forwards =
 
 pub two_noted : (b c d : Notebook) (m n : Notes) → c ≡ book_after b m → d ≡ book_after c n → d ≡ book_after b (joined m n)
 two_noted b c d m n e f = f ∙ ap (λ x. book_after x n) e ∙ after_joined b m n
+
+-- ALL THAT IS DECLARED
+
+pub headed_around : (ds : List Decl) (v w x : Around) → w ≡ (plain_in_order ds v).around → x ≡ (headings ds w).around → x ≡ (headed ds v).around
+headed_around ds v w x e f = f ∙ ap (λ y. (headings ds y).around) e
+
+pub headed_kept : (ds : List Decl) (v w : Around) (hs gs : List Kept) → w ≡ (plain_in_order ds v).around → gs ≡ hs → AreKept (suc w.scope) hs (reversed (headings ds w).before) → AreKept (suc (plain_in_order ds v).around.scope) gs (reversed (headed ds v).before)
+headed_kept ds v w hs gs e f k =
+    let P : Around → Type 0 = λ x. AreKept (suc x.scope) hs (reversed (headings ds x).before) in
+    subst (λ l. AreKept (suc (plain_in_order ds v).around.scope) l (reversed (headed ds v).before)) (sym f) (subst P e k)
+
+pub turned_back : (hs is rs : List Kept) → rs ≡ reverse is → is ≡ hs → reverse rs ≡ hs
+turned_back hs is rs e f = ap reverse e ∙ reverse-reverse is ∙ f

@@ -132,7 +132,9 @@ fn procedure_if<E: Imports>(
                 Ok(())
             }
         },
-        Decl::Constant { .. } | Decl::NamedType { .. } | Decl::Variables { .. } => Ok(()),
+        Decl::Constant { .. } => Ok(()),
+        Decl::NamedType { .. } => Ok(()),
+        Decl::Variables { .. } => Ok(()),
     }
 }
 
@@ -180,7 +182,8 @@ fn procedure_here<E: Imports>(
     ensures added { (n : ℕ) (h : heading.Head) → IsKept n head h → (around_of E.types scope.old).known ≡ h.known → OnOk result (contents_of contents.new ≡ spec.together (contents_of contents.old) (procedure_of (around_of E.types scope.old) h decls.now body.now closing.now).contents) }
 {
     let _ = scope.mark();
-    let (opened, outside) = open(alloc, scope, book, head, closing)?;
+    let entered = open(alloc, scope, book, head, closing)?;
+    let (opened, outside) = entered;
     let mut inner = Contents::new(alloc);
     block(alloc, scope, book, &mut inner, decls, body)?;
     scope.leave_body(outside);
