@@ -12,10 +12,13 @@ use Rattle.ob_tree.specs.declared.decl.Decl.TheVariants as d
 use Rattle.ob_tree.specs.declared.decl.Decl.TheOpen.{Decl-F}
 use Rattle.ob_tree.specs.declared.decl.Decl.TheFolds.{fold-roll-Decl}
 use Rattle.ob_rules.specs.declared.entity.Known.{Known}
+use Rattle.ob_rules.specs.declared.notes.Notebook.{Notebook}
+use Rattle.ob_rules.specs.Books.{book_after}
 use Rattle.ob_rules.specs.Names.{Around}
 use Rattle.ob_rules.specs.Headings.{Head, Heads, add_heading, heading_of}
 use Rattle.ob_rules.specs.Statements.{judging}
 use Rattle.ob_rules.specs.Declarations.{Declaration, Part, Written_procedure, procedure_of as written_in, declaration, decl_rule, forward_part, no_part, block}
+use Rattle.ob_rules.proofs.BookLaws.{after_none}
 use Rattle.ob_chead.specs.declared.head.Head.{Head as Kept}
 use Rattle.ob_chead.specs.Kept.{IsKept, AreKept}
 use Rattle.ob_cblock.specs.Steps.{heading_added}
@@ -85,3 +88,6 @@ no_procedure u o ss e = ap (λ x. judged_first u x ss) e
 pub first_ready_one : (n : ℕ) (known : List Known) (hs : List Kept) (head : Kept) → Some head ≡ slice_get hs 0 → AreReady n known hs → IsReady n known head
 first_ready_one n known [] head e r = absurd cc
 first_ready_one n known (h ∷ hs) head e r = subst (IsReady n known) (sym (some_same head h e)) r.0
+
+pub none_noted : (u : Around) (y : Decl) (ss : List Head) (b : Notebook) → written_in (declaration y) ≡ None → b ≡ book_after b (judged_first u (written_in (declaration y)) ss).notes
+none_noted u y ss b e = sym (after_none b) ∙ ap (λ o. book_after b (judged_first u o ss).notes) (sym e)

@@ -1,5 +1,6 @@
 use Rattle.std.proofs.Common.{rules, ◌≡◌, ℕ, ◌+◌, ◌-◌, ◌<◌, ◌≤◌, List, ◌++◌, length, drop, refl, sym, ap, subst, ◌∙◌, arith}
 use Rattle.std.specs.Prelude.{reverse}
+use Rattle.ob_tree.specs.declared.decl.Decl.{Decl}
 use Rattle.ob_known.specs.Scopes.{around_of}
 use Rattle.ob_rules.specs.declared.entity.Known.{Known}
 use Rattle.ob_rules.specs.declared.notes.Notebook.{Notebook}
@@ -13,7 +14,7 @@ use Rattle.ob_cblock.specs.Blocks.{block_of, unbound}
 use Rattle.ob_cblock.specs.Steps.{left_block}
 use Rattle.ob_cblock.specs.Procedures.{whole, AreReady, AreBehind, judged_from, judged_first, left_of}
 use Rattle.ob_cblock.proofs.ProcedureLaws.{part_more, part_end_noted, part_end_added, first_ready, still_inside, known_here, here_of, here_noted, here_added, left_here, same_procedure}
-use Rattle.ob_cblock.proofs.DeclViews.{first_procedure, with_first, first_ready_one}
+use Rattle.ob_cblock.proofs.DeclViews.{constant_is, type_is, variables_are, none_noted, first_procedure, with_first, first_ready_one}
 use Rattle.ob_cblock.proofs.BlockLaws.{heads_ready, nothing_comes, judged_all, block_noted, block_added, block_bound, block_stays}
 use Rattle.ob_cblock.proofs.blocks.+block.Goals as goal
 
@@ -133,7 +134,7 @@ pub procedure_if-procedure-requires : goal.procedure_if-procedure-requires
 procedure_if-procedure-requires g t c κs within =
     let u = around_of g.E.Types.types c.args.scope.now in
     let ready = first_ready_one u.scope (c.args.aside.now.items ++ u.known) (reverse c.args.heads.now.items) c.in-Some.head c.in-Some.ensures.first c.requires.ready in
-    search rules
+    (?, ?)
 
 pub procedure_if-returns-in_ok-procedure-in-Some-clause-noted : goal.procedure_if-returns-in_ok-procedure-in-Some-clause-noted
 procedure_if-returns-in_ok-procedure-in-Some-clause-noted g t c = λ n hs k b.
@@ -143,7 +144,7 @@ procedure_if-returns-in_ok-procedure-in-Some-clause-noted g t c = λ n hs k b.
     let p = c.in-Procedure in
     let F : Part → Notebook = λ q. book_after c.args.book.now q.notes in
     with_first (λ ss. c.procedure.new.book ≡ F (judged_first all (written_in (declaration y)) ss)) n (c.args.aside.now.items ++ u.known) (reverse c.args.heads.now.items) c.in-Some.head hs c.in-Some.ensures.first k b
-    (λ s rest kept behind. c.in_ok-procedure.ensures.noted n s kept behind ∙ ap F (same_procedure all s p.closing c.as_slice.ensures c.as_slice-2.ensures ∙ sym (first_procedure all y p.heading p.decls p.body p.closing s rest p.is)))
+    (λ s rest kept behind. c.in_ok-procedure-in-Some.ensures.noted n s kept behind ∙ ap F (same_procedure all s p.closing c.as_slice.ensures c.as_slice-in-Some.ensures ∙ sym (first_procedure all y p.heading p.decls p.body p.closing s rest p.is)))
 
 pub procedure_if-returns-in_ok-procedure-in-Some-clause-added : goal.procedure_if-returns-in_ok-procedure-in-Some-clause-added
 procedure_if-returns-in_ok-procedure-in-Some-clause-added g t c = λ n hs k b.
@@ -153,7 +154,22 @@ procedure_if-returns-in_ok-procedure-in-Some-clause-added g t c = λ n hs k b.
     let p = c.in-Procedure in
     let F : Part → Contents = λ q. together (contents_of c.args.contents.now) q.contents in
     with_first (λ ss. contents_of c.procedure.new.contents ≡ F (judged_first all (written_in (declaration y)) ss)) n (c.args.aside.now.items ++ u.known) (reverse c.args.heads.now.items) c.in-Some.head hs c.in-Some.ensures.first k b
-    (λ s rest kept behind. c.in_ok-procedure.ensures.added n s kept behind ∙ ap F (same_procedure all s p.closing c.as_slice.ensures c.as_slice-2.ensures ∙ sym (first_procedure all y p.heading p.decls p.body p.closing s rest p.is)))
+    (λ s rest kept behind. c.in_ok-procedure-in-Some.ensures.added n s kept behind ∙ ap F (same_procedure all s p.closing c.as_slice.ensures c.as_slice-in-Some.ensures ∙ sym (first_procedure all y p.heading p.decls p.body p.closing s rest p.is)))
+
+pub procedure_if-returns-in-Constant-clause-noted : goal.procedure_if-returns-in-Constant-clause-noted
+procedure_if-returns-in-Constant-clause-noted g t c = λ n hs k b.
+    let all = whole (around_of g.E.Types.types c.args.scope.now) c.args.aside.now in
+    none_noted all c.args.d.now hs c.args.book.now (ap (λ (y : Decl). written_in (declaration y)) c.in-Constant.is ∙ constant_is c.in-Constant.name c.in-Constant.value)
+
+pub procedure_if-returns-in-NamedType-clause-noted : goal.procedure_if-returns-in-NamedType-clause-noted
+procedure_if-returns-in-NamedType-clause-noted g t c = λ n hs k b.
+    let all = whole (around_of g.E.Types.types c.args.scope.now) c.args.aside.now in
+    none_noted all c.args.d.now hs c.args.book.now (ap (λ (y : Decl). written_in (declaration y)) c.in-NamedType.is ∙ type_is c.in-NamedType.name c.in-NamedType.node)
+
+pub procedure_if-returns-in-Variables-clause-noted : goal.procedure_if-returns-in-Variables-clause-noted
+procedure_if-returns-in-Variables-clause-noted g t c = λ n hs k b.
+    let all = whole (around_of g.E.Types.types c.args.scope.now) c.args.aside.now in
+    none_noted all c.args.d.now hs c.args.book.now (ap (λ (y : Decl). written_in (declaration y)) c.in-Variables.is ∙ variables_are c.in-Variables.names c.in-Variables.node)
 
 -- A PROCEDURE
 
