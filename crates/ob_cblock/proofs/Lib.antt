@@ -4,4 +4,5 @@ pub mod ProcedureLaws
 pub mod ContentLaws
 pub mod ToldLaws
 pub mod DeclViews
+pub mod Depths
 pub mod BlockLaws

@@ -1,6 +1,7 @@
-use Rattle.std.proofs.Common.{rules, ◌≡◌, ℕ, ◌+◌, ◌-◌, ◌<◌, ◌≤◌, List, ◌++◌, length, drop, refl, sym, ap, subst, ◌∙◌, arith}
+use Rattle.std.proofs.Common.{rules, ◌≡◌, ℕ, ◌+◌, ◌-◌, ◌<◌, ◌≤◌, List, ◌++◌, length, drop, true, refl, sym, ap, subst, ◌∙◌, arith}
 use Rattle.std.specs.Prelude.{reverse}
 use Rattle.ob_tree.specs.declared.decl.Decl.{Decl}
+use Rattle.ob_known.specs.Descending.{are_within}
 use Rattle.ob_known.specs.Scopes.{around_of}
 use Rattle.ob_rules.specs.declared.entity.Known.{Known}
 use Rattle.ob_rules.specs.declared.notes.Notebook.{Notebook}
@@ -14,6 +15,7 @@ use Rattle.ob_cblock.specs.Blocks.{block_of, unbound}
 use Rattle.ob_cblock.specs.Steps.{left_block}
 use Rattle.ob_cblock.specs.Procedures.{whole, AreReady, AreBehind, judged_from, judged_first, left_of}
 use Rattle.ob_cblock.proofs.ProcedureLaws.{part_more, part_end_noted, part_end_added, first_ready, still_inside, known_here, here_of, here_noted, here_added, left_here, same_procedure}
+use Rattle.ob_cblock.proofs.Depths.{fewer_inside, no_more_in}
 use Rattle.ob_cblock.proofs.DeclViews.{constant_is, type_is, variables_are, none_noted, first_procedure, with_first, first_ready_one}
 use Rattle.ob_cblock.proofs.BlockLaws.{heads_ready, nothing_comes, judged_all, block_noted, block_added, block_bound, block_stays}
 use Rattle.ob_cblock.proofs.blocks.+block.Goals as goal
@@ -90,6 +92,16 @@ block-returns-clause-bound g t c =
 
 -- PROCEDURES IN TURN
 
+pub procedures-procedure_if-requires : goal.procedures-procedure_if-requires
+procedures-procedure_if-requires g t c κs within =
+    let ty = g.E.Types.types in
+    let u = around_of ty c.args.scope.now in
+    let all_is : whole (around_of ty c.declarations.scope) c.declarations.aside ≡ u = c.declarations.invariant.around in
+    let ready = subst (λ (y : Around). AreReady y.scope y.known (reverse c.declarations.left.items)) (sym all_is) c.declarations.invariant.ready in
+    let fall = subst (λ (y : Around). are_within y.scope y.known ≡ true) (sym all_is) c.mark-all.ensures.fall in
+    let coming = ap (λ (y : Around). y.coming) all_is ∙ c.requires.coming in
+    (no_more_in c.args.decls.now c.declarations.d-index c.d-item.result t (omega arith) c.d-item.is c.decreases, (within, (ready, (fall, coming))))
+
 pub procedures-declarations-preserved : goal.procedures-declarations-preserved
 procedures-declarations-preserved g t c =
     let ty = g.E.Types.types in
@@ -134,7 +146,8 @@ pub procedure_if-procedure-requires : goal.procedure_if-procedure-requires
 procedure_if-procedure-requires g t c κs within =
     let u = around_of g.E.Types.types c.args.scope.now in
     let ready = first_ready_one u.scope (c.args.aside.now.items ++ u.known) (reverse c.args.heads.now.items) c.in-Some.head c.in-Some.ensures.first c.requires.ready in
-    (?, ?)
+    let p = c.in-Procedure in
+    (fewer_inside c.args.d.now p.heading p.decls c.as_slice.result.now p.body p.closing t p.is c.as_slice.ensures c.decreases, (within, (ready, (c.requires.fall, c.requires.coming))))
 
 pub procedure_if-returns-in_ok-procedure-in-Some-clause-noted : goal.procedure_if-returns-in_ok-procedure-in-Some-clause-noted
 procedure_if-returns-in_ok-procedure-in-Some-clause-noted g t c = λ n hs k b.
