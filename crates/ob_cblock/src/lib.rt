@@ -2,5 +2,10 @@
 #![tactic(auto)]
 
 mod blocks;
+mod bound;
+mod contents;
+mod declared;
+mod heads;
+mod opened;
 
 pub use blocks::block;
