@@ -1,0 +1,4 @@
+pub mod Sourced
+pub mod Answered
+pub mod Limited
+pub mod Facing

@@ -78,6 +78,6 @@ Makes answer (Err fault.Folder) = ⊥
 Makes answer (Err fault.Memory) = Unit {0}
 
 -- The folder is named only where its count rose, and the count never falls.
-pub record CompileHasCause (before now : ℕ) (result : Result Built CompileFault) : Type 0 where
+pub record CompileHasCause {T : Type 0} (before now : ℕ) (result : Result T CompileFault) : Type 0 where
   pub later : before ≤ now
   pub failed : IsErrOf result fault.Folder → Rose before now
