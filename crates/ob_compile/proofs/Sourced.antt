@@ -4,17 +4,16 @@ use Rattle.std.specs.Prelude.{Vec}
 use Rattle.std.specs.declared.alloc.Global.{Global}
 use Rattle.ob_format.specs.Exact.{le_decides}
 use Rattle.ob_tree.specs.declared.print.Print.{Print}
-use Rattle.ob_tree.specs.declared.decl.Module.{Module as Tree}
 use Rattle.ob_io.specs.Io.{Finds, FitsIn}
 use Rattle.ob_io.specs.declared.traits.FolderFault.{FolderFault}
 use Rattle.ob_io.specs.declared.traits.FolderFault.TheVariants as folder
-use Rattle.ob_reading.specs.Reading.{NoModule, reading}
+use Rattle.ob_reading.specs.Reading.{reading}
 use Rattle.ob_walk.specs.Walk.{Entry, symbol_entry}
 use Rattle.ob_compile.specs.declared.shape.Built.{Built}
 use Rattle.ob_compile.specs.declared.fault.CompileRefusal.TheVariants as refusal
 use Rattle.ob_compile.specs.declared.fault.CompileFault.{CompileFault}
 use Rattle.ob_compile.specs.declared.fault.CompileFault.TheVariants as fault
-use Rattle.ob_compile.specs.Compiling.{Refusal, Long, Compiled, compiled, of_short, of_reading, of_few, prints}
+use Rattle.ob_compile.specs.Compiling.{Refusal, Long, Compiled, compiled, of_short, of_reading, prints}
 use Rattle.ob_compile.specs.Contract.{Compiles}
 use Rattle.ob_compile.specs.Steps.{Sources, IsShort}
 
@@ -55,15 +54,3 @@ then_text fs gs file text l r same is source h =
     subst (λ (a : Result (Compiled Print) (Refusal Print)). Compiles a r) (sym (source (symbol_entry fs)))
     (subst (λ (k : List ℕ). Compiles (of_reading prints (symbol_entry fs) (reading k)) r) is
     (subst (λ (hs : List ℕ → Option (List ℕ)). Compiles (of_reading prints (symbol_entry hs) (reading l)) r) same h))
-
--- ---- the number of imports
-
-pub few : (n : ℕ) (a : Result (Compiled Print) (Refusal Print)) (r : Result Built CompileFault) → n ≤ 64 → Compiles a r → Compiles (of_few (leb n 64) a) r
-few n a r l h = subst (λ (b : Bool). Compiles (of_few b a) r) (sym ((le_decides n 64).1 l)) h
-
-many_at : (b : Bool) → (b ≡ true → ⊥) → b ≡ false
-many_at true h = absurd (h refl)
-many_at false h = refl
-
-pub many : (n : ℕ) → 64 < n → leb n 64 ≡ false
-many n l = many_at (leb n 64) (λ t. let h : n ≤ 64 = (le_decides n 64).0 t in absurd (omega (arith, l, h)))

@@ -1,3 +1,4 @@
 pub mod Compiling
 pub mod Contract
 pub mod Steps
+pub mod Ruled

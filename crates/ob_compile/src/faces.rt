@@ -13,6 +13,7 @@ ghost use Rattle.ob_compile.specs.Steps.{stood};
 
 use crate::answers::{fault_of_env, fault_of_text, fault_of_walk, over_limit};
 use crate::fault::CompileFault;
+use crate::held::SourceTree;
 use crate::rules::judged;
 use crate::shape::Built;
 use ob_env::Env;
@@ -112,7 +113,10 @@ pub fn compile_text<F: Shelf>(
     ensures cause { CompileHasCause (F.faults folder.old) (F.faults folder.new) result }
 {
     match read_module(alloc, text) {
-        Ok(tree) => compile_tree(alloc, folder, &tree),
+        Ok(tree) => {
+            let source = SourceTree { tree };
+            compile_tree(alloc, folder, &source.tree)
+        }
         Err(fault) => Err(fault_of_text(fault)),
     }
 }

@@ -11,6 +11,7 @@ ghost use Rattle.ob_compile.specs.Contract.{Makes};
 
 use crate::answers::over_limit;
 use crate::fault::CompileFault;
+use crate::held::ShownFace;
 use crate::shape::Built;
 use ob_obj::{ObjFile, write_obj};
 use ob_spelled::{has_object_file, has_symbol_file};
@@ -67,25 +68,32 @@ fn limit_of_files(obj: &Text, sym: &Text) -> Option<Which>
 }
 
 // What is compiled, with the bytes of its two files.
-fn built(face: Interface, obj: Text, sym: Text) -> Result<Built, CompileFault>
-    ensures { (c : Compiled PrintValue) → face ≡ interface_by prints c → obj ≡ object_bytes prints c → sym ≡ symbol_bytes prints c → Makes (within c (limit_of_files (object_bytes prints c) (symbol_bytes prints c))) result }
+fn built(shown: ShownFace, obj: Text, sym: Text) -> Result<Built, CompileFault>
+    ensures { (c : Compiled PrintValue) → shown.face ≡ interface_by prints c → obj ≡ object_bytes prints c → sym ≡ symbol_bytes prints c → Makes (within c (limit_of_files (object_bytes prints c) (symbol_bytes prints c))) result }
 {
     match limit_of_files(&obj, &sym) {
         Some(which) => Err(over_limit(which)),
-        None => Ok(Built { face, sym, obj }),
+        None => {
+            let face = shown.into_inner();
+            Ok(Built { face, sym, obj })
+        }
     }
 }
 
 /// Writes the two files of what is compiled.
-pub fn written(alloc: Global, face: Interface, file: &ObjFile) -> Result<Built, CompileFault>
-    requires { AllHavePrints face }
-    ensures { (c : Compiled PrintValue) → face ≡ interface_by prints c → file.now ≡ object_by prints c → Makes (within c (limit_of_files (object_bytes prints c) (symbol_bytes prints c))) result }
+pub fn written(
+    alloc: Global,
+    shown: ShownFace,
+    file: &ObjFile,
+) -> Result<Built, CompileFault>
+    requires { AllHavePrints shown.face }
+    ensures { (c : Compiled PrintValue) → shown.face ≡ interface_by prints c → file.now ≡ object_by prints c → Makes (within c (limit_of_files (object_bytes prints c) (symbol_bytes prints c))) result }
 {
     let Ok(obj) = object_bytes(alloc, file) else {
         return Err(CompileFault::Memory);
     };
-    let Ok(sym) = symbol_bytes(alloc, &face) else {
+    let Ok(sym) = symbol_bytes(alloc, &shown.face) else {
         return Err(CompileFault::Memory);
     };
-    built(face, obj, sym)
+    built(shown, obj, sym)
 }

@@ -6,6 +6,7 @@ mod compiling;
 mod faces;
 mod fault;
 mod files;
+mod held;
 mod limits;
 mod prints;
 mod rules;

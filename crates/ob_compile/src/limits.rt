@@ -13,6 +13,7 @@ ghost use Rattle.ob_compile.specs.Steps.{compiled_of};
 use crate::answers::over_limit;
 use crate::fault::CompileFault;
 use crate::files::written;
+use crate::held::{ObjectFile, ShownFace};
 use crate::shape::Built;
 use crate::shown::{copy_uses, exports_of, shown};
 use ob_env::{Env, View};
@@ -50,53 +51,59 @@ fn limit_of_code(file: &ObjFile) -> Option<Which>
 }
 
 // The object file of a module with that interface.
-fn object_with(alloc: Global, view: &View<'_>, face: &Interface) -> Result<ObjFile, AllocError>
-    ensures { IfOk result (λ f. f ≡ object_with (compiled_of view.now.env.now view.now.«module».now) face.now) }
+fn object_with(
+    alloc: Global,
+    view: &View<'_>,
+    face: &Interface,
+) -> Result<ObjectFile, AllocError>
+    ensures { IfOk result (λ o. o.file ≡ object_with (compiled_of view.now.env.now view.now.«module».now) face.now) }
 {
-    let exports = exports_of(alloc, face.objects.as_slice())?;
-    let uses = copy_uses(alloc, face.uses.as_slice())?;
+    let objects = face.objects.as_slice();
+    let exports = exports_of(alloc, objects)?;
+    let used = face.uses.as_slice();
+    let uses = copy_uses(alloc, used)?;
     match object_file(alloc, view, view.module(), exports, uses) {
-        Ok(file) => Ok(file),
+        Ok(file) => Ok(ObjectFile { file }),
         Err(_) => Err(AllocError),
     }
 }
 
 // Makes the files of a module that keeps the limits of sizes and operands.
-fn coded(alloc: Global, view: &View<'_>, face: Interface) -> Result<Built, CompileFault>
-    requires { face ≡ interface_by prints (compiled_of view.now.env.now view.now.«module».now) }
+fn coded(alloc: Global, view: &View<'_>, shown: ShownFace) -> Result<Built, CompileFault>
+    requires { shown.face ≡ interface_by prints (compiled_of view.now.env.now view.now.«module».now) }
     ensures { Makes (within (compiled_of view.now.env.now view.now.«module».now) (limit_of_code prints (compiled_of view.now.env.now view.now.«module».now))) result }
 {
-    let Ok(file) = object_with(alloc, view, &face) else {
+    let Ok(object) = object_with(alloc, view, &shown.face) else {
         return Err(CompileFault::Memory);
     };
-    match limit_of_code(&file) {
+    match limit_of_code(&object.file) {
         Some(which) => Err(over_limit(which)),
-        None => written(alloc, face, &file),
+        None => written(alloc, shown, &object.file),
     }
 }
 
 // Makes the files of a module that keeps the limits of sizes.
-fn sized(alloc: Global, view: &View<'_>, face: Interface) -> Result<Built, CompileFault>
-    requires { face ≡ interface_by prints (compiled_of view.now.env.now view.now.«module».now) }
+fn sized(alloc: Global, view: &View<'_>, shown: ShownFace) -> Result<Built, CompileFault>
+    requires { shown.face ≡ interface_by prints (compiled_of view.now.env.now view.now.«module».now) }
     ensures { Makes (within (compiled_of view.now.env.now view.now.«module».now) (limit_of_operands prints (compiled_of view.now.env.now view.now.«module».now))) result }
 {
     match limit_of_operands(view.module()) {
         Some(which) => Err(over_limit(which)),
-        None => coded(alloc, view, face),
+        None => coded(alloc, view, shown),
     }
 }
 
 // Makes the files of a module with that interface.
-fn faced(alloc: Global, view: &View<'_>, face: Interface) -> Result<Built, CompileFault>
-    requires { face ≡ interface_by prints (compiled_of view.now.env.now view.now.«module».now) }
+fn faced(alloc: Global, view: &View<'_>, shown: ShownFace) -> Result<Built, CompileFault>
+    requires { shown.face ≡ interface_by prints (compiled_of view.now.env.now view.now.«module».now) }
     ensures { Makes (within (compiled_of view.now.env.now view.now.«module».now) (exceeds prints (compiled_of view.now.env.now view.now.«module».now))) result }
 {
-    let Ok(limit) = first_limit(alloc, view, view.module(), face.objects.len()) else {
+    let Ok(limit) = first_limit(alloc, view, view.module(), shown.face.objects.len()) else {
         return Err(CompileFault::Memory);
     };
     match limit {
         Some(which) => Err(over_limit(which)),
-        None => sized(alloc, view, face),
+        None => sized(alloc, view, shown),
     }
 }
 
@@ -107,8 +114,8 @@ pub fn measured(alloc: Global, env: &Env, module: &TypedModule) -> Result<Built,
     let Ok(view) = View::new(alloc, module, env) else {
         return Err(CompileFault::Memory);
     };
-    let Ok(face) = shown(alloc, &view) else {
+    let Ok(shown) = shown(alloc, &view) else {
         return Err(CompileFault::Memory);
     };
-    faced(alloc, &view, face)
+    faced(alloc, &view, shown)
 }

@@ -1,6 +1,6 @@
 //! The rules of the language, and the layout of a module that keeps them.
 
-ghost use Rattle.std.specs.Prelude.{◌≡◌, Ok, IfOk};
+ghost use Rattle.std.specs.Prelude.{◌≡◌, Ok, IfOk, IsSome};
 ghost use Rattle.std.specs.Option.{option_map};
 ghost use Rattle.ob_types.specs.TypedView.{module_view};
 ghost use Rattle.ob_rules.specs.Declarations.{checked, first_break};
@@ -9,6 +9,7 @@ ghost use Rattle.ob_env.specs.Faces.{faces_of, described};
 ghost use Rattle.ob_env.specs.Shown.{shown};
 ghost use Rattle.ob_compile.specs.Compiling.{of_faces, unless_deep, is_deep, and_limits, of_break, of_checked, made as made_by, prints};
 ghost use Rattle.ob_compile.specs.Contract.{Makes};
+ghost use Rattle.ob_compile.specs.Ruled.{IsChecked};
 
 use crate::answers::over_limit;
 use crate::fault::{CompileFault, CompileRefusal};
@@ -52,13 +53,14 @@ fn made(alloc: Global, env: &Env, tree: ModuleTree) -> Result<Built, CompileFaul
     measured(alloc, env, &laid.inner)
 }
 
-// Makes the files of a checked module. A module that breaks no rule has one.
+// Makes the files of a module that breaks no rule.
 fn unbroken(alloc: Global, env: &Env, tree: Option<ModuleTree>) -> Result<Built, CompileFault>
+    requires { IsSome tree }
     ensures { Makes (and_limits prints (of_checked prints (faces_of env.now) (option_map (λ t. t.inner) tree))) result }
 {
     match tree {
         Some(tree) => made(alloc, env, tree),
-        None => Err(CompileFault::Refused(CompileRefusal::NoSource)),
+        None => unreachable!(),
     }
 }
 
@@ -68,6 +70,7 @@ fn ruled(
     tree: Option<ModuleTree>,
     broken: Option<Broken>,
 ) -> Result<Built, CompileFault>
+    requires { IsChecked broken tree }
     ensures { Makes (and_limits prints (of_break prints (faces_of env.now) (option_map (λ t. t.inner) tree) broken)) result }
 {
     match broken {
@@ -78,6 +81,7 @@ fn ruled(
 
 // Answers what a module comes to by the rules: the limit `depth`, then the least broken rule.
 fn by_rules(alloc: Global, env: &Env, checked: Checked) -> Result<Built, CompileFault>
+    requires { IsChecked checked.broken checked.tree }
     ensures { Makes (unless_deep checked.deep (and_limits prints (of_break prints (faces_of env.now) (option_map (λ t. t.inner) checked.tree) checked.broken))) result }
 {
     let Checked { tree, broken, deep } = checked;

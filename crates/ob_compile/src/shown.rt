@@ -5,23 +5,24 @@ ghost use Rattle.std.specs.List.{flat_map};
 ghost use Rattle.ob_compile.specs.Compiling.{exports_of, object_exports, layout_export, interface_by, prints};
 ghost use Rattle.ob_compile.specs.Steps.{compiled_of};
 
+use crate::held::ShownFace;
 use crate::prints::EnvPrints;
 use ob_env::View;
 use ob_obj::Export;
 use ob_tree::{List, ObjName, Print};
 use ob_trees::copy_name;
-use ob_types::{Aspect, Interface, Object, Use};
+use ob_types::{Aspect, Object, Use};
 use ob_uses::{interface_of, view_is_held};
 use std::alloc::{AllocError, Global};
 
 /// The interface of a module that is laid out.
-pub fn shown(alloc: Global, view: &View<'_>) -> Result<Interface, AllocError>
-    ensures { IfOk result (λ i. i ≡ interface_by prints (compiled_of view.now.env.now view.now.«module».now)) }
+pub fn shown(alloc: Global, view: &View<'_>) -> Result<ShownFace, AllocError>
+    ensures { IfOk result (λ s. s.face ≡ interface_by prints (compiled_of view.now.env.now view.now.«module».now)) }
 {
     view_is_held();
     let has = EnvPrints { env: view.env() };
     let face = interface_of(alloc, view, &has, view.module())?;
-    Ok(face)
+    Ok(ShownFace { face })
 }
 
 fn put_layout(
