@@ -20,6 +20,8 @@ pub fn compile<F: Shelf>(alloc: Global, folder: &mut F, file: &str) -> Result<Bu
     ensures compiles { F.tells folder.old ≡ true → Compiles (compiled prints (symbol_entry (F.files folder.old)) (F.files folder.old file.now)) result }
     ensures cause { CompileHasCause (F.faults folder.old) (F.faults folder.new) result }
 {
-    let text = read_source(alloc, folder, file)?;
-    compile_text(alloc, folder, text.as_slice())
+    match read_source(alloc, folder, file) {
+        Ok(text) => compile_text(alloc, folder, text.as_slice()),
+        Err(fault) => Err(fault),
+    }
 }

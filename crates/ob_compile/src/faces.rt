@@ -48,11 +48,7 @@ fn all_imported(alloc: Global, imports: &[Import]) -> Result<List<Name>, AllocEr
 }
 
 // Compiles a module over the interfaces of the modules below it.
-fn compile_over(
-    alloc: Global,
-    tree: &Module,
-    faces: List<Interface>,
-) -> Result<Built, CompileFault>
+fn compile_over(alloc: Global, tree: &Module, faces: List<Interface>) -> Result<Built, CompileFault>
     requires { CarryPrints faces }
     ensures { Makes (of_standing prints tree.now (stands_as faces)) result }
 {
@@ -94,7 +90,8 @@ fn compile_tree<F: Shelf>(
     if tree.imports.len() > MOST_IMPORTS {
         return Err(over_limit(Which::Imports));
     }
-    let Ok(imports) = all_imported(alloc, tree.imports.as_slice()) else {
+    let listed = tree.imports.as_slice();
+    let Ok(imports) = all_imported(alloc, listed) else {
         return Err(CompileFault::Memory);
     };
     compile_with(alloc, folder, tree, imports.as_slice())

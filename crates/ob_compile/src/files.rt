@@ -81,11 +81,7 @@ fn built(shown: ShownFace, obj: Text, sym: Text) -> Result<Built, CompileFault>
 }
 
 /// Writes the two files of what is compiled.
-pub fn written(
-    alloc: Global,
-    shown: ShownFace,
-    file: &ObjFile,
-) -> Result<Built, CompileFault>
+pub fn written(alloc: Global, shown: ShownFace, file: &ObjFile) -> Result<Built, CompileFault>
     requires { AllHavePrints shown.face }
     ensures { (c : Compiled PrintValue) → shown.face ≡ interface_by prints c → file.now ≡ object_by prints c → Makes (within c (limit_of_files (object_bytes prints c) (symbol_bytes prints c))) result }
 {

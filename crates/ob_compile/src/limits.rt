@@ -51,11 +51,7 @@ fn limit_of_code(file: &ObjFile) -> Option<Which>
 }
 
 // The object file of a module with that interface.
-fn object_with(
-    alloc: Global,
-    view: &View<'_>,
-    face: &Interface,
-) -> Result<ObjectFile, AllocError>
+fn object_with(alloc: Global, view: &View<'_>, face: &Interface) -> Result<ObjectFile, AllocError>
     ensures { IfOk result (λ o. o.file ≡ object_with (compiled_of view.now.env.now view.now.«module».now) face.now) }
 {
     let objects = face.objects.as_slice();
@@ -107,6 +103,16 @@ fn faced(alloc: Global, view: &View<'_>, shown: ShownFace) -> Result<Built, Comp
     }
 }
 
+// Makes the files of a module, by the view from it.
+fn viewed(alloc: Global, view: &View<'_>) -> Result<Built, CompileFault>
+    ensures { Makes (within (compiled_of view.now.env.now view.now.«module».now) (exceeds prints (compiled_of view.now.env.now view.now.«module».now))) result }
+{
+    let Ok(shown) = shown(alloc, view) else {
+        return Err(CompileFault::Memory);
+    };
+    faced(alloc, view, shown)
+}
+
 /// Makes the files of a module that is laid out over its environment, unless it exceeds a limit.
 pub fn measured(alloc: Global, env: &Env, module: &TypedModule) -> Result<Built, CompileFault>
     ensures { Makes (within (compiled_of env.now «module».now) (exceeds prints (compiled_of env.now «module».now))) result }
@@ -114,8 +120,5 @@ pub fn measured(alloc: Global, env: &Env, module: &TypedModule) -> Result<Built,
     let Ok(view) = View::new(alloc, module, env) else {
         return Err(CompileFault::Memory);
     };
-    let Ok(shown) = shown(alloc, &view) else {
-        return Err(CompileFault::Memory);
-    };
-    faced(alloc, &view, shown)
+    viewed(alloc, &view)
 }

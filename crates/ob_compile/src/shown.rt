@@ -45,11 +45,7 @@ fn put_layout(
     }
 }
 
-fn put_shape(
-    exports: &mut List<Export>,
-    name: &ObjName,
-    print: Print,
-) -> Result<(), AllocError>
+fn put_shape(exports: &mut List<Export>, name: &ObjName, print: Print) -> Result<(), AllocError>
     ensures { OnOk result (exports.new ≡ exports.old ++ record { name = name.now; aspect = Aspect.Shape; print = print } ∷ []) }
 {
     let name = name.clone()?;

@@ -1,4 +1,4 @@
-use Rattle.std.proofs.Common.{◌≡◌, ◌<◌, ◌≤◌, length, map, subst, sym, ◌∙◌}
+use Rattle.std.proofs.Common.{◌≡◌, ◌<◌, ◌≤◌, length, map, ap, subst, ◌∙◌}
 use Rattle.ob_walk.specs.Walk.{symbol_entry, walk}
 use Rattle.ob_walk.specs.Answer.{after_walk}
 use Rattle.ob_compile.specs.Compiling.{imported, of_reached, prints}
@@ -8,10 +8,13 @@ use Rattle.ob_compile.proofs.faces.compile_tree.Goals as goal
 
 pub returns-then-len-gt-MOST_IMPORTS-clause-compiles : goal.returns-then-len-gt-MOST_IMPORTS-clause-compiles
 returns-then-len-gt-MOST_IMPORTS-clause-compiles g c = λ told.
-    let many : 64 < length c.args.tree.now.imports = subst (λ n. 64 < n) c.len.ensures c.if-len-gt-MOST_IMPORTS.true in
-    many_imports (length c.args.tree.now.imports) _ c.over_limit.result many c.over_limit.ensures
+    let tree = c.args.tree.now in
+    let many : 64 < length tree.imports = subst (λ n. 64 < n) c.len.ensures c.if-len-gt-MOST_IMPORTS.true in
+    many_imports (length tree.imports) (of_reached prints tree (after_walk stood (walk (symbol_entry (g.F.Shelf.files c.args.folder.now)) tree.name.name (map imported tree.imports)))) c.over_limit.result many c.over_limit.ensures
 
 pub returns-clause-compiles : goal.returns-clause-compiles
 returns-clause-compiles g c = λ told.
-    let few : length c.args.tree.now.imports ≤ 64 = subst (λ n. n ≤ 64) c.len.ensures c.if-len-gt-MOST_IMPORTS.false in
-    with_imports c.args.tree.now (symbol_entry (g.F.Shelf.files c.args.folder.now)) (length c.args.tree.now.imports) (map imported c.args.tree.now.imports) c.as_slice-in-Ok.result.now c.compile_with.result few _ (c.compile_with.ensures.compiles told)
+    let tree = c.args.tree.now in
+    let few : length tree.imports ≤ 64 = subst (λ n. n ≤ 64) c.len.ensures c.if-len-gt-MOST_IMPORTS.false in
+    with_imports tree (symbol_entry (g.F.Shelf.files c.args.folder.now)) (length tree.imports) (map imported tree.imports) c.as_slice.result.now c.compile_with.result few
+    (c.as_slice.ensures ∙ c.in-Ok.ensures ∙ ap (map imported) c.as_slice-listed.ensures) (c.compile_with.ensures.compiles told)
