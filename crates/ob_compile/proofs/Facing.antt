@@ -18,15 +18,21 @@ use Rattle.ob_uses.specs.Made.{face_over}
 use Rattle.ob_spelled.specs.Prints.{HasPrints, AllHavePrints}
 use Rattle.ob_compile.specs.Compiling.{Compiled, interface_by, prints}
 use Rattle.ob_compile.specs.Steps.{compiled_of}
+use Rattle.ob_compile.specs.Showing.{IsShown}
 
 pub own_types : (map : QName → Option Desc) (m : Module) → HasOwnTypes (viewed map m) m
 own_types map m q e = ap (λ (b : Bool). cond b (type_named m.types q.object) (map q)) e
 
-pub shown_is : (is js : List Interface) (m k : TypedModule) (n : ℕ) (i : Interface) → js ≡ is → k ≡ m → n ≡ length m.types + count_of (faces_of is) → i ≡ interface_of (face_over (viewed (described (faces_of is)) (module_view m)) n (print_in (faces_of js)) (module_view k)) → i ≡ interface_by prints (compiled_of is m)
+pub shown_is : (is js : List Interface) (m k : TypedModule) (n : ℕ) (i : Interface) → js ≡ is → k ≡ m → n ≡ length m.types + count_of (faces_of is) → i ≡ interface_of (face_over (viewed (described (faces_of is)) (module_view m)) n (print_in (faces_of js)) (module_view k)) → IsShown i is m
+unfolding IsShown
 shown_is is js m k n i same_faces same_module same_number h =
     h ∙ ap (λ (x : List Interface). interface_of (face_over (viewed (described (faces_of is)) (module_view m)) n (print_in (faces_of x)) (module_view k))) same_faces
     ∙ ap (λ (x : TypedModule). interface_of (face_over (viewed (described (faces_of is)) (module_view m)) n (print_in (faces_of is)) (module_view x))) same_module
     ∙ ap (λ (x : ℕ). interface_of (face_over (viewed (described (faces_of is)) (module_view m)) x (print_in (faces_of is)) (module_view m))) same_number
+
+pub as_shown : (i : Interface) (is : List Interface) (m : TypedModule) → IsShown i is m → i ≡ interface_by prints (compiled_of is m)
+unfolding IsShown
+as_shown i is m h = h
 
 pub objects_are : (c : Compiled Print) (i : Interface) → i ≡ interface_by prints c → length i.objects ≡ length c.shows.objects
 objects_are c i is = ap (λ (x : Interface). length x.objects) is ∙ length-map c.shows.objects (object_of c.shows.«module»)

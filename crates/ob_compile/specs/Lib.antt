@@ -2,3 +2,4 @@ pub mod Compiling
 pub mod Contract
 pub mod Steps
 pub mod Ruled
+pub mod Showing

@@ -6,9 +6,10 @@ ghost use Rattle.ob_tree.specs.declared.which.Which.TheVariants as which;
 ghost use Rattle.ob_types.specs.declared.desc.Desc.{Desc};
 ghost use Rattle.ob_types.specs.TypedView.{module_view};
 ghost use Rattle.ob_code.specs.Needs.{has_few_operands as few_operands};
-ghost use Rattle.ob_compile.specs.Compiling.{within, exceeds, exceeded, limit_of_operands, limit_of_code, most_code, object_with, interface_by, prints};
+ghost use Rattle.ob_compile.specs.Compiling.{within, exceeds, exceeded, limit_of_operands, limit_of_code, most_code, object_with, prints};
 ghost use Rattle.ob_compile.specs.Contract.{Makes};
 ghost use Rattle.ob_compile.specs.Steps.{compiled_of};
+ghost use Rattle.ob_compile.specs.Showing.{IsShown};
 
 use crate::answers::over_limit;
 use crate::fault::CompileFault;
@@ -66,7 +67,7 @@ fn object_with(alloc: Global, view: &View<'_>, face: &Interface) -> Result<Objec
 
 // Makes the files of a module that keeps the limits of sizes and operands.
 fn coded(alloc: Global, view: &View<'_>, shown: ShownFace) -> Result<Built, CompileFault>
-    requires { shown.face ≡ interface_by prints (compiled_of view.now.env.now view.now.«module».now) }
+    requires { IsShown shown.face view.now.env.now view.now.«module».now }
     ensures { Makes (within (compiled_of view.now.env.now view.now.«module».now) (limit_of_code prints (compiled_of view.now.env.now view.now.«module».now))) result }
 {
     let Ok(object) = object_with(alloc, view, &shown.face) else {
@@ -80,7 +81,7 @@ fn coded(alloc: Global, view: &View<'_>, shown: ShownFace) -> Result<Built, Comp
 
 // Makes the files of a module that keeps the limits of sizes.
 fn sized(alloc: Global, view: &View<'_>, shown: ShownFace) -> Result<Built, CompileFault>
-    requires { shown.face ≡ interface_by prints (compiled_of view.now.env.now view.now.«module».now) }
+    requires { IsShown shown.face view.now.env.now view.now.«module».now }
     ensures { Makes (within (compiled_of view.now.env.now view.now.«module».now) (limit_of_operands prints (compiled_of view.now.env.now view.now.«module».now))) result }
 {
     match limit_of_operands(view.module()) {
@@ -91,7 +92,7 @@ fn sized(alloc: Global, view: &View<'_>, shown: ShownFace) -> Result<Built, Comp
 
 // Makes the files of a module with that interface.
 fn faced(alloc: Global, view: &View<'_>, shown: ShownFace) -> Result<Built, CompileFault>
-    requires { shown.face ≡ interface_by prints (compiled_of view.now.env.now view.now.«module».now) }
+    requires { IsShown shown.face view.now.env.now view.now.«module».now }
     ensures { Makes (within (compiled_of view.now.env.now view.now.«module».now) (exceeds prints (compiled_of view.now.env.now view.now.«module».now))) result }
 {
     let Ok(limit) = first_limit(alloc, view, view.module(), shown.face.objects.len()) else {

@@ -2,8 +2,8 @@
 
 ghost use Rattle.std.specs.Prelude.{◌≡◌, [], ◌∷◌, ◌++◌, IfOk, OnOk};
 ghost use Rattle.std.specs.List.{flat_map};
-ghost use Rattle.ob_compile.specs.Compiling.{exports_of, object_exports, layout_export, interface_by, prints};
-ghost use Rattle.ob_compile.specs.Steps.{compiled_of};
+ghost use Rattle.ob_compile.specs.Compiling.{object_exports, layout_export};
+ghost use Rattle.ob_compile.specs.Showing.{IsShown};
 
 use crate::held::ShownFace;
 use crate::prints::EnvPrints;
@@ -17,7 +17,7 @@ use std::alloc::{AllocError, Global};
 
 /// The interface of a module that is laid out.
 pub fn shown(alloc: Global, view: &View<'_>) -> Result<ShownFace, AllocError>
-    ensures { IfOk result (λ s. s.face ≡ interface_by prints (compiled_of view.now.env.now view.now.«module».now)) }
+    ensures { IfOk result (λ s. IsShown s.face view.now.env.now view.now.«module».now) }
 {
     view_is_held();
     let has = EnvPrints { env: view.env() };
