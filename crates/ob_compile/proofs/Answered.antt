@@ -1,5 +1,5 @@
 -- What needs no folder.
-use Rattle.std.proofs.Common.{◌≡◌, Result, Ok, Err, subst}
+use Rattle.std.proofs.Common.{Result, Ok, Err, subst}
 use Rattle.std.specs.Prelude.{IsErrOf}
 use Rattle.ob_tree.specs.declared.print.Print.{Print}
 use Rattle.ob_compile.specs.declared.shape.Built.{Built}

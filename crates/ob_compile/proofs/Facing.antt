@@ -1,5 +1,5 @@
 -- The interface of what is compiled.
-use Rattle.std.proofs.Common.{◌≡◌, ◌+◌, List, [], ◌∷◌, ℕ, Bool, true, cond, length, Option, Result, Ok, Err, refl, sym, ap, subst, ◌∙◌}
+use Rattle.std.proofs.Common.{◌≡◌, ◌+◌, List, [], ◌∷◌, ℕ, Bool, cond, length, Option, refl, sym, ap, subst, ◌∙◌}
 use Rattle.std.specs.Prelude.{map as each}
 use Rattle.std.specs.List.{AllByRecursion}
 use Rattle.std.proofs.lemmas.List.{length-map}
@@ -11,7 +11,7 @@ use Rattle.ob_types.specs.declared.typed.TypedModule.{TypedModule}
 use Rattle.ob_types.specs.TypedSyntax.{Module}
 use Rattle.ob_types.specs.TypedView.{module_view}
 use Rattle.ob_layout.specs.LaidOut.{viewed, type_named}
-use Rattle.ob_env.specs.Faces.{Face, faces_of, described, print_in, interface_of, object_of}
+use Rattle.ob_env.specs.Faces.{faces_of, described, print_in, interface_of, object_of}
 use Rattle.ob_env.specs.Fit.{count_of}
 use Rattle.ob_uses.specs.Objects.{HasOwnTypes}
 use Rattle.ob_uses.specs.Made.{face_over}

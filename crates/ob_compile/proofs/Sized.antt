@@ -1,12 +1,11 @@
 -- The limits of sizes and operands of a module that is laid out.
-use Rattle.std.proofs.Common.{◌≡◌, ℕ, List, length, Option, Some, None, Result, Ok, Err, refl, sym, ap, subst, ◌∙◌}
+use Rattle.std.proofs.Common.{◌≡◌, ℕ, List, length, Option, Some, None, Result, Err, sym, ap, subst, ◌∙◌}
 use Rattle.ob_tree.specs.declared.names.QName.{QName}
 use Rattle.ob_tree.specs.declared.which.Which.{Which}
 use Rattle.ob_tree.specs.declared.which.Which.TheVariants as which
 use Rattle.ob_types.specs.declared.desc.Desc.{Desc}
 use Rattle.ob_types.specs.declared.face.Interface.{Interface}
 use Rattle.ob_types.specs.declared.typed.TypedModule.{TypedModule}
-use Rattle.ob_types.specs.TypedSyntax.{Module}
 use Rattle.ob_types.specs.TypedView.{module_view}
 use Rattle.ob_layout.specs.LaidOut.{viewed}
 use Rattle.ob_layout.specs.Room.{first_limit}

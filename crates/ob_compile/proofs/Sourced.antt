@@ -4,18 +4,18 @@ use Rattle.std.specs.Prelude.{Vec}
 use Rattle.std.specs.declared.alloc.Global.{Global}
 use Rattle.ob_format.specs.Exact.{le_decides}
 use Rattle.ob_tree.specs.declared.print.Print.{Print}
-use Rattle.ob_io.specs.Io.{Finds, FitsIn}
+use Rattle.ob_io.specs.Io.{Finds}
 use Rattle.ob_io.specs.declared.traits.FolderFault.{FolderFault}
 use Rattle.ob_io.specs.declared.traits.FolderFault.TheVariants as folder
 use Rattle.ob_reading.specs.Reading.{reading}
-use Rattle.ob_walk.specs.Walk.{Entry, symbol_entry}
+use Rattle.ob_walk.specs.Walk.{symbol_entry}
 use Rattle.ob_compile.specs.declared.shape.Built.{Built}
 use Rattle.ob_compile.specs.declared.fault.CompileRefusal.TheVariants as refusal
 use Rattle.ob_compile.specs.declared.fault.CompileFault.{CompileFault}
 use Rattle.ob_compile.specs.declared.fault.CompileFault.TheVariants as fault
 use Rattle.ob_compile.specs.Compiling.{Refusal, Long, Compiled, compiled, of_short, of_reading, prints}
 use Rattle.ob_compile.specs.Contract.{Compiles}
-use Rattle.ob_compile.specs.Steps.{Sources, IsShort}
+use Rattle.ob_compile.specs.Steps.{Sources}
 
 short : (b : Bool) → b ≡ true → (r : Result (Compiled Print) (Refusal Print)) → of_short b r ≡ r
 short true e r = refl
@@ -36,9 +36,6 @@ some_found None x v is f = absurd (subst (λ (y : Option (Vec ℕ Global)). Find
 some_found (Some bytes) x v is f = λ entry.
     let g : Finds (Some bytes) 1048576 (Ok (Some v)) = subst (λ (y : Option (Vec ℕ Global)). Finds (Some bytes) 1048576 (Ok y)) is f in
     short (leb (length bytes) 1048576) ((le_decides (length bytes) 1048576).1 g.1) (of_reading prints entry (reading bytes)) ∙ ap (λ (l : List ℕ). of_reading prints entry (reading l)) (sym g.0)
-
-pub some_short : (x : Option (Vec ℕ Global)) (v : Vec ℕ Global) → x ≡ Some v → FitsIn 1048576 x → IsShort v
-some_short x v is f = subst (FitsIn 1048576) is f
 
 pub long_found : (o : Option (List ℕ)) (e : FolderFault) → e ≡ folder.Long → Finds o 1048576 (Err e) → Sources o (Err (fault.Refused refusal.Long))
 unfolding compiled

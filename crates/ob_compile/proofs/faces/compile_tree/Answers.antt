@@ -1,4 +1,4 @@
-use Rattle.std.proofs.Common.{◌≡◌, ◌<◌, ◌≤◌, length, map, ap, subst, ◌∙◌}
+use Rattle.std.proofs.Common.{◌<◌, ◌≤◌, length, map, ap, subst, ◌∙◌}
 use Rattle.ob_walk.specs.Walk.{symbol_entry, walk}
 use Rattle.ob_walk.specs.Answer.{after_walk}
 use Rattle.ob_compile.specs.Compiling.{imported, of_reached, prints}

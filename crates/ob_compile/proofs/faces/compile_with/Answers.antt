@@ -1,6 +1,5 @@
 use Rattle.std.proofs.Common.{Err, ap}
 use Rattle.ob_env.specs.Building.{stands_as}
-use Rattle.ob_walk.specs.declared.walking.WalkStop.TheVariants as stop
 use Rattle.ob_walk.specs.Walk.{symbol_entry, walk}
 use Rattle.ob_compile.specs.declared.fault.CompileFault.TheVariants as fault
 use Rattle.ob_compile.specs.Compiling.{of_standing, prints}

@@ -1,4 +1,4 @@
-use Rattle.std.proofs.Common.{◌∙◌, sym, subst}
+use Rattle.std.proofs.Common.{sym, subst}
 use Rattle.ob_types.specs.TypedView.{module_view}
 use Rattle.ob_env.specs.Faces.{faces_of, described}
 use Rattle.ob_layout.specs.LaidOut.{viewed}

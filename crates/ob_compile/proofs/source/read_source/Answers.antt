@@ -1,4 +1,4 @@
-use Rattle.ob_compile.proofs.Sourced.{none_found, some_found, some_short, long_found}
+use Rattle.ob_compile.proofs.Sourced.{none_found, some_found, long_found}
 use Rattle.ob_compile.proofs.source.read_source.Goals as goal
 
 pub returns-in-Ok-None-clause-source : goal.returns-in-Ok-None-clause-source
