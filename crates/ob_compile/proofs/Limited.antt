@@ -1,5 +1,5 @@
 -- Limits, one behind the other.
-use Rattle.std.proofs.Common.{◌≡◌, length, Option, Some, None, Result, Ok, Err, refl, sym, ap, subst, ◌∙◌}
+use Rattle.std.proofs.Common.{◌≡◌, length, Option, Some, None, Result, Err, refl, sym, ap, subst, ◌∙◌}
 use Rattle.std.specs.Prelude.{nat_le}
 use Rattle.ob_tree.specs.declared.print.Print.{Print}
 use Rattle.ob_tree.specs.declared.which.Which.{Which}
