@@ -13,7 +13,9 @@ use std::alloc::Global;
 
 /// Compiles a file of the folder against the symbol files there: its interface and the bytes of its
 /// two files, or the first refusal. It writes no file, and reads each file once. `Folder` comes only
-/// where the folder's count of faults rose, `Memory` where memory is wanting.
+/// where the folder's count of faults rose, `Memory` where memory is wanting; and, as no law says yet
+/// that it does not come to that, where a file that was made has no spelling or the generator gives
+/// the module up.
 pub fn compile<F: Shelf>(alloc: Global, folder: &mut F, file: &str) -> Result<Built, CompileFault>
     ensures told { F.tells folder.new ≡ F.tells folder.old }
     ensures files { F.tells folder.old ≡ true → SameFiles (F.files folder.new) (F.files folder.old) }

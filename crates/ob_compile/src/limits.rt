@@ -51,7 +51,8 @@ fn limit_of_code(file: &ObjFile) -> Option<Which>
     }
 }
 
-// The object file of a module with that interface.
+// The object file of a module with that interface. Faults of the generator say nothing of the module
+// yet, so they are answered as want of memory.
 fn object_with(alloc: Global, view: &View<'_>, face: &Interface) -> Result<ObjectFile, AllocError>
     ensures { IfOk result (λ o. o.file ≡ object_with (compiled_of view.now.env.now view.now.«module».now) face.now) }
 {
