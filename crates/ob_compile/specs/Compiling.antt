@@ -1,7 +1,6 @@
 -- What the compile of a source gives, or why it is refused: once for uses that keep texts and for uses that keep prints.
-use Rattle.std.specs.Prelude.{ℕ, List, [], ◌∷◌, ◌++◌, Bool, true, false, cond, nat_le, not, length, map as each, Option, Some, None, Result, Ok, Err}
+use Rattle.std.specs.Prelude.{ℕ, List, [], ◌∷◌, Bool, true, false, nat_le, length, map as each, Option, Some, None, Result, Ok, Err}
 use Rattle.std.specs.List.{flat_map}
-use Rattle.std.specs.Option.{option_map}
 use Rattle.ob_tree.specs.declared.names.QName.{QName}
 use Rattle.ob_tree.specs.declared.print.Print.{Print}
 use Rattle.ob_tree.specs.declared.which.Which.{Which}
@@ -20,13 +19,11 @@ use Rattle.ob_obj.specs.declared.parts.Export.{Export}
 use Rattle.ob_obj.specs.declared.file.ObjFile.{ObjFile}
 use Rattle.ob_obj.specs.Grammar.{file}
 use Rattle.ob_sym.specs.Grammar.{face}
-use Rattle.ob_scan.specs.declared.fault.ScanFault.{ScanFault}
-use Rattle.ob_pexpr.specs.declared.fault.ParseFault.{ParseFault}
 use Rattle.ob_rules.specs.declared.broken.Broken.{Broken as BrokenRule}
 use Rattle.ob_rules.specs.Declarations.{first_break, checked, deep_of, declaration, module_part}
 use Rattle.ob_layout.specs.LaidOut.{laid_out, viewed}
 use Rattle.ob_layout.specs.Room.{first_limit}
-use Rattle.ob_env.specs.Faces.{Face, Wanted, described, text_in, print_in, printed, interface_of}
+use Rattle.ob_env.specs.Faces.{Face, described, text_in, print_in, printed, interface_of}
 use Rattle.ob_env.specs.Stale.{StaleUse, prints_agree}
 use Rattle.ob_env.specs.Answer.{Standing, Stands, Stale, Unfit}
 use Rattle.ob_env.specs.Shown.{shown}
@@ -35,7 +32,7 @@ use Rattle.ob_walk.specs.Answer.{Reached, Stopped, Whole, env_answer}
 use Rattle.ob_uses.specs.Made.{face_of_laid}
 use Rattle.ob_code.specs.Needs.{has_few_operands}
 use Rattle.ob_code.specs.Object.{object_file}
-use Rattle.ob_reading.specs.Reading.{NoModule, Scan, Parse, reading}
+use Rattle.ob_reading.specs.Reading.{NoModule, reading}
 use Rattle.std.specs.Prelude.{bytes_eq}
 
 -- How uses are kept: whether two that are kept agree, what an object has to keep, and how an interface is written.

@@ -2,12 +2,9 @@
 use Rattle.std.specs.Prelude.{◌≡◌, ℕ, ◌≤◌, Option, Some, None, Result, Ok, Err, IsErrOf}
 use Rattle.ob_tree.specs.declared.print.Print.{Print}
 use Rattle.ob_io.specs.Io.{Rose}
-use Rattle.ob_scan.specs.declared.fault.ScanFault.{ScanFault}
 use Rattle.ob_scan.specs.declared.fault.ScanFault.TheVariants as scanning
-use Rattle.ob_pexpr.specs.declared.fault.ParseFault.{ParseFault}
 use Rattle.ob_pexpr.specs.declared.fault.ParseFault.TheVariants as parsing
 use Rattle.ob_tree.specs.declared.which.Which.TheVariants as which
-use Rattle.ob_env.specs.Faces.{Wanted}
 use Rattle.ob_env.specs.Stale.{Found, StaleUse, AsWanted, IsAbsent, IsChanged}
 use Rattle.ob_walk.specs.Walk.{Walked, Left, NoInterface, Damaged, Cycle, TooMany}
 use Rattle.ob_reading.specs.Reading.{NoModule, Scan, Parse}
@@ -78,6 +75,6 @@ Makes answer (Err fault.Folder) = ⊥
 Makes answer (Err fault.Memory) = Unit {0}
 
 -- The folder is named only where its count rose, and the count never falls.
-pub record CompileHasCause (before now : ℕ) (result : Result Built CompileFault) : Type 0 where
+pub record CompileHasCause {T : Type 0} (before now : ℕ) (result : Result T CompileFault) : Type 0 where
   pub later : before ≤ now
   pub failed : IsErrOf result fault.Folder → Rose before now

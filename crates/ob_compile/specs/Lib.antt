@@ -1,2 +1,5 @@
 pub mod Compiling
 pub mod Contract
+pub mod Steps
+pub mod Ruled
+pub mod Showing

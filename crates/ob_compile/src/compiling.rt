@@ -4,23 +4,26 @@ ghost use Rattle.ob_walk.specs.Walk.{symbol_entry};
 ghost use Rattle.ob_compile.specs.Compiling.{compiled, prints};
 ghost use Rattle.ob_compile.specs.Contract.{Compiles, CompileHasCause};
 
+use crate::faces::compile_text;
 use crate::fault::CompileFault;
 use crate::shape::Built;
+use crate::source::read_source;
 use ob_io::Shelf;
 use std::alloc::Global;
 
 /// Compiles a file of the folder against the symbol files there: its interface and the bytes of its
 /// two files, or the first refusal. It writes no file, and reads each file once. `Folder` comes only
-/// where the folder's count of faults rose, `Memory` where memory is wanting. Answers want of memory:
-/// not written yet.
+/// where the folder's count of faults rose, `Memory` where memory is wanting; and, as no law says yet
+/// that it does not come to that, where a file that was made has no spelling or the generator gives
+/// the module up.
 pub fn compile<F: Shelf>(alloc: Global, folder: &mut F, file: &str) -> Result<Built, CompileFault>
     ensures told { F.tells folder.new ≡ F.tells folder.old }
     ensures files { F.tells folder.old ≡ true → SameFiles (F.files folder.new) (F.files folder.old) }
     ensures compiles { F.tells folder.old ≡ true → Compiles (compiled prints (symbol_entry (F.files folder.old)) (F.files folder.old file.now)) result }
     ensures cause { CompileHasCause (F.faults folder.old) (F.faults folder.new) result }
 {
-    let _ = alloc;
-    let _ = folder;
-    let _ = file;
-    Err(CompileFault::Memory)
+    match read_source(alloc, folder, file) {
+        Ok(text) => compile_text(alloc, folder, text.as_slice()),
+        Err(fault) => Err(fault),
+    }
 }

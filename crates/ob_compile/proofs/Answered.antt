@@ -1,0 +1,20 @@
+-- What needs no folder.
+use Rattle.std.proofs.Common.{Result, Ok, Err, subst}
+use Rattle.std.specs.Prelude.{IsErrOf}
+use Rattle.ob_tree.specs.declared.print.Print.{Print}
+use Rattle.ob_compile.specs.declared.shape.Built.{Built}
+use Rattle.ob_compile.specs.declared.fault.CompileFault.{CompileFault}
+use Rattle.ob_compile.specs.declared.fault.CompileFault.TheVariants as fault
+use Rattle.ob_compile.specs.Compiling.{Refusal, Compiled}
+use Rattle.ob_compile.specs.Contract.{Compiles, Makes}
+
+-- it is answered as it is
+pub made_compiles : (a : Result (Compiled Print) (Refusal Print)) (r : Result Built CompileFault) → Makes a r → Compiles a r
+made_compiles a (Ok b) h = h
+made_compiles a (Err (fault.Refused s)) h = h
+made_compiles a (Err fault.Folder) h = absurd h
+made_compiles a (Err fault.Memory) h = tt
+
+-- and never names the folder
+pub no_folder : (a : Result (Compiled Print) (Refusal Print)) (r : Result Built CompileFault) → Makes a r → IsErrOf r fault.Folder → ⊥
+no_folder a r h is = subst (λ (s : Result Built CompileFault). Makes a s) is h

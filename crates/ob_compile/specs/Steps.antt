@@ -1,0 +1,32 @@
+-- What the steps of a compile answer.
+use Rattle.std.specs.Prelude.{◌≡◌, ℕ, ◌≤◌, List, length, Option, Result, Ok, Err, Vec}
+use Rattle.std.specs.declared.alloc.Global.{Global}
+use Rattle.ob_tree.specs.declared.print.Print.{Print}
+use Rattle.ob_types.specs.declared.face.Interface.{Interface}
+use Rattle.ob_types.specs.declared.typed.TypedModule.{TypedModule}
+use Rattle.ob_types.specs.TypedView.{module_view}
+use Rattle.ob_reading.specs.Reading.{reading}
+use Rattle.ob_env.specs.Faces.{Face, faces_of, print_in}
+use Rattle.ob_env.specs.Stale.{prints_agree}
+use Rattle.ob_env.specs.Answer.{Standing, standing}
+use Rattle.ob_walk.specs.Walk.{Entry}
+use Rattle.ob_compile.specs.declared.fault.CompileFault.{CompileFault}
+use Rattle.ob_compile.specs.Compiling.{Compiled, compiled, of_reading, made, prints}
+use Rattle.ob_compile.specs.Contract.{Compiles}
+
+-- a source that may be read whole
+abbrev pub IsShort : Vec ℕ Global → Type 0
+IsShort text = length text.items ≤ 1048576
+
+-- What a file that was read gives is what the reading of its bytes gives, whatever symbol files there are.
+abbrev pub Sources : Option (List ℕ) → Result (Vec ℕ Global) CompileFault → Type 0
+Sources file (Ok text) = (entry : List ℕ → Entry Print) → compiled prints entry file ≡ of_reading prints entry (reading text.items)
+Sources file (Err fault) = (entry : List ℕ → Entry Print) → Compiles (compiled prints entry file) (Err fault)
+
+-- what the interfaces of a whole walk come to, by their prints
+abbrev pub stood : List (Face Print) → Standing Print
+stood faces = standing prints_agree print_in faces
+
+-- what is compiled, where a module that is laid out stands over these interfaces
+abbrev pub compiled_of : List Interface → TypedModule → Compiled Print
+compiled_of is m = made prints (faces_of is) (module_view m)

@@ -1,0 +1,119 @@
+//! From the bytes of a source to its tree, and on to the interfaces that it stands on.
+
+ghost use Rattle.std.specs.Prelude.{◌≡◌, ◌≤◌, true, length, map as each, IfOk};
+ghost use Rattle.ob_io.specs.Io.{SameFiles};
+ghost use Rattle.ob_reading.specs.Reading.{reading};
+ghost use Rattle.ob_env.specs.Building.{stands_as};
+ghost use Rattle.ob_env.specs.Found.{CarryPrints};
+ghost use Rattle.ob_walk.specs.Walk.{symbol_entry, walk as walking};
+ghost use Rattle.ob_walk.specs.Answer.{after_walk};
+ghost use Rattle.ob_compile.specs.Compiling.{of_reading, of_tree, of_reached, of_standing, prints, imported};
+ghost use Rattle.ob_compile.specs.Contract.{Compiles, Makes, CompileHasCause};
+ghost use Rattle.ob_compile.specs.Steps.{stood};
+
+use crate::answers::{fault_of_env, fault_of_text, fault_of_walk, over_limit};
+use crate::fault::CompileFault;
+use crate::held::SourceTree;
+use crate::rules::judged;
+use crate::shape::Built;
+use ob_env::Env;
+use ob_io::Shelf;
+use ob_reading::read_module;
+use ob_tree::{Import, List, Module, Name, Which};
+use ob_types::Interface;
+use ob_walk::walk;
+use std::alloc::{AllocError, Global};
+
+/// The most imports of a module.
+const MOST_IMPORTS: usize = 64;
+
+// The module that an import names.
+fn imported(import: &Import) -> Name
+    ensures { result ≡ imported import.now }
+{
+    match import.target {
+        None => import.ident.name,
+        Some(target) => target.name,
+    }
+}
+
+fn all_imported(alloc: Global, imports: &[Import]) -> Result<List<Name>, AllocError>
+    ensures { IfOk result (λ l. l ≡ each imported imports.now) }
+{
+    let mut all = List::new(alloc);
+    'imports: for import in imports {
+        all.push(imported(import))?;
+    }
+    Ok(all)
+}
+
+// Compiles a module over the interfaces of the modules below it.
+fn compile_over(alloc: Global, tree: &Module, faces: List<Interface>) -> Result<Built, CompileFault>
+    requires { CarryPrints faces }
+    ensures { Makes (of_standing prints tree.now (stands_as faces)) result }
+{
+    match Env::build(alloc, faces) {
+        Ok(env) => judged(alloc, tree, &env),
+        Err(fault) => Err(fault_of_env(fault)),
+    }
+}
+
+// Compiles a module with these imports.
+fn compile_with<F: Shelf>(
+    alloc: Global,
+    folder: &mut F,
+    tree: &Module,
+    imports: &[Name],
+) -> Result<Built, CompileFault>
+    ensures told { F.tells folder.new ≡ F.tells folder.old }
+    ensures files { F.tells folder.old ≡ true → SameFiles (F.files folder.new) (F.files folder.old) }
+    ensures compiles { F.tells folder.old ≡ true → Compiles (of_reached prints tree.now (after_walk stood (walking (symbol_entry (F.files folder.old)) tree.now.name.name imports.now))) result }
+    ensures cause { CompileHasCause (F.faults folder.old) (F.faults folder.new) result }
+{
+    match walk(alloc, folder, &tree.name.name, imports) {
+        Ok(faces) => compile_over(alloc, tree, faces),
+        Err(stop) => Err(fault_of_walk(stop)),
+    }
+}
+
+// Compiles a module.
+fn compile_tree<F: Shelf>(
+    alloc: Global,
+    folder: &mut F,
+    tree: &Module,
+) -> Result<Built, CompileFault>
+    ensures told { F.tells folder.new ≡ F.tells folder.old }
+    ensures files { F.tells folder.old ≡ true → SameFiles (F.files folder.new) (F.files folder.old) }
+    ensures compiles { F.tells folder.old ≡ true → Compiles (of_tree prints (symbol_entry (F.files folder.old)) tree.now) result }
+    ensures cause { CompileHasCause (F.faults folder.old) (F.faults folder.new) result }
+{
+    if tree.imports.len() > MOST_IMPORTS {
+        return Err(over_limit(Which::Imports));
+    }
+    let listed = tree.imports.as_slice();
+    let Ok(imports) = all_imported(alloc, listed) else {
+        return Err(CompileFault::Memory);
+    };
+    compile_with(alloc, folder, tree, imports.as_slice())
+}
+
+/// Compiles the text of a source.
+pub fn compile_text<F: Shelf>(
+    alloc: Global,
+    folder: &mut F,
+    text: &[u8],
+) -> Result<Built, CompileFault>
+    requires { length text.now ≤ 1048576 }
+    ensures told { F.tells folder.new ≡ F.tells folder.old }
+    ensures files { F.tells folder.old ≡ true → SameFiles (F.files folder.new) (F.files folder.old) }
+    ensures compiles { F.tells folder.old ≡ true → Compiles (of_reading prints (symbol_entry (F.files folder.old)) (reading text.now)) result }
+    ensures cause { CompileHasCause (F.faults folder.old) (F.faults folder.new) result }
+{
+    match read_module(alloc, text) {
+        Ok(tree) => {
+            let source = SourceTree { tree };
+            compile_tree(alloc, folder, &source.tree)
+        }
+        Err(fault) => Err(fault_of_text(fault)),
+    }
+}

@@ -1,0 +1,95 @@
+//! The bytes of the two files.
+
+ghost use Rattle.std.specs.Prelude.{◌≡◌, nat_le, length, IfOk};
+ghost use Rattle.ob_tree.specs.declared.print.Print.{Print as PrintValue};
+ghost use Rattle.ob_sym.specs.Grammar.{face as face_form};
+ghost use Rattle.ob_obj.specs.Grammar.{file as file_form};
+ghost use Rattle.ob_spelled.specs.Prints.{AllHavePrints};
+ghost use Rattle.ob_walk.specs.Walk.{file_limit};
+ghost use Rattle.ob_compile.specs.Compiling.{Compiled, within, limit_of_files, object_by, object_bytes, symbol_bytes, interface_by, prints};
+ghost use Rattle.ob_compile.specs.Contract.{Makes};
+
+use crate::answers::over_limit;
+use crate::fault::CompileFault;
+use crate::held::ShownFace;
+use crate::shape::Built;
+use ob_obj::{ObjFile, write_obj};
+use ob_spelled::{has_object_file, has_symbol_file};
+use ob_sym::write_sym;
+use ob_tree::{Text, Which};
+use ob_types::Interface;
+use std::alloc::{AllocError, Global};
+
+/// The most bytes of a file.
+const MOST_BYTES: usize = 16_777_216;
+
+// The bytes of an object file. What a compile makes has a spelling; no law says so yet, so it is
+// asked, and where it had none this would answer want of memory.
+fn object_bytes(alloc: Global, file: &ObjFile) -> Result<Text, AllocError>
+    ensures { IfOk result (λ text. text ≡ file_form.spell file.now) }
+{
+    let spelled = has_object_file(alloc, file)?;
+    if !spelled {
+        return Err(AllocError);
+    }
+    write_obj(alloc, file)
+}
+
+// The bytes of a symbol file. What a compile makes has a spelling; no law says so yet, so it is
+// asked, and where it had none this would answer want of memory.
+fn symbol_bytes(alloc: Global, face: &Interface) -> Result<Text, AllocError>
+    requires { AllHavePrints face.now }
+    ensures { IfOk result (λ text. text ≡ face_form.spell face.now) }
+{
+    let spelled = has_symbol_file(alloc, face)?;
+    if !spelled {
+        return Err(AllocError);
+    }
+    write_sym(alloc, face)
+}
+
+fn is_short(bytes: &Text) -> bool
+    ensures { result ≡ nat_le (length bytes.now) file_limit }
+{
+    bytes.len() <= MOST_BYTES
+}
+
+// The limit of files, where one of the two exceeds it.
+fn limit_of_files(obj: &Text, sym: &Text) -> Option<Which>
+    ensures { result ≡ limit_of_files obj.now sym.now }
+{
+    if !is_short(obj) {
+        return Some(Which::File);
+    }
+    if !is_short(sym) {
+        return Some(Which::File);
+    }
+    None
+}
+
+// What is compiled, with the bytes of its two files.
+fn built(shown: ShownFace, obj: Text, sym: Text) -> Result<Built, CompileFault>
+    ensures { (c : Compiled PrintValue) → shown.face ≡ interface_by prints c → obj ≡ object_bytes prints c → sym ≡ symbol_bytes prints c → Makes (within c (limit_of_files (object_bytes prints c) (symbol_bytes prints c))) result }
+{
+    match limit_of_files(&obj, &sym) {
+        Some(which) => Err(over_limit(which)),
+        None => {
+            let face = shown.into_inner();
+            Ok(Built { face, sym, obj })
+        }
+    }
+}
+
+/// Writes the two files of what is compiled.
+pub fn written(alloc: Global, shown: ShownFace, file: &ObjFile) -> Result<Built, CompileFault>
+    requires { AllHavePrints shown.face }
+    ensures { (c : Compiled PrintValue) → shown.face ≡ interface_by prints c → file.now ≡ object_by prints c → Makes (within c (limit_of_files (object_bytes prints c) (symbol_bytes prints c))) result }
+{
+    let Ok(obj) = object_bytes(alloc, file) else {
+        return Err(CompileFault::Memory);
+    };
+    let Ok(sym) = symbol_bytes(alloc, &shown.face) else {
+        return Err(CompileFault::Memory);
+    };
+    built(shown, obj, sym)
+}
