@@ -1,0 +1,5 @@
+pub mod Goings
+pub mod Decoded
+pub mod Said
+pub mod Fine
+pub mod Commands

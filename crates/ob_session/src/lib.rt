@@ -1,0 +1,15 @@
+//! The session: what the program does.
+#![tactic(auto)]
+
+mod commanding;
+mod comparing;
+mod compiling;
+mod demo;
+mod files;
+mod found;
+mod line;
+mod saying;
+mod script;
+
+pub use ob_printing::Stop;
+pub use script::session;
