@@ -19,6 +19,7 @@ use Rattle.ob_compile.specs.declared.fault.CompileRefusal.TheVariants as why
 use Rattle.ob_link.specs.Plan as load
 use Rattle.ob_link.specs.declared.fault.LoadRefusal.{LoadRefusal}
 use Rattle.ob_link.specs.declared.fault.LoadRefusal.TheVariants as refusal
+use Rattle.ob_printing.specs.declared.counts.Counts.{Counts}
 
 -- refused NAME: WHY
 abbrev pub refused : List ℕ → List ℕ → List ℕ
@@ -103,6 +104,12 @@ reason_answered (why.Absent client object) = of_object object (codes " absent fo
 reason_answered (why.Changed client object aspect wanted found) = of_object object (codes " changed for " ++ (client ++ codes "\n"))
 reason_answered (why.Unfit q) = of_object q (codes " unfit\n")
 reason_answered (why.Limit w) = which_text w
+
+-- so many objects of a module, of which so many are new, changed and gone
+abbrev pub compiled_line : List ℕ → Counts → List ℕ
+compiled_line m c =
+    codes "compiled " ++ (m ++ (codes ": " ++ (decimal c.objects ++ (codes " objects, " ++ (decimal c.added ++ (codes " new, "
+    ++ (decimal c.changed ++ (codes " changed, " ++ (decimal c.gone ++ codes " gone\n")))))))))
 
 -- LOAD
 

@@ -1,7 +1,8 @@
-ghost use Rattle.std.specs.Prelude.{◌≡◌, ◌++◌, true, codes};
-ghost use Rattle.ob_printing.specs.Texts.{refused, of_object, place, rule_text, which_text, reason_answered};
+ghost use Rattle.std.specs.Prelude.{◌≡◌, ◌++◌, true, false, codes};
+ghost use Rattle.ob_printing.specs.Texts.{refused, of_object, place, rule_text, which_text, reason_answered, compiled_line, demo_text};
 ghost use Rattle.ob_printing.specs.Prints.{PrintDoes, SinkCause};
 
+use crate::counts::Counts;
 use crate::files::refuse;
 use crate::printing::tell;
 use crate::stop::Stop;
@@ -149,4 +150,51 @@ pub fn refuse_compile<O: Sink>(name: &str, why: &CompileRefusal, out: &mut O) ->
         CompileRefusal::Unfit(object) => refuse_for(name, object, b" unfit", b"", out),
         CompileRefusal::Limit(which) => refuse(name, b"", b"", which_text(*which), out),
     }
+}
+
+/// Prints what a compile of a module counts. It takes no memory.
+pub fn put_compiled<O: Sink>(name: &Name, counts: Counts, out: &mut O) -> Result<bool, Stop>
+    ensures does { PrintDoes (O.tells out.old) (O.taken out.old) (O.taken out.new) (compiled_line name.now counts) false result }
+    ensures told { O.tells out.new ≡ O.tells out.old }
+    ensures cause { SinkCause (O.faults out.old) (O.faults out.new) result }
+{
+    let mut objects = Buffer::new();
+    let mut added = Buffer::new();
+    let mut changed = Buffer::new();
+    let mut gone = Buffer::new();
+    let texts = [
+        b"compiled ",
+        name.as_bytes(),
+        b": ",
+        objects.format(counts.objects).as_bytes(),
+        b" objects, ",
+        added.format(counts.added).as_bytes(),
+        b" new, ",
+        changed.format(counts.changed).as_bytes(),
+        b" changed, ",
+        gone.format(counts.gone).as_bytes(),
+        b" gone\n",
+    ];
+    tell(&texts, false, out)
+}
+
+/// Prints how many modules and objects a demo has. It takes no memory.
+pub fn put_demo<O: Sink>(count: u32, objects: u32, out: &mut O) -> Result<bool, Stop>
+    ensures does { PrintDoes (O.tells out.old) (O.taken out.old) (O.taken out.new) (demo_text count objects) false result }
+    ensures told { O.tells out.new ≡ O.tells out.old }
+    ensures cause { SinkCause (O.faults out.old) (O.faults out.new) result }
+{
+    let mut number = Buffer::new();
+    let mut modules = Buffer::new();
+    let mut total = Buffer::new();
+    let texts = [
+        b"demo ",
+        number.format(count).as_bytes(),
+        b": ",
+        modules.format(count).as_bytes(),
+        b" modules, ",
+        total.format(objects).as_bytes(),
+        b" objects\n",
+    ];
+    tell(&texts, false, out)
 }

@@ -2,13 +2,15 @@
 #![tactic(auto)]
 
 mod compiles;
+mod counts;
 mod files;
 mod loads;
 mod printing;
 mod reports;
 mod stop;
 
-pub use compiles::refuse_compile;
+pub use compiles::{put_compiled, put_demo, refuse_compile};
+pub use counts::Counts;
 pub use files::{put_compare, put_stale, refuse};
 pub use loads::refuse_load;
 pub use printing::tell;
