@@ -3,3 +3,6 @@ pub mod Decoded
 pub mod Said
 pub mod Fine
 pub mod Commands
+pub mod Counted
+pub mod Compiles
+pub mod Demos

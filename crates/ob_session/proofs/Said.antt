@@ -1,16 +1,17 @@
 -- What a line does, by what it says and by what it does to the files.
-use Rattle.std.proofs.Common.{◌≡◌, ℕ, List, [], ◌∷◌, ◌++◌, Bool, true, false, refl, sym, ap, ◌∙◌, subst, Result, Ok, Err, inl, inr, Option, Some, None}
+use Rattle.std.proofs.Common.{◌≡◌, ℕ, List, [], ◌∷◌, ◌++◌, Bool, true, false, refl, sym, ap, ◌∙◌, subst, append_assoc, Result, Ok, Err, inl, inr, Option, Some, None}
 use Rattle.ob_tree.specs.declared.print.Print.{Print}
 use Rattle.ob_io.specs.Io.{AddsFront}
 use Rattle.ob_link.specs.Files.{Files}
 use Rattle.ob_load.specs.Standing.{Standing}
+use Rattle.ob_cmp.specs.Check.{Checked, check_text, is_refused}
 use Rattle.ob_compile.specs.Compiling as compile
 use Rattle.ob_compile.specs.Compiling.{Compiled}
 use Rattle.ob_printing.specs.declared.stop.Stop.{Stop}
 use Rattle.ob_printing.specs.declared.stop.Stop.TheVariants.{Sink, Folder, Memory}
 use Rattle.ob_printing.specs.Prints.{PrintDoes}
 use Rattle.ob_session.specs.Folds.{Answer}
-use Rattle.ob_session.specs.Bytes.{World, Change, Said, Making, changed, says, compile_answer, demo_answer}
+use Rattle.ob_session.specs.Bytes.{World, Change, Said, Making, changed, says, check_said, compile_answer, demo_answer}
 use Rattle.ob_words.specs.declared.asked.Settings.{Settings}
 use Rattle.ob_session.specs.Does.{Shows, LineDoes, SaidDoes, FilesDo, AnswerDo, TextDoes}
 
@@ -63,3 +64,11 @@ demo_world s w n None = refl
 pub demo_changes : (s : Settings) (w : World) (n : ℕ) (x : Making) → (demo_answer s w n x).changes ≡ []
 demo_changes s w n (Some x) = refl
 demo_changes s w n None = refl
+
+-- what a check found
+pub said_check : (told : Bool) (m before now : List ℕ) (c d : Checked) (result : Result Bool Stop) → c ≡ d → PrintDoes told before now (check_text m d) (is_refused d) result → SaidDoes told before now (check_said m c) result
+said_check told m before now c d result e p = subst (λ (x : Checked). SaidDoes told before now (check_said m x) result) (sym e) (printed told before now (check_said m d) result p)
+
+-- pieces in a row, however they are put together
+pub five : (a b c d e : List ℕ) → a ++ (b ++ (c ++ (d ++ e))) ≡ a ++ b ++ c ++ d ++ e
+five a b c d e = sym (append_assoc (a ++ b ++ c) d e ∙ append_assoc (a ++ b) c (d ++ e) ∙ append_assoc a b (c ++ (d ++ e)))

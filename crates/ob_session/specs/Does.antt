@@ -1,5 +1,5 @@
 -- What the calls of a session do, by their answers.
-use Rattle.std.specs.Prelude.{◌≡◌, ℕ, ◌≤◌, List, [], ◌∷◌, ◌++◌, Bool, true, take, Result, Ok, Err, ◌⊎◌}
+use Rattle.std.specs.Prelude.{◌≡◌, ℕ, ◌≤◌, List, [], ◌∷◌, ◌++◌, Bool, true, take, Option, Some, None, Result, Ok, Err, ◌⊎◌}
 use Rattle.ob_io.specs.Io.{AddsFront, Rose, SameFiles}
 use Rattle.ob_io.specs.declared.traits.Failed.{Failed}
 use Rattle.ob_link.specs.Files.{Files}
@@ -7,7 +7,7 @@ use Rattle.ob_load.specs.Standing.{Standing, Stands}
 use Rattle.ob_printing.specs.declared.stop.Stop.{Stop}
 use Rattle.ob_printing.specs.declared.stop.Stop.TheVariants.{Sink, Folder, Memory}
 use Rattle.ob_session.specs.Folds.{Answer}
-use Rattle.ob_session.specs.Bytes.{World, Change, Said, changed}
+use Rattle.ob_session.specs.Bytes.{World, Change, Said, Making, changed}
 
 -- the system and the folder have what the model keeps
 pub record Shows (s : Standing) (there : Files) (w : World) : Type 0 where
@@ -53,6 +53,16 @@ TextDoes before now a (Ok refused) = (now ≡ before ++ a.text) × (refused ≡ 
 TextDoes before now a (Err Sink) = AddsFront before now a.text
 TextDoes before now a (Err Folder) = ⊥
 TextDoes before now a (Err Memory) = (now ≡ before) ⊎ (now ≡ before ++ a.opening)
+
+-- the modules of a demo that were made; none where one is refused
+abbrev pub MakesSo : Making → Files → Option ℕ → Type 0
+MakesSo m files None = m ≡ None
+MakesSo m files (Some n) = m ≡ Some (n, files)
+
+-- the objects of a module
+abbrev pub AreFew : Option ℕ → Type 0
+AreFew None = Unit {0}
+AreFew (Some n) = n ≤ 4096
 
 -- the fault of a folder is answered only where its count rose
 pub record FolderCause {T : Type 0} (before now : ℕ) (result : Result T Stop) : Type 0 where

@@ -1,6 +1,7 @@
 pub mod Folds
 pub mod Files
 pub mod Found
+pub mod Counting
 pub mod Bytes
 pub mod Does
 pub mod Running

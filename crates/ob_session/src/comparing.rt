@@ -1,7 +1,9 @@
-ghost use Rattle.std.specs.Prelude.{◌≡◌, true};
+ghost use Rattle.std.specs.Prelude.{◌≡◌, ◌≤◌, true, Err};
+ghost use Rattle.ob_io.specs.Io.{Rose};
 ghost use Rattle.ob_sym.specs.Grammar.{face as face_form};
 ghost use Rattle.ob_walk.specs.Walk.{symbol_name};
-ghost use Rattle.ob_cmp.specs.Check.{check_of};
+ghost use Rattle.ob_cmp.specs.Check.{Checked, check_of};
+ghost use Rattle.ob_cmp.specs.Checking.{ChecksAs};
 ghost use Rattle.ob_printing.specs.Prints.{SinkCause};
 ghost use Rattle.ob_session.specs.Bytes.{compared, shown, check_said};
 ghost use Rattle.ob_session.specs.Does.{SaidDoes, Cause};
@@ -10,9 +12,9 @@ ghost use Rattle.ob_session.specs.Found.{found_as, HasSpelling};
 
 use crate::files::{read_symbols, symbol_file};
 use crate::found::SymbolFile;
-use ob_cmp::{compare, show};
+use ob_cmp::{CheckFault, check_client, compare, show};
 use ob_io::{Folder, Sink};
-use ob_printing::{Stop, put_compare, refuse, tell};
+use ob_printing::{Stop, put_compare, put_stale, refuse, tell};
 use ob_tree::Name;
 use ob_types::Interface;
 use std::alloc::Global;
@@ -189,9 +191,25 @@ pub fn do_compare<F: Folder, O: Sink>(
 
 // CHECK
 
+// Prints why the uses of a module are not checked.
+fn refuse_check<O: Sink>(name: &Name, why: &CheckFault, out: &mut O) -> Result<bool, Stop>
+    ensures does { (c : Checked) → ChecksAs c (Err why.now) → SaidDoes (O.tells out.old) (O.taken out.old) (O.taken out.new) (check_said name.now c) result }
+    ensures told { O.tells out.new ≡ O.tells out.old }
+    ensures later { O.faults out.old ≤ O.faults out.new }
+    ensures sink { result ≡ Err Stop.Sink → Rose (O.faults out.old) (O.faults out.new) }
+    ensures folder { result ≡ Err Stop.Folder → why.now ≡ CheckFault.Folder }
+{
+    let bytes = name.as_bytes();
+    match why {
+        CheckFault::NoObject => refuse(bytes, b"", bytes, b" has no object file\n", out),
+        CheckFault::Damaged(module) => refuse(bytes, b"", module.as_bytes(), b" damaged\n", out),
+        CheckFault::Long(module) => refuse(bytes, b"", module.as_bytes(), b" too long\n", out),
+        CheckFault::Folder => Err(Stop::Folder),
+        CheckFault::Memory => Err(Stop::Memory),
+    }
+}
+
 /// Checks the uses of a module's object file against the present symbol files.
-///
-/// It answers want of memory: not written yet.
 pub fn do_check<F: Folder, O: Sink>(
     alloc: Global,
     folder: &mut F,
@@ -204,5 +222,8 @@ pub fn do_check<F: Folder, O: Sink>(
     ensures told_sink { O.tells out.new ≡ O.tells out.old }
     ensures cause { Cause (O.faults out.old) (O.faults out.new) (F.faults folder.old) (F.faults folder.new) result }
 {
-    Err(Stop::Memory)
+    match check_client(alloc, folder, name) {
+        Ok(stale) => put_stale(name, stale.as_slice(), out),
+        Err(fault) => refuse_check(name, &fault, out),
+    }
 }

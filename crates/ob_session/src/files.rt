@@ -2,6 +2,7 @@ ghost use Rattle.std.specs.Prelude.{◌≡◌, true, IfOk};
 ghost use Rattle.ob_format.specs.Format.{whole};
 ghost use Rattle.ob_sym.specs.Grammar.{face as face_form};
 ghost use Rattle.ob_walk.specs.Walk.{symbol_name};
+ghost use Rattle.ob_link.specs.Files.{object_file_name};
 ghost use Rattle.ob_session.specs.Does.{FolderCause};
 ghost use Rattle.ob_session.specs.Files.{decoded_file, sym_file};
 ghost use Rattle.ob_session.specs.Found.{found_as, HasSpelling};
@@ -54,5 +55,14 @@ pub fn symbol_file(alloc: Global, name: &Name) -> Result<Vec<u8>, AllocError>
 {
     let mut text = Vec::from_slice(alloc, name.as_bytes())?;
     text.extend_from_slice(b".Sym")?;
+    Ok(text)
+}
+
+/// The file name of a module's object file.
+pub fn object_file(alloc: Global, name: &Name) -> Result<Vec<u8>, AllocError>
+    ensures { IfOk result (λ v. v.items ≡ object_file_name name.now) }
+{
+    let mut text = Vec::from_slice(alloc, name.as_bytes())?;
+    text.extend_from_slice(b".Obj")?;
     Ok(text)
 }

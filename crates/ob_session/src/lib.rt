@@ -4,6 +4,7 @@
 mod commanding;
 mod comparing;
 mod compiling;
+mod counting;
 mod demo;
 mod files;
 mod found;
