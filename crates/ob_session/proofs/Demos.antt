@@ -2,7 +2,7 @@
 use Rattle.std.proofs.Common.{◌≡◌, ℕ, zero, suc, ◌+◌, ◌-◌, ◌≤◌, List, [], ◌∷◌, ◌++◌, length, Bool, true, false, refl, sym, ap, ◌∙◌, subst, append_assoc, Result, Ok, Err, Option, Some, None, inl, inr, ⊎_elim, arith}
 use Rattle.std.specs.Prelude.{◌⊎◌, map as each, codes, decimal}
 use Rattle.std.proofs.lemmas.Fmt.{length-decimal-le}
-use Rattle.std.proofs.lemmas.List.{append-nil, length-append, length-map}
+use Rattle.std.proofs.lemmas.List.{append-nil, length-append}
 use Rattle.ob_tree.specs.declared.print.Print.{Print}
 use Rattle.ob_obj.specs.declared.file.ObjFile.{ObjFile}
 use Rattle.ob_io.specs.Io.{AddsFront, SameFiles, put}
@@ -10,16 +10,12 @@ use Rattle.ob_io.specs.Fronts.{front_more, front_later, same_functions}
 use Rattle.ob_io.specs.Kept.{file_in}
 use Rattle.ob_types.specs.declared.face.Interface.{Interface}
 use Rattle.ob_sym.specs.Grammar.{face as face_form}
-use Rattle.ob_env.specs.Faces.{object_of}
 use Rattle.ob_machine.specs.Machine.{Held, made}
 use Rattle.ob_demo.specs.Source.{module_name, source}
 use Rattle.ob_link.specs.Files.{Files, file_plan}
 use Rattle.ob_link.specs.Plan.{Refusal}
 use Rattle.ob_compile.specs.Compiling as compile
 use Rattle.ob_compile.specs.Compiling.{Compiled}
-use Rattle.ob_compile.specs.Contract.{IsBuilt, IsRefused, built}
-use Rattle.ob_compile.specs.declared.shape.Built.{Built}
-use Rattle.ob_compile.specs.declared.fault.CompileRefusal.{CompileRefusal}
 use Rattle.ob_load.specs.Standing.{Standing}
 use Rattle.ob_printing.specs.declared.stop.Stop.{Stop}
 use Rattle.ob_printing.specs.declared.stop.Stop.TheVariants.{Sink, Folder, Memory}
@@ -29,23 +25,11 @@ use Rattle.ob_words.specs.declared.asked.Settings.{Settings}
 use Rattle.ob_session.specs.Folds.{Answer}
 use Rattle.ob_session.specs.Bytes.{World, Change, Making, changed, start, no_files, load_answer, command_answer, source_name, compiled_file, made_of, made_one, and_more, demo_from, demo_made, demo_answer, demo_ran}
 use Rattle.ob_session.specs.Does.{Shows, LineDoes, TextDoes, MakesSo}
-use Rattle.ob_session.proofs.Compiles.{both_files}
 
 -- THE MODULES
 
 pub name_fits : (count : ℕ) → count ≤ 60 → length (module_name count) ≤ 64
 name_fits count h = let d = length-decimal-le 2 count (omega arith) (omega (arith, h)) (omega (arith, h)) in omega (arith, d)
-
-pub makes_refused : (files : Files) (r : Result (Compiled Print) (compile.Refusal Print)) (s : CompileRefusal) (files2 : Files) → IsRefused r s → MakesSo (made_of files r) files2 None
-makes_refused files (Ok c) s files2 i = absurd i
-makes_refused files (Err r) s files2 i = refl
-
-pub makes_built : (files : Files) (r : Result (Compiled Print) (compile.Refusal Print)) (b : Built) (files2 : Files) → IsBuilt r b → files2 ≡ changed files (both_files b) → MakesSo (made_of files r) files2 (Some (length b.face.objects))
-makes_built files (Err r) b files2 i e = absurd i
-makes_built files (Ok x) b files2 i e =
-    subst (λ (y : Built). Some (length x.shows.objects, changed files (both_files (built x))) ≡ Some (length y.face.objects, files2)) (sym i)
-    (ap (λ (n : ℕ). Some (n, changed files (both_files (built x)))) (sym (length-map x.shows.objects (object_of x.shows.«module»)))
-    ∙ ap (λ (f : Files). Some (length (built x).face.objects, f)) (ap (λ (y : Built). changed files (both_files y)) (sym i) ∙ sym e))
 
 -- no file of a demo is there yet
 none_there : (name : List ℕ) → no_files name ≡ file_in [] name
@@ -130,12 +114,11 @@ command_text s w n objects files name before mid now result e m d =
     ran_text w (demo_text n objects) (command_answer s (start s files) (module_name n) (codes "Go")) before mid now result (command_opening s (start s files) (module_name n) (codes "Go")) m
     (subst (λ (y : List ℕ). TextDoes mid now (command_answer s (start s files) y (codes "Go")) result) e d)
 
--- what a line does, of its text alone
-pub text_of_line : (before now : List ℕ) (files files2 : Files) (system : Standing) (a : Answer World Change) (result : Result Bool Stop) → (result ≡ Err Folder → ⊥) → LineDoes before now files files2 system a result → TextDoes before now a result
-text_of_line before now files files2 system a (Ok r) n d = (d.0, d.2)
-text_of_line before now files files2 system a (Err Sink) n d = d.0
-text_of_line before now files files2 system a (Err Folder) n d = absurd (n refl)
-text_of_line before now files files2 system a (Err Memory) n d = d.0
+-- the line of the command, in whatever way it ended
+pub went : (s : Settings) (w : World) (name command before now : List ℕ) (files files2 : Files) (system : Standing) (result other : Result Bool Stop) → result ≡ other → command ≡ codes "Go" → LineDoes before now files files2 system (command_answer s w name command) result → LineDoes before now files files2 system (command_answer s w name (codes "Go")) other
+went s w name command before now files files2 system result other e f d =
+    subst (λ (y : List ℕ). LineDoes before now files files2 system (command_answer s w name y) other) f
+    (subst (λ (r : Result Bool Stop). LineDoes before now files files2 system (command_answer s w name command) r) e d)
 
 -- the text of a demo whose modules were made
 pub demo_is : (s : Settings) (w : World) (n : ℕ) (m : Making) (x : ℕ × Files) (before now : List ℕ) (result : Result Bool Stop) → m ≡ Some x → TextDoes before now (demo_answer s w n (Some x)) result → TextDoes before now (demo_answer s w n m) result
