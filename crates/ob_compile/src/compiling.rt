@@ -1,4 +1,5 @@
-ghost use Rattle.std.specs.Prelude.{◌≡◌, true};
+ghost use Rattle.std.specs.Prelude.{◌≡◌, true, IfOk};
+ghost use Rattle.ob_sym.specs.Grammar.{face as face_form};
 ghost use Rattle.ob_io.specs.Io.{SameFiles};
 ghost use Rattle.ob_walk.specs.Walk.{symbol_entry};
 ghost use Rattle.ob_compile.specs.Compiling.{compiled, prints};
@@ -20,6 +21,7 @@ pub fn compile<F: Shelf>(alloc: Global, folder: &mut F, file: &str) -> Result<Bu
     ensures told { F.tells folder.new ≡ F.tells folder.old }
     ensures files { F.tells folder.old ≡ true → SameFiles (F.files folder.new) (F.files folder.old) }
     ensures compiles { F.tells folder.old ≡ true → Compiles (compiled prints (symbol_entry (F.files folder.old)) (F.files folder.old file.now)) result }
+    ensures fits { IfOk result (λ b. face_form.fits b.face) }
     ensures cause { CompileHasCause (F.faults folder.old) (F.faults folder.new) result }
 {
     match read_source(alloc, folder, file) {

@@ -1,0 +1,11 @@
+use ob_types::Interface;
+
+/// What a symbol file is, of whatever module.
+#[derive(Debug, Drop)]
+pub enum SymbolFile {
+    Missing,
+    /// It has more than 16,777,216 bytes.
+    Long,
+    Damaged,
+    Of(Interface),
+}
