@@ -9,7 +9,7 @@ use crate::actuals::check_actuals;
 use crate::designators::visit_arguments;
 use crate::predeclared::{check_extreme, check_parameters};
 use ob_cpre::{asked_first, asked_second, call_fit};
-use ob_cround::{Opened, called, opened, params};
+use ob_cround::{Opened, called, open_round, params};
 use ob_rules::{Meant, Notebook, Surroundings, Where};
 use ob_tree::{Expr, Pos};
 use std::alloc::{AllocError, Global};
@@ -30,7 +30,8 @@ pub fn check_round<S: Surroundings>(
     ensures made { IfOk result (λ r. r ≡ (designators.step_round (S.around here.now) place start at (map spec.phrase_of arguments.now) meant).node) }
     ensures noted { OnOk result (book.new ≡ book_after book.old (designators.step_round (S.around here.now) place start at (map spec.phrase_of arguments.now) meant).notes) }
 {
-    match opened(alloc, here, book, start, at, arguments, meant)? {
+    let round = open_round(alloc, here, book, start, at, arguments, meant)?;
+    match round {
         Opened::Guard(meant) => Ok(meant),
         Opened::Nothing => {
             visit_arguments(alloc, here, book, arguments)?;

@@ -87,11 +87,13 @@ fn check_extreme_behind<S: Surroundings>(
     if rest.is_empty() {
         return extreme(here, book, max, place, at, t);
     }
-    if t.is_none() {
-        return Ok(None);
+    match t {
+        None => Ok(None),
+        Some(_) => {
+            let row = check_parameters(alloc, here, book, Asked::Value, Asked::Value, rest)?;
+            Ok(further(book, place, at, row))
+        }
     }
-    let row = check_parameters(alloc, here, book, Asked::Value, Asked::Value, rest)?;
-    Ok(further(book, place, at, row))
 }
 
 #[cycle(walk)]

@@ -11,16 +11,15 @@ use Rattle.ob_rules.specs.declared.meant.Meant.{Meant}
 use Rattle.ob_rules.specs.declared.meant.Asked.{Asked}
 use Rattle.ob_rules.specs.declared.meant.Asked.TheVariants as asked
 use Rattle.ob_rules.specs.declared.broken.Predeclared.{Predeclared}
-use Rattle.ob_rules.specs.Judged.{Judged, breaks, wants, sound, if_sound, ◌▷◌}
+use Rattle.ob_rules.specs.Judged.{Judged, breaks, wants, sound, ◌▷◌}
 use Rattle.ob_rules.specs.Books.{book_after}
 use Rattle.ob_rules.specs.Names.{Around, map_of}
 use Rattle.ob_rules.specs.Phrases.{Phrase}
 use Rattle.ob_rules.specs.Calls.{actual, var_actual, value_actual, meant_actual}
 use Rattle.ob_rules.specs.Operators.{only_value}
 use Rattle.ob_rules.specs.Values.{constant_in}
-use Rattle.ob_rules.specs.Predeclared.{parameter, parameters, parameters_behind, values, changed, changed_as, changed_meant, asked_first, asked_second}
+use Rattle.ob_rules.specs.Predeclared.{parameter, parameters, parameters_behind, values, changed_as, changed_meant, asked_first, asked_second}
 use Rattle.ob_rules.specs.Expressions.{value_meant}
-use Rattle.ob_rules.proofs.BookLaws.{after_none, after_joined}
 use Rattle.ob_cround.specs.Arguments.{argument_of, argument_says, value_left, meant_left, left_of, parameters_asked}
 use Rattle.ob_cround.specs.Rounds.{Leaves}
 use Rattle.ob_cround.proofs.JudgedLaws.{plain_left, then_left}
@@ -33,7 +32,7 @@ by_meant u at (Some m) v = m u ▷ (λ x. value_meant at x)
 value_by : (u : Around) (at : Pos) (o : Option (Around → Judged Meant)) (v : Judged Valued) (k : Notebook) → v ≡ by_meant u at o v → Leaves k v (book_after k (argument_says u o v)) (value_left at (argument_of u o v))
 value_by u at None v k h = plain_left v k
 value_by u at (Some m) v k h =
-    let t = then_left (m u) _ (λ x. value_meant at x) k _ (plain_left (m u) k) in (
+    let t = then_left (m u) _ (λ (x : Meant). value_meant at x) k _ (plain_left (m u) k) in (
       ap (λ j. j.node) h ∙ t.0,
       ap (λ j. book_after k j.notes) h ∙ t.1,
     )

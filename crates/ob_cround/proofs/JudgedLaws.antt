@@ -1,11 +1,15 @@
 -- What is left to say of a part.
-use Rattle.std.proofs.Common.{◌≡◌, refl, sym, ap, ◌∙◌, Option, Some, None}
+use Rattle.std.proofs.Common.{◌≡◌, refl, sym, ap, ◌∙◌, ℕ, Bool, true, false, Option, Some, None}
+use Rattle.ob_tree.specs.declared.pos.Pos.{Pos}
 use Rattle.ob_rules.specs.declared.notes.Notebook.{Notebook}
-use Rattle.ob_rules.specs.Judged.{Judged, Notes, joined, if_sound, made, sound, ◌▷◌}
+use Rattle.ob_rules.specs.declared.values.Valued.{Valued}
+use Rattle.ob_rules.specs.declared.meant.Meant.TheVariants as means
+use Rattle.ob_rules.specs.Judged.{Judged, Notes, if_sound, made, sound, silent, also, ◌▷◌}
+use Rattle.ob_rules.specs.Designators.{as_call}
 use Rattle.ob_rules.specs.Books.{book_after}
 use Rattle.ob_rules.proofs.BookLaws.{after_none, after_joined}
 use Rattle.ob_coperand.specs.Plain.{plain}
-use Rattle.ob_cround.specs.Rounds.{Leaves}
+use Rattle.ob_cround.specs.Rounds.{Leaves, muted}
 
 -- what is made of a part says nothing more
 pub made_quiet : {A B : Type 0} (f : A → B) (o : Option A) (k : Notebook) → book_after k (if_sound o (λ x. sound (f x))).notes ≡ k
@@ -14,6 +18,27 @@ made_quiet f (Some x) k = after_none k
 
 pub made_notes : {A B : Type 0} (f : A → B) (j : Judged A) (k : Notebook) → book_after k (made f j).notes ≡ book_after k j.notes
 made_notes f j k = sym (after_joined k j.notes (if_sound j.node (λ x. sound (f x))).notes) ∙ made_quiet f j.node (book_after k j.notes)
+
+pub call_quiet : (j : Judged Valued) (k : Notebook) → book_after k j.notes ≡ book_after k (as_call j).notes
+call_quiet j k = sym (made_notes means.Call j k)
+
+-- nothing is said where nothing stands
+pub silent_node : {A B : Type 0} (o : Option A) → None ≡ (if_sound {B = B} o (λ x. silent)).node
+silent_node None = refl
+silent_node (Some x) = refl
+
+pub silent_noted : {A : Type 0} (o : Option A) (k : Notebook) → k ≡ book_after k (if_sound {B = Valued} o (λ x. silent)).notes
+silent_noted None k = sym (after_none k)
+silent_noted (Some x) k = sym (after_none k)
+
+-- what is judged, unless a rule is broken besides
+pub muted_node : {A : Type 0} (b : Bool) (rule : ℕ) (at : Pos) (n : Notes) (j : Judged A) (x r : Option A) → x ≡ j.node → r ≡ (also b rule at (record { node = x; notes = n })).node → r ≡ (muted b j).node
+muted_node true rule at n j x r ex er = er
+muted_node false rule at n j x r ex er = er ∙ ex
+
+pub muted_noted : {A : Type 0} (b : Bool) (j : Judged A) (k l : Notebook) → l ≡ book_after k j.notes → l ≡ book_after k (muted b j).notes
+muted_noted true j k l h = h
+muted_noted false j k l h = h
 
 -- the part itself, where its notes are written down
 pub plain_left : {A : Type 0} (j : Judged A) (k : Notebook) → Leaves k j (book_after k j.notes) (plain j.node)

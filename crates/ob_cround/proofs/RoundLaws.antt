@@ -7,6 +7,7 @@ use Rattle.ob_types.specs.declared.types.Signature.{Signature}
 use Rattle.ob_types.specs.declared.typed.OutProcedure.{OutProcedure}
 use Rattle.ob_types.specs.declared.typed.Callee.TheVariants as callee
 use Rattle.ob_types.specs.declared.typed.TypedExpr.TheVariants as tree
+use Rattle.ob_trees.specs.declared.stmt.StmtTree.{StmtTree}
 use Rattle.ob_rules.specs.declared.notes.Notebook.{Notebook}
 use Rattle.ob_rules.specs.declared.values.Valued.{Valued}
 use Rattle.ob_rules.specs.declared.values.Place.{Place}
@@ -35,6 +36,10 @@ use Rattle.ob_cround.specs.Rounds.{Leaves, muted, finished, params_of, call_left
 use Rattle.ob_cround.proofs.ArgumentLaws.{all_asked}
 use Rattle.ob_cround.proofs.JudgedLaws.{then_left, whole_left}
 
+-- what is opened as a whole, and what is left of it
+pub same_left : (j i h : Judged Meant) (k l : Notebook) → j ≡ i → Leaves k i l h → Leaves k j l h
+same_left j i h k l e d = (ap (λ o. o.node) e ∙ d.0, ap (λ o. book_after k o.notes) e ∙ d.1)
+
 -- behind a procedure, behind a constant, and behind a call
 pub guarded_is : (u : Around) (w : Where) (start at : Pos) (m : Meant) (ps : List Phrase) (q : Option Qualident) → other_round u w start at m ps q false true true ≡ misfit_or u at q (call_meant u w start m ps)
 guarded_is u w start at m ps None = refl
@@ -47,6 +52,12 @@ constant_is u w start at m ps (Some q) = refl
 pub nothing_is : (u : Around) (w : Where) (start at : Pos) (m : Meant) (ps : List Phrase) (q : Option Qualident) → other_round u w start at m ps q false false false ≡ noted (visited u ps) (breaks 22 at)
 nothing_is u w start at m ps None = refl
 nothing_is u w start at m ps (Some q) = refl
+
+pub call_opens : (u : Around) (w : Where) (start at : Pos) (ps : List Phrase) (m : Meant) (x : Valued) (k : Notebook) → m ≡ means.Call x → Leaves k (step_round u w start at ps m) k (round_left u w start at ps opens.Nothing)
+call_opens u w start at ps m x k e = same_left (step_round u w start at ps m) (noted (visited u ps) (breaks 22 at)) (noted (visited u ps) (breaks 22 at)) k k (ap (λ n. step_round u w start at ps n) e ∙ nothing_is u w start at (means.Call x) ps (type_in_round u ps)) (refl, refl)
+
+pub statement_opens : (u : Around) (w : Where) (start at : Pos) (ps : List Phrase) (m : Meant) (x : StmtTree) (k : Notebook) → m ≡ means.Statement x → Leaves k (step_round u w start at ps m) k (round_left u w start at ps opens.Nothing)
+statement_opens u w start at ps m x k e = same_left (step_round u w start at ps m) (noted (visited u ps) (breaks 22 at)) (noted (visited u ps) (breaks 22 at)) k k (ap (λ n. step_round u w start at ps n) e ∙ nothing_is u w start at (means.Statement x) ps (type_in_round u ps)) (refl, refl)
 
 -- a guard that is judged whole
 pub misfit_opens : (u : Around) (at : Pos) (q : Option Qualident) (name : Qualident) (j : Judged Meant) (m : Option Meant) (k l : Notebook) → Some name ≡ q
@@ -67,10 +78,6 @@ pub held_opens : (u : Around) (w : Where) (start at : Pos) (p : Place) (ps : Lis
     → place_round u w start at p ps None s ≡ round_left u w start at ps o → Leaves k (place_round u w start at p ps q s) k (round_left u w start at ps o)
 held_opens u w start at p ps q s o k eq e =
     subst (λ (r : Option Qualident). Leaves k (place_round u w start at p ps r s) k (round_left u w start at ps o)) eq (ap (λ j. j.node) e, ap (λ j. book_after k j.notes) e)
-
--- what is opened as a whole, and what is left of it
-pub same_left : (j i h : Judged Meant) (k l : Notebook) → j ≡ i → Leaves k i l h → Leaves k j l h
-same_left j i h k l e d = (ap (λ o. o.node) e ∙ d.0, ap (λ o. book_after k o.notes) e ∙ d.1)
 
 -- a bound procedure
 also_left : (b : Bool) (at : Pos) (a : Notes) (j : Judged Valued) (k : Notebook) → Leaves k (also b 26 at (noted a j)) (book_after k (notes_if b 26 at)) (noted a (muted b j))
@@ -104,7 +111,7 @@ bound_opens u w start at c ps q x k l eq h =
 
 -- a procedure of Out, by its parameters
 pub out_is : (u : Around) (w : Where) (start : Pos) (p : OutProcedure) (s : Signature) (ps : List Phrase) → s ≡ out_signature p → call_meant u w start (means.Out p) ps ≡ as_call (call_left u w start ps (calls.Out p s))
-out_is u w start p s ps es = ap (λ t. as_call (noted (actuals u t.params ps).notes (if_sound (actuals u t.params ps).node (called_with w start (out_signature p) (length ps) (λ xs. tree.Call (callee.Out p) xs start None))))) (sym es)
+out_is u w start p s ps es = ap (λ (t : Signature). as_call (noted (actuals u t.params ps).notes (if_sound (actuals u t.params ps).node (called_with w start (out_signature p) (length ps) (λ xs. tree.Call (callee.Out p) xs start None))))) (sym es)
 
 -- MAX and MIN
 pub extreme_is : (u : Around) (w : Where) (start at : Pos) (ps : List Phrase) (f : Predeclared) (max : Bool) → Some max ≡ extreme_kind f → step_round u w start at ps (means.Predeclared f) ≡ extreme_call max u w start ps

@@ -4,6 +4,7 @@ ghost use Rattle.std.specs.Prelude.{◌≡◌, IfOk, OnOk};
 ghost use Rattle.ob_rules.specs.Books.{book_after};
 ghost use Rattle.ob_rules.specs.Designators as designators;
 ghost use Rattle.ob_ccall.specs.Rows.{row_seen};
+ghost use Rattle.ob_cround.specs.declared.callables.Callable.TheVariants as calls;
 ghost use Rattle.ob_cround.specs.Rounds.{params_of, finished};
 
 use ob_ccall::{as_call, call_bound, call_out, call_procedure, call_variable, unless_broken};
@@ -39,6 +40,24 @@ pub fn params(callable: &Callable) -> &[(Mode, TypeRef)]
     }
 }
 
+fn finish_bound(
+    alloc: Global,
+    book: &mut Notebook,
+    place: Where,
+    at: Pos,
+    chosen: Chosen,
+    broken: bool,
+    count: usize,
+    actuals: Option<ActualTrees>,
+) -> Result<Option<Valued>, AllocError>
+    ensures made { IfOk result (λ r. r ≡ (finished place at count (calls.Bound chosen broken) (row_seen actuals)).node) }
+    ensures noted { OnOk result (book.new ≡ book_after book.old (finished place at count (calls.Bound chosen broken) (row_seen actuals)).notes) }
+{
+    let call = call_bound(alloc, book, place, at, chosen, count, actuals)?;
+    Ok(unless_broken(broken, call))
+}
+
+#[tactic(auto, using(crate::proofs::JudgedLaws::silent_node))]
 fn finish(
     alloc: Global,
     book: &mut Notebook,
@@ -59,8 +78,7 @@ fn finish(
             call_variable(book, place, at, variable, &signature, count, actuals)
         }
         Callable::Bound(chosen, broken) => {
-            let call = call_bound(alloc, book, place, at, chosen, count, actuals)?;
-            Ok(unless_broken(broken, call))
+            finish_bound(alloc, book, place, at, chosen, broken, count, actuals)
         }
         Callable::Unsound => Ok(None),
         Callable::Out(procedure, _) => {
@@ -71,7 +89,7 @@ fn finish(
 
 /// The call with these actual parameters, which are judged already; `count` are written. None where
 /// they are none, or the call breaks rule 24 or 27.
-#[tactic(auto, using(crate::proofs::JudgedLaws::made_quiet))]
+#[tactic(auto, using(crate::proofs::JudgedLaws::call_quiet))]
 pub fn called(
     alloc: Global,
     book: &mut Notebook,

@@ -11,5 +11,5 @@ mod parameters;
 pub use actuals::with_actual;
 pub use arguments::Argument;
 pub use callables::{Callable, called, params};
-pub use opening::{Opened, opened};
+pub use opening::{Opened, open_round};
 pub use parameters::{further, parameter};

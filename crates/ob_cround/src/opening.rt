@@ -31,7 +31,7 @@ pub enum Opened {
 }
 
 fn held<S: Surroundings>(alloc: Global, here: &S, variable: Place) -> Result<Opened, AllocError>
-    ensures { (w : AWhere) (start at : APos) (ps : List Phrase) → IfOk result (λ r. designators.place_round (S.around here.now) w start at variable ps None (shapes.signature_at (map_of (S.around here.now)) variable.of) ≡ round_left (S.around here.now) w start at ps r) }
+    ensures { IfOk result (λ r. (w : AWhere) (start at : APos) (ps : List Phrase) → designators.place_round (S.around here.now) w start at variable ps None (shapes.signature_at (map_of (S.around here.now)) variable.of) ≡ round_left (S.around here.now) w start at ps r) }
 {
     match held_signature(alloc, here, &variable.of)? {
         None => Ok(Opened::Nothing),
@@ -47,7 +47,7 @@ fn behind_variable<S: Surroundings>(
     arguments: &[Expr],
     variable: Place,
 ) -> Result<Opened, AllocError>
-    ensures { (w : AWhere) (start : APos) → IfOk result (λ r. Leaves book.old (designators.step_round (S.around here.now) w start at (map spec.phrase_of arguments.now) (means.Place variable)) book.new (round_left (S.around here.now) w start at (map spec.phrase_of arguments.now) r)) }
+    ensures { IfOk result (λ r. (w : AWhere) (start : APos) → Leaves book.old (designators.step_round (S.around here.now) w start at (map spec.phrase_of arguments.now) (means.Place variable)) book.new (round_left (S.around here.now) w start at (map spec.phrase_of arguments.now) r)) }
 {
     match type_in_round(here, arguments) {
         None => held(alloc, here, variable),
@@ -67,7 +67,7 @@ fn unless_guard<S: Surroundings>(
     arguments: &[Expr],
     opened: Opened,
 ) -> Result<Opened, AllocError>
-    ensures { (w : AWhere) (start : APos) → IfOk result (λ r. Leaves book.old (misfit_or (S.around here.now) at (designators.type_in_round (S.around here.now) (map spec.phrase_of arguments.now)) (round_left (S.around here.now) w start at (map spec.phrase_of arguments.now) opened)) book.new (round_left (S.around here.now) w start at (map spec.phrase_of arguments.now) r)) }
+    ensures { IfOk result (λ r. (w : AWhere) (start : APos) → Leaves book.old (misfit_or (S.around here.now) at (designators.type_in_round (S.around here.now) (map spec.phrase_of arguments.now)) (round_left (S.around here.now) w start at (map spec.phrase_of arguments.now) opened)) book.new (round_left (S.around here.now) w start at (map spec.phrase_of arguments.now) r)) }
 {
     match type_in_round(here, arguments) {
         None => Ok(opened),
@@ -104,7 +104,7 @@ fn behind_bound<S: Surroundings>(
     arguments: &[Expr],
     chosen: Chosen,
 ) -> Result<Opened, AllocError>
-    ensures { (w : AWhere) → IfOk result (λ r. Leaves book.old (designators.step_round (S.around here.now) w start at (map spec.phrase_of arguments.now) (means.Bound chosen)) book.new (round_left (S.around here.now) w start at (map spec.phrase_of arguments.now) r)) }
+    ensures { IfOk result (λ r. (w : AWhere) → Leaves book.old (designators.step_round (S.around here.now) w start at (map spec.phrase_of arguments.now) (means.Bound chosen)) book.new (round_left (S.around here.now) w start at (map spec.phrase_of arguments.now) r)) }
 {
     match type_in_round(here, arguments) {
         None => Ok(Opened::Call(bound_callable(here, book, start, chosen))),
@@ -150,7 +150,7 @@ fn behind_predeclared<S: Surroundings>(
     arguments: &[Expr],
     procedure: Predeclared,
 ) -> Result<Opened, AllocError>
-    ensures { (w : AWhere) (start : APos) → IfOk result (λ r. Leaves book.old (designators.step_round (S.around here.now) w start at (map spec.phrase_of arguments.now) (means.Predeclared procedure)) book.new (round_left (S.around here.now) w start at (map spec.phrase_of arguments.now) r)) }
+    ensures { IfOk result (λ r. (w : AWhere) (start : APos) → Leaves book.old (designators.step_round (S.around here.now) w start at (map spec.phrase_of arguments.now) (means.Predeclared procedure)) book.new (round_left (S.around here.now) w start at (map spec.phrase_of arguments.now) r)) }
 {
     match extreme_kind(procedure) {
         None => {
@@ -163,7 +163,7 @@ fn behind_predeclared<S: Surroundings>(
 
 /// What round brackets behind that open. What is judged already is noted; the arguments of a call are
 /// left, and where nothing is opened.
-pub fn opened<S: Surroundings>(
+pub fn open_round<S: Surroundings>(
     alloc: Global,
     here: &S,
     book: &mut Notebook,
@@ -172,7 +172,7 @@ pub fn opened<S: Surroundings>(
     arguments: &[Expr],
     meant: Meant,
 ) -> Result<Opened, AllocError>
-    ensures { (w : AWhere) → IfOk result (λ r. Leaves book.old (designators.step_round (S.around here.now) w start at (map spec.phrase_of arguments.now) meant) book.new (round_left (S.around here.now) w start at (map spec.phrase_of arguments.now) r)) }
+    ensures { IfOk result (λ r. (w : AWhere) → Leaves book.old (designators.step_round (S.around here.now) w start at (map spec.phrase_of arguments.now) meant) book.new (round_left (S.around here.now) w start at (map spec.phrase_of arguments.now) r)) }
 {
     match meant {
         Meant::Place(variable) => behind_variable(alloc, here, book, at, arguments, variable),
@@ -190,6 +190,7 @@ pub fn opened<S: Surroundings>(
         Meant::Predeclared(procedure) => {
             behind_predeclared(alloc, here, book, at, arguments, procedure)
         }
-        Meant::Call(_) | Meant::Statement(_) => Ok(Opened::Nothing),
+        Meant::Call(_) => Ok(Opened::Nothing),
+        Meant::Statement(_) => Ok(Opened::Nothing),
     }
 }

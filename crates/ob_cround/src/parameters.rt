@@ -35,8 +35,8 @@ pub fn parameter(
     start: Pos,
     argument: Argument,
 ) -> Result<Option<Valued>, AllocError>
-    ensures made { (u : Around) → IfOk result (λ r. r ≡ (spec.parameter u asked (left_of start argument)).node) }
-    ensures noted { (u : Around) → OnOk result (book.new ≡ book_after book.old (spec.parameter u asked (left_of start argument)).notes) }
+    ensures made { IfOk result (λ r. (u : Around) → r ≡ (spec.parameter u asked (left_of start argument)).node) }
+    ensures noted { OnOk result ((u : Around) → book.new ≡ book_after book.old (spec.parameter u asked (left_of start argument)).notes) }
 {
     match asked {
         Asked::Value => value_of(alloc, book, start, argument),

@@ -10,10 +10,14 @@ use Rattle.ob_rules.specs.Designators as designators
 use Rattle.ob_rules.specs.Names.{map_of}
 use Rattle.ob_rules.specs.Operators.{opposite, signed}
 use Rattle.ob_rules.specs.Books.{book_after}
+use Rattle.ob_rules.specs.Predeclared.{extreme_call, type_parameter}
 use Rattle.ob_rules.specs.Expressions as spec
 use Rattle.ob_rules.proofs.BookLaws.{after_none}
 use Rattle.ob_coperand.specs.Plain.{plain}
+use Rattle.ob_cround.specs.declared.opening.Opened.TheVariants as opens
 use Rattle.ob_cexpr.specs.Plain.{set_judged, goes_on, visited_one}
+use Rattle.ob_cexpr.proofs.Arguments as arguments
+use Rattle.ob_cexpr.proofs.Rounds.{actuals_step, actuals_end, actuals_end_noted, parameters_step, parameters_end, parameters_end_noted, no_first, extreme_node, extreme_noted, behind_alone, behind_none, further_node, further_noted, untyped_noted, call_node, call_noted, fit_node, fit_noted, nothing_noted, left_node, left_noted}
 use Rattle.ob_cexpr.proofs.Rows.{on_ok_from}
 use Rattle.ob_cexpr.proofs.Sets.{set_node, set_noted, elements_step, elements_end, elements_end_noted, element_noted, as_set_node, as_set_noted}
 use Rattle.ob_cexpr.proofs.Selectors.{selectors_end, selectors_end_noted, meant_node, meant_noted, index_step_node, index_step_noted, visit_step, argument_step, selector_step, not_taken, last_by}
@@ -207,3 +211,151 @@ pub walk::check_expr-returns-in-Set-clause-noted : goal.walk::check_expr-returns
 walk::check_expr-returns-in-Set-clause-noted g t c =
     let u = g.S.Surroundings.around c.args.here.now in
     on_ok_weaker c.check_set.result (λ h. as_set_noted u c.args.e.now c.in-Set.pos c.as_slice-in-Set.result.now c.in-Set.elements c.args.book.now c.check_set.new.book c.in-Set.is c.as_slice-in-Set.ensures h) c.check_set.ensures.noted
+
+pub actuals::check_argument-returns-in_ok-meant-in-Designator-clause-made : goal.actuals::check_argument-returns-in_ok-meant-in-Designator-clause-made
+actuals::check_argument-returns-in_ok-meant-in-Designator-clause-made g t c =
+    arguments.named_is (g.S.Surroundings.around c.args.here.now) c.args.argument.now c.in-Designator.d c.in_ok-meant-in-Designator.meant c.in-Designator.is c.in_ok-meant-in-Designator.ensures.made
+
+pub actuals::check_argument-returns-in_ok-meant-in-Designator-clause-noted : goal.actuals::check_argument-returns-in_ok-meant-in-Designator-clause-noted
+actuals::check_argument-returns-in_ok-meant-in-Designator-clause-noted g t c =
+    arguments.named_says (g.S.Surroundings.around c.args.here.now) c.args.argument.now c.in-Designator.d c.args.book.now c.check_designator.new.book c.in-Designator.is c.in_ok-meant-in-Designator.ensures.noted
+
+pub actuals::check_argument-returns-in_ok-x-clause-made : goal.actuals::check_argument-returns-in_ok-x-clause-made
+actuals::check_argument-returns-in_ok-x-clause-made g t c =
+    arguments.other_is (g.S.Surroundings.around c.args.here.now) c.args.argument.now c.in_ok-x.x (λ d h. c.in_default.not-Designator h) c.in_ok-x.ensures.made
+
+pub actuals::check_argument-returns-in_ok-x-clause-noted : goal.actuals::check_argument-returns-in_ok-x-clause-noted
+actuals::check_argument-returns-in_ok-x-clause-noted g t c =
+    arguments.other_says (g.S.Surroundings.around c.args.here.now) c.args.argument.now c.args.book.now c.check_expr.new.book (λ d h. c.in_default.not-Designator h) c.in_ok-x.ensures.noted
+
+pub actuals::check_actuals-arguments-preserved : goal.actuals::check_actuals-arguments-preserved
+actuals::check_actuals-arguments-preserved g t c =
+    let step = actuals_step (g.S.Surroundings.around c.args.here.now) c.args.params.now c.args.arguments.now c.arguments.number c.arguments.argument-index c.argument-item.result _ c.in_ok-judged.judged c.start_of.result _ _ c.arguments.book c.check_argument.new.book c.with_actual.new.book _ _
+    c.arguments-test.true c.argument-item.is c.start_of.ensures c.formal_at-formal.ensures c.in_ok-judged.ensures.made c.in_ok-judged.ensures.noted c.in_ok-row.ensures.made c.in_ok-row.ensures.noted c.arguments.invariant.0 c.arguments.invariant.1 in
+    (step.0, step.1, omega (arith, c.arguments.invariant.2))
+
+pub actuals::check_actuals-returns-clause-made : goal.actuals::check_actuals-returns-clause-made
+actuals::check_actuals-returns-clause-made g t c =
+    actuals_end (g.S.Surroundings.around c.args.here.now) c.args.params.now c.args.arguments.now c.arguments.number c.arguments.argument-index _ _ c.arguments-test.false c.arguments.invariant.0
+
+pub actuals::check_actuals-returns-clause-noted : goal.actuals::check_actuals-returns-clause-noted
+actuals::check_actuals-returns-clause-noted g t c =
+    actuals_end_noted (g.S.Surroundings.around c.args.here.now) c.args.params.now c.args.arguments.now c.arguments.number c.arguments.argument-index c.arguments.book _ c.arguments-test.false c.arguments.invariant.1
+
+pub predeclared::check_parameters-arguments-preserved : goal.predeclared::check_parameters-arguments-preserved
+predeclared::check_parameters-arguments-preserved g t c =
+    parameters_step (g.S.Surroundings.around c.args.here.now) c.arguments.asked c.arguments.next c.args.arguments.now c.arguments.argument-index c.argument-item.result c.in_ok-judged.judged c.start_of.result c.in_ok-x.x _ _ c.arguments.book c.check_argument.new.book c.parameter.new.book _ _
+    c.arguments-test.true c.argument-item.is c.start_of.ensures c.in_ok-judged.ensures.made c.in_ok-judged.ensures.noted (c.in_ok-x.ensures.made (g.S.Surroundings.around c.args.here.now)) (c.in_ok-x.ensures.noted (g.S.Surroundings.around c.args.here.now)) c.in_ok-row.ensures c.arguments.invariant.0 c.arguments.invariant.1
+
+pub predeclared::check_parameters-returns-clause-made : goal.predeclared::check_parameters-returns-clause-made
+predeclared::check_parameters-returns-clause-made g t c =
+    parameters_end (g.S.Surroundings.around c.args.here.now) c.arguments.asked c.arguments.next c.args.arguments.now c.arguments.argument-index _ _ c.arguments-test.false c.arguments.invariant.0
+
+pub predeclared::check_parameters-returns-clause-noted : goal.predeclared::check_parameters-returns-clause-noted
+predeclared::check_parameters-returns-clause-noted g t c =
+    parameters_end_noted (g.S.Surroundings.around c.args.here.now) c.arguments.asked c.arguments.next c.args.arguments.now c.arguments.argument-index c.arguments.book _ c.arguments-test.false c.arguments.invariant.1
+
+pub predeclared::check_extreme-returns-in-empty-clause-made : goal.predeclared::check_extreme-returns-in-empty-clause-made
+predeclared::check_extreme-returns-in-empty-clause-made g t c =
+    c.no_extreme.ensures.made ∙ ap (λ ps. (extreme_call c.args.max (g.S.Surroundings.around c.args.here.now) c.args.place c.args.at ps).node) (sym (no_first c.args.arguments.now (omega arith)))
+
+pub predeclared::check_extreme-returns-in-empty-clause-noted : goal.predeclared::check_extreme-returns-in-empty-clause-noted
+predeclared::check_extreme-returns-in-empty-clause-noted g t c =
+    c.no_extreme.ensures.noted ∙ ap (λ ps. book_after c.args.book.now (extreme_call c.args.max (g.S.Surroundings.around c.args.here.now) c.args.place c.args.at ps).notes) (sym (no_first c.args.arguments.now (omega arith)))
+
+pub predeclared::check_extreme-returns-in_ok-t-in-len1-up-clause-made : goal.predeclared::check_extreme-returns-in_ok-t-in-len1-up-clause-made
+predeclared::check_extreme-returns-in_ok-t-in-len1-up-clause-made g t c =
+    IfOk-weaker c.check_extreme_behind.result _ _ (λ r h. extreme_node c.args.max (g.S.Surroundings.around c.args.here.now) c.args.place c.args.at c.args.arguments.now c.in-len1-up.rest.now c.first-item.result c.in_ok-t-in-len1-up.t r (omega arith) c.first-item.is refl c.in_ok-t-in-len1-up.ensures.made h) c.check_extreme_behind.ensures.made
+
+pub predeclared::check_extreme-returns-in_ok-t-in-len1-up-clause-noted : goal.predeclared::check_extreme-returns-in_ok-t-in-len1-up-clause-noted
+predeclared::check_extreme-returns-in_ok-t-in-len1-up-clause-noted g t c =
+    on_ok_weaker c.check_extreme_behind.result (λ h. extreme_noted c.args.max (g.S.Surroundings.around c.args.here.now) c.args.place c.args.at c.args.arguments.now c.in-len1-up.rest.now c.first-item.result c.in_ok-t-in-len1-up.t c.args.book.now c.check_type_parameter.new.book c.check_extreme_behind.new.book (omega arith) c.first-item.is refl c.in_ok-t-in-len1-up.ensures.made c.in_ok-t-in-len1-up.ensures.noted h) c.check_extreme_behind.ensures.noted
+
+pub predeclared::check_type_parameter-returns-in_ok-x-in-None-clause-noted : goal.predeclared::check_type_parameter-returns-in_ok-x-in-None-clause-noted
+predeclared::check_type_parameter-returns-in_ok-x-in-None-clause-noted g t c =
+    let u = g.S.Surroundings.around c.args.here.now in
+    let p = spec.phrase_of c.args.argument.now in
+    untyped_noted u p _ c.args.book.now c.check_expr.new.book (sym c.in-None.is ∙ c.name_in.ensures) c.in_ok-x-in-None.ensures.noted
+
+pub calls::check_round-returns-in-Guard-clause-made : goal.calls::check_round-returns-in-Guard-clause-made
+calls::check_round-returns-in-Guard-clause-made g t c =
+    left_node (g.S.Surroundings.around c.args.here.now) c.args.place c.args.start c.args.at (map spec.phrase_of c.args.arguments.now) _ c.in_ok-round.round (opens.Guard c.in-Guard.meant) _ c.args.book.now c.open_round.new.book (c.in_ok-round.ensures c.args.place) c.in-Guard.is refl
+
+pub calls::check_round-returns-in-Guard-clause-noted : goal.calls::check_round-returns-in-Guard-clause-noted
+calls::check_round-returns-in-Guard-clause-noted g t c =
+    left_noted (g.S.Surroundings.around c.args.here.now) c.args.place c.args.start c.args.at (map spec.phrase_of c.args.arguments.now) _ c.in_ok-round.round (opens.Guard c.in-Guard.meant) c.args.book.now c.open_round.new.book c.open_round.new.book (c.in_ok-round.ensures c.args.place) c.in-Guard.is (sym (after_none c.open_round.new.book))
+
+pub calls::check_round-returns-in-Nothing-clause-made : goal.calls::check_round-returns-in-Nothing-clause-made
+calls::check_round-returns-in-Nothing-clause-made g t c =
+    left_node (g.S.Surroundings.around c.args.here.now) c.args.place c.args.start c.args.at (map spec.phrase_of c.args.arguments.now) _ c.in_ok-round.round opens.Nothing _ c.args.book.now c.open_round.new.book (c.in_ok-round.ensures c.args.place) c.in-Nothing.is refl
+
+pub calls::check_round-returns-in-Nothing-clause-noted : goal.calls::check_round-returns-in-Nothing-clause-noted
+calls::check_round-returns-in-Nothing-clause-noted g t c =
+    let u = g.S.Surroundings.around c.args.here.now in
+    let ps = map spec.phrase_of c.args.arguments.now in
+    left_noted u c.args.place c.args.start c.args.at ps _ c.in_ok-round.round opens.Nothing c.args.book.now c.open_round.new.book c.breaks.new.self (c.in_ok-round.ensures c.args.place) c.in-Nothing.is
+    (nothing_noted u c.args.at ps c.open_round.new.book c.visit_arguments.new.book c.breaks.new.self c.in_ok-visit_arguments-in-Nothing.ensures c.breaks.ensures)
+
+pub calls::check_round-returns-in_ok-row-in-Call-clause-made : goal.calls::check_round-returns-in_ok-row-in-Call-clause-made
+calls::check_round-returns-in_ok-row-in-Call-clause-made g t c =
+    let u = g.S.Surroundings.around c.args.here.now in
+    let ps = map spec.phrase_of c.args.arguments.now in
+    IfOk-weaker c.called.result _ _ (λ r h. left_node u c.args.place c.args.start c.args.at ps _ c.in_ok-round.round (opens.Call c.in-Call.callable) r c.args.book.now c.open_round.new.book (c.in_ok-round.ensures c.args.place) c.in-Call.is
+    (call_node u c.args.place c.args.start c.in-Call.callable c.params.result.now c.args.arguments.now c.len.result _ r c.params.ensures c.len.ensures c.in_ok-row-in-Call.ensures.made h)) c.called.ensures.made
+
+pub calls::check_round-returns-in_ok-row-in-Call-clause-noted : goal.calls::check_round-returns-in_ok-row-in-Call-clause-noted
+calls::check_round-returns-in_ok-row-in-Call-clause-noted g t c =
+    let u = g.S.Surroundings.around c.args.here.now in
+    let ps = map spec.phrase_of c.args.arguments.now in
+    on_ok_weaker c.called.result (λ h. left_noted u c.args.place c.args.start c.args.at ps _ c.in_ok-round.round (opens.Call c.in-Call.callable) c.args.book.now c.open_round.new.book c.called.new.book (c.in_ok-round.ensures c.args.place) c.in-Call.is
+    (call_noted u c.args.place c.args.start c.in-Call.callable c.params.result.now c.args.arguments.now c.len.result _ c.open_round.new.book c.check_actuals.new.book c.called.new.book c.params.ensures c.len.ensures c.in_ok-row-in-Call.ensures.made c.in_ok-row-in-Call.ensures.noted h)) c.called.ensures.noted
+
+pub calls::check_round-returns-in-Extreme-clause-made : goal.calls::check_round-returns-in-Extreme-clause-made
+calls::check_round-returns-in-Extreme-clause-made g t c =
+    let u = g.S.Surroundings.around c.args.here.now in
+    let ps = map spec.phrase_of c.args.arguments.now in
+    IfOk-weaker c.check_extreme.result _ _ (λ r h. left_node u c.args.place c.args.start c.args.at ps _ c.in_ok-round.round (opens.Extreme c.in-Extreme.max) r c.args.book.now c.open_round.new.book (c.in_ok-round.ensures c.args.place) c.in-Extreme.is h) c.check_extreme.ensures.made
+
+pub calls::check_round-returns-in-Extreme-clause-noted : goal.calls::check_round-returns-in-Extreme-clause-noted
+calls::check_round-returns-in-Extreme-clause-noted g t c =
+    let u = g.S.Surroundings.around c.args.here.now in
+    let ps = map spec.phrase_of c.args.arguments.now in
+    on_ok_weaker c.check_extreme.result (λ h. left_noted u c.args.place c.args.start c.args.at ps _ c.in_ok-round.round (opens.Extreme c.in-Extreme.max) c.args.book.now c.open_round.new.book c.check_extreme.new.book (c.in_ok-round.ensures c.args.place) c.in-Extreme.is h) c.check_extreme.ensures.noted
+
+pub calls::check_round-returns-in_ok-row-in-Predeclared-clause-made : goal.calls::check_round-returns-in_ok-row-in-Predeclared-clause-made
+calls::check_round-returns-in_ok-row-in-Predeclared-clause-made g t c =
+    let u = g.S.Surroundings.around c.args.here.now in
+    let ps = map spec.phrase_of c.args.arguments.now in
+    IfOk-weaker c.call_fit.result _ _ (λ r h. left_node u c.args.place c.args.start c.args.at ps _ c.in_ok-round.round (opens.Predeclared c.in-Predeclared.procedure) r c.args.book.now c.open_round.new.book (c.in_ok-round.ensures c.args.place) c.in-Predeclared.is
+    (fit_node u c.args.place c.args.start c.in-Predeclared.procedure c.asked_first-first.result c.asked_second-second.result c.args.arguments.now _ r c.asked_first-first.ensures c.asked_second-second.ensures c.in_ok-row-in-Predeclared.ensures.made h)) c.call_fit.ensures.made
+
+pub calls::check_round-returns-in_ok-row-in-Predeclared-clause-noted : goal.calls::check_round-returns-in_ok-row-in-Predeclared-clause-noted
+calls::check_round-returns-in_ok-row-in-Predeclared-clause-noted g t c =
+    let u = g.S.Surroundings.around c.args.here.now in
+    let ps = map spec.phrase_of c.args.arguments.now in
+    on_ok_weaker c.call_fit.result (λ h. left_noted u c.args.place c.args.start c.args.at ps _ c.in_ok-round.round (opens.Predeclared c.in-Predeclared.procedure) c.args.book.now c.open_round.new.book c.call_fit.new.book (c.in_ok-round.ensures c.args.place) c.in-Predeclared.is
+    (fit_noted u c.args.place c.args.start c.in-Predeclared.procedure c.asked_first-first.result c.asked_second-second.result c.args.arguments.now _ c.open_round.new.book c.check_parameters.new.book c.call_fit.new.book c.asked_first-first.ensures c.asked_second-second.ensures c.in_ok-row-in-Predeclared.ensures.made c.in_ok-row-in-Predeclared.ensures.noted h)) c.call_fit.ensures.noted
+
+pub predeclared::check_extreme_behind-returns-then-is_empty-clause-made : goal.predeclared::check_extreme_behind-returns-then-is_empty-clause-made
+predeclared::check_extreme_behind-returns-then-is_empty-clause-made g t c =
+    IfOk-weaker c.extreme.result _ _ (λ r h. h ∙ ap (λ j. j.node) (behind_alone c.args.max (g.S.Surroundings.around c.args.here.now) c.args.place c.args.at c.args.rest.now c.args.t (omega arith))) c.extreme.ensures.made
+
+pub predeclared::check_extreme_behind-returns-then-is_empty-clause-noted : goal.predeclared::check_extreme_behind-returns-then-is_empty-clause-noted
+predeclared::check_extreme_behind-returns-then-is_empty-clause-noted g t c =
+    on_ok_weaker c.extreme.result (λ h. h ∙ ap (λ j. book_after c.args.book.now j.notes) (behind_alone c.args.max (g.S.Surroundings.around c.args.here.now) c.args.place c.args.at c.args.rest.now c.args.t (omega arith))) c.extreme.ensures.noted
+
+pub predeclared::check_extreme_behind-returns-in-None-clause-made : goal.predeclared::check_extreme_behind-returns-in-None-clause-made
+predeclared::check_extreme_behind-returns-in-None-clause-made g t c =
+    ap (λ j. j.node) (behind_none c.args.max (g.S.Surroundings.around c.args.here.now) c.args.place c.args.at c.args.rest.now c.args.t (omega arith) c.in-None.is)
+
+pub predeclared::check_extreme_behind-returns-in-None-clause-noted : goal.predeclared::check_extreme_behind-returns-in-None-clause-noted
+predeclared::check_extreme_behind-returns-in-None-clause-noted g t c =
+    sym (after_none c.args.book.now) ∙ ap (λ j. book_after c.args.book.now j.notes) (behind_none c.args.max (g.S.Surroundings.around c.args.here.now) c.args.place c.args.at c.args.rest.now c.args.t (omega arith) c.in-None.is)
+
+pub predeclared::check_extreme_behind-returns-in_ok-row-in-Some-clause-made : goal.predeclared::check_extreme_behind-returns-in_ok-row-in-Some-clause-made
+predeclared::check_extreme_behind-returns-in_ok-row-in-Some-clause-made g t c =
+    further_node c.args.max (g.S.Surroundings.around c.args.here.now) c.args.place c.args.at c.args.rest.now c.args.t c.in-Some.field-0 _ _ (omega arith) c.in-Some.is c.in_ok-row-in-Some.ensures.made c.further.ensures.made
+
+pub predeclared::check_extreme_behind-returns-in_ok-row-in-Some-clause-noted : goal.predeclared::check_extreme_behind-returns-in_ok-row-in-Some-clause-noted
+predeclared::check_extreme_behind-returns-in_ok-row-in-Some-clause-noted g t c =
+    further_noted c.args.max (g.S.Surroundings.around c.args.here.now) c.args.place c.args.at c.args.rest.now c.args.t c.in-Some.field-0 _ c.args.book.now c.check_parameters.new.book _ (omega arith) c.in-Some.is c.in_ok-row-in-Some.ensures.made c.in_ok-row-in-Some.ensures.noted c.further.ensures.noted
