@@ -6,5 +6,5 @@ use Rattle.ob_cround.proofs.opening.open_round.Goals as goal
 pub returns-in-Call : goal.returns-in-Call
 returns-in-Call g c = λ w. call_opens (g.S.Surroundings.around c.args.here.now) w c.args.start c.args.at (map spec.phrase_of c.args.arguments.now) c.args.meant _ c.args.book.now c.in-Call.is
 
-pub returns-in-Statement : goal.returns-in-Statement
-returns-in-Statement g c = λ w. statement_opens (g.S.Surroundings.around c.args.here.now) w c.args.start c.args.at (map spec.phrase_of c.args.arguments.now) c.args.meant _ c.args.book.now c.in-Statement.is
+pub returns : goal.returns
+returns g c = λ w. statement_opens (g.S.Surroundings.around c.args.here.now) w c.args.start c.args.at (map spec.phrase_of c.args.arguments.now) c.args.meant _ c.args.book.now c.in-Statement.is
