@@ -5,12 +5,18 @@ ghost use Rattle.ob_rules.specs.Books.{book_after};
 ghost use Rattle.ob_rules.specs.Designators as designators;
 ghost use Rattle.ob_rules.specs.Expressions as spec;
 
+use crate::actuals::check_actuals;
+use crate::designators::visit_arguments;
+use crate::predeclared::{check_extreme, check_parameters};
+use ob_cpre::{asked_first, asked_second, call_fit};
+use ob_cround::{Opened, called, open_round, params};
 use ob_rules::{Meant, Notebook, Surroundings, Where};
 use ob_tree::{Expr, Pos};
 use std::alloc::{AllocError, Global};
 
-/// Round brackets behind what comes before: a guard, or a call. None where they break a rule. It
-/// answers want of memory: not written yet.
+/// Round brackets behind what comes before: a guard, or a call. None where they break a rule. The
+/// arguments are judged in turn, each with what is asked of it.
+#[cycle(walk)]
 pub fn check_round<S: Surroundings>(
     alloc: Global,
     here: &S,
@@ -24,5 +30,24 @@ pub fn check_round<S: Surroundings>(
     ensures made { IfOk result (λ r. r ≡ (designators.step_round (S.around here.now) place start at (map spec.phrase_of arguments.now) meant).node) }
     ensures noted { OnOk result (book.new ≡ book_after book.old (designators.step_round (S.around here.now) place start at (map spec.phrase_of arguments.now) meant).notes) }
 {
-    Err(AllocError)
+    let round = open_round(alloc, here, book, start, at, arguments, meant)?;
+    match round {
+        Opened::Guard(meant) => Ok(meant),
+        Opened::Nothing => {
+            visit_arguments(alloc, here, book, arguments)?;
+            book.breaks(22, at);
+            Ok(None)
+        }
+        Opened::Call(callable) => {
+            let row = check_actuals(alloc, here, book, params(&callable), arguments)?;
+            called(alloc, book, place, start, callable, arguments.len(), row)
+        }
+        Opened::Extreme(max) => check_extreme(alloc, here, book, place, start, max, arguments),
+        Opened::Predeclared(procedure) => {
+            let first = asked_first(procedure);
+            let second = asked_second(procedure);
+            let row = check_parameters(alloc, here, book, first, second, arguments)?;
+            call_fit(alloc, here, book, place, procedure, start, row)
+        }
+    }
 }

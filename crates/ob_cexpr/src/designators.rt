@@ -200,9 +200,9 @@ fn visit_selector<S: Surroundings>(
     }
 }
 
-// Judges the values in round brackets, of which nothing more is asked. A type's name is none.
+/// Judges the values in round brackets, of which nothing more is asked. A type's name is none.
 #[cycle(walk)]
-fn visit_arguments<S: Surroundings>(
+pub fn visit_arguments<S: Surroundings>(
     alloc: Global,
     here: &S,
     book: &mut Notebook,

@@ -1,8 +1,10 @@
 //! Expressions and designators, judged by the rules.
 #![tactic(auto, using(ob_rules::proofs::BookLaws::after_none, ob_rules::proofs::BookLaws::after_joined))]
 
+mod actuals;
 mod calls;
 mod designators;
+mod predeclared;
 mod walk;
 
 pub use designators::check_designator;

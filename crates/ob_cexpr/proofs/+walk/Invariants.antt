@@ -2,9 +2,12 @@ use Rattle.std.proofs.Common.{◌≡◌, ◌+◌, drop, map, length, Some}
 use Rattle.std.specs.Option.{option_map}
 use Rattle.ob_rules.specs.Books.{book_after}
 use Rattle.ob_rules.specs.Judged as judged
+use Rattle.ob_rules.specs.Calls as calls
 use Rattle.ob_rules.specs.Designators as designators
 use Rattle.ob_rules.specs.Expressions as spec
+use Rattle.ob_ccall.specs.Rows.{row_seen}
 use Rattle.ob_coperand.specs.Plain.{plain, onto}
+use Rattle.ob_cround.specs.Arguments.{parameters_asked}
 use Rattle.ob_cexpr.specs.Plain.{elements_judged, goes_on}
 use Rattle.ob_cexpr.proofs.+walk.Given as goal
 
@@ -32,3 +35,14 @@ invariant-designators::visit_selectors-selectors g l =
 abbrev pub invariant-designators::visit_arguments-arguments : goal.invariant-designators::visit_arguments-arguments
 invariant-designators::visit_arguments-arguments g l =
     book_after l.initial.book (designators.visited (g.S.Surroundings.around l.here) (map spec.phrase_of l.arguments)) ≡ book_after l.book (designators.visited (g.S.Surroundings.around l.here) (map spec.phrase_of (drop l.argument-index l.arguments)))
+
+abbrev pub invariant-actuals::check_actuals-arguments : goal.invariant-actuals::check_actuals-arguments
+invariant-actuals::check_actuals-arguments g l =
+    ((calls.actuals (g.S.Surroundings.around l.here) l.params (map spec.phrase_of l.arguments)).node ≡ onto (row_seen l.row) (calls.actuals (g.S.Surroundings.around l.here) (drop l.number l.params) (map spec.phrase_of (drop l.argument-index l.arguments))).node)
+    × (book_after l.initial.book (calls.actuals (g.S.Surroundings.around l.here) l.params (map spec.phrase_of l.arguments)).notes ≡ book_after l.book (calls.actuals (g.S.Surroundings.around l.here) (drop l.number l.params) (map spec.phrase_of (drop l.argument-index l.arguments))).notes)
+    × (l.number ≡ l.argument-index)
+
+abbrev pub invariant-predeclared::check_parameters-arguments : goal.invariant-predeclared::check_parameters-arguments
+invariant-predeclared::check_parameters-arguments g l =
+    ((judged.each_sound (parameters_asked (g.S.Surroundings.around l.here) l.fn.first l.fn.second (map spec.phrase_of l.arguments))).node ≡ onto (option_map (λ v. v.items) l.row) (judged.each_sound (parameters_asked (g.S.Surroundings.around l.here) l.asked l.next (map spec.phrase_of (drop l.argument-index l.arguments)))).node)
+    × (book_after l.initial.book (judged.each_sound (parameters_asked (g.S.Surroundings.around l.here) l.fn.first l.fn.second (map spec.phrase_of l.arguments))).notes ≡ book_after l.book (judged.each_sound (parameters_asked (g.S.Surroundings.around l.here) l.asked l.next (map spec.phrase_of (drop l.argument-index l.arguments)))).notes)

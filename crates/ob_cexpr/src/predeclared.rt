@@ -1,0 +1,116 @@
+//! Parameters of predeclared procedures.
+
+ghost use Rattle.std.specs.Prelude.{◌≡◌, IfOk, OnOk, map};
+ghost use Rattle.std.specs.Option.{option_map};
+ghost use Rattle.ob_rules.specs.Books.{book_after};
+ghost use Rattle.ob_rules.specs.Judged as judged;
+ghost use Rattle.ob_rules.specs.Predeclared as predeclared;
+ghost use Rattle.ob_rules.specs.Expressions as spec;
+ghost use Rattle.ob_cround.specs.Arguments.{parameters_asked};
+ghost use Rattle.ob_cexpr.specs.Plain.{extreme_behind};
+
+use crate::actuals::check_argument;
+use crate::walk::check_expr;
+use ob_coperand::{name_in, no_type, row_with, start_of, type_parameter};
+use ob_cpre::{extreme, no_extreme};
+use ob_cround::{further, parameter};
+use ob_rules::{Asked, Meant, Notebook, Surroundings, Valued, Where};
+use ob_tree::{Expr, Pos};
+use ob_types::TypeRef;
+use std::alloc::{AllocError, Global};
+
+/// Each argument, by what is asked of the first, of the second, and of those behind. None where one
+/// of them breaks a rule.
+#[cycle(walk)]
+pub fn check_parameters<S: Surroundings>(
+    alloc: Global,
+    here: &S,
+    book: &mut Notebook,
+    first: Asked,
+    second: Asked,
+    arguments: &[Expr],
+) -> Result<Option<Vec<Valued>>, AllocError>
+    ensures made { IfOk result (λ r. option_map (λ v. v.items) r ≡ (judged.each_sound (parameters_asked (S.around here.now) first second (map spec.phrase_of arguments.now))).node) }
+    ensures noted { OnOk result (book.new ≡ book_after book.old (judged.each_sound (parameters_asked (S.around here.now) first second (map spec.phrase_of arguments.now))).notes) }
+{
+    let mut row = Some(Vec::new(alloc));
+    let mut asked = first;
+    let mut next = second;
+    'arguments: for argument in arguments {
+        let judged = check_argument(alloc, here, book, argument)?;
+        let x = parameter(alloc, book, asked, start_of(argument), judged)?;
+        row = row_with(row, x)?;
+        asked = next;
+        next = Asked::Value;
+    }
+    Ok(row)
+}
+
+/// A call of MAX, or else of MIN, whose parameter is a type's name.
+#[cycle(walk)]
+pub fn check_extreme<S: Surroundings>(
+    alloc: Global,
+    here: &S,
+    book: &mut Notebook,
+    place: Where,
+    at: Pos,
+    max: bool,
+    arguments: &[Expr],
+) -> Result<Option<Meant>, AllocError>
+    ensures made { IfOk result (λ r. r ≡ (predeclared.extreme_call max (S.around here.now) place at (map spec.phrase_of arguments.now)).node) }
+    ensures noted { OnOk result (book.new ≡ book_after book.old (predeclared.extreme_call max (S.around here.now) place at (map spec.phrase_of arguments.now)).notes) }
+{
+    match arguments {
+        [] => Ok(no_extreme(book, place, at)),
+        [first, rest @ ..] => {
+            let t = check_type_parameter(alloc, here, book, first)?;
+            check_extreme_behind(alloc, here, book, place, at, max, rest, t)
+        }
+    }
+}
+
+// The same behind the first parameter.
+#[cycle(walk)]
+fn check_extreme_behind<S: Surroundings>(
+    alloc: Global,
+    here: &S,
+    book: &mut Notebook,
+    place: Where,
+    at: Pos,
+    max: bool,
+    rest: &[Expr],
+    t: Option<Option<TypeRef>>,
+) -> Result<Option<Meant>, AllocError>
+    ensures made { IfOk result (λ r. r ≡ (extreme_behind max (S.around here.now) place at (map spec.phrase_of rest.now) t).node) }
+    ensures noted { OnOk result (book.new ≡ book_after book.old (extreme_behind max (S.around here.now) place at (map spec.phrase_of rest.now) t).notes) }
+{
+    if rest.is_empty() {
+        return extreme(here, book, max, place, at, t);
+    }
+    match t {
+        None => Ok(None),
+        Some(_) => {
+            let row = check_parameters(alloc, here, book, Asked::Value, Asked::Value, rest)?;
+            Ok(further(book, place, at, row))
+        }
+    }
+}
+
+#[cycle(walk)]
+fn check_type_parameter<S: Surroundings>(
+    alloc: Global,
+    here: &S,
+    book: &mut Notebook,
+    argument: &Expr,
+) -> Result<Option<Option<TypeRef>>, AllocError>
+    ensures made { IfOk result (λ r. r ≡ (predeclared.type_parameter (S.around here.now) (spec.phrase_of argument.now) (spec.phrase_of argument.now).name).node) }
+    ensures noted { OnOk result (book.new ≡ book_after book.old (predeclared.type_parameter (S.around here.now) (spec.phrase_of argument.now) (spec.phrase_of argument.now).name).notes) }
+{
+    match name_in(argument) {
+        Some(name) => type_parameter(alloc, here, book, &name),
+        None => {
+            let x = check_expr(alloc, here, book, argument)?;
+            Ok(no_type(x))
+        }
+    }
+}

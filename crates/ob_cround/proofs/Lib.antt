@@ -1,0 +1,4 @@
+pub mod ArgumentLaws
+pub mod JudgedLaws
+pub mod RoundLaws
+pub mod RowLaws
