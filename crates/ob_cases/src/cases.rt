@@ -2,7 +2,7 @@
 
 use crate::files::Files;
 use ob_io::{MemSink, MemSource};
-use ob_shell::session;
+use ob_session::session;
 use std::alloc::{AllocError, Global};
 
 /// Room for what a session writes, in bytes.
