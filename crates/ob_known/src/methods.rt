@@ -8,10 +8,10 @@ use ob_trees::copy_method;
 use ob_types::{Desc, Method, RecordDesc, TypedType};
 use std::alloc::{AllocError, Global};
 
-fn push_method(record: &mut RecordDesc, method: Method) -> Result<(), AllocError>
-    ensures { OnOk result (record.new ≡ with_method record.old method) }
+fn push_method(desc: &mut RecordDesc, method: Method) -> Result<(), AllocError>
+    ensures { OnOk result (desc.new ≡ with_method desc.old method) }
 {
-    record.methods.push(method)
+    desc.methods.push(method)
 }
 
 fn add_to_desc(alloc: Global, desc: &mut Desc, method: &Method) -> Result<(), AllocError>
