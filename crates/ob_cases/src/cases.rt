@@ -1,0 +1,241 @@
+//! Sections of a worked example: files, sessions over them, changes and questions.
+
+use crate::files::Files;
+use ob_io::{MemSink, MemSource};
+use ob_session::session;
+use std::alloc::{AllocError, Global};
+
+/// Room for what a session writes, in bytes.
+const ROOM: usize = 1 << 20;
+
+/// A worked example as far as it was told: its files, the words of the next session, and what is printed.
+#[derive(Drop)]
+pub struct Case {
+    alloc: Global,
+    files: Files,
+    words: Vec<String>,
+    printed: String,
+}
+
+fn hexadecimal(digit: u8) -> Option<u8> {
+    match digit {
+        b'0'..=b'9' => Some(digit - b'0'),
+        b'a'..=b'f' => Some(digit - b'a' + 10),
+        _ => None,
+    }
+}
+
+// The bytes that pairs of hexadecimal digits write; other characters part pairs.
+fn from_digits(alloc: Global, text: &str) -> Result<Vec<u8>, AllocError> {
+    let mut bytes = Vec::new(alloc);
+    let mut high = None;
+    for character in text.bytes() {
+        match (high, hexadecimal(character)) {
+            (_, None) => high = None,
+            (None, Some(digit)) => high = Some(digit),
+            (Some(first), Some(digit)) => {
+                bytes.push(first << 4 | digit & 15)?;
+                high = None;
+            }
+        }
+    }
+    Ok(bytes)
+}
+
+// The bytes with those of `new` in place of each place of `old`.
+fn substituted(alloc: Global, bytes: &[u8], old: &[u8], new: &[u8]) -> Result<Vec<u8>, AllocError> {
+    let mut all = Vec::new(alloc);
+    let mut rest = bytes;
+    'places: while let [first, more @ ..] = rest {
+        match rest.strip_prefix(old) {
+            Some(behind) if behind.len() < rest.len() => {
+                all.extend_from_slice(new)?;
+                rest = behind;
+            }
+            _ => {
+                all.push(*first)?;
+                rest = more;
+            }
+        }
+    }
+    Ok(all)
+}
+
+impl Case {
+    pub fn new(alloc: Global) -> Case {
+        Case {
+            alloc,
+            files: Files::new(alloc),
+            words: Vec::new(alloc),
+            printed: String::new(alloc),
+        }
+    }
+
+    /// All that was printed so far.
+    pub fn printed(&self) -> &str {
+        self.printed.as_str()
+    }
+
+    fn print(&mut self, texts: &[&str]) -> anyhow::Result<()> {
+        for text in texts {
+            self.printed.push_str(text)?;
+        }
+        Ok(())
+    }
+
+    /// Does the section with this head and these lines.
+    pub fn tell(&mut self, head: &str, body: &str) -> anyhow::Result<()> {
+        let mut parts = Vec::new(self.alloc);
+        for part in head.split_whitespace() {
+            parts.push(part)?;
+        }
+        match parts.as_slice() {
+            [] => Ok(()),
+            [what, rest @ ..] => self.tell_of(what, rest, body),
+        }
+    }
+
+    fn tell_of(&mut self, what: &str, rest: &[&str], body: &str) -> anyhow::Result<()> {
+        if what == "words" {
+            return self.set_words(rest);
+        }
+        match rest {
+            [] => self.run(body),
+            [name] => self.tell_name(what, name, body),
+            [name, other] => self.tell_two(what, name, other),
+            [name, first, second, third] => self.patch(name, first, second, third),
+            _ => anyhow::bail!("no section"),
+        }
+    }
+
+    fn set_words(&mut self, words: &[&str]) -> anyhow::Result<()> {
+        let mut all = Vec::new(self.alloc);
+        for word in words {
+            all.push(String::from_str(self.alloc, word)?)?;
+        }
+        self.words = all;
+        Ok(())
+    }
+
+    fn tell_name(&mut self, what: &str, name: &str, body: &str) -> anyhow::Result<()> {
+        match what {
+            "case" => {
+                self.files = Files::new(self.alloc);
+                self.print(&["== case ", name, "\n"])
+            }
+            "file" | "putfile" => Ok(self.files.put(name, body.as_bytes())?),
+            "hexfile" => {
+                let bytes = from_digits(self.alloc, body)?;
+                Ok(self.files.put(name, &bytes)?)
+            }
+            "remove" => {
+                self.files.remove(name);
+                Ok(())
+            }
+            "exists" | "absent" => {
+                let said = match self.files.bytes(name) {
+                    Some(_) => "exists",
+                    None => "absent",
+                };
+                self.print(&["== ", said, " ", name, "\n"])
+            }
+            "size" => self.print_size(name),
+            "hex" => self.print_bytes(name),
+            "every-prefix" => self.run_prefixes(name, body),
+            _ => anyhow::bail!("no section of one name"),
+        }
+    }
+
+    fn file(&self, name: &str) -> anyhow::Result<&[u8]> {
+        match self.files.bytes(name) {
+            Some(bytes) => Ok(bytes),
+            None => anyhow::bail!("no file"),
+        }
+    }
+
+    fn print_size(&mut self, name: &str) -> anyhow::Result<()> {
+        let count = self.file(name)?.len();
+        let text = format!(in self.alloc; "== size {name} {count}\n")?;
+        self.print(&[&text])
+    }
+
+    fn print_bytes(&mut self, name: &str) -> anyhow::Result<()> {
+        let mut text = format!(in self.alloc; "== hex {name} ")?;
+        for byte in self.file(name)? {
+            text.push_str(&format!(in self.alloc; "{byte:02x}")?)?;
+        }
+        self.print(&[&text, "\n"])
+    }
+
+    fn tell_two(&mut self, what: &str, name: &str, other: &str) -> anyhow::Result<()> {
+        match what {
+            "copy" => {
+                let bytes = self.file(name)?.to_vec(self.alloc)?;
+                Ok(self.files.put(other, &bytes)?)
+            }
+            "cut" => {
+                let count: usize = other.parse()?;
+                let mut bytes = self.file(name)?.to_vec(self.alloc)?;
+                bytes.truncate(count);
+                Ok(self.files.put(name, &bytes)?)
+            }
+            "script-repeat" => {
+                let count: u32 = other.parse()?;
+                let mut script = String::new(self.alloc);
+                for _ in 0..count {
+                    script.push_str(name)?;
+                }
+                self.run(&script)
+            }
+            _ => anyhow::bail!("no section of two words"),
+        }
+    }
+
+    // Puts another value in the place of a byte.
+    fn patch(&mut self, name: &str, at: &str, from: &str, to: &str) -> anyhow::Result<()> {
+        let at: usize = at.parse()?;
+        let from: u8 = from.parse()?;
+        let to: u8 = to.parse()?;
+        let mut bytes = self.file(name)?.to_vec(self.alloc)?;
+        match bytes.get_mut(at) {
+            Some(byte) if *byte == from => *byte = to,
+            _ => anyhow::bail!("no such byte"),
+        }
+        Ok(self.files.put(name, &bytes)?)
+    }
+
+    // A session with this script, and its words.
+    fn run(&mut self, script: &str) -> anyhow::Result<()> {
+        let text = self.answer(script)?;
+        self.words = Vec::new(self.alloc);
+        self.print(&[&text])
+    }
+
+    // What a session writes, and its status.
+    fn answer(&mut self, script: &str) -> anyhow::Result<String> {
+        let alloc = self.alloc;
+        let mut source = MemSource::new(script.as_bytes().to_vec(alloc)?, Vec::new(alloc));
+        let mut sink = MemSink::new(alloc, ROOM, Vec::new(alloc))?;
+        let status = session(alloc, &self.words, &mut self.files, &mut source, &mut sink);
+        let written = str::from_utf8(sink.bytes())?;
+        Ok(format!(in alloc; "{written}== status {status}\n")?)
+    }
+
+    // A session over each front of a file, which are to answer alike; then the file is whole again.
+    fn run_prefixes(&mut self, name: &str, script: &str) -> anyhow::Result<()> {
+        let whole = self.file(name)?.to_vec(self.alloc)?;
+        let mut answers = Vec::new(self.alloc);
+        for count in 0..whole.len() {
+            self.files.put(name, &whole[..count])?;
+            let answer = self.answer(script)?;
+            if answers.last() != Some(&answer) {
+                answers.push(answer)?;
+            }
+        }
+        self.files.put(name, &whole)?;
+        for answer in &answers {
+            self.print(&[answer])?;
+        }
+        Ok(())
+    }
+}

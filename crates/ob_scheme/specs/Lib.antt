@@ -1,4 +1,0 @@
-pub mod Law
-pub mod Object
-pub mod Placing
-pub mod Scheme
