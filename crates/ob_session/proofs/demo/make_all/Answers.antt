@@ -27,5 +27,5 @@ modules-preserved c =
       omega (arith, t),
       omega (arith, few, some),
       goes_on c.args.count (c.args.count + 1 - c.modules.at) c.modules.at c.modules.objects (file_in c.modules.folder.pairs) (file_in c.make_one.new.folder.pairs) c.in-Some.more (demo_made c.args.count) more i.3 made
-      ∙ ap (λ m. demo_from c.args.count m (c.modules.at + 1) (c.modules.objects + c.in-Some.more) (file_in c.make_one.new.folder.pairs)) same,
+          ∙ ap (λ m. demo_from c.args.count m (c.modules.at + 1) (c.modules.objects + c.in-Some.more) (file_in c.make_one.new.folder.pairs)) same,
     )
