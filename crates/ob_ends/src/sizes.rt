@@ -8,8 +8,9 @@ use ob_gcode::{GenFault, Scope};
 use ob_tree::Which;
 use ob_types::{Connective, Guarded, Passing, TypeRef, Unary, Value, Variable};
 
-/// The most instructions of a module.
-const MOST: usize = 262_144;
+/// The most instructions that are counted: more than a source of 1,048,576 bytes makes. The limit of a
+/// module's code is lower, and is asked where its object file is whole.
+const MOST: usize = 16_777_216;
 
 /// The index so many lines further.
 pub fn further(pc: usize, lines: usize) -> Result<usize, GenFault>

@@ -13,8 +13,9 @@ use ob_tree::{List, Name, Pos, QName, Text, Which};
 use std::alloc::Global;
 use std::marker::Model;
 
-/// The most instructions of a module.
-const MOST: usize = 262_144;
+/// The most instructions that are counted: more than a source of 1,048,576 bytes makes. The limit of a
+/// module's code is lower, and is asked where its object file is whole.
+const MOST: usize = 16_777_216;
 
 /// The instructions, positions, strings and links so far. After a fault it is given up.
 #[derive(Drop)]

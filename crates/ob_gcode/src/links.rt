@@ -8,7 +8,7 @@ use std::alloc::Global;
 use std::marker::Model;
 
 /// The most links, as many as instructions.
-const MOST: usize = 262_144;
+const MOST: usize = 16_777_216;
 
 /// Links to variables or to procedures of other modules, in the order of their first use.
 #[derive(Drop)]
