@@ -11,12 +11,11 @@ ghost use Rattle.ob_rules.specs.Depth as spec;
 ghost use Rattle.ob_cbound.specs.Heights.{AreHeights, Measures, MeasuresAll, known_height, within_left, greater_of};
 
 use crate::parts::{named_by, stands_on};
-use ob_cfield::add_types;
+use ob_cfield::{add_types, copy_typed};
 use ob_chead::key_of;
 use ob_cname::is_held;
 use ob_known::{Imports, Named, Scope, Table};
 use ob_tree::{List, Name, ObjName, QName};
-use ob_trees::copy_desc;
 use ob_types::{TypeRef, TypedType, Types};
 use std::alloc::{AllocError, Global};
 
@@ -53,14 +52,6 @@ fn names_held<T: Types>(alloc: Global, types: &T, t: &TypedType) -> Result<bool,
 {
     let all = named_by(alloc, &t.desc)?;
     Ok(are_held(types, all.as_slice()))
-}
-
-fn copy_typed(alloc: Global, t: &TypedType) -> Result<TypedType, AllocError>
-    ensures { IfOk result (λ r. r ≡ t.now) }
-{
-    let name = ObjName::new(alloc, t.name.as_bytes())?;
-    let desc = copy_desc(alloc, &t.desc)?;
-    Ok(TypedType { name, desc })
 }
 
 fn keep_if(

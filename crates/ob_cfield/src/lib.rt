@@ -14,7 +14,7 @@ mod sections;
 pub use fields::{
     Fields, fields_of, fields_together, first_name, joined_fields, no_fields, record_of,
 };
-pub use made::{Parameters, Typed, add_types, typed_as};
+pub use made::{Parameters, Typed, add_types, copy_typed, typed_as};
 pub use marks::{check_mark, is_module_level};
 pub use naming::{base_name, element_name, field_name, section_name};
 pub use nodes::{first_of, is_open_array, name_of, start_of};

@@ -49,7 +49,8 @@ pub fn typed_as<E: Imports>(
     Ok(Typed { of, made })
 }
 
-fn copy_typed(alloc: Global, t: &TypedType) -> Result<TypedType, AllocError>
+/// A type that is the same. An `Err` is a want of memory.
+pub fn copy_typed(alloc: Global, t: &TypedType) -> Result<TypedType, AllocError>
     ensures { IfOk result (λ r. r ≡ t.now) }
 {
     let name = ObjName::new(alloc, t.name.as_bytes())?;

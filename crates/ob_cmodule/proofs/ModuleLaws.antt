@@ -1,5 +1,5 @@
 -- What is said of a module.
-use Rattle.std.proofs.Common.{◌≡◌, ℕ, Bool, true, false, List, [], ◌∷◌, ◌++◌, Option, Some, None, map, refl, sym, ap, ◌∙◌}
+use Rattle.std.proofs.Common.{◌≡◌, ℕ, Bool, true, false, List, [], ◌∷◌, Option, Some, None, map, refl, sym, ap, ◌∙◌}
 use Rattle.ob_tree.specs.declared.ident.Ident.{Ident}
 use Rattle.ob_tree.specs.declared.ident.Import.{Import}
 use Rattle.ob_tree.specs.declared.decl.Module.{Module}
@@ -14,20 +14,19 @@ use Rattle.ob_rules.specs.declared.notes.Notebook.{Notebook}
 use Rattle.ob_rules.specs.declared.entity.Known.{Known}
 use Rattle.ob_rules.specs.declared.entity.Entity.{Entity}
 use Rattle.ob_rules.specs.declared.entity.Coming.{Coming}
-use Rattle.ob_rules.specs.Judged.{Notes, least, earlier, is_quiet, joined}
+use Rattle.ob_rules.specs.Judged.{Notes, least, is_quiet, joined}
 use Rattle.ob_rules.specs.Books.{book_after, empty_book}
 use Rattle.ob_rules.specs.Names.{Around, found_in_scope}
 use Rattle.ob_rules.specs.Types.{is_module_level, nothing}
-use Rattle.ob_rules.specs.Declarations.{Part, if_unbroken, Contents, together, no_contents, name_judged, imports_declared, import_entity, is_system, target_of, declare_if, checked, first_break, deep_of, declaration, module_part}
+use Rattle.ob_rules.specs.Declarations.{Part, if_unbroken, Contents, together, no_contents, name_judged, imports_declared, import_entity, is_system, target_of, declare_if, checked, first_break, deep_of, declaration, module_part, typed_module, imported, all_described}
 use Rattle.ob_rules.specs.Depth.{is_deep}
 use Rattle.ob_rules.proofs.BookLaws.{quiet_if, loud_if, after_joined}
 use Rattle.ob_known.specs.Scopes.{at_start, at_module}
-use Rattle.ob_known.specs.Predeclaring.{predeclared_names}
 use Rattle.ob_known.proofs.Predeclaring.{predeclared_are}
 use Rattle.ob_cdecl.specs.Order.{coming_within, one_import}
 use Rattle.ob_cdecl.proofs.ImportLaws.{imports_nothing}
 use Rattle.ob_cblock.specs.Blocks.{block_of, unbound}
-use Rattle.ob_cmodule.specs.Wholes.{around_start, module_within, module_parts, checked_as, described_types}
+use Rattle.ob_cmodule.specs.Wholes.{around_start, module_within, module_parts, checked_as, described_types, tree_from}
 
 start_with : (QName → Option Desc) → Module → List Known → Around
 start_with shown m ks = record (at_start m.name.name shown) { known = ks; scope = 1; coming = coming_within m.decls }
@@ -126,3 +125,35 @@ within_noted x y is ds ss u w a b c d e f g h =
     ∙ ap (λ v. book_after v k) (g ∙ ap (λ v. book_after v i.part.notes) f)
     ∙ after_joined (book_after a n) i.part.notes k
     ∙ after_joined a n (joined i.part.notes k)
+
+-- THE TREE OF A MODULE
+
+tree_parts : (m : Module) (p : Part) → tree_from m.name.name (imported [] m.imports) (described_types p) (unbound p.contents) (book_after empty_book p.notes) ≡ typed_module (λ q. None) m.name m.imports [] p
+unfolding book_after
+tree_parts m p = refl
+
+tree_is : (m : Module) (p : Part) (is : List (List ℕ)) (ts : List TypedType) (c : Contents) (b : Notebook) → is ≡ imported [] m.imports → ts ≡ described_types p → c ≡ unbound p.contents → b ≡ book_after empty_book p.notes → tree_from m.name.name is ts c b ≡ typed_module (λ q. None) m.name m.imports [] p
+tree_is m p is ts c b e f g h =
+    ap (λ x. tree_from m.name.name x ts c b) e
+    ∙ ap (λ x. tree_from m.name.name (imported [] m.imports) x c b) f
+    ∙ ap (λ x. tree_from m.name.name (imported [] m.imports) (described_types p) x b) g
+    ∙ ap (λ x. tree_from m.name.name (imported [] m.imports) (described_types p) (unbound p.contents) x) h
+    ∙ tree_parts m p
+
+-- the tree, where it is known what is said of the module
+pub tree_checked : (m : Module) (p : Part) (is : List (List ℕ)) (ts : List TypedType) (c : Contents) (b : Notebook) (t : TypedModule) (o : Option TypedModule) → is ≡ imported [] m.imports → t ≡ tree_from m.name.name is ts c b → ((bs : List Broken) → b.broken ≡ least bs → o ≡ if_unbroken bs t) → ts ≡ described_types p → c ≡ unbound p.contents → b ≡ book_after empty_book p.notes → o ≡ checked_as m p
+tree_checked m p is ts c b t o e d k f g h = k p.notes.broken (least_in b p.notes h) ∙ ap (if_unbroken p.notes.broken) (d ∙ tree_is m p is ts c b e f g h)
+
+-- WHAT A MODULE COMES TO
+
+alone : (c : Contents) → together no_contents (unbound c) ≡ unbound c
+alone c = refl
+
+pub only_contents : (c d e : Contents) → d ≡ no_contents → e ≡ together d (unbound c) → e ≡ unbound c
+only_contents c d e f g = g ∙ ap (λ x. together x (unbound c)) f ∙ alone c
+
+pub described_all : (p : Part) (own here ts : List TypedType) (c : Contents) → own ≡ p.contents.bound → c ≡ unbound p.contents → here ≡ c.types → ts ≡ all_described own here → ts ≡ described_types p
+described_all p own here ts c e f g h = h ∙ ap (λ x. all_described x here) e ∙ ap (all_described p.contents.bound) (g ∙ ap (λ x. x.types) f)
+
+pub only_book : (n : Notes) (a b : Notebook) → a ≡ empty_book → b ≡ book_after a n → b ≡ book_after empty_book n
+only_book n a b e f = f ∙ ap (λ x. book_after x n) e

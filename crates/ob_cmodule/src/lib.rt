@@ -2,5 +2,6 @@
 #![tactic(auto)]
 
 mod module;
+mod tree;
 
 pub use module::{Checked, check_module};

@@ -15,8 +15,10 @@ ghost use Rattle.ob_cdecl.specs.Seen.{contents_of};
 ghost use Rattle.ob_cblock.specs.Blocks.{unbound};
 ghost use Rattle.ob_cmodule.specs.Wholes.{module_within, module_parts, around_start, checked_as, described_types};
 
+use crate::tree::tree_of;
 use ob_cblock::block;
-use ob_cdecl::{Contents, coming_within, imports_declared, name_judged};
+use ob_cbound::is_deep;
+use ob_cdecl::{Contents, all_described, coming_within, imports_declared, name_judged};
 use ob_known::{Imports, Scope};
 use ob_rules::{Broken, Notebook};
 use ob_tree::{Decl, Ident, Import, Module, Stmt};
@@ -97,8 +99,7 @@ fn judge_module<E: Imports>(
     )
 }
 
-// What a module comes to, where it is known what stands around it. Answers want of memory: what stands
-// behind `judge_module` is not written yet.
+// What a module comes to, where it is known what stands around it.
 fn check_within<E: Imports>(
     alloc: Global,
     scope: &mut Scope<'_, E>,
@@ -115,12 +116,14 @@ fn check_within<E: Imports>(
     let mut book = Notebook::new(alloc);
     let mut contents = Contents::new(alloc);
     judge_module(alloc, scope, &mut book, &mut contents, unit)?;
-    let _ = imported;
-    Err(AllocError)
+    let types = all_described(alloc, &*scope, contents.types.as_slice())?;
+    let deep = is_deep(alloc, unit.name.name, imported, types.as_slice())?;
+    let broken = book.broken;
+    let tree = tree_of(alloc, unit, types, contents, book)?;
+    Ok(Checked { tree, broken, deep })
 }
 
-/// A module, judged by all rules, where its imports show what `imported` has. Answers want of
-/// memory: `check_within` is not written yet.
+/// A module, judged by all rules, where its imports show what `imported` has.
 #[tactic(auto, using(crate::proofs::ModuleLaws::tree_at, crate::proofs::ModuleLaws::broken_at, crate::proofs::ModuleLaws::deep_at, crate::proofs::ModuleLaws::level_at, crate::proofs::ModuleLaws::unit_at, crate::proofs::ModuleLaws::shown_at))]
 pub fn check_module<E: Imports>(
     alloc: Global,

@@ -8,7 +8,7 @@ ghost use Rattle.ob_rules.specs.Names.{map_of};
 ghost use Rattle.ob_rules.specs.Calls as calls;
 ghost use Rattle.ob_rules.specs.Predeclared as spec;
 
-use crate::fits::misplaced;
+use ob_ccall::misplaced;
 use ob_cname::{basic_of, types};
 use ob_rules::{Meant, Notebook, Surroundings, Valued, Where};
 use ob_tree::Pos;

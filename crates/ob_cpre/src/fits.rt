@@ -5,7 +5,6 @@ ghost use Rattle.std.specs.Option.{option_map};
 ghost use Rattle.ob_rules.specs.Books.{book_after};
 ghost use Rattle.ob_rules.specs.Judged as judged;
 ghost use Rattle.ob_rules.specs.Names.{map_of};
-ghost use Rattle.ob_rules.specs.Calls as calls;
 ghost use Rattle.ob_rules.specs.Predeclared as spec;
 ghost use Rattle.ob_cpre.specs.Few.{few_of, few_taken, fit_few};
 
@@ -14,6 +13,7 @@ use crate::news::{new_many, new_one};
 use crate::operations::{abs, ash, long, short, unary_if, unfit};
 use crate::parameters::is_function;
 use crate::updates::{assert, assert_with, copy, element_step, halt, number_of, place_of, step};
+use ob_ccall::misplaced;
 use ob_cname::{is, is_integer, types};
 use ob_rules::{Meant, Notebook, Predeclared, Surroundings, Valued, Where};
 use ob_tree::Pos;
@@ -173,18 +173,6 @@ fn fit<T: Types>(
     ensures noted { OnOk result (book.new ≡ book_after book.old (spec.if_fit at (spec.fit (T.types types.now) procedure at parameters.items)).notes) }
 {
     fit_few(alloc, types, book, procedure, at, few_in(parameters))
-}
-
-/// Whether a call breaks rule 27 there: a proper procedure in an expression, or a function as a
-/// statement.
-pub fn misplaced(place: Where, is_function: bool) -> bool
-    ensures { result ≡ calls.misplaced place is_function }
-{
-    match place {
-        Where::InExpression => !is_function,
-        Where::AsStatement => is_function,
-        Where::Elsewhere => false,
-    }
 }
 
 fn fit_unless<T: Types>(

@@ -9,7 +9,6 @@ ghost use Rattle.ob_rules.specs.Designators as designators;
 ghost use Rattle.ob_rules.specs.Expressions as exprs;
 ghost use Rattle.ob_rules.specs.Judged.{if_sound, ◌▷◌};
 ghost use Rattle.ob_rules.specs.Names.{map_of};
-ghost use Rattle.ob_rules.specs.Predeclared as predeclared;
 ghost use Rattle.ob_rules.specs.Shapes as shapes;
 ghost use Rattle.ob_rules.specs.Statements as spec;
 ghost use Rattle.ob_rules.specs.declared.meant.Meant.TheVariants as means;
@@ -22,6 +21,7 @@ use ob_ccall::{
 };
 use ob_cexpr::check_designator;
 use ob_cname::{tree_of, types};
+use ob_cpre::is_function;
 use ob_rules::{Chosen, Meant, Notebook, Place, Predeclared, Surroundings, Valued, Where};
 use ob_tree::{Designator, Pos, QName, Selector};
 use ob_trees::{ActualTrees, StmtTree, copy_type};
@@ -119,33 +119,6 @@ fn bound_called<S: Surroundings>(
         nearest_called(alloc, here, book, start, chosen)
     } else {
         Ok(None)
-    }
-}
-
-// Whether its call has a result.
-fn is_function(procedure: Predeclared) -> bool
-    ensures { result ≡ predeclared.is_function procedure }
-{
-    match procedure {
-        Predeclared::Assert
-        | Predeclared::Copy
-        | Predeclared::Dec
-        | Predeclared::Excl
-        | Predeclared::Halt
-        | Predeclared::Inc
-        | Predeclared::Incl
-        | Predeclared::New => false,
-        Predeclared::Abs
-        | Predeclared::Ash
-        | Predeclared::Cap
-        | Predeclared::Chr
-        | Predeclared::Len
-        | Predeclared::Long
-        | Predeclared::Max
-        | Predeclared::Min
-        | Predeclared::Odd
-        | Predeclared::Ord
-        | Predeclared::Short => true,
     }
 }
 

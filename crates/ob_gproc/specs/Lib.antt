@@ -2,6 +2,5 @@ pub mod Placed
 pub mod Scoped
 pub mod Parts
 pub mod Named
-pub mod Ordered
 pub mod Filed
 pub mod Whole

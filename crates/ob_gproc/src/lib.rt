@@ -3,13 +3,10 @@
 
 mod bases;
 mod code;
-mod defined;
 mod exported;
 mod file;
 mod made;
 mod module_scope;
-mod named;
-mod order;
 mod places;
 mod records;
 mod rows;

@@ -6,8 +6,8 @@ ghost use Rattle.ob_code.specs.Object.{bound_number, definitions_among, definiti
 use crate::bases::base_in;
 use crate::exported::next_index;
 use crate::module_scope::ModuleScope;
-use crate::order::definitions_in_order;
 use ob_gcode::{Code, GenFault};
+use ob_gorder::definitions_in_order;
 use ob_layout::method_number;
 use ob_obj::{Definition, RecordType};
 use ob_tree::{List, ObjName};

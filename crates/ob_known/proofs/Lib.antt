@@ -4,3 +4,4 @@ pub mod Finding
 pub mod Scoping
 pub mod Bodying
 pub mod Predeclaring
+pub mod Changing

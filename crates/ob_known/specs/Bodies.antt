@@ -1,5 +1,5 @@
 -- Names that are put aside, and what stands around the body of a procedure.
-use Rattle.std.specs.Prelude.{ℕ, suc, ◌-◌, Bool, true, false, ◌&&◌, nat_le, nat_eq, List, [], ◌∷◌, ◌++◌, length, drop, Option, Some, None}
+use Rattle.std.specs.Prelude.{ℕ, suc, ◌-◌, false, nat_le, List, [], ◌++◌, length, drop, Option}
 use Rattle.std.specs.List.{filter}
 use Rattle.ob_types.specs.declared.types.TypeRef.{TypeRef}
 use Rattle.ob_rules.specs.declared.entity.Known.{Known}

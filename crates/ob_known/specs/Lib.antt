@@ -4,3 +4,4 @@ pub mod Predeclaring
 pub mod Scopes
 pub mod Bodies
 pub mod Finite
+pub mod Naming

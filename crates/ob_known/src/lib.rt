@@ -3,6 +3,7 @@
 #![tactic(auto)]
 
 mod inside;
+mod methods;
 mod moves;
 mod predeclared;
 mod scope;

@@ -372,7 +372,6 @@ impl<'a, E: Imports> Scope<'a, E> {
     }
 
     /// From here on the record types of that name have one more bound procedure.
-    /// Answers want of memory: not written yet.
     pub fn add_method(
         &mut self,
         alloc: Global,
@@ -381,7 +380,7 @@ impl<'a, E: Imports> Scope<'a, E> {
     ) -> Result<(), AllocError>
         ensures { OnOk result (around_of E.types self.new ≡ record (around_of E.types self.old) { own = change_type owner.now (λ r. with_method r method.now) (around_of E.types self.old).own }) }
     {
-        Err(AllocError)
+        self.own.add_method(alloc, owner, method)
     }
 
     /// From here on no bound procedure is known. Takes no memory.

@@ -1,9 +1,12 @@
 ghost use Rattle.std.specs.Prelude.{◌≡◌, [], ◌∷◌, ◌<◌, ◌-◌, ◌+◌, length, Some, OnOk, OnErr, IfOk, map, drop, reverse, bytes_eq, slice_get};
 ghost use Rattle.std.specs.List.{find};
 ghost use Rattle.std.specs.Option.{option_copied};
+ghost use Rattle.ob_rules.specs.Headings.{change_type, with_method};
 ghost use Rattle.ob_known.specs.Stacks.{latest};
 
+use crate::methods::add_to_types;
 use crate::stack::Stack;
+use ob_types::{Method, TypedType};
 use std::alloc::{AllocError, Global};
 use std::marker::Model;
 
@@ -138,5 +141,19 @@ impl<T: Named + Drop> Table<T> {
     {
         self.names.cut(left);
         self.items.truncate(left);
+    }
+}
+
+impl Table<TypedType> {
+    /// The record types of that name have one more bound procedure.
+    pub(crate) fn add_method(
+        &mut self,
+        alloc: Global,
+        owner: &[u8],
+        method: &Method,
+    ) -> Result<(), AllocError>
+        ensures { OnOk result (self.new ≡ change_type owner.now (λ r. with_method r method.now) self.old) }
+    {
+        add_to_types(alloc, &mut self.items, owner, method)
     }
 }

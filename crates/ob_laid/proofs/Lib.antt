@@ -1,4 +1,3 @@
-pub mod Putting
 pub mod Keeping
 pub mod Rows
 pub mod Counting

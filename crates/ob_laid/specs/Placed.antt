@@ -15,9 +15,6 @@ by_placed a b = by_place a.field b.field
 pub placed_total : IsTotalOrder by_placed
 placed_total = then_total (on_total (λ p. p.field.place) nat_cmp_total) (on_total (λ p. p.field.name) nat_list_cmp_total)
 
-abbrev pub of_field : Field → Placed
-of_field f = record { field = f }
-
 abbrev pub to_field : Placed → Field
 to_field p = p.field
 

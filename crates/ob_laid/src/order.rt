@@ -1,25 +1,14 @@
 ghost use Rattle.std.specs.Prelude.{◌≡◌, map, IfOk};
 ghost use Rattle.ob_desc.specs.Grammar.{by_place};
 ghost use Rattle.ob_layout.specs.Lists.{in_order};
-ghost use Rattle.ob_laid.specs.Placed.{by_placed, of_field, to_field};
+ghost use Rattle.ob_laid.specs.Placed.{to_field};
 
 use crate::placed::Placed;
+use ob_order::ordered_set;
 use ob_tree::List;
 use ob_types::Field;
 use std::alloc::{AllocError, Global};
 use std::collections::BTreeSet;
-
-// Fields in the order of their places; of those that have one place and one name, the last.
-fn placed_set(alloc: Global, found: Vec<Placed>) -> Result<BTreeSet<Placed, Global>, AllocError>
-    ensures { IfOk result (λ s. s.keys ≡ in_order by_placed found.items) }
-{
-    let mut left = found;
-    let mut set = BTreeSet::new(alloc);
-    'entries: while let Some(entry) = left.pop() {
-        set.insert(entry)?;
-    }
-    Ok(set)
-}
 
 fn fields_in(alloc: Global, set: BTreeSet<Placed, Global>) -> Result<List<Field>, AllocError>
     ensures { IfOk result (λ l. l ≡ map to_field set.keys) }
@@ -37,7 +26,7 @@ fn fields_in(alloc: Global, set: BTreeSet<Placed, Global>) -> Result<List<Field>
 pub fn fields_in_order(alloc: Global, found: Vec<Placed>) -> Result<List<Field>, AllocError>
     ensures { IfOk result (λ l. l ≡ in_order by_place (map to_field found.items)) }
 {
-    let set = placed_set(alloc, found)?;
+    let set = ordered_set(alloc, found)?;
     let fields = fields_in(alloc, set)?;
     Ok(fields)
 }

@@ -1,4 +1,3 @@
-use Rattle.std.proofs.Common.{ap, ◌∙◌}
 use Rattle.ob_known.specs.Scopes.{around_of}
 use Rattle.ob_cdecl.specs.Seen.{contents_of}
 use Rattle.ob_cmodule.proofs.ModuleLaws.{within_added, within_own, within_noted, imports_level}

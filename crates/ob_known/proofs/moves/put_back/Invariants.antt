@@ -1,5 +1,4 @@
-use Rattle.std.proofs.Common.{◌≡◌, ◌++◌, ◌≤◌, true, length}
-use Rattle.ob_known.specs.Descending.{are_within}
+use Rattle.std.proofs.Common.{◌≡◌, ◌++◌, ◌≤◌, length}
 use Rattle.ob_known.proofs.moves.put_back.Given as goal
 
 abbrev pub invariant-names : goal.invariant-names

@@ -1,6 +1,6 @@
-use Rattle.std.proofs.Common.{rules, ◌≡◌, ◌∷◌, ◌++◌, ◌-◌, true, None, sym, ap, subst, ◌∙◌, arith}
+use Rattle.std.proofs.Common.{rules, ◌≡◌, ◌∷◌, ◌-◌, true, None, sym, ap, subst, ◌∙◌, arith}
 use Rattle.ob_rules.specs.Headings.{of_scope}
-use Rattle.ob_known.specs.Descending.{are_within, are_of, inner_first, inner_rest}
+use Rattle.ob_known.specs.Descending.{are_within, are_of, inner_first}
 use Rattle.ob_known.specs.Bodies.{outer_names}
 use Rattle.ob_known.proofs.Bodying.{taken_more, is_first, within_rest, of_more, no_more, inside_of, outside_of}
 use Rattle.ob_known.proofs.moves.take_inner.Goals as goal
