@@ -22,7 +22,7 @@ use Rattle.ob_rules.proofs.BookLaws.{after_none}
 use Rattle.ob_chead.specs.declared.head.Head.{Head as Kept}
 use Rattle.ob_chead.specs.Kept.{IsKept, AreKept}
 use Rattle.ob_cblock.specs.Steps.{heading_added}
-use Rattle.ob_cblock.specs.Procedures.{IsReady, AreReady, IsBehind, AreBehind, judged_first, procedure_of}
+use Rattle.ob_cblock.specs.Procedures.{IsReady, AreReady, IsBehind, AreBehind, judged_first, procedure_inside}
 
 abbrev whole_procedure : Heading → List Decl → List Stmt → Ident → Written_procedure
 whole_procedure h ds ss x = record { heading = heading_of h; forward = false; closing = Some x; inside = block (map declaration ds) (map judging ss) }
@@ -39,7 +39,7 @@ type_is a n = ap written_in (ap declaration (sym (d.rolls-NamedType a n)) ∙ fo
 pub variables_are : (xs : List IdentDef) (n : TypeNode) → written_in (declaration (d.Variables xs n)) ≡ None
 variables_are xs n = ap written_in (ap declaration (sym (d.rolls-Variables xs n)) ∙ fold-roll-Decl Declaration decl_rule (Decl-F.Variables xs n))
 
-pub first_procedure : (u : Around) (y : Decl) (h : Heading) (ds : List Decl) (ss : List Stmt) (x : Ident) (s : Head) (rest : List Head) → y ≡ d.Procedure h ds ss x → judged_first u (written_in (declaration y)) (s ∷ rest) ≡ procedure_of u s ds ss x
+pub first_procedure : (u : Around) (y : Decl) (h : Heading) (ds : List Decl) (ss : List Stmt) (x : Ident) (s : Head) (rest : List Head) → y ≡ d.Procedure h ds ss x → judged_first u (written_in (declaration y)) (s ∷ rest) ≡ procedure_inside u s ds ss x
 first_procedure u y h ds ss x s rest e = ap (λ o. judged_first u o (s ∷ rest)) (ap (λ z. written_in (declaration z)) e ∙ procedure_is h ds ss x)
 
 pub added_procedure : (y : Decl) (h : Heading) (ds : List Decl) (ss : List Stmt) (x : Ident) (hs : Heads) → y ≡ d.Procedure h ds ss x → heading_added (written_in (declaration y)) hs ≡ add_heading hs (heading_of h) false

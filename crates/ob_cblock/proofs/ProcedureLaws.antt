@@ -23,7 +23,7 @@ use Rattle.ob_chead.specs.declared.head.Head.{Head as Kept}
 use Rattle.ob_chead.specs.Kept.{IsKept, AreKept, seen, bare}
 use Rattle.ob_cblock.specs.Blocks.{block_of, unbound}
 use Rattle.ob_cblock.specs.Steps.{procedures_in}
-use Rattle.ob_cblock.specs.Procedures.{AreReady, IsBehind, AreBehind, judged_from, judged_with, judged_first, behind_first, procedure_of, entered, blank}
+use Rattle.ob_cblock.specs.Procedures.{AreReady, IsBehind, AreBehind, judged_from, judged_with, judged_first, behind_first, procedure_inside, entered, blank}
 use Rattle.ob_cblock.proofs.ContentLaws.{contents_left}
 
 -- THE LAST OF A LIST
@@ -143,14 +143,14 @@ same_types u ks = λ i. λ q. by_kind (bytes_eq q.«module» u.unit) (same_name 
 pub known_here : (n : ℕ) (u v : Around) (full : List Known) (head : Kept) (h : Head) → IsKept n head h → IsBehind full h → v ≡ record u { known = drop (length full - head.behind) full } → v.known ≡ h.known
 known_here n u v full head h k b e = ap (λ x. x.known) e ∙ last_of b.later h.known full head.behind b.is k.behind
 
-pub here_of : (u v : Around) (full ks : List Known) (h : Head) (ds : List Decl) (ss : List Stmt) (closing : Ident) → v ≡ record u { known = ks } → procedure_of v h ds ss closing ≡ procedure_of (record u { known = full }) h ds ss closing
+pub here_of : (u v : Around) (full ks : List Known) (h : Head) (ds : List Decl) (ss : List Stmt) (closing : Ident) → v ≡ record u { known = ks } → procedure_inside v h ds ss closing ≡ procedure_inside (record u { known = full }) h ds ss closing
 here_of u v full ks h ds ss closing e =
     let p = block_of ds ss (around_body (record u { known = full }) h) in
     let M : Map → Part = λ m. record { notes = joined h.notes (joined (closing_judged h.name (Some closing)) p.notes); contents = procedure_contents m h p.contents } in
-    ap (λ x. procedure_of x h ds ss closing) e ∙ ap M (same_types u ks ∙ sym (same_types u full))
+    ap (λ x. procedure_inside x h ds ss closing) e ∙ ap M (same_types u ks ∙ sym (same_types u full))
 
 -- what is said of it, and what it adds
-pub here_noted : (n : ℕ) (u v : Around) (head : Kept) (h : Head) (ds : List Decl) (ss : List Stmt) (closing : Ident) (b c d : Notebook) → IsKept n head h → u.known ≡ h.known → v ≡ entered u head → c ≡ book_after b (joined h.notes (closing_judged h.name (Some closing))) → d ≡ book_after c (block_of ds ss v).notes → d ≡ book_after b (procedure_of u h ds ss closing).notes
+pub here_noted : (n : ℕ) (u v : Around) (head : Kept) (h : Head) (ds : List Decl) (ss : List Stmt) (closing : Ident) (b c d : Notebook) → IsKept n head h → u.known ≡ h.known → v ≡ entered u head → c ≡ book_after b (joined h.notes (closing_judged h.name (Some closing))) → d ≡ book_after c (block_of ds ss v).notes → d ≡ book_after b (procedure_inside u h ds ss closing).notes
 here_noted n u v head h ds ss closing b c d k same e f g =
     let p = (block_of ds ss (around_body u h)).notes in
     let q = closing_judged h.name (Some closing) in
@@ -159,7 +159,7 @@ here_noted n u v head h ds ss closing b c d k same e f g =
     ∙ after_joined (book_after b h.notes) q p
     ∙ after_joined b h.notes (joined q p)
 
-pub here_added : (n : ℕ) (u v w : Around) (head : Kept) (h left : Head) (ds : List Decl) (ss : List Stmt) (closing : Ident) (x y inner : Contents) → IsKept n head h → u.known ≡ h.known → v ≡ entered u head → w ≡ u → left ≡ blank (seen head) → inner ≡ unbound (block_of ds ss v).contents → y ≡ together x (procedure_contents (map_of w) left inner) → y ≡ together x (procedure_of u h ds ss closing).contents
+pub here_added : (n : ℕ) (u v w : Around) (head : Kept) (h left : Head) (ds : List Decl) (ss : List Stmt) (closing : Ident) (x y inner : Contents) → IsKept n head h → u.known ≡ h.known → v ≡ entered u head → w ≡ u → left ≡ blank (seen head) → inner ≡ unbound (block_of ds ss v).contents → y ≡ together x (procedure_contents (map_of w) left inner) → y ≡ together x (procedure_inside u h ds ss closing).contents
 here_added n u v w head h left ds ss closing x y inner k same e f l g is =
     let c = (block_of ds ss (around_body u h)).contents in
     let inner_is : inner ≡ unbound c = g ∙ ap (λ z. unbound (block_of ds ss z).contents) (e ∙ entered_is n u head h k same) in
@@ -168,5 +168,5 @@ here_added n u v w head h left ds ss closing x y inner k same e f l g is =
 pub left_here : (u v w z : Around) (o : Outside) → w ≡ v → restored o v ≡ u → z ≡ restored o w → z ≡ u
 left_here u v w z o e f g = g ∙ ap (restored o) e ∙ f
 
-pub same_procedure : (u : Around) (h : Head) (closing : Ident) {ds es : List Decl} {ss rs : List Stmt} → ds ≡ es → ss ≡ rs → procedure_of u h ds ss closing ≡ procedure_of u h es rs closing
-same_procedure u h closing {es = es} {ss = ss} e f = ap (λ l. procedure_of u h l ss closing) e ∙ ap (λ l. procedure_of u h es l closing) f
+pub same_procedure : (u : Around) (h : Head) (closing : Ident) {ds es : List Decl} {ss rs : List Stmt} → ds ≡ es → ss ≡ rs → procedure_inside u h ds ss closing ≡ procedure_inside u h es rs closing
+same_procedure u h closing {es = es} {ss = ss} e f = ap (λ l. procedure_inside u h l ss closing) e ∙ ap (λ l. procedure_inside u h es l closing) f
