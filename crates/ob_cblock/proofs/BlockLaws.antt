@@ -1,19 +1,18 @@
 -- A sequence of declarations with its statements, put together.
-use Rattle.std.proofs.Common.{◌≡◌, ℕ, zero, suc, ◌+◌, ◌-◌, ◌<◌, ◌≤◌, Bool, true, false, List, [], ◌∷◌, ◌++◌, length, drop, Option, Some, None, map, refl, sym, ap, subst, ◌∙◌, arith, length-append}
-use Rattle.std.proofs.lemmas.List.{append-nil, append_assoc}
+use Rattle.std.proofs.Common.{◌≡◌, ℕ, suc, ◌+◌, ◌-◌, Bool, true, false, List, [], ◌++◌, length, drop, map, refl, sym, ap, subst, ◌∙◌}
+use Rattle.std.proofs.lemmas.List.{append-nil}
 use Rattle.ob_tree.specs.declared.decl.Decl.{Decl}
 use Rattle.ob_tree.specs.declared.stmt.Stmt.{Stmt}
 use Rattle.ob_types.specs.declared.typed.TypedType.{TypedType}
 use Rattle.ob_rules.specs.declared.entity.Known.{Known}
 use Rattle.ob_rules.specs.declared.notes.Notebook.{Notebook}
-use Rattle.ob_rules.specs.declared.notes.Later.{Later}
-use Rattle.ob_rules.specs.Judged.{Notes, joined, no_notes}
+use Rattle.ob_rules.specs.Judged.{Notes, joined}
 use Rattle.ob_rules.specs.Books.{book_after}
-use Rattle.ob_rules.specs.Names.{Around, map_of}
+use Rattle.ob_rules.specs.Names.{Around}
 use Rattle.ob_rules.specs.Types.{is_module_level}
-use Rattle.ob_rules.specs.Headings.{Head, Heads, Binding, reversed}
+use Rattle.ob_rules.specs.Headings.{Head, Heads, reversed}
 use Rattle.ob_rules.specs.Statements.{judging, in_turn}
-use Rattle.ob_rules.specs.Declarations.{Part, Contents, Declared, together, no_contents, body_part}
+use Rattle.ob_rules.specs.Declarations.{Part, Contents, together, no_contents, body_part}
 use Rattle.ob_rules.proofs.BookLaws.{after_joined}
 use Rattle.ob_known.specs.declared.scope.Marked.{Marked}
 use Rattle.ob_cdecl.specs.Growing.{Grows}
@@ -21,7 +20,7 @@ use Rattle.ob_cdecl.specs.Order.{plain_in_order}
 use Rattle.ob_cdecl.proofs.Growing.{grows_on}
 use Rattle.ob_cdecl.proofs.ContentsLaws.{added_in_turn}
 use Rattle.ob_cblock.specs.Blocks.{block_of, unbound, plain_notes}
-use Rattle.ob_cblock.specs.Steps.{type_names, procedures_in, headings, headed, binding_of, around_bound, bound_notes, declared_notes, left_block}
+use Rattle.ob_cblock.specs.Steps.{type_names, procedures_in, headed, binding_of, around_bound, bound_notes, declared_notes, left_block}
 use Rattle.ob_chead.specs.declared.head.Head.{Head as Kept}
 use Rattle.ob_chead.specs.Kept.{AreKept}
 use Rattle.ob_cblock.specs.Procedures.{judged_from, AreBehind, AreReady}

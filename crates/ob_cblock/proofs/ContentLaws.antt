@@ -1,6 +1,5 @@
 -- What procedures add to a module.
 use Rattle.std.proofs.Common.{◌≡◌, List, [], ◌∷◌, ◌++◌, Option, Some, None, refl, sym, ap, ◌∙◌}
-use Rattle.std.proofs.lemmas.List.{append-nil, append_assoc}
 use Rattle.ob_types.specs.declared.typed.Binding.{Binding}
 use Rattle.ob_types.specs.declared.typed.TypedConstant.{TypedConstant}
 use Rattle.ob_types.specs.declared.typed.TypedType.{TypedType}
@@ -12,10 +11,10 @@ use Rattle.ob_tree.specs.declared.ident.Ident.{Ident}
 use Rattle.ob_rules.specs.Shapes.{Map}
 use Rattle.ob_rules.specs.Types.{Parameters}
 use Rattle.ob_rules.specs.Headings.{Head, BoundAs}
-use Rattle.ob_rules.specs.Declarations.{Contents, together, typed_procedure, procedure_contents, bound_to, self_parameters, types_of_head, no_contents}
+use Rattle.ob_rules.specs.Declarations.{Contents, typed_procedure, procedure_contents, bound_to, self_parameters}
 use Rattle.ob_chead.specs.Kept.{bare}
 use Rattle.ob_cblock.specs.Blocks.{unbound}
-use Rattle.ob_cblock.specs.Procedures.{bound_by, with_self, typed_with, blank}
+use Rattle.ob_cblock.specs.Procedures.{bound_by, with_self, blank}
 
 abbrev put : List TypedConstant → List TypedType → List TypedVariable → List TypedProcedure → List TypedStmt → List TypedType → Contents
 put cs ts vs ps ss bs = record { constants = cs; types = ts; variables = vs; procedures = ps; body = ss; bound = bs }
@@ -50,17 +49,3 @@ contents_blank types h c = ap (λ ps. record (procedure_contents types h c) { pr
 -- what is left of a heading is enough
 pub contents_left : (types : Map) (left s h : Head) (c d : Contents) → left ≡ blank s → s ≡ bare h → d ≡ unbound c → procedure_contents types left d ≡ procedure_contents types h c
 contents_left types left s h c d e f g = ap (λ x. procedure_contents types x d) (e ∙ ap blank f) ∙ ap (procedure_contents types (blank h)) g ∙ contents_blank types h c
-
-pub typed_is : (types : Map) (h : Head) (p : Option Parameters) (c : Contents) → typed_procedure types h p (record no_contents { variables = c.variables; body = c.body }) ≡ typed_procedure types h p c
-typed_is types h None c = refl
-typed_is types h (Some p) c = refl
-
--- what is made is added in turn
-pub procedure_added : (types : Map) (h : Head) (x c : Contents) (made new : List TypedType) (typed all : List TypedProcedure) → made ≡ types_of_head h.parameters → typed ≡ typed_with types h c.variables c.body → new ≡ (x.types ++ made) ++ c.types → all ≡ (x.procedures ++ typed) ++ c.procedures → record x { types = new; procedures = all } ≡ together x (procedure_contents types h c)
-procedure_added types h x c made new typed all e f g k =
-    same (sym (append-nil x.constants))
-    (g ∙ append_assoc x.types made c.types ∙ ap (λ ts. x.types ++ (ts ++ c.types)) e)
-    (sym (append-nil x.variables))
-    (k ∙ append_assoc x.procedures typed c.procedures ∙ ap (λ ps. x.procedures ++ (ps ++ c.procedures)) (f ∙ typed_is types h h.parameters c))
-    (sym (append-nil x.body))
-    (sym (append-nil x.bound))

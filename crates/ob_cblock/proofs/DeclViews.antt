@@ -1,6 +1,6 @@
 -- What each alternative of a declaration is, by its parts.
-use Rattle.std.proofs.Common.{◌≡◌, ℕ, List, [], ◌∷◌, drop, Option, Some, None, map, refl, sym, ap, subst, ◌∙◌}
-use Rattle.std.specs.Prelude.{slice_get, true, false}
+use Rattle.std.proofs.Common.{◌≡◌, ℕ, List, [], ◌∷◌, Some, None, map, sym, ap, subst, ◌∙◌}
+use Rattle.std.specs.Prelude.{slice_get, false}
 use Rattle.ob_tree.specs.declared.ident.Ident.{Ident}
 use Rattle.ob_tree.specs.declared.ident.IdentDef.{IdentDef}
 use Rattle.ob_tree.specs.declared.expr.Expr.{Expr}
@@ -17,21 +17,18 @@ use Rattle.ob_rules.specs.Books.{book_after}
 use Rattle.ob_rules.specs.Names.{Around}
 use Rattle.ob_rules.specs.Headings.{Head, Heads, add_heading, heading_of}
 use Rattle.ob_rules.specs.Statements.{judging}
-use Rattle.ob_rules.specs.Declarations.{Declaration, Part, Written_procedure, procedure_of as written_in, declaration, decl_rule, forward_part, no_part, block}
+use Rattle.ob_rules.specs.Declarations.{Declaration, Written_procedure, procedure_of as written_in, declaration, decl_rule, block}
 use Rattle.ob_rules.proofs.BookLaws.{after_none}
 use Rattle.ob_chead.specs.declared.head.Head.{Head as Kept}
 use Rattle.ob_chead.specs.Kept.{IsKept, AreKept}
 use Rattle.ob_cblock.specs.Steps.{heading_added}
-use Rattle.ob_cblock.specs.Procedures.{IsReady, AreReady, IsBehind, AreBehind, judged_first, behind_first, procedure_of}
+use Rattle.ob_cblock.specs.Procedures.{IsReady, AreReady, IsBehind, AreBehind, judged_first, procedure_inside}
 
 abbrev whole_procedure : Heading → List Decl → List Stmt → Ident → Written_procedure
 whole_procedure h ds ss x = record { heading = heading_of h; forward = false; closing = Some x; inside = block (map declaration ds) (map judging ss) }
 
 procedure_is : (h : Heading) (ds : List Decl) (ss : List Stmt) (x : Ident) → written_in (declaration (d.Procedure h ds ss x)) ≡ Some (whole_procedure h ds ss x)
 procedure_is h ds ss x = ap written_in (ap declaration (sym (d.rolls-Procedure h ds ss x)) ∙ fold-roll-Decl Declaration decl_rule (Decl-F.Procedure h ds ss x))
-
-forward_is : (h : Heading) → written_in (declaration (d.Forward h)) ≡ Some (record { heading = heading_of h; forward = true; closing = None; inside = λ u. no_part })
-forward_is h = ap written_in (ap declaration (sym (d.rolls-Forward h)) ∙ fold-roll-Decl Declaration decl_rule (Decl-F.Forward h))
 
 pub constant_is : (a : IdentDef) (x : Expr) → written_in (declaration (d.Constant a x)) ≡ None
 constant_is a x = ap written_in (ap declaration (sym (d.rolls-Constant a x)) ∙ fold-roll-Decl Declaration decl_rule (Decl-F.Constant a x))
@@ -42,20 +39,8 @@ type_is a n = ap written_in (ap declaration (sym (d.rolls-NamedType a n)) ∙ fo
 pub variables_are : (xs : List IdentDef) (n : TypeNode) → written_in (declaration (d.Variables xs n)) ≡ None
 variables_are xs n = ap written_in (ap declaration (sym (d.rolls-Variables xs n)) ∙ fold-roll-Decl Declaration decl_rule (Decl-F.Variables xs n))
 
-pub first_procedure : (u : Around) (y : Decl) (h : Heading) (ds : List Decl) (ss : List Stmt) (x : Ident) (s : Head) (rest : List Head) → y ≡ d.Procedure h ds ss x → judged_first u (written_in (declaration y)) (s ∷ rest) ≡ procedure_of u s ds ss x
+pub first_procedure : (u : Around) (y : Decl) (h : Heading) (ds : List Decl) (ss : List Stmt) (x : Ident) (s : Head) (rest : List Head) → y ≡ d.Procedure h ds ss x → judged_first u (written_in (declaration y)) (s ∷ rest) ≡ procedure_inside u s ds ss x
 first_procedure u y h ds ss x s rest e = ap (λ o. judged_first u o (s ∷ rest)) (ap (λ z. written_in (declaration z)) e ∙ procedure_is h ds ss x)
-
-pub first_forward : (u : Around) (y : Decl) (h : Heading) (s : Head) (rest : List Head) → y ≡ d.Forward h → judged_first u (written_in (declaration y)) (s ∷ rest) ≡ forward_part s
-first_forward u y h s rest e = ap (λ o. judged_first u o (s ∷ rest)) (ap (λ z. written_in (declaration z)) e ∙ forward_is h)
-
-pub behind_procedure : {A : Type 0} (y : Decl) (h : Heading) (ds : List Decl) (ss : List Stmt) (x : Ident) (hs new : List A) → y ≡ d.Procedure h ds ss x → new ≡ drop 1 hs → new ≡ behind_first (written_in (declaration y)) hs
-behind_procedure y h ds ss x hs new e f = f ∙ ap (λ o. behind_first o hs) (sym (ap (λ z. written_in (declaration z)) e ∙ procedure_is h ds ss x))
-
-pub behind_forward : {A : Type 0} (y : Decl) (h : Heading) (hs new : List A) → y ≡ d.Forward h → new ≡ drop 1 hs → new ≡ behind_first (written_in (declaration y)) hs
-behind_forward y h hs new e f = f ∙ ap (λ o. behind_first o hs) (sym (ap (λ z. written_in (declaration z)) e ∙ forward_is h))
-
-pub behind_none : {A : Type 0} (o : Option Written_procedure) (hs : List A) → o ≡ None → hs ≡ behind_first o hs
-behind_none o hs e = ap (λ p. behind_first p hs) (sym e)
 
 pub added_procedure : (y : Decl) (h : Heading) (ds : List Decl) (ss : List Stmt) (x : Ident) (hs : Heads) → y ≡ d.Procedure h ds ss x → heading_added (written_in (declaration y)) hs ≡ add_heading hs (heading_of h) false
 added_procedure y h ds ss x hs e = ap (λ o. heading_added o hs) (ap (λ z. written_in (declaration z)) e ∙ procedure_is h ds ss x)
@@ -69,21 +54,6 @@ pub with_first : (P : List Head → Type 0) (n : ℕ) (known : List Known) (hs :
 with_first P n known [] head ss e k b f = absurd cc
 with_first P n known (h ∷ hs) head [] e k b f = absurd k
 with_first P n known (h ∷ hs) head (s ∷ ss) e k b f = f s ss (subst (λ x. IsKept n x s) (sym (some_same head h e)) k.0) b.0
-
-pub without_first : (n : ℕ) (hs : List Kept) (ss : List Head) → None ≡ slice_get hs 0 → AreKept n hs ss → ss ≡ []
-without_first n [] [] e k = refl
-without_first n [] (s ∷ ss) e k = absurd k
-without_first n (h ∷ hs) ss e k = absurd cc
-
-pub nothing_first : (u : Around) (o : Option Written_procedure) (ss : List Head) → ss ≡ [] → judged_first u o ss ≡ no_part
-nothing_first u o ss e = ap (judged_first u o) e ∙ none o
-  where
-    none : (o : Option Written_procedure) → judged_first u o [] ≡ no_part
-    none None = refl
-    none (Some p) = refl
-
-pub no_procedure : (u : Around) (o : Option Written_procedure) (ss : List Head) → o ≡ None → judged_first u o ss ≡ no_part
-no_procedure u o ss e = ap (λ x. judged_first u x ss) e
 
 pub first_ready_one : (n : ℕ) (known : List Known) (hs : List Kept) (head : Kept) → Some head ≡ slice_get hs 0 → AreReady n known hs → IsReady n known head
 first_ready_one n known [] head e r = absurd cc

@@ -1,5 +1,5 @@
 -- How deep procedures stand in one another.
-use Rattle.std.proofs.Common.{◌≡◌, ℕ, zero, suc, ◌+◌, ◌*◌, ◌<◌, ◌≤◌, List, [], ◌∷◌, length, get_or, map, refl, sym, ap, ◌∙◌, arith}
+use Rattle.std.proofs.Common.{◌≡◌, ℕ, zero, suc, ◌+◌, ◌*◌, ◌<◌, ◌≤◌, List, [], ◌∷◌, length, get_or, map, sym, ap, ◌∙◌, arith}
 use Rattle.ob_tree.specs.declared.ident.Ident.{Ident}
 use Rattle.ob_tree.specs.declared.stmt.Stmt.{Stmt}
 use Rattle.ob_tree.specs.declared.decl.Heading.{Heading}

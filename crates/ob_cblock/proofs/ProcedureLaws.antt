@@ -1,9 +1,7 @@
 -- Procedures in turn, and what is around inside them.
-use Rattle.std.proofs.Common.{◌≡◌, ℕ, zero, suc, ◌+◌, ◌-◌, ◌<◌, ◌≤◌, Bool, true, false, List, [], ◌∷◌, ◌++◌, length, drop, Option, Some, None, Result, OnOk, map, refl, sym, ap, subst, ◌∙◌, arith, length-append}
-use Rattle.std.specs.Prelude.{Vec, codes, bytes_eq}
-use Rattle.std.specs.List.{filter_map, cons_option, find}
-use Rattle.std.specs.declared.alloc.Global.{Global}
-use Rattle.std.proofs.lemmas.List.{append_assoc}
+use Rattle.std.proofs.Common.{◌≡◌, ℕ, zero, suc, ◌+◌, ◌-◌, Bool, true, false, List, [], ◌∷◌, ◌++◌, length, drop, Option, Some, None, refl, sym, ap, subst, ◌∙◌, arith, length-append}
+use Rattle.std.specs.Prelude.{codes, bytes_eq}
+use Rattle.std.specs.List.{cons_option}
 use Rattle.ob_tree.specs.declared.names.QName.{QName}
 use Rattle.ob_tree.specs.declared.ident.Ident.{Ident}
 use Rattle.ob_tree.specs.declared.decl.Decl.{Decl}
@@ -16,17 +14,16 @@ use Rattle.ob_rules.specs.Shapes.{Map, same_name}
 use Rattle.ob_rules.specs.Names.{Around, map_of, type_desc, out_string}
 use Rattle.ob_rules.specs.Types.{is_module_level, nothing}
 use Rattle.ob_rules.specs.Headings.{Head}
-use Rattle.ob_rules.specs.Declarations.{Part, Contents, Written_procedure, together, with_part, no_part, procedure_of as written_in, declaration, procedures_judged, received, result_in, around_body, procedure_part, procedure_contents, closing_judged}
+use Rattle.ob_rules.specs.Declarations.{Part, Contents, Written_procedure, together, with_part, procedure_of as written_in, declaration, procedures_judged, around_body, procedure_contents, closing_judged}
 use Rattle.ob_rules.proofs.BookLaws.{after_none, after_joined}
 use Rattle.ob_known.specs.Bodies.{restored}
 use Rattle.ob_known.specs.declared.inside.Outside.{Outside}
-use Rattle.ob_known.specs.Descending.{are_within}
 use Rattle.ob_cdecl.proofs.ContentsLaws.{adds_nothing, added_in_turn}
 use Rattle.ob_chead.specs.declared.head.Head.{Head as Kept}
 use Rattle.ob_chead.specs.Kept.{IsKept, AreKept, seen, bare}
 use Rattle.ob_cblock.specs.Blocks.{block_of, unbound}
 use Rattle.ob_cblock.specs.Steps.{procedures_in}
-use Rattle.ob_cblock.specs.Procedures.{whole, IsReady, AreReady, IsBehind, AreBehind, judged_from, judged_with, judged_first, behind_first, procedure_of, entered, blank}
+use Rattle.ob_cblock.specs.Procedures.{AreReady, IsBehind, AreBehind, judged_from, judged_with, judged_first, behind_first, procedure_inside, entered, blank}
 use Rattle.ob_cblock.proofs.ContentLaws.{contents_left}
 
 -- THE LAST OF A LIST
@@ -111,13 +108,6 @@ part_end_noted total u left heads n hs b c x y e s = sym (after_none c) ∙ ap (
 pub part_end_added : (total : Around → List Head → Part) (u : Around) (left : List Decl) (heads : List Kept) (n : ℕ) (hs : List Head) (b c : Notebook) (x y : Contents) → left ≡ [] → PartSo total u left heads n hs b c x y → y ≡ together x (total u hs).contents
 part_end_added total u left heads n hs b c x y e s = adds_nothing y ∙ ap (λ l. together y (judged_from u l s.so).contents) (sym e) ∙ s.added
 
--- all that was known is known again
-pub all_back : (u v z : Around) (full : List Known) (n : ℕ) → record v { known = full } ≡ u → n ≡ length u.known → z ≡ record v { known = drop (length full - n) full } → z ≡ u
-all_back u v z full n e f g =
-    let F : Around → Around = λ x. record x { known = drop (length x.known - n) x.known } in
-    let K : List Known → Around = λ ks. record u { known = ks } in
-    g ∙ ap F e ∙ ap K (last_of [] u.known u.known n refl f)
-
 -- WHAT IS AROUND INSIDE A PROCEDURE
 
 abbrev inside_of : Around → Head → List Known → Around
@@ -153,21 +143,14 @@ same_types u ks = λ i. λ q. by_kind (bytes_eq q.«module» u.unit) (same_name 
 pub known_here : (n : ℕ) (u v : Around) (full : List Known) (head : Kept) (h : Head) → IsKept n head h → IsBehind full h → v ≡ record u { known = drop (length full - head.behind) full } → v.known ≡ h.known
 known_here n u v full head h k b e = ap (λ x. x.known) e ∙ last_of b.later h.known full head.behind b.is k.behind
 
-pub here_of : (u v : Around) (full ks : List Known) (h : Head) (ds : List Decl) (ss : List Stmt) (closing : Ident) → v ≡ record u { known = ks } → procedure_of v h ds ss closing ≡ procedure_of (record u { known = full }) h ds ss closing
+pub here_of : (u v : Around) (full ks : List Known) (h : Head) (ds : List Decl) (ss : List Stmt) (closing : Ident) → v ≡ record u { known = ks } → procedure_inside v h ds ss closing ≡ procedure_inside (record u { known = full }) h ds ss closing
 here_of u v full ks h ds ss closing e =
     let p = block_of ds ss (around_body (record u { known = full }) h) in
     let M : Map → Part = λ m. record { notes = joined h.notes (joined (closing_judged h.name (Some closing)) p.notes); contents = procedure_contents m h p.contents } in
-    ap (λ x. procedure_of x h ds ss closing) e ∙ ap M (same_types u ks ∙ sym (same_types u full))
-
-pub all_shown : (u v w : Around) (full ks ls : List Known) → v ≡ record u { known = ks } → w ≡ v → ls ++ v.known ≡ full → record w { known = ls ++ w.known } ≡ record u { known = full }
-all_shown u v w full ks ls e f g =
-    let F : Around → Around = λ x. record x { known = ls ++ x.known } in
-    let G : List Known → Around = λ l. record v { known = l } in
-    let H : Around → Around = λ x. record x { known = full } in
-    ap F f ∙ ap G g ∙ ap H e
+    ap (λ x. procedure_inside x h ds ss closing) e ∙ ap M (same_types u ks ∙ sym (same_types u full))
 
 -- what is said of it, and what it adds
-pub here_noted : (n : ℕ) (u v : Around) (head : Kept) (h : Head) (ds : List Decl) (ss : List Stmt) (closing : Ident) (b c d : Notebook) → IsKept n head h → u.known ≡ h.known → v ≡ entered u head → c ≡ book_after b (joined h.notes (closing_judged h.name (Some closing))) → d ≡ book_after c (block_of ds ss v).notes → d ≡ book_after b (procedure_of u h ds ss closing).notes
+pub here_noted : (n : ℕ) (u v : Around) (head : Kept) (h : Head) (ds : List Decl) (ss : List Stmt) (closing : Ident) (b c d : Notebook) → IsKept n head h → u.known ≡ h.known → v ≡ entered u head → c ≡ book_after b (joined h.notes (closing_judged h.name (Some closing))) → d ≡ book_after c (block_of ds ss v).notes → d ≡ book_after b (procedure_inside u h ds ss closing).notes
 here_noted n u v head h ds ss closing b c d k same e f g =
     let p = (block_of ds ss (around_body u h)).notes in
     let q = closing_judged h.name (Some closing) in
@@ -176,7 +159,7 @@ here_noted n u v head h ds ss closing b c d k same e f g =
     ∙ after_joined (book_after b h.notes) q p
     ∙ after_joined b h.notes (joined q p)
 
-pub here_added : (n : ℕ) (u v w : Around) (head : Kept) (h left : Head) (ds : List Decl) (ss : List Stmt) (closing : Ident) (x y inner : Contents) → IsKept n head h → u.known ≡ h.known → v ≡ entered u head → w ≡ u → left ≡ blank (seen head) → inner ≡ unbound (block_of ds ss v).contents → y ≡ together x (procedure_contents (map_of w) left inner) → y ≡ together x (procedure_of u h ds ss closing).contents
+pub here_added : (n : ℕ) (u v w : Around) (head : Kept) (h left : Head) (ds : List Decl) (ss : List Stmt) (closing : Ident) (x y inner : Contents) → IsKept n head h → u.known ≡ h.known → v ≡ entered u head → w ≡ u → left ≡ blank (seen head) → inner ≡ unbound (block_of ds ss v).contents → y ≡ together x (procedure_contents (map_of w) left inner) → y ≡ together x (procedure_inside u h ds ss closing).contents
 here_added n u v w head h left ds ss closing x y inner k same e f l g is =
     let c = (block_of ds ss (around_body u h)).contents in
     let inner_is : inner ≡ unbound c = g ∙ ap (λ z. unbound (block_of ds ss z).contents) (e ∙ entered_is n u head h k same) in
@@ -185,11 +168,5 @@ here_added n u v w head h left ds ss closing x y inner k same e f l g is =
 pub left_here : (u v w z : Around) (o : Outside) → w ≡ v → restored o v ≡ u → z ≡ restored o w → z ≡ u
 left_here u v w z o e f g = g ∙ ap (restored o) e ∙ f
 
-pub is_deeper : (u v w : Around) (head : Kept) → v ≡ entered u head → w ≡ v → 0 < w.scope
-is_deeper u v w head e f = let n = ap (λ x. x.scope) (f ∙ e) in omega (arith, n)
-
-pub falls_back : (u v w : Around) (o : Outside) → w ≡ v → restored o v ≡ u → are_within u.scope u.known ≡ true → are_within (restored o w).scope (restored o w).known ≡ true
-falls_back u v w o e f fall = subst (λ (x : Around). are_within x.scope x.known ≡ true) (sym (ap (restored o) e ∙ f)) fall
-
-pub same_procedure : (u : Around) (h : Head) (closing : Ident) {ds es : List Decl} {ss rs : List Stmt} → ds ≡ es → ss ≡ rs → procedure_of u h ds ss closing ≡ procedure_of u h es rs closing
-same_procedure u h closing {es = es} {ss = ss} e f = ap (λ l. procedure_of u h l ss closing) e ∙ ap (λ l. procedure_of u h es l closing) f
+pub same_procedure : (u : Around) (h : Head) (closing : Ident) {ds es : List Decl} {ss rs : List Stmt} → ds ≡ es → ss ≡ rs → procedure_inside u h ds ss closing ≡ procedure_inside u h es rs closing
+same_procedure u h closing {es = es} {ss = ss} e f = ap (λ l. procedure_inside u h l ss closing) e ∙ ap (λ l. procedure_inside u h es l closing) f

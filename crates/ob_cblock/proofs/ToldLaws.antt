@@ -1,15 +1,13 @@
 -- What is declared before the procedures, step by step.
-use Rattle.std.proofs.Common.{◌≡◌, ℕ, suc, List, [], ◌∷◌, ◌++◌, Bool, Option, Some, None, map, refl, sym, ap, subst, ◌∙◌}
-use Rattle.std.specs.Prelude.{reverse}
-use Rattle.std.specs.List.{cons_option, filter_map}
-use Rattle.std.proofs.lemmas.List.{reverse-reverse}
+use Rattle.std.proofs.Common.{◌≡◌, ℕ, suc, List, [], ◌∷◌, ◌++◌, Bool, sym, ap, subst, ◌∙◌}
+use Rattle.std.specs.List.{cons_option}
 use Rattle.ob_tree.specs.declared.decl.Decl.{Decl}
 use Rattle.ob_rules.specs.declared.notes.Later.{Later}
 use Rattle.ob_rules.specs.declared.notes.Notebook.{Notebook}
 use Rattle.ob_rules.specs.Judged.{Notes, joined}
 use Rattle.ob_rules.specs.Books.{book_after, empty_book}
 use Rattle.ob_rules.specs.Names.{Around, map_of}
-use Rattle.ob_rules.specs.Headings.{Head, Heads, forwards_judged, reversed}
+use Rattle.ob_rules.specs.Headings.{Heads, forwards_judged, reversed}
 use Rattle.ob_rules.specs.Declarations.{Declared, type_name_of, declaration, nothing_later, pointers_judged, all_judged, field_judged, heads_later, with_bound, binding_at}
 use Rattle.ob_rules.proofs.BookLaws.{after_joined}
 use Rattle.ob_chead.specs.declared.head.Head.{Head as Kept}
@@ -74,6 +72,3 @@ pub headed_kept : (ds : List Decl) (v w : Around) (hs gs : List Kept) → w ≡ 
 headed_kept ds v w hs gs e f k =
     let P : Around → Type 0 = λ x. AreKept (suc x.scope) hs (reversed (headings ds x).before) in
     subst (λ l. AreKept (suc (plain_in_order ds v).around.scope) l (reversed (headed ds v).before)) (sym f) (subst P e k)
-
-pub turned_back : (hs is rs : List Kept) → rs ≡ reverse is → is ≡ hs → reverse rs ≡ hs
-turned_back hs is rs e f = ap reverse e ∙ reverse-reverse is ∙ f

@@ -65,8 +65,8 @@ behind_first None hs = hs
 behind_first (Some p) hs = drop 1 hs
 
 -- a procedure with that heading
-abbrev pub procedure_of : Around → Head → List Decl → List Stmt → Ident → Part
-procedure_of u h ds body closing = procedure_part u h (Some closing) (block_of ds body (around_body u h))
+abbrev pub procedure_inside : Around → Head → List Decl → List Stmt → Ident → Part
+procedure_inside u h ds body closing = procedure_part u h (Some closing) (block_of ds body (around_body u h))
 
 -- what is left of a heading while its procedure is judged
 abbrev pub left_of : Opened → Head

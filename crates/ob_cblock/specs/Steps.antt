@@ -8,7 +8,7 @@ use Rattle.ob_chead.specs.declared.head.Head.{Head as Kept}
 use Rattle.ob_rules.specs.Judged.{Notes, joined}
 use Rattle.ob_rules.specs.Names.{Around, map_of}
 use Rattle.ob_rules.specs.Headings.{Heads, Binding, add_heading, forwards_judged, reversed}
-use Rattle.ob_rules.specs.Declarations.{Declared, Written_procedure, type_name_of, procedure_of, declaration, headings_in_order, with_bound, binding_at, all_judged, field_judged, heads_later}
+use Rattle.ob_rules.specs.Declarations.{Written_procedure, type_name_of, procedure_of, declaration, headings_in_order, with_bound, binding_at, all_judged, field_judged, heads_later}
 use Rattle.ob_cdecl.specs.Order.{plain_in_order}
 use Rattle.ob_cblock.specs.Blocks.{plain_notes}
 

@@ -12,7 +12,7 @@ ghost use Rattle.ob_rules.specs.Declarations as spec;
 ghost use Rattle.ob_chead.specs.Kept.{IsKept, AreKept};
 ghost use Rattle.ob_cdecl.specs.Seen.{contents_of};
 ghost use Rattle.ob_cblock.specs.Blocks.{block_of, unbound};
-ghost use Rattle.ob_cblock.specs.Procedures.{whole, IsReady, AreReady, IsBehind, AreBehind, judged_from, judged_first, behind_first, procedure_of};
+ghost use Rattle.ob_cblock.specs.Procedures.{whole, IsReady, AreReady, IsBehind, AreBehind, judged_from, judged_first, behind_first, procedure_inside};
 
 use crate::bound::leave_block;
 use crate::contents::{add_forward, add_procedure, add_stmts_of};
@@ -155,8 +155,8 @@ fn procedure<E: Imports>(
     requires fall { are_within (around_of E.types scope.old).scope (aside.old.items ++ (around_of E.types scope.old).known) ≡ true }
     requires coming { (around_of E.types scope.old).coming ≡ [] }
     ensures stays { OnOk result (whole (around_of E.types scope.new) aside.new ≡ whole (around_of E.types scope.old) aside.old) }
-    ensures noted { (n : ℕ) (h : heading.Head) → IsKept n head h → IsBehind (aside.old.items ++ (around_of E.types scope.old).known) h → OnOk result (book.new ≡ book_after book.old (procedure_of (whole (around_of E.types scope.old) aside.old) h decls.now body.now closing.now).notes) }
-    ensures added { (n : ℕ) (h : heading.Head) → IsKept n head h → IsBehind (aside.old.items ++ (around_of E.types scope.old).known) h → OnOk result (contents_of contents.new ≡ spec.together (contents_of contents.old) (procedure_of (whole (around_of E.types scope.old) aside.old) h decls.now body.now closing.now).contents) }
+    ensures noted { (n : ℕ) (h : heading.Head) → IsKept n head h → IsBehind (aside.old.items ++ (around_of E.types scope.old).known) h → OnOk result (book.new ≡ book_after book.old (procedure_inside (whole (around_of E.types scope.old) aside.old) h decls.now body.now closing.now).notes) }
+    ensures added { (n : ℕ) (h : heading.Head) → IsKept n head h → IsBehind (aside.old.items ++ (around_of E.types scope.old).known) h → OnOk result (contents_of contents.new ≡ spec.together (contents_of contents.old) (procedure_inside (whole (around_of E.types scope.old) aside.old) h decls.now body.now closing.now).contents) }
 {
     scope.show(alloc, aside, head.behind)?;
     procedure_here(alloc, scope, book, contents, head, decls, body, closing)?;
@@ -178,8 +178,8 @@ fn procedure_here<E: Imports>(
     requires inside { head.inside.scope ≡ (around_of E.types scope.old).scope + 1 }
     requires coming { (around_of E.types scope.old).coming ≡ [] }
     ensures stays { OnOk result (around_of E.types scope.new ≡ around_of E.types scope.old) }
-    ensures noted { (n : ℕ) (h : heading.Head) → IsKept n head h → (around_of E.types scope.old).known ≡ h.known → OnOk result (book.new ≡ book_after book.old (procedure_of (around_of E.types scope.old) h decls.now body.now closing.now).notes) }
-    ensures added { (n : ℕ) (h : heading.Head) → IsKept n head h → (around_of E.types scope.old).known ≡ h.known → OnOk result (contents_of contents.new ≡ spec.together (contents_of contents.old) (procedure_of (around_of E.types scope.old) h decls.now body.now closing.now).contents) }
+    ensures noted { (n : ℕ) (h : heading.Head) → IsKept n head h → (around_of E.types scope.old).known ≡ h.known → OnOk result (book.new ≡ book_after book.old (procedure_inside (around_of E.types scope.old) h decls.now body.now closing.now).notes) }
+    ensures added { (n : ℕ) (h : heading.Head) → IsKept n head h → (around_of E.types scope.old).known ≡ h.known → OnOk result (contents_of contents.new ≡ spec.together (contents_of contents.old) (procedure_inside (around_of E.types scope.old) h decls.now body.now closing.now).contents) }
 {
     let _ = scope.mark();
     let entered = open(alloc, scope, book, head, closing)?;

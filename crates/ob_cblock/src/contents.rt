@@ -1,6 +1,6 @@
 //! What procedures and statements add to a module.
 
-ghost use Rattle.std.specs.Prelude.{◌≡◌, ◌++◌, ◌∷◌, ◌+◌, ℕ, map, IfOk, OnOk};
+ghost use Rattle.std.specs.Prelude.{◌≡◌, ◌∷◌, ℕ, map, IfOk, OnOk};
 ghost use Rattle.std.specs.Option.{option_map};
 ghost use Rattle.ob_cfield.specs.Makes.{parameters_of};
 ghost use Rattle.ob_known.specs.Scopes.{around_of};

@@ -1,4 +1,4 @@
-use Rattle.std.proofs.Common.{◌≡◌, ◌∙◌}
+use Rattle.std.proofs.Common.{◌∙◌}
 use Rattle.ob_known.specs.Scopes.{around_of}
 use Rattle.ob_rules.specs.Declarations.{nothing_later}
 use Rattle.ob_cdecl.specs.Order.{plain_in_order}

@@ -1,4 +1,4 @@
-use Rattle.std.proofs.Common.{◌≡◌, ◌+◌, ◌-◌, ◌<◌, ◌≤◌, ◌∷◌, drop, ap, ◌∙◌, arith}
+use Rattle.std.proofs.Common.{◌≡◌, ◌+◌, ◌-◌, ◌≤◌, ◌∷◌, drop, ap, ◌∙◌, arith}
 use Rattle.ob_cfield.proofs.LoopLaws.{step_at}
 use Rattle.ob_cblock.proofs.ToldLaws.{one_name}
 use Rattle.ob_cblock.proofs.declared.type_names.Goals as goal
