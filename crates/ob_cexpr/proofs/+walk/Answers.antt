@@ -224,8 +224,8 @@ pub calls::check_round-returns-in_ok-row-in-Call-clause-noted : goal.calls::chec
 calls::check_round-returns-in_ok-row-in-Call-clause-noted g t c =
     let u = g.S.Surroundings.around c.args.here.now in
     let ps = map spec.phrase_of c.args.arguments.now in
-    on_ok_weaker c.called.result (λ h. left_noted u c.args.place c.args.start c.args.at ps _ c.in_ok-round.round (opens.Call c.in-Call.callable) c.args.book.now c.open_round.new.book c.called.new.book (c.in_ok-round.ensures c.args.place) c.in-Call.is
-    (call_noted u c.args.place c.args.start c.in-Call.callable c.params.result.now c.args.arguments.now c.len.result _ c.open_round.new.book c.check_actuals.new.book c.called.new.book c.params.ensures c.len.ensures c.in_ok-row-in-Call.ensures.made c.in_ok-row-in-Call.ensures.noted h)) c.called.ensures.noted
+    on_ok_weaker c.called.result (λ h. left_noted u c.args.place c.args.start c.args.at ps (designators.step_round u c.args.place c.args.start c.args.at ps c.args.meant) c.in_ok-round.round (opens.Call c.in-Call.callable) c.args.book.now c.open_round.new.book c.called.new.book (c.in_ok-round.ensures c.args.place) c.in-Call.is
+    (call_noted u c.args.place c.args.start c.in-Call.callable c.params.result.now c.args.arguments.now (length c.args.arguments.now) _ c.open_round.new.book c.check_actuals.new.book c.called.new.book c.params.ensures refl c.in_ok-row-in-Call.ensures.made c.in_ok-row-in-Call.ensures.noted h)) c.called.ensures.noted
 
 pub predeclared::check_parameters-arguments-preserved : goal.predeclared::check_parameters-arguments-preserved
 predeclared::check_parameters-arguments-preserved g t c =
