@@ -2,23 +2,18 @@
 use Rattle.std.specs.Prelude.{Bool, true, false, List, [], ◌∷◌, map, Option, Some, None}
 use Rattle.ob_tree.specs.declared.pos.Pos.{Pos}
 use Rattle.ob_tree.specs.declared.expr.Element.{Element}
-use Rattle.ob_types.specs.declared.types.TypeRef.{TypeRef}
 use Rattle.ob_rules.specs.declared.values.Valued.{Valued}
 use Rattle.ob_rules.specs.declared.meant.ElementOf.{ElementOf}
 use Rattle.ob_rules.specs.declared.meant.Meant.{Meant}
 use Rattle.ob_rules.specs.declared.meant.Where.{Where}
-use Rattle.ob_rules.specs.declared.meant.Asked.TheVariants as asked
 use Rattle.ob_rules.specs.Operators.{set_of}
 use Rattle.ob_rules.specs.Expressions.{element_value, ranged_of}
-use Rattle.ob_rules.specs.Judged.{Judged, Notes, no_notes, noted, silent, breaks, also, if_sound, made, each_sound, ◌▷◌}
-use Rattle.ob_rules.specs.Names.{Around, map_of}
-use Rattle.ob_rules.specs.Calls.{misplaced}
-use Rattle.ob_rules.specs.Predeclared.{extreme_of, basic_if}
+use Rattle.ob_rules.specs.Judged.{Judged, Notes, no_notes, noted, silent, made, each_sound}
+use Rattle.ob_rules.specs.Names.{Around}
 use Rattle.ob_rules.specs.Phrases.{Phrase, Behind, Dot, Index, Up, Round}
 use Rattle.ob_rules.specs.Designators.{all_visited, visited, go_on_with, step, through, where_of, behind}
 use Rattle.ob_cplace.specs.declared.front.Front.{Front}
 use Rattle.ob_coperand.specs.Plain.{plain}
-use Rattle.ob_cround.specs.Arguments.{parameters_asked}
 
 -- the elements of a set
 abbrev pub elements_judged : Around → List Element → Judged (List ElementOf)
@@ -52,8 +47,3 @@ step_if u w start b false last m = step_or u w start b last m
 abbrev pub behind_front : Around → Where → Pos → List Behind → Option Front → Judged Meant
 behind_front u w start bs None = noted (all_visited u bs) silent
 behind_front u w start bs (Some f) = through u w start (behind f.with_name bs) f.meant
-
--- MAX and MIN behind their first parameter, and what that comes to
-abbrev pub extreme_behind : Bool → Around → Where → Pos → List Phrase → Option (Option TypeRef) → Judged Meant
-extreme_behind max u w at [] t = if_sound t (λ s. also (misplaced w true) 27 at (extreme_of max at s (basic_if (map_of u) s)))
-extreme_behind max u w at (p ∷ ps) t = if_sound t (λ s. each_sound (parameters_asked u asked.Value asked.Value (p ∷ ps)) ▷ λ xs. also (misplaced w true) 27 at (breaks 28 at))

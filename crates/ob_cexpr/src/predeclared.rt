@@ -7,13 +7,12 @@ ghost use Rattle.ob_rules.specs.Judged as judged;
 ghost use Rattle.ob_rules.specs.Predeclared as predeclared;
 ghost use Rattle.ob_rules.specs.Expressions as spec;
 ghost use Rattle.ob_cround.specs.Arguments.{parameters_asked};
-ghost use Rattle.ob_cexpr.specs.Plain.{extreme_behind};
 
 use crate::actuals::check_argument;
 use crate::walk::check_expr;
 use ob_coperand::{name_in, no_type, row_with, start_of, type_parameter};
 use ob_cpre::{extreme, no_extreme};
-use ob_cround::{further, parameter};
+use ob_cround::parameter;
 use ob_rules::{Asked, Meant, Notebook, Surroundings, Valued, Where};
 use ob_tree::{Expr, Pos};
 use ob_types::TypeRef;
@@ -62,38 +61,29 @@ pub fn check_extreme<S: Surroundings>(
 {
     match arguments {
         [] => Ok(no_extreme(book, place, at)),
-        [first, rest @ ..] => {
-            let t = check_type_parameter(alloc, here, book, first)?;
-            check_extreme_behind(alloc, here, book, place, at, max, rest, t)
+        [only] => {
+            let t = check_type_parameter(alloc, here, book, only)?;
+            extreme(here, book, max, place, at, t)
         }
+        _ => check_further(alloc, here, book, place, at, max, arguments),
     }
 }
 
-// The same behind the first parameter.
-#[cycle(walk)]
-fn check_extreme_behind<S: Surroundings>(
+// The same with more than one parameter, which breaks rule 28. Answers want of memory: not written
+// yet.
+fn check_further<S: Surroundings>(
     alloc: Global,
     here: &S,
     book: &mut Notebook,
     place: Where,
     at: Pos,
     max: bool,
-    rest: &[Expr],
-    t: Option<Option<TypeRef>>,
+    arguments: &[Expr],
 ) -> Result<Option<Meant>, AllocError>
-    ensures made { IfOk result (λ r. r ≡ (extreme_behind max (S.around here.now) place at (map spec.phrase_of rest.now) t).node) }
-    ensures noted { OnOk result (book.new ≡ book_after book.old (extreme_behind max (S.around here.now) place at (map spec.phrase_of rest.now) t).notes) }
+    ensures made { IfOk result (λ r. r ≡ (predeclared.extreme_call max (S.around here.now) place at (map spec.phrase_of arguments.now)).node) }
+    ensures noted { OnOk result (book.new ≡ book_after book.old (predeclared.extreme_call max (S.around here.now) place at (map spec.phrase_of arguments.now)).notes) }
 {
-    if rest.is_empty() {
-        return extreme(here, book, max, place, at, t);
-    }
-    match t {
-        None => Ok(None),
-        Some(_) => {
-            let row = check_parameters(alloc, here, book, Asked::Value, Asked::Value, rest)?;
-            Ok(further(book, place, at, row))
-        }
-    }
+    Err(AllocError)
 }
 
 #[cycle(walk)]

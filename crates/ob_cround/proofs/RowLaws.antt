@@ -1,5 +1,5 @@
 -- Rows of actual parameters, one after the other.
-use Rattle.std.proofs.Common.{◌≡◌, refl, sym, ap, ◌∙◌, ℕ, ◌+◌, zero, suc, List, [], ◌∷◌, ◌++◌, append_assoc, Option, Some, None, drop}
+use Rattle.std.proofs.Common.{◌≡◌, refl, sym, ap, ◌∙◌, ℕ, ◌+◌, zero, suc, List, [], ◌∷◌, ◌++◌, append_assoc, Option, Some, None, drop, add-one}
 use Rattle.std.proofs.lemmas.List.{append-nil}
 use Rattle.ob_tree.specs.declared.pos.Pos.{Pos}
 use Rattle.ob_types.specs.declared.types.Mode.{Mode}
@@ -27,11 +27,14 @@ abbrev pub rest_of : {A : Type 0} → List A → List A
 rest_of [] = []
 rest_of (x ∷ xs) = xs
 
-pub rest_drop : {A : Type 0} (xs : List A) (n : ℕ) → drop (n + 1) xs ≡ rest_of (drop n xs)
-rest_drop [] zero = refl
-rest_drop (x ∷ xs) zero = refl
-rest_drop [] (suc n) = refl
-rest_drop (x ∷ xs) (suc n) = rest_drop xs n
+rest_suc : {A : Type 0} (xs : List A) (n : ℕ) → drop (suc n) xs ≡ rest_of (drop n xs)
+rest_suc [] zero = refl
+rest_suc [] (suc n) = refl
+rest_suc (x ∷ xs) zero = refl
+rest_suc (x ∷ xs) (suc n) = rest_suc xs n
+
+rest_drop : {A : Type 0} (xs : List A) (n : ℕ) → drop (n + 1) xs ≡ rest_of (drop n xs)
+rest_drop xs n = rw add-one (rest_suc xs n)
 
 onto_nil : {A : Type 0} (o : Option (List A)) → onto o (Some []) ≡ o
 onto_nil None = refl

@@ -13,7 +13,9 @@ use Rattle.ob_rules.specs.Books.{book_after}
 use Rattle.ob_rules.specs.Expressions as spec
 use Rattle.ob_rules.proofs.BookLaws.{after_none}
 use Rattle.ob_coperand.specs.Plain.{plain}
+use Rattle.ob_cround.specs.declared.opening.Opened.TheVariants as opens
 use Rattle.ob_cexpr.specs.Plain.{set_judged, goes_on, visited_one}
+use Rattle.ob_cexpr.proofs.Rounds.{actuals_step, actuals_end_noted, parameters_step, parameters_end_noted, extreme_node, extreme_noted, call_noted, left_noted}
 use Rattle.ob_cexpr.proofs.Rows.{on_ok_from}
 use Rattle.ob_cexpr.proofs.Sets.{set_node, set_noted, elements_step, elements_end, elements_end_noted, element_noted, as_set_node, as_set_noted}
 use Rattle.ob_cexpr.proofs.Selectors.{selectors_end, selectors_end_noted, meant_node, meant_noted, index_step_node, index_step_noted, visit_step, argument_step, selector_step, not_taken, last_by}
@@ -207,3 +209,45 @@ pub walk::check_expr-returns-in-Set-clause-noted : goal.walk::check_expr-returns
 walk::check_expr-returns-in-Set-clause-noted g t c =
     let u = g.S.Surroundings.around c.args.here.now in
     on_ok_weaker c.check_set.result (λ h. as_set_noted u c.args.e.now c.in-Set.pos c.as_slice-in-Set.result.now c.in-Set.elements c.args.book.now c.check_set.new.book c.in-Set.is c.as_slice-in-Set.ensures h) c.check_set.ensures.noted
+
+pub actuals::check_actuals-arguments-preserved : goal.actuals::check_actuals-arguments-preserved
+actuals::check_actuals-arguments-preserved g t c =
+    let step = actuals_step (g.S.Surroundings.around c.args.here.now) c.args.params.now c.args.arguments.now c.arguments.number c.arguments.argument-index c.argument-item.result _ c.in_ok-judged.judged c.start_of.result _ _ c.arguments.book c.check_argument.new.book c.with_actual.new.book _ _
+    c.arguments-test.true c.argument-item.is c.start_of.ensures c.formal_at-formal.ensures c.in_ok-judged.ensures.made c.in_ok-judged.ensures.noted c.in_ok-row.ensures.made c.in_ok-row.ensures.noted c.arguments.invariant.0 c.arguments.invariant.1 in
+    (step.0, step.1, omega (arith, c.arguments.invariant.2))
+
+pub actuals::check_actuals-returns-clause-noted : goal.actuals::check_actuals-returns-clause-noted
+actuals::check_actuals-returns-clause-noted g t c =
+    actuals_end_noted (g.S.Surroundings.around c.args.here.now) c.args.params.now c.args.arguments.now c.arguments.number c.arguments.argument-index c.arguments.book _ c.arguments-test.false c.arguments.invariant.1
+
+pub calls::check_round-returns-in_ok-row-in-Call-clause-noted : goal.calls::check_round-returns-in_ok-row-in-Call-clause-noted
+calls::check_round-returns-in_ok-row-in-Call-clause-noted g t c =
+    let u = g.S.Surroundings.around c.args.here.now in
+    let ps = map spec.phrase_of c.args.arguments.now in
+    on_ok_weaker c.called.result (λ h. left_noted u c.args.place c.args.start c.args.at ps (designators.step_round u c.args.place c.args.start c.args.at ps c.args.meant) c.in_ok-round.round (opens.Call c.in-Call.callable) c.args.book.now c.open_round.new.book c.called.new.book (c.in_ok-round.ensures c.args.place) c.in-Call.is
+    (call_noted u c.args.place c.args.start c.in-Call.callable c.params.result.now c.args.arguments.now (length c.args.arguments.now) _ c.open_round.new.book c.check_actuals.new.book c.called.new.book c.params.ensures refl c.in_ok-row-in-Call.ensures.made c.in_ok-row-in-Call.ensures.noted h)) c.called.ensures.noted
+
+pub predeclared::check_parameters-arguments-preserved : goal.predeclared::check_parameters-arguments-preserved
+predeclared::check_parameters-arguments-preserved g t c =
+    parameters_step (g.S.Surroundings.around c.args.here.now) c.arguments.asked c.arguments.next c.args.arguments.now c.arguments.argument-index c.argument-item.result c.in_ok-judged.judged c.start_of.result c.in_ok-x.x _ _ c.arguments.book c.check_argument.new.book c.parameter.new.book _ _
+    c.arguments-test.true c.argument-item.is c.start_of.ensures c.in_ok-judged.ensures.made c.in_ok-judged.ensures.noted (c.in_ok-x.ensures.made (g.S.Surroundings.around c.args.here.now)) (c.in_ok-x.ensures.noted (g.S.Surroundings.around c.args.here.now)) c.in_ok-row.ensures c.arguments.invariant.0 c.arguments.invariant.1
+
+pub predeclared::check_parameters-returns-clause-noted : goal.predeclared::check_parameters-returns-clause-noted
+predeclared::check_parameters-returns-clause-noted g t c =
+    parameters_end_noted (g.S.Surroundings.around c.args.here.now) c.arguments.asked c.arguments.next c.args.arguments.now c.arguments.argument-index c.arguments.book _ c.arguments-test.false c.arguments.invariant.1
+
+pub designators::check_step-returns-in_ok-i-in-Index-clause-made : goal.designators::check_step-returns-in_ok-i-in-Index-clause-made
+designators::check_step-returns-in_ok-i-in-Index-clause-made g t c =
+    let u = g.S.Surroundings.around c.args.here.now in
+    let i = c.in-Index.index in
+    let whole : spec.behind_of c.args.selector.now ≡ Index c.in-Index.pos (spec.phrase_of i) = ap spec.behind_of c.in-Index.is ∙ behind_index c.in-Index.pos i in
+    IfOk-weaker c.index_step.result _ _ (λ r h. index_step_node (map_of u) c.in-Index.pos ((spec.phrase_of i).value u) c.args.meant c.in_ok-i-in-Index.i r c.in_ok-i-in-Index.ensures.made h
+    ∙ ap (λ b. (designators.step u c.args.place c.args.start c.args.meant b c.args.last).node) (sym whole)) c.index_step.ensures.made
+
+pub predeclared::check_extreme-returns-in_ok-t-in-len1-clause-made : goal.predeclared::check_extreme-returns-in_ok-t-in-len1-clause-made
+predeclared::check_extreme-returns-in_ok-t-in-len1-clause-made g t c =
+    IfOk-weaker c.extreme.result _ _ (λ r h. extreme_node c.args.max (g.S.Surroundings.around c.args.here.now) c.args.place c.args.at c.args.arguments.now c.only-item.result c.in_ok-t-in-len1.t r (omega arith) c.only-item.is c.in_ok-t-in-len1.ensures.made h) c.extreme.ensures.made
+
+pub predeclared::check_extreme-returns-in_ok-t-in-len1-clause-noted : goal.predeclared::check_extreme-returns-in_ok-t-in-len1-clause-noted
+predeclared::check_extreme-returns-in_ok-t-in-len1-clause-noted g t c =
+    on_ok_weaker c.extreme.result (λ h. extreme_noted c.args.max (g.S.Surroundings.around c.args.here.now) c.args.place c.args.at c.args.arguments.now c.only-item.result c.in_ok-t-in-len1.t c.args.book.now c.check_type_parameter.new.book c.extreme.new.book (omega arith) c.only-item.is c.in_ok-t-in-len1.ensures.made c.in_ok-t-in-len1.ensures.noted h) c.extreme.ensures.noted
