@@ -1,4 +1,4 @@
-ghost use Rattle.std.specs.Prelude.{◌≡◌, ◌++◌, ◌<◌, ◌^◌, true, false, [], length, codes};
+ghost use Rattle.std.specs.Prelude.{◌≡◌, ◌++◌, ◌<◌, true, false, length, codes};
 ghost use Rattle.std.specs.List.{flat_map};
 ghost use Rattle.ob_io.specs.Io.{HasCause, WritesAll};
 ghost use Rattle.ob_cmp.specs.Verdicts.{kind_text, verdict_line, compare_text};

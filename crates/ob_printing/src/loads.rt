@@ -1,4 +1,4 @@
-ghost use Rattle.std.specs.Prelude.{◌≡◌, ◌++◌, true};
+ghost use Rattle.std.specs.Prelude.{◌≡◌, true};
 ghost use Rattle.ob_printing.specs.Texts.{refused, of_object, load_answered};
 ghost use Rattle.ob_printing.specs.Prints.{PrintDoes, SinkCause};
 

@@ -1,4 +1,4 @@
-ghost use Rattle.std.specs.Prelude.{◌≡◌, ◌++◌, true};
+ghost use Rattle.std.specs.Prelude.{◌≡◌, true};
 ghost use Rattle.ob_io.specs.Io.{HasCause, WritesAll};
 ghost use Rattle.ob_printing.specs.Prints.{all_of, PrintDoes, SinkCause};
 

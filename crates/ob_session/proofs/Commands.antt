@@ -1,5 +1,5 @@
 -- What a command's line comes to, by what the load and the report did.
-use Rattle.std.proofs.Common.{◌≡◌, ℕ, List, [], ◌++◌, Bool, true, false, refl, sym, ap, ◌∙◌, subst, append_assoc, Result, Ok, Err}
+use Rattle.std.proofs.Common.{◌≡◌, ℕ, List, ◌++◌, Bool, true, false, refl, sym, ap, ◌∙◌, subst, append_assoc, Result, Ok, Err}
 use Rattle.std.proofs.lemmas.Bool.{false≢true}
 use Rattle.ob_io.specs.Io.{AddsFront}
 use Rattle.ob_io.specs.Fronts.{front_later, front_more}
@@ -20,7 +20,7 @@ use Rattle.ob_printing.specs.Texts.{report, stops, load_refused, load_answered}
 use Rattle.ob_printing.specs.Prints.{PrintDoes}
 use Rattle.ob_session.specs.Running.{is_cut}
 use Rattle.ob_words.specs.declared.asked.Settings.{Settings}
-use Rattle.ob_session.specs.Bytes.{World, changed, denied, ran_answer, load_answer, command_answer}
+use Rattle.ob_session.specs.Bytes.{World, denied, ran_answer, load_answer, command_answer}
 use Rattle.ob_session.proofs.Said.{printed, said_line}
 use Rattle.ob_session.specs.Does.{Shows, LineDoes}
 

@@ -1,5 +1,5 @@
 -- Verdicts, counted one by one, are counted by their objects.
-use Rattle.std.proofs.Common.{◌≡◌, ◌≤◌, ℕ, ◌+◌, List, [], ◌∷◌, ◌++◌, length, Bool, true, false, cond, refl, sym, ap, ◌∙◌, subst, bytes_eq, Option, Some, None, arith}
+use Rattle.std.proofs.Common.{◌≡◌, ◌≤◌, ℕ, ◌+◌, List, [], ◌∷◌, ◌++◌, length, Bool, true, false, cond, refl, sym, ap, ◌∙◌, bytes_eq, Option, Some, None, arith}
 use Rattle.std.specs.Prelude.{map as each, ◌&&◌}
 use Rattle.std.specs.List.{flat_map, filter, IsDistinct}
 use Rattle.std.specs.List.Sorted.{IsStrictlySortedBy}

@@ -1,11 +1,11 @@
 -- What the line of a demo comes to, by what was made and run.
-use Rattle.std.proofs.Common.{◌≡◌, ℕ, zero, suc, ◌+◌, ◌-◌, ◌≤◌, List, [], ◌∷◌, ◌++◌, length, Bool, true, false, refl, sym, ap, ◌∙◌, subst, append_assoc, Result, Ok, Err, Option, Some, None, inl, inr, ⊎_elim, arith}
-use Rattle.std.specs.Prelude.{◌⊎◌, map as each, codes, decimal}
+use Rattle.std.proofs.Common.{◌≡◌, ℕ, zero, suc, ◌+◌, ◌-◌, ◌≤◌, List, [], ◌∷◌, ◌++◌, length, Bool, true, false, refl, sym, ap, ◌∙◌, subst, append_assoc, Result, Ok, Err, Option, Some, None, inr, ⊎_elim, arith}
+use Rattle.std.specs.Prelude.{◌⊎◌, codes}
 use Rattle.std.proofs.lemmas.Fmt.{length-decimal-le}
-use Rattle.std.proofs.lemmas.List.{append-nil, length-append}
+use Rattle.std.proofs.lemmas.List.{append-nil}
 use Rattle.ob_tree.specs.declared.print.Print.{Print}
 use Rattle.ob_obj.specs.declared.file.ObjFile.{ObjFile}
-use Rattle.ob_io.specs.Io.{AddsFront, SameFiles, put}
+use Rattle.ob_io.specs.Io.{put}
 use Rattle.ob_io.specs.Fronts.{front_more, front_later, same_functions}
 use Rattle.ob_io.specs.Kept.{file_in}
 use Rattle.ob_types.specs.declared.face.Interface.{Interface}
@@ -14,8 +14,6 @@ use Rattle.ob_machine.specs.Machine.{Held, made}
 use Rattle.ob_demo.specs.Source.{module_name, source}
 use Rattle.ob_link.specs.Files.{Files, file_plan}
 use Rattle.ob_link.specs.Plan.{Refusal}
-use Rattle.ob_compile.specs.Compiling as compile
-use Rattle.ob_compile.specs.Compiling.{Compiled}
 use Rattle.ob_load.specs.Standing.{Standing}
 use Rattle.ob_printing.specs.declared.stop.Stop.{Stop}
 use Rattle.ob_printing.specs.declared.stop.Stop.TheVariants.{Sink, Folder, Memory}

@@ -1,8 +1,8 @@
 -- The number of a demo that a line names.
-use Rattle.std.proofs.Common.{◌≡◌, ℕ, ◌+◌, ◌-◌, ◌*◌, ◌≤◌, List, [], ◌∷◌, Bool, true, false, cond, refl, sym, ap, ◌∙◌, subst, codes, Option, Some, None, position, take, drop, length, bytes_eq, arith}
+use Rattle.std.proofs.Common.{◌≡◌, ℕ, ◌+◌, ◌-◌, ◌*◌, ◌≤◌, List, [], ◌∷◌, Bool, true, false, cond, refl, subst, codes, Option, Some, None, position, take, drop, bytes_eq, arith}
 use Rattle.std.specs.Prelude.{nat_le, ◌&&◌}
 use Rattle.std.proofs.lemmas.Bool.{leb-true, and_parts}
-use Rattle.ob_lines.specs.Lines.{Line, Compile, Compare, Check, Show, Demo, Command, Unknown, Nothing, when, demo_line, count_of, number_if, up_to_sixty, is_first_digit, is_digit, command_line, dotted, is_dot, line_of_two, line_of_three, line_of_words, line_of, words_of, without_return, is_file_name, is_identifier}
+use Rattle.ob_lines.specs.Lines.{Line, Compile, Compare, Check, Show, Demo, Command, Unknown, Nothing, when, demo_line, count_of, number_if, up_to_sixty, is_first_digit, is_digit, dotted, is_dot, line_of_two, line_of_words, line_of, words_of, without_return, is_file_name, is_identifier}
 
 abbrev pub IsFine : Line → Type 0
 IsFine (Compile file) = Unit {0}

@@ -1,15 +1,15 @@
 -- A session goes on by a line.
 use Rattle.std.proofs.Common.{◌≡◌, ℕ, ◌+◌, ◌-◌, List, [], ◌∷◌, ◌++◌, length, take, Bool, true, false, refl, sym, ap, ◌∙◌, subst, append_assoc, arith, ◌≤◌, Ok, Err, ⊎_elim, inl, inr}
-use Rattle.std.specs.Prelude.{zero, suc, ◌||◌, ◌⊎◌, ◌<◌, cond, Result, Option, Some, None}
+use Rattle.std.specs.Prelude.{◌||◌, ◌⊎◌, cond, Result, Some, None}
 use Rattle.std.proofs.lemmas.Bool.{false≢true}
 use Rattle.std.proofs.lemmas.List.{append-nil, length-append}
-use Rattle.ob_io.specs.Io.{AddsFront, SameFiles, put}
+use Rattle.ob_io.specs.Io.{SameFiles, put}
 use Rattle.ob_io.specs.Fronts.{front_whole}
 use Rattle.ob_obj.specs.declared.file.ObjFile.{ObjFile}
 use Rattle.ob_tree.specs.declared.print.Print.{Print}
 use Rattle.ob_link.specs.Plan.{Refusal}
 use Rattle.ob_link.specs.Files.{Files, file_plan}
-use Rattle.ob_load.specs.Standing.{Standing, Stands}
+use Rattle.ob_load.specs.Standing.{Standing}
 use Rattle.ob_compile.specs.Compiling as compile
 use Rattle.ob_compile.specs.Compiling.{Compiled}
 use Rattle.ob_printing.specs.declared.stop.Stop.{Stop}
@@ -20,10 +20,10 @@ use Rattle.ob_lines.specs.Lines.{Line, lines_of, line_of, within, exceeds, done_
 use Rattle.ob_lines.specs.Splits.{Stops, GoesOn}
 use Rattle.ob_pieces.specs.declared.next.NextFault.TheVariants as fault
 use Rattle.ob_pieces.specs.declared.next.Next.TheVariants as next
-use Rattle.ob_session.specs.Folds.{Answer, Answers, text_from, refused_from, world_from, changes_from, session_text, session_status, session_changes}
+use Rattle.ob_session.specs.Folds.{Answer, Answers, text_from, refused_from, world_from, changes_from, session_text, session_changes}
 use Rattle.ob_session.specs.Bytes.{World, Change, Making, answer, start, changed, compile_answer, load_answer, demo_answer, demo_made, compiled_in}
 use Rattle.ob_session.specs.Does.{Shows, LineDoes}
-use Rattle.ob_pieces.specs.Reading.{NextDoes, ended, is_open}
+use Rattle.ob_pieces.specs.Reading.{NextDoes, ended}
 use Rattle.ob_session.specs.Session.{Kind, Going, Ends, IsCut, next_of, StatusIs, is_whole}
 use Rattle.ob_session.specs.Stand.{bytes, Goes, Pieces}
 use Rattle.ob_pieces.specs.Opens.{ended_line, ended_open}

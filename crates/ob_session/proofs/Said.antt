@@ -1,7 +1,6 @@
 -- What a line does, by what it says and by what it does to the files.
-use Rattle.std.proofs.Common.{◌≡◌, ℕ, List, [], ◌∷◌, ◌++◌, Bool, true, false, refl, sym, ap, ◌∙◌, subst, append_assoc, Result, Ok, Err, inl, inr, Option, Some, None}
+use Rattle.std.proofs.Common.{◌≡◌, ℕ, List, [], ◌++◌, Bool, true, refl, sym, ap, ◌∙◌, subst, append_assoc, Result, Ok, Err, inl, Some, None}
 use Rattle.ob_tree.specs.declared.print.Print.{Print}
-use Rattle.ob_io.specs.Io.{AddsFront}
 use Rattle.ob_link.specs.Files.{Files}
 use Rattle.ob_load.specs.Standing.{Standing}
 use Rattle.ob_cmp.specs.Check.{Checked, check_text, is_refused}
@@ -13,7 +12,7 @@ use Rattle.ob_printing.specs.Prints.{PrintDoes}
 use Rattle.ob_session.specs.Folds.{Answer}
 use Rattle.ob_session.specs.Bytes.{World, Change, Said, Making, changed, says, check_said, compile_answer, demo_answer}
 use Rattle.ob_words.specs.declared.asked.Settings.{Settings}
-use Rattle.ob_session.specs.Does.{Shows, LineDoes, SaidDoes, FilesDo, AnswerDo, TextDoes}
+use Rattle.ob_session.specs.Does.{Shows, LineDoes, SaidDoes, AnswerDo, TextDoes}
 
 -- a text that was printed
 pub printed : (told : Bool) (before now : List ℕ) (s : Said) (result : Result Bool Stop) → PrintDoes told before now s.text s.refused result → SaidDoes told before now s result

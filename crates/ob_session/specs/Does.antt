@@ -1,5 +1,5 @@
 -- What the calls of a session do, by their answers.
-use Rattle.std.specs.Prelude.{◌≡◌, ℕ, ◌≤◌, List, [], ◌∷◌, ◌++◌, Bool, true, take, Option, Some, None, Result, Ok, Err, ◌⊎◌}
+use Rattle.std.specs.Prelude.{◌≡◌, ℕ, ◌≤◌, List, ◌++◌, Bool, true, take, Option, Some, None, Result, Ok, Err, ◌⊎◌}
 use Rattle.ob_io.specs.Io.{AddsFront, Rose, SameFiles}
 use Rattle.ob_io.specs.declared.traits.Failed.{Failed}
 use Rattle.ob_link.specs.Files.{Files}

@@ -1,5 +1,5 @@
 -- What the lines of a script print, and what they leave: once for every kind of world.
-use Rattle.std.specs.Prelude.{ℕ, zero, suc, ◌+◌, List, [], ◌∷◌, ◌++◌, Bool, true, false, ◌||◌, if◌then◌else◌, length}
+use Rattle.std.specs.Prelude.{ℕ, ◌+◌, List, [], ◌∷◌, ◌++◌, Bool, false, ◌||◌, if◌then◌else◌, length}
 use Rattle.ob_lines.specs.Lines.{Line, lines_of, exceeds, done_lines, line_of}
 
 -- What a line comes to: the world after it, the changes of files that it makes, in order, what it prints, the first printed line

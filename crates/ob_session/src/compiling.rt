@@ -1,4 +1,4 @@
-ghost use Rattle.std.specs.Prelude.{◌≡◌, ◌∷◌, [], true, false, IfOk};
+ghost use Rattle.std.specs.Prelude.{◌≡◌, ◌∷◌, [], true, false};
 ghost use Rattle.ob_io.specs.Io.{HasCause};
 ghost use Rattle.ob_sym.specs.Grammar.{face as face_form};
 ghost use Rattle.ob_env.specs.Faces.{face_of};

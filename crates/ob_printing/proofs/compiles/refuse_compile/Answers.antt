@@ -1,4 +1,4 @@
-use Rattle.std.proofs.Common.{◌≡◌, sym, subst, true, List, ℕ}
+use Rattle.std.proofs.Common.{sym, subst, true, List, ℕ}
 use Rattle.ob_compile.specs.declared.fault.CompileRefusal.{CompileRefusal}
 use Rattle.ob_compile.specs.declared.fault.CompileRefusal.TheVariants as why
 use Rattle.ob_printing.specs.Prints.{PrintDoes}

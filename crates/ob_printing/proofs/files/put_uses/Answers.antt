@@ -1,4 +1,4 @@
-use Rattle.std.proofs.Common.{◌≡◌, ◌≤◌, ◌-◌, List, ◌∷◌, take, drop, length, ◌∙◌, arith}
+use Rattle.std.proofs.Common.{◌≡◌, ◌-◌, List, ◌∷◌, take, drop, length, ◌∙◌, arith}
 use Rattle.ob_cmp.specs.declared.verdict.Stale.{Stale}
 use Rattle.ob_cmp.specs.Check.{stale_line}
 use Rattle.ob_printing.proofs.Along.{along_more, along_cut, front_is}

@@ -1,4 +1,4 @@
-use Rattle.std.proofs.Common.{◌≡◌, ◌++◌, ◌∙◌, sym, ap, subst, true, codes, List, ℕ}
+use Rattle.std.proofs.Common.{◌++◌, sym, subst, true, codes, List, ℕ}
 use Rattle.std.specs.Prelude.{decimal}
 use Rattle.ob_machine.specs.declared.outcome.Outcome.{Outcome}
 use Rattle.ob_printing.specs.Texts.{report, stops}

@@ -1,4 +1,4 @@
-use Rattle.std.proofs.Common.{◌≡◌, ◌∙◌, sym, ap, subst, true, Err}
+use Rattle.std.proofs.Common.{◌∙◌, sym, subst, true, Err}
 use Rattle.ob_printing.specs.Texts.{report, stops, load_answered}
 use Rattle.ob_printing.specs.Prints.{PrintDoes}
 use Rattle.ob_link.specs.Files.{file_plan}

@@ -1,4 +1,4 @@
-use Rattle.std.proofs.Common.{◌≡◌, ℕ, List, sym, subst, ◌∙◌, ap}
+use Rattle.std.proofs.Common.{◌≡◌, ℕ, List, subst, ◌∙◌}
 use Rattle.ob_format.specs.Format.{whole}
 use Rattle.ob_sym.specs.Grammar.{face as face_form}
 use Rattle.ob_session.specs.Files.{sym_file, decoded_file}

@@ -1,4 +1,4 @@
-use Rattle.std.proofs.Common.{◌≡◌, ℕ, List, [], refl, sym, ap, ◌∙◌, subst, false, Ok}
+use Rattle.std.proofs.Common.{◌≡◌, [], refl, sym, ap, ◌∙◌, subst, false, Ok}
 use Rattle.std.proofs.lemmas.List.{append-nil}
 use Rattle.ob_lines.specs.Lines as line
 use Rattle.ob_lines.specs.Lines.{Line, line_of}
