@@ -8,6 +8,7 @@ use Rattle.ob_tree.specs.declared.which.Which.TheVariants as which
 use Rattle.ob_env.specs.Stale.{Found, StaleUse, AsWanted, IsAbsent, IsChanged}
 use Rattle.ob_walk.specs.Walk.{Walked, Left, NoInterface, Damaged, Cycle, TooMany}
 use Rattle.ob_reading.specs.Reading.{NoModule, Scan, Parse}
+use Rattle.ob_sym.specs.Grammar.{face as face_form}
 use Rattle.ob_compile.specs.declared.shape.Built.{Built}
 use Rattle.ob_compile.specs.declared.fault.CompileRefusal.{CompileRefusal}
 use Rattle.ob_compile.specs.declared.fault.CompileRefusal.TheVariants as refusal
@@ -67,9 +68,9 @@ Compiles answer (Err (fault.Refused s)) = IsRefused answer s
 Compiles answer (Err fault.Folder) = Unit {0}
 Compiles answer (Err fault.Memory) = Unit {0}
 
--- so is what needs no folder, which is then never named
+-- so is what needs no folder, which is then never named; the interface that it makes has a spelling
 abbrev pub Makes : Result (Compiled Print) (Refusal Print) → Result Built CompileFault → Type 0
-Makes answer (Ok b) = IsBuilt answer b
+Makes answer (Ok b) = IsBuilt answer b × face_form.fits b.face
 Makes answer (Err (fault.Refused s)) = IsRefused answer s
 Makes answer (Err fault.Folder) = ⊥
 Makes answer (Err fault.Memory) = Unit {0}

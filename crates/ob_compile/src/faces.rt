@@ -2,6 +2,7 @@
 
 ghost use Rattle.std.specs.Prelude.{◌≡◌, ◌≤◌, true, length, map as each, IfOk};
 ghost use Rattle.ob_io.specs.Io.{SameFiles};
+ghost use Rattle.ob_sym.specs.Grammar.{face as face_form};
 ghost use Rattle.ob_reading.specs.Reading.{reading};
 ghost use Rattle.ob_env.specs.Building.{stands_as};
 ghost use Rattle.ob_env.specs.Found.{CarryPrints};
@@ -68,6 +69,7 @@ fn compile_with<F: Shelf>(
     ensures told { F.tells folder.new ≡ F.tells folder.old }
     ensures files { F.tells folder.old ≡ true → SameFiles (F.files folder.new) (F.files folder.old) }
     ensures compiles { F.tells folder.old ≡ true → Compiles (of_reached prints tree.now (after_walk stood (walking (symbol_entry (F.files folder.old)) tree.now.name.name imports.now))) result }
+    ensures fits { IfOk result (λ b. face_form.fits b.face) }
     ensures cause { CompileHasCause (F.faults folder.old) (F.faults folder.new) result }
 {
     match walk(alloc, folder, &tree.name.name, imports) {
@@ -85,6 +87,7 @@ fn compile_tree<F: Shelf>(
     ensures told { F.tells folder.new ≡ F.tells folder.old }
     ensures files { F.tells folder.old ≡ true → SameFiles (F.files folder.new) (F.files folder.old) }
     ensures compiles { F.tells folder.old ≡ true → Compiles (of_tree prints (symbol_entry (F.files folder.old)) tree.now) result }
+    ensures fits { IfOk result (λ b. face_form.fits b.face) }
     ensures cause { CompileHasCause (F.faults folder.old) (F.faults folder.new) result }
 {
     if tree.imports.len() > MOST_IMPORTS {
@@ -107,6 +110,7 @@ pub fn compile_text<F: Shelf>(
     ensures told { F.tells folder.new ≡ F.tells folder.old }
     ensures files { F.tells folder.old ≡ true → SameFiles (F.files folder.new) (F.files folder.old) }
     ensures compiles { F.tells folder.old ≡ true → Compiles (of_reading prints (symbol_entry (F.files folder.old)) (reading text.now)) result }
+    ensures fits { IfOk result (λ b. face_form.fits b.face) }
     ensures cause { CompileHasCause (F.faults folder.old) (F.faults folder.new) result }
 {
     match read_module(alloc, text) {

@@ -1,6 +1,6 @@
 //! The bytes of the two files.
 
-ghost use Rattle.std.specs.Prelude.{◌≡◌, nat_le, length, IfOk};
+ghost use Rattle.std.specs.Prelude.{◌≡◌, nat_le, length, IfOk, OnOk};
 ghost use Rattle.ob_tree.specs.declared.print.Print.{Print as PrintValue};
 ghost use Rattle.ob_sym.specs.Grammar.{face as face_form};
 ghost use Rattle.ob_obj.specs.Grammar.{file as file_form};
@@ -39,7 +39,8 @@ fn object_bytes(alloc: Global, file: &ObjFile) -> Result<Text, AllocError>
 // asked, and where it had none this would answer want of memory.
 fn symbol_bytes(alloc: Global, face: &Interface) -> Result<Text, AllocError>
     requires { AllHavePrints face.now }
-    ensures { IfOk result (λ text. text ≡ face_form.spell face.now) }
+    ensures text { IfOk result (λ text. text ≡ face_form.spell face.now) }
+    ensures fits { OnOk result (face_form.fits face.now) }
 {
     let spelled = has_symbol_file(alloc, face)?;
     if !spelled {
@@ -69,6 +70,7 @@ fn limit_of_files(obj: &Text, sym: &Text) -> Option<Which>
 
 // What is compiled, with the bytes of its two files.
 fn built(shown: ShownFace, obj: Text, sym: Text) -> Result<Built, CompileFault>
+    requires { face_form.fits shown.face }
     ensures { (c : Compiled PrintValue) → shown.face ≡ interface_by prints c → obj ≡ object_bytes prints c → sym ≡ symbol_bytes prints c → Makes (within c (limit_of_files (object_bytes prints c) (symbol_bytes prints c))) result }
 {
     match limit_of_files(&obj, &sym) {
