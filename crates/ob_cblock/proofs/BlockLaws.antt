@@ -1,5 +1,5 @@
 -- A sequence of declarations with its statements, put together.
-use Rattle.std.proofs.Common.{◌≡◌, ℕ, suc, ◌+◌, ◌-◌, Bool, true, false, List, [], ◌++◌, length, drop, map, refl, sym, ap, subst, ◌∙◌}
+use Rattle.std.proofs.Common.{◌≡◌, ℕ, suc, ◌-◌, Bool, true, false, List, [], ◌++◌, length, drop, map, refl, sym, ap, subst, ◌∙◌}
 use Rattle.std.proofs.lemmas.List.{append-nil}
 use Rattle.ob_tree.specs.declared.decl.Decl.{Decl}
 use Rattle.ob_tree.specs.declared.stmt.Stmt.{Stmt}

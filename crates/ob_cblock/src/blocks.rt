@@ -56,8 +56,8 @@ pub fn block<E: Imports>(
     Ok(())
 }
 
-// The procedures among the declarations, which have these headings, the last first. Each sees what is known behind
-// its heading.
+// The procedures among the declarations, which have these headings, the last first. Each sees what
+// is known behind its heading.
 #[cycle(block)]
 fn procedures<E: Imports>(
     alloc: Global,
