@@ -42,25 +42,6 @@ fn from_digits(alloc: Global, text: &str) -> Result<Vec<u8>, AllocError> {
     Ok(bytes)
 }
 
-// The bytes with those of `new` in place of each place of `old`.
-fn substituted(alloc: Global, bytes: &[u8], old: &[u8], new: &[u8]) -> Result<Vec<u8>, AllocError> {
-    let mut all = Vec::new(alloc);
-    let mut rest = bytes;
-    'places: while let [first, more @ ..] = rest {
-        match rest.strip_prefix(old) {
-            Some(behind) if behind.len() < rest.len() => {
-                all.extend_from_slice(new)?;
-                rest = behind;
-            }
-            _ => {
-                all.push(*first)?;
-                rest = more;
-            }
-        }
-    }
-    Ok(all)
-}
-
 impl Case {
     pub fn new(alloc: Global) -> Case {
         Case {

@@ -1,6 +1,6 @@
 //! Files in memory that can also be removed and changed.
 
-ghost use Rattle.std.specs.Prelude.{None, false};
+ghost use Rattle.std.specs.Prelude.{◌≡◌, None, false};
 
 use ob_io::{Failed, Folder, FolderFault, Shelf};
 use std::alloc::{AllocError, Global};
@@ -32,7 +32,9 @@ impl Files {
     }
 
     /// From here on the name has these bytes.
-    pub fn put(&mut self, name: &str, bytes: &[u8]) -> Result<(), AllocError> {
+    pub fn put(&mut self, name: &str, bytes: &[u8]) -> Result<(), AllocError>
+        ensures { self.new.faults ≡ self.old.faults }
+    {
         let key = String::from_str(self.alloc, name)?;
         let bytes = bytes.to_vec(self.alloc)?;
         self.all.insert(key, bytes)?;
