@@ -12,10 +12,10 @@ use Rattle.ob_meaning.specs.Values.{State}
 use Rattle.ob_meaning.specs.Results.{Res, Gives, Stops}
 use Rattle.ob_meaning.specs.Meaning.{Flow}
 use Rattle.ob_meaning.specs.Commands.{run_first, at_rest, body_name, body_procedure}
-use Rattle.ob_simulation.specs.Layout.{module_number}
-use Rattle.ob_simulation.specs.Relation.{number_of, call_start}
-use Rattle.ob_simulation.specs.Setting.{Setting, StandIn, stopped, has_of}
-use Rattle.ob_simulation.specs.Linked.{Linked, ProcedureStands, TypesStand}
+use Rattle.ob_relation.specs.Layout.{module_number}
+use Rattle.ob_relation.specs.Relation.{number_of, call_start}
+use Rattle.ob_relation.specs.Setting.{Setting, StandIn, stopped, has_of}
+use Rattle.ob_relation.specs.Linked.{Linked, ProcedureStands, TypesStand}
 use Rattle.ob_simulation.specs.Slice.{InStmts, AllIn}
 
 module _ (c : Setting) where

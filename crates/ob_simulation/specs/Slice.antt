@@ -3,15 +3,6 @@ use Rattle.std.specs.Prelude.{◌≡◌, Option, Some, None}
 use Rattle.ob_tree.specs.declared.names.QName.{QName}
 use Rattle.ob_types.specs.declared.types.Basic.TheVariants as basic
 use Rattle.ob_types.specs.declared.types.TypeRef.TheVariants as ref
-use Rattle.ob_types.specs.declared.value.Value.{Value as Literal}
-use Rattle.ob_types.specs.declared.value.Value.TheVariants as literal
-use Rattle.ob_types.specs.declared.typed.Unary.{Unary}
-use Rattle.ob_types.specs.declared.typed.Unary.TheVariants as unary
-use Rattle.ob_types.specs.declared.typed.Binary.{Binary}
-use Rattle.ob_types.specs.declared.typed.Binary.TheVariants as binary
-use Rattle.ob_types.specs.declared.typed.Compared.TheVariants as compared
-use Rattle.ob_types.specs.declared.typed.Variable.{Variable}
-use Rattle.ob_types.specs.declared.typed.Variable.TheVariants as variable
 use Rattle.ob_types.specs.declared.typed.OutProcedure.TheVariants as out
 use Rattle.ob_types.specs.declared.typed.Made.TheVariants as made
 use Rattle.ob_types.specs.declared.typed.Update.TheVariants as update
@@ -20,41 +11,9 @@ use Rattle.ob_types.specs.declared.typed.Callee.TheVariants as callee
 use Rattle.ob_types.specs.declared.typed.Assigned.TheVariants as assigned
 use Rattle.ob_types.specs.TypedSyntax.{Desig, OfVariable, Field, Index, Deref, Expr, Constant, ValueOf, Monadic, Dyadic, Logical, Call, Actuals, NoActual, AnActual, Stmt, Assign, CallProper, Updated, Assert, Halt, If, While, Repeat, Loop, Exit, Return, Stmts, Nothing, Then, Branches, NoBranch, Branch, New, Procedure}
 use Rattle.ob_meaning.specs.Values as values
-use Rattle.ob_simulation.specs.Setting.{Setting}
+use Rattle.ob_relation.specs.Setting.{Setting}
 
--- a scalar variable, or one by VAR that is neither a record nor an open array
-abbrev pub Plain : Variable → Type 0
-Plain (variable.Module m x) = Unit {0}
-Plain (variable.Local x) = Unit {0}
-Plain (variable.Parameter passing.Scalar x) = Unit {0}
-Plain (variable.Parameter passing.Variable x) = Unit {0}
-Plain (variable.Parameter passing.Structure x) = ⊥
-Plain (variable.Parameter passing.OpenArray x) = ⊥
-Plain (variable.Parameter passing.VariableRecord x) = ⊥
-Plain (variable.Parameter passing.VariableOpenArray x) = ⊥
-
-abbrev pub PlainBinary : Binary → Type 0
-PlainBinary (binary.Add w) = Unit {0}
-PlainBinary (binary.Subtract w) = Unit {0}
-PlainBinary (binary.Multiply w) = Unit {0}
-PlainBinary (binary.Quotient w) = Unit {0}
-PlainBinary (binary.Compare r compared.Integer) = Unit {0}
-PlainBinary (binary.Compare r compared.Char) = Unit {0}
-PlainBinary (binary.Compare r compared.Boolean) = Unit {0}
-PlainBinary o = ⊥
-
-abbrev pub PlainUnary : Unary → Type 0
-PlainUnary (unary.Negate w) = Unit {0}
-PlainUnary unary.Not = Unit {0}
-PlainUnary (unary.Abs w) = Unit {0}
-PlainUnary (unary.Long w) = Unit {0}
-PlainUnary unary.Ord = Unit {0}
-PlainUnary (unary.Short w) = Unit {0}
-PlainUnary o = ⊥
-
-abbrev pub PlainLiteral : Literal → Type 0
-PlainLiteral (literal.Set n) = ⊥
-PlainLiteral c = Unit {0}
+use Rattle.ob_relation.specs.Plain.{Plain, PlainBinary, PlainUnary, PlainLiteral}
 
 abbrev mutual
   pub InDesig : Desig → Type 0

@@ -1,0 +1,10 @@
+pub mod Layout
+pub mod Texts
+pub mod Relation
+pub mod Ends
+pub mod Stands
+pub mod Need
+pub mod Typed
+pub mod Setting
+pub mod Linked
+pub mod Plain

@@ -1,0 +1,349 @@
+-- The rules that a checked tree keeps, as far as code and meaning rest on them.
+use Rattle.std.specs.Prelude.{◌≡◌, ◌⊎◌, ◌<◌, ℕ, ◌^◌, List, [], ◌∷◌, length, ℤ, Option, Some, None, Bool, true, bytes_eq}
+use Rattle.ob_tree.specs.declared.names.QName.{QName}
+use Rattle.ob_tree.specs.declared.pos.Pos.{Pos}
+use Rattle.ob_types.specs.declared.types.Basic.{Basic}
+use Rattle.ob_types.specs.declared.types.Basic.TheVariants as basic
+use Rattle.ob_types.specs.declared.types.TypeRef.{TypeRef}
+use Rattle.ob_types.specs.declared.types.Signature.{Signature}
+use Rattle.ob_types.specs.declared.types.Mode.{Mode}
+use Rattle.ob_types.specs.declared.types.Mode.TheVariants as mode
+use Rattle.ob_types.specs.declared.value.Value.{Value as Literal}
+use Rattle.ob_types.specs.declared.value.Value.TheVariants as literal
+use Rattle.ob_types.specs.declared.typed.Width.{Width}
+use Rattle.ob_types.specs.declared.typed.Width.TheVariants as width
+use Rattle.ob_types.specs.declared.typed.Passing.{Passing}
+use Rattle.ob_types.specs.declared.typed.Passing.TheVariants as passing
+use Rattle.ob_types.specs.declared.typed.Variable.{Variable}
+use Rattle.ob_types.specs.declared.typed.Variable.TheVariants as variable
+use Rattle.ob_types.specs.declared.typed.Guarded.TheVariants as guarded
+use Rattle.ob_types.specs.declared.typed.Comparison.{Comparison}
+use Rattle.ob_types.specs.declared.typed.Comparison.TheVariants as comparison
+use Rattle.ob_types.specs.declared.typed.Compared.TheVariants as compared
+use Rattle.ob_types.specs.declared.typed.Unary.{Unary}
+use Rattle.ob_types.specs.declared.typed.Unary.TheVariants as unary
+use Rattle.ob_types.specs.declared.typed.Binary.{Binary}
+use Rattle.ob_types.specs.declared.typed.Binary.TheVariants as binary
+use Rattle.ob_types.specs.declared.typed.Callee.{Callee}
+use Rattle.ob_types.specs.declared.typed.Callee.TheVariants as callee
+use Rattle.ob_types.specs.declared.typed.Assigned.{Assigned}
+use Rattle.ob_types.specs.declared.typed.Assigned.TheVariants as assigned
+use Rattle.ob_types.specs.declared.typed.Update.{Update}
+use Rattle.ob_types.specs.declared.typed.Update.TheVariants as update
+use Rattle.ob_types.specs.declared.typed.Made.{Made}
+use Rattle.ob_types.specs.declared.typed.Made.TheVariants as made
+use Rattle.ob_types.specs.declared.typed.TypedParameter.{TypedParameter}
+use Rattle.ob_types.specs.TypedSyntax.{Desig, OfVariable, Field, Index, Deref, Guard, Expr, Constant, ValueOf, ProcedureValue, Monadic, Dyadic, Logical, CompareTexts, IsPointer, IsRecord, Length, Call, CallVariable, Actuals, NoActual, AnActual, Stmt, Assign, CallProper, Updated, Copy, New, NewOpenArray, Assert, Halt, If, Case, While, Repeat, For, Loop, Exit, Return, With, Stmts, Nothing, Then, Branches, NoBranch, Branch, Cases, NoCase, OneCase, Otherwise, NoElse, Else, Procedure}
+use Rattle.ob_types.specs.TypedKinds.{variable_type}
+use Rattle.ob_meaning.specs.Values.{Program, procedure_of, Form, BasicForm, PointerForm, ProcedureForm, ArrayForm, OpenForm, RecordForm, fields_of, form_in, record_in, bases_in, Held, Own, Referred, Copied}
+use Rattle.ob_meaning.specs.Operators.{is_in}
+use Rattle.ob_meaning.specs.Meaning.{nearest, hidden}
+use Rattle.ob_relation.specs.Layout.{field_offset, field_form, held_name, form_named, variables_in}
+use Rattle.ob_relation.specs.Relation.{OrElse, Sub, Scalar, FieldIn, ValueIn}
+
+abbrev pub basic_of : Width → Basic
+basic_of width.ShortInt = basic.ShortInt
+basic_of width.Integer = basic.Integer
+basic_of width.LongInt = basic.LongInt
+
+abbrev pub integer : Width → Form
+integer w = BasicForm (basic_of w)
+
+abbrev pub longint : Form
+longint = BasicForm basic.LongInt
+
+abbrev pub boolean : Form
+boolean = BasicForm basic.Boolean
+
+abbrev pub char : Form
+char = BasicForm basic.Char
+
+abbrev pub set : Form
+set = BasicForm basic.Set
+
+-- an integer type within another
+pub data Within : Width → Width → Type 0 where
+  same : {w : Width} → Within w w
+  short : Within width.ShortInt width.Integer
+  shorter : Within width.ShortInt width.LongInt
+  middle : Within width.Integer width.LongInt
+
+abbrev pub IsEquality : Comparison → Type 0
+IsEquality comparison.Equal = Unit {0}
+IsEquality comparison.NotEqual = Unit {0}
+IsEquality r = ⊥
+
+abbrev pub passing_for : Mode → Form → Passing
+passing_for mode.Value (OpenForm t) = passing.OpenArray
+passing_for mode.Value (ArrayForm n t) = passing.Structure
+passing_for mode.Value (RecordForm line fs) = passing.Structure
+passing_for mode.Value t = passing.Scalar
+passing_for mode.Var (OpenForm t) = passing.VariableOpenArray
+passing_for mode.Var (RecordForm line fs) = passing.VariableRecord
+passing_for mode.Var t = passing.Variable
+
+abbrev pub ByPassing : Passing → (scalar structure array referred : Type 0) → Type 0
+ByPassing passing.Scalar A B C D = A
+ByPassing passing.Structure A B C D = B
+ByPassing passing.OpenArray A B C D = C
+ByPassing passing.Variable A B C D = D
+ByPassing passing.VariableRecord A B C D = D
+ByPassing passing.VariableOpenArray A B C D = D
+
+abbrev pub As : (Held → Type 0) → List Held → List ℕ → Type 0
+As Kind [] x = ⊥
+As Kind (h ∷ hs) x = OrElse (bytes_eq x (held_name h)) (Kind h) (As Kind hs x)
+
+abbrev pub IsOwn : Held → Type 0
+IsOwn (Own x t) = Unit {0}
+IsOwn h = ⊥
+
+abbrev pub IsReferred : ℕ → Held → Type 0
+IsReferred k (Referred x n t) = n ≡ k
+IsReferred k h = ⊥
+
+abbrev pub IsCopied : ℕ → Held → Type 0
+IsCopied k (Copied x n t) = n ≡ k
+IsCopied k h = ⊥
+
+module _ (program : Program) (Has : Signature → QName → Type 0) (unit : List ℕ) (held : List Held) (result : Option TypeRef) where
+  -- what may stand for a scalar type: itself; a smaller integer type; a pointer to an extension
+  pub data Widens : Form → Form → Type 0 where
+    itself : {t : Form} → Widens t t
+    integers : (v w : Width) → Within v w → Widens (integer v) (integer w)
+    pointers : (t u : TypeRef) → ((a : Form) → Sub a (form_in program t) → Sub a (form_in program u)) → Widens (PointerForm t) (PointerForm u)
+    procedures : (s t : Signature) → ((q : QName) → Has s q → Has t q) → Widens (ProcedureForm s) (ProcedureForm t)
+
+  abbrev pub ParameterOk : Passing → List ℕ → Type 0
+  ParameterOk passing.Scalar x = As IsOwn held x
+  ParameterOk passing.Structure x = As (IsCopied 1) held x
+  ParameterOk passing.OpenArray x = As (IsCopied 2) held x
+  ParameterOk passing.Variable x = As (IsReferred 1) held x
+  ParameterOk passing.VariableRecord x = As (IsReferred 2) held x
+  ParameterOk passing.VariableOpenArray x = As (IsReferred 2) held x
+
+  abbrev pub VariableOk : Variable → Form → Type 0
+  VariableOk (variable.Module m x) t = ValueIn (variables_in program program m) x × (form_named (variables_in program program m) x ≡ t)
+  VariableOk (variable.Local x) t = As IsOwn held x × (form_named held x ≡ t)
+  VariableOk (variable.Parameter how x) t = ParameterOk how x × (form_named held x ≡ t)
+
+  abbrev pub ConstantOk : Literal → Form → Type 0
+  ConstantOk (literal.Bool b) t = t ≡ boolean
+  ConstantOk (literal.Char c) t = (c < 256) × (t ≡ char)
+  ConstantOk (literal.Int z) t = (w : Width) × (is_in w z ≡ true) × (t ≡ integer w)
+  ConstantOk (literal.Set n) t = (n < 2 ^ 32) × (t ≡ set)
+  ConstantOk (literal.Str text) t = ⊥
+  ConstantOk literal.Nil t = ((u : TypeRef) × (t ≡ PointerForm u)) ⊎ ((s : Signature) × (t ≡ ProcedureForm s))
+
+  abbrev pub unary_in : Unary → Form
+  unary_in (unary.Negate w) = integer w
+  unary_in unary.Not = boolean
+  unary_in unary.Complement = set
+  unary_in (unary.Abs w) = integer w
+  unary_in unary.Cap = char
+  unary_in unary.Chr = longint
+  unary_in (unary.Long w) = integer w
+  unary_in unary.Odd = longint
+  unary_in unary.Ord = char
+  unary_in (unary.Short w) = longint
+  unary_in unary.Element = longint
+
+  abbrev pub unary_out : Unary → Form
+  unary_out (unary.Negate w) = integer w
+  unary_out unary.Not = boolean
+  unary_out unary.Complement = set
+  unary_out (unary.Abs w) = integer w
+  unary_out unary.Cap = char
+  unary_out unary.Chr = char
+  unary_out (unary.Long w) = integer w
+  unary_out unary.Odd = boolean
+  unary_out unary.Ord = BasicForm basic.Integer
+  unary_out (unary.Short w) = integer w
+  unary_out unary.Element = set
+
+  -- the types of the operands and of the result
+  pub data BinaryOk : Binary → Form → Form → Form → Type 0 where
+    sum : (w : Width) → BinaryOk (binary.Add w) (integer w) (integer w) (integer w)
+    difference : (w : Width) → BinaryOk (binary.Subtract w) (integer w) (integer w) (integer w)
+    product : (w : Width) → BinaryOk (binary.Multiply w) (integer w) (integer w) (integer w)
+    quotient : (w : Width) → BinaryOk (binary.Quotient w) (integer w) (integer w) (integer w)
+    remainder : (w : Width) → BinaryOk (binary.Remainder w) (integer w) (integer w) (integer w)
+    union : BinaryOk binary.Union set set set
+    without : BinaryOk binary.Difference set set set
+    meet : BinaryOk binary.Intersection set set set
+    either : BinaryOk binary.SymmetricDifference set set set
+    range : BinaryOk binary.Range longint longint set
+    inside : BinaryOk binary.In longint set boolean
+    ash : BinaryOk binary.Ash longint longint longint
+    integers : (r : Comparison) → BinaryOk (binary.Compare r compared.Integer) longint longint boolean
+    chars : (r : Comparison) → BinaryOk (binary.Compare r compared.Char) char char boolean
+    booleans : (r : Comparison) → IsEquality r → BinaryOk (binary.Compare r compared.Boolean) boolean boolean boolean
+    sets : (r : Comparison) → IsEquality r → BinaryOk (binary.Compare r compared.Set) set set boolean
+    pointers : (r : Comparison) (t u : TypeRef) → IsEquality r → BinaryOk (binary.Compare r compared.Pointer) (PointerForm t) (PointerForm u) boolean
+    procedures : (r : Comparison) (s t : Signature) → IsEquality r → BinaryOk (binary.Compare r compared.Procedure) (ProcedureForm s) (ProcedureForm t) boolean
+
+  abbrev pub form_of : Desig → Form
+  form_of d = form_in program (variable_type d)
+
+  -- a field where its owner has it is where every extension has it
+  abbrev pub FieldOk : Form → QName → List ℕ → Form → Type 0
+  FieldOk t o x u = (line : List QName) × (t ≡ RecordForm line (fields_of t)) × FieldIn (fields_of t) o x × (field_form (fields_of t) o x ≡ u) × (field_offset (fields_of t) o x ≡ field_offset (fields_of (record_in program o)) o x)
+
+  abbrev pub IsPointerTo : Form → Form → Type 0
+  IsPointerTo t u = (r : TypeRef) × (t ≡ PointerForm r) × (form_in program r ≡ u)
+
+  abbrev pub ResultOk : Option TypeRef → Form → Type 0
+  ResultOk None t = ⊥
+  ResultOk (Some r) t = Scalar (form_in program r) × Widens (form_in program r) t
+
+  -- arrays of characters and strings
+  abbrev pub IsText : Form → Type 0
+  IsText (ArrayForm n t) = t ≡ char
+  IsText (OpenForm t) = t ≡ char
+  IsText t = ⊥
+
+  -- what is called, with what is asked of its parameters
+  abbrev pub CallOk : Callee → Option TypeRef → (List TypedParameter → Type 0) → Type 0 → Type 0
+  CallOk (callee.Declared q) r Fits Out = (p : Procedure) × (procedure_of program q ≡ Some p) × (p.result ≡ r) × Fits p.parameters
+  CallOk (callee.Bound f k) r Fits Out = (p : Procedure) × (p.result ≡ r) × Fits p.parameters
+  CallOk (callee.Super base f k) r Fits Out = (q : QName) × (p : Procedure) × (nearest program (bases_in program base) f ≡ Some q) × (procedure_of program q ≡ Some p) × (p.result ≡ r) × Fits p.parameters
+  CallOk (callee.Out o) r Fits Out = (r ≡ None) × Out
+
+  abbrev mutual
+    -- a designator whose own type is the form of its type's name
+    pub DesigOk : Desig → Type 0
+    DesigOk (OfVariable v t) = VariableOk v (form_in program t)
+    DesigOk (Field d o x t) = DesigOk d × FieldOk (form_of d) o x (form_in program t)
+    DesigOk (Index d (Some n) i at t) = DesigOk d × (ExprOk i longint × (form_of d ≡ ArrayForm n (form_in program t)))
+    DesigOk (Index d None i at t) = DesigOk d × (ExprOk i longint × (form_of d ≡ OpenForm (form_in program t)))
+    DesigOk (Deref d at t) = DesigOk d × IsPointerTo (form_of d) (form_in program t)
+    DesigOk (Guard d guarded.Pointer q at t) = DesigOk d × (IsPointerTo (form_in program t) (record_in program q) × ((r : TypeRef) × (form_of d ≡ PointerForm r)))
+    DesigOk (Guard d guarded.Record q at t) = DesigOk d × (form_in program t ≡ record_in program q)
+
+    -- the value of an expression fits a type
+    pub ExprOk : Expr → Form → Type 0
+    ExprOk (Constant c) t = ConstantOk c t
+    ExprOk (ValueOf d) t = DesigOk d × (Scalar (form_of d) × Widens (form_of d) t)
+    ExprOk (ProcedureValue q signature) t = (s : Signature) × (t ≡ ProcedureForm s) × Has s q
+    ExprOk (Monadic o e at) t = ExprOk e (unary_in o) × Widens (unary_out o) t
+    ExprOk (Dyadic o a b at) t = (u : Form) × (v : Form) × (r : Form) × BinaryOk o u v r × ExprOk a u × ExprOk b v × Widens r t
+    ExprOk (Logical o a b) t = ExprOk a boolean × (ExprOk b boolean × Widens boolean t)
+    ExprOk (CompareTexts r a b at) t = TextOk a × (TextOk b × Widens boolean t)
+    ExprOk (IsPointer e q) t = ((u : TypeRef) × ExprOk e (PointerForm u)) × Widens boolean t
+    ExprOk (IsRecord d q) t = DesigOk d × Widens boolean t
+    ExprOk (Length d) t = DesigOk d × (((u : Form) × (form_of d ≡ OpenForm u)) × Widens longint t)
+    ExprOk (Call c es at r) t = CallOk c r (ActualsOk es) (OutOk es) × ResultOk r t
+    ExprOk (CallVariable d es at r) t = (DesigOk d × ((s : Signature) × (form_of d ≡ ProcedureForm s) × (s.result ≡ r) × SignatureOk es s.params)) × ResultOk r t
+
+    pub TextOk : Expr → Type 0
+    TextOk (ValueOf d) = DesigOk d × IsText (form_of d)
+    TextOk (Constant (literal.Str text)) = Unit {0}
+    TextOk e = ⊥
+
+    pub OutOk : Actuals → Type 0
+    OutOk NoActual = Unit {0}
+    OutOk (AnActual passing.Scalar t e rest) = ExprOk e (form_in program t) × OutOk rest
+    OutOk (AnActual passing.OpenArray t e rest) = TextOk e × OutOk rest
+    OutOk (AnActual how t e rest) = ⊥
+
+    pub ActualsOk : Actuals → List TypedParameter → Type 0
+    ActualsOk NoActual [] = Unit {0}
+    ActualsOk NoActual (p ∷ ps) = ⊥
+    ActualsOk (AnActual how t e rest) [] = ⊥
+    ActualsOk (AnActual how t e rest) (p ∷ ps) = (how ≡ p.passing) × ((t ≡ p.of) × (ByPassing how (ExprOk e (form_in program t) × Scalar (form_in program t)) (StructureOk e (form_in program t)) (ArrayOk e (form_in program t)) (ReferredOk e (form_in program t)) × ActualsOk rest ps))
+
+    -- by a signature alone, as procedure variables are called
+    pub SignatureOk : Actuals → List (Mode × TypeRef) → Type 0
+    SignatureOk NoActual [] = Unit {0}
+    SignatureOk NoActual (p ∷ ps) = ⊥
+    SignatureOk (AnActual how t e rest) [] = ⊥
+    SignatureOk (AnActual how t e rest) (p ∷ ps) = (how ≡ passing_for p.0 (form_in program p.1)) × ((t ≡ p.1) × (ByPassing how (ExprOk e (form_in program t) × Scalar (form_in program t)) (StructureOk e (form_in program t)) (ArrayOk e (form_in program t)) (ReferredOk e (form_in program t)) × SignatureOk rest ps))
+
+    pub StructureOk : Expr → Form → Type 0
+    StructureOk (ValueOf d) t = DesigOk d × Sub (form_of d) t
+    StructureOk (Constant (literal.Str text)) t = (n : ℕ) × (t ≡ ArrayForm n char) × (length text < n)
+    StructureOk e t = ⊥
+
+    pub ArrayOk : Expr → Form → Type 0
+    ArrayOk (ValueOf d) t = DesigOk d × ((u : Form) × (t ≡ OpenForm u) × ((form_of d ≡ t) ⊎ ((n : ℕ) × (form_of d ≡ ArrayForm n u))))
+    ArrayOk (Constant (literal.Str text)) t = t ≡ OpenForm char
+    ArrayOk e t = ⊥
+
+    pub ReferredOk : Expr → Form → Type 0
+    ReferredOk (ValueOf d) t = DesigOk d × ((a : Form) → Sub a (form_of d) → Sub a t)
+    ReferredOk e t = ⊥
+
+  abbrev pub AssignedOk : Assigned → Desig → Expr → Type 0
+  AssignedOk assigned.Scalar d e = ExprOk e (form_of d) × Scalar (form_of d)
+  AssignedOk assigned.Text d e = (n : ℕ) × (form_of d ≡ ArrayForm n char) × StructureOk e (form_of d)
+  AssignedOk assigned.Array d e = StructureOk e (form_of d)
+  AssignedOk (assigned.Record q) d e = (form_of d ≡ record_in program q) × StructureOk e (form_of d)
+
+  abbrev pub UpdateOk : Update → Desig → Expr → Type 0
+  UpdateOk (update.Inc w) d e = ExprOk e (integer w) × (form_of d ≡ integer w)
+  UpdateOk (update.Dec w) d e = ExprOk e (integer w) × (form_of d ≡ integer w)
+  UpdateOk update.Incl d e = ExprOk e longint × (form_of d ≡ set)
+  UpdateOk update.Excl d e = ExprOk e longint × (form_of d ≡ set)
+
+  abbrev pub MadeOk : Made → Form → Type 0
+  MadeOk (made.Record q) t = IsPointerTo t (record_in program q) × ((line : List QName) × (record_in program q ≡ RecordForm (q ∷ line) (fields_of (record_in program q))))
+  MadeOk (made.Array u) t = IsPointerTo t (form_in program u)
+
+  abbrev pub ReturnOk : Option Expr → Option TypeRef → Type 0
+  ReturnOk None None = Unit {0}
+  ReturnOk None (Some t) = ⊥
+  ReturnOk (Some e) None = ⊥
+  ReturnOk (Some e) (Some t) = ExprOk e (form_in program t) × Scalar (form_in program t)
+
+  -- the value of CASE: an integer or a character
+  abbrev pub CaseOk : Expr → Type 0
+  CaseOk e = ExprOk e longint ⊎ ExprOk e char
+
+  abbrev pub HiddenOk : Pos → Type 0
+  HiddenOk at = As IsOwn held (hidden at) × (form_named held (hidden at) ≡ longint)
+
+  abbrev pub StepOk : ℤ → Width → Type 0
+  StepOk step w = is_in w step ≡ true
+
+  -- a call of a proper procedure
+  abbrev pub ProperOk : Expr → Type 0
+  ProperOk (Call c es at r) = CallOk c r (ActualsOk es) (OutOk es) × (r ≡ None)
+  ProperOk (CallVariable d es at r) = (DesigOk d × ((s : Signature) × (form_of d ≡ ProcedureForm s) × (s.result ≡ r) × SignatureOk es s.params)) × (r ≡ None)
+  ProperOk e = ⊥
+
+  -- inside a LOOP or not
+  abbrev mutual
+    pub StmtOk : Stmt → Bool → Type 0
+    StmtOk (Assign d how e at) l = DesigOk d × AssignedOk how d e
+    StmtOk (CallProper e) l = ProperOk e
+    StmtOk (Updated o d e at) l = DesigOk d × UpdateOk o d e
+    StmtOk (Copy e d at) l = TextOk e × (DesigOk d × IsText (form_of d))
+    StmtOk (New d what at) l = DesigOk d × MadeOk what (form_of d)
+    StmtOk (NewOpenArray d t n at) l = DesigOk d × (IsPointerTo (form_of d) (OpenForm (form_in program t)) × ExprOk n longint)
+    StmtOk (Assert e number at) l = ExprOk e boolean
+    StmtOk (Halt number at) l = Unit {0}
+    StmtOk (If branches otherwise) l = BranchesOk branches l × StmtsOk otherwise l
+    StmtOk (Case e cases otherwise at) l = CaseOk e × (HiddenOk at × (CasesOk cases l × ElseOk otherwise l))
+    StmtOk (While e body at) l = ExprOk e boolean × StmtsOk body l
+    StmtOk (Repeat body e at) l = StmtsOk body l × ExprOk e boolean
+    StmtOk (For v w start end step body at) l = VariableOk v (integer w) × (ExprOk start (integer w) × (ExprOk end longint × (HiddenOk at × (StepOk step w × StmtsOk body l))))
+    StmtOk (Loop body at) l = StmtsOk body true
+    StmtOk Exit l = l ≡ true
+    StmtOk (Return e) l = ReturnOk e result
+    StmtOk (With branches otherwise at) l = BranchesOk branches l × ElseOk otherwise l
+
+    pub StmtsOk : Stmts → Bool → Type 0
+    StmtsOk Nothing l = Unit {0}
+    StmtsOk (Then s rest) l = StmtOk s l × StmtsOk rest l
+
+    pub BranchesOk : Branches → Bool → Type 0
+    BranchesOk NoBranch l = Unit {0}
+    BranchesOk (Branch test body rest) l = ExprOk test boolean × (StmtsOk body l × BranchesOk rest l)
+
+    pub CasesOk : Cases → Bool → Type 0
+    CasesOk NoCase l = Unit {0}
+    CasesOk (OneCase labels body rest) l = StmtsOk body l × CasesOk rest l
+
+    pub ElseOk : Otherwise → Bool → Type 0
+    ElseOk NoElse l = Unit {0}
+    ElseOk (Else body) l = StmtsOk body l
