@@ -37,7 +37,7 @@ module _ (c : Setting) where
   abbrev pub taken_words : AnObject → World → List ℤ
   taken_words x w = with_words (with_words w.words (pos w.heap) (replicate (cost_of x) (pos 0))) (pos w.heap) (Ex c [] x)
 
-  pub object_stands : (cs : List Active) (x : AnObject) (s : State) (w : World) → StandIn c cs s w → FormOk (object_form x) → costs_of (x ∷ s.made) ≤ c.heap → StandIn c cs (with_it x s) (record w { words = taken_words x w; heap = w.heap + cost_of x })
+  pub object_stands : (cs : List Active) (x : AnObject) (s : State) (w : World) → StandIn c cs s w → FormOk c.program (object_form x) → costs_of (x ∷ s.made) ≤ c.heap → StandIn c cs (with_it x s) (record w { words = taken_words x w; heap = w.heap + cost_of x })
   object_stands cs x s w st ok fits =
       let gr = grown s.made x in
       let all = x ∷ s.made in

@@ -72,7 +72,7 @@ module _ (c : Setting) (a : Activation c) (n : ℕ) (call : Caller) (b : ℕ) wh
 
   -- NEW
 
-  made_follows : (x : AnObject) (r : TypeRef) (p : Place) (size : ℕ) (i : Instr) (at : Pos) (pc : ℕ) (ops : List ℤ) (os : List AnObject) (s : State) (w : World) → length ops ≤ 256 → code.HasAt (scope c a) pc i at → FormOk (object_form x) → object_form x ≡ form_in c.program r → size ≡ words (object_form x) → PlaceOf c.program (has_of c) c.img s.made (K c a) (PointerForm r) p → (are_there (length w.words) (pos (address c.program c.img s.made (K c a) p)) 1 ≡ true → effect c a pc (pos (address c.program c.img s.made (K c a) p) ∷ ops) w i ≡ made (pos (address c.program c.img s.made (K c a) p)) (Ex c [] x) size ops w) → Kp os s w →
+  made_follows : (x : AnObject) (r : TypeRef) (p : Place) (size : ℕ) (i : Instr) (at : Pos) (pc : ℕ) (ops : List ℤ) (os : List AnObject) (s : State) (w : World) → length ops ≤ 256 → code.HasAt (scope c a) pc i at → FormOk c.program (object_form x) → object_form x ≡ form_in c.program r → size ≡ words (object_form x) → PlaceOf c.program (has_of c) c.img s.made (K c a) (PointerForm r) p → (are_there (length w.words) (pos (address c.program c.img s.made (K c a) p)) 1 ≡ true → effect c a pc (pos (address c.program c.img s.made (K c a) p) ∷ ops) w i ≡ made (pos (address c.program c.img s.made (K c a) p)) (Ex c [] x) size ops w) → Kp os s w →
       Follows c (go c a pc (pos (address c.program c.img s.made (K c a) p) ∷ ops) w) (λ u s w. go c a (suc pc) ops w) (λ u s w. Kp os s w) (make x p (here_in c a n call b) at s)
   made_follows x r p size i at pc ops os s w le has ok is words_are here_p row st = by (nat_le (costs_of (x ∷ s.made)) c.heap) refl
     where
@@ -120,7 +120,7 @@ module _ (c : Setting) (a : Activation c) (n : ℕ) (call : Caller) (b : ℕ) wh
           follows_value c (with_memory w2 new.0) (goes c a ops (with_memory w2 new.0) has.has effect_is le)
           (record { all = new.2; calls = st.calls; bound = st.bound; objects = grows_on c os s.made (x ∷ s.made) st.objects gr })
 
-  pub new_array_case : (d : Desig) (t : TypeRef) (at : Pos) → FormOk (form_in c.program t) → Ex c [] (Whole (form_in c.program t)) ≡ pos 0 ∷ [] → PlaceFollows c a n call b d → StmtFollows c a n call b (New d (made_of.Array t) at)
+  pub new_array_case : (d : Desig) (t : TypeRef) (at : Pos) → FormOk c.program (form_in c.program t) → Ex c [] (Whole (form_in c.program t)) ≡ pos 0 ∷ [] → PlaceFollows c a n call b d → StmtFollows c a n call b (New d (made_of.Array t) at)
   new_array_case d t at ok_form no_tag ih l exit pc k os s w le inside lies has ok st =
       let p1 = end_place c.program d pc in
       let r = ok.1.0 in

@@ -106,6 +106,20 @@ abbrev pub IsCopied : ℕ → Held → Type 0
 IsCopied k (Copied x n t) = n ≡ k
 IsCopied k h = ⊥
 
+-- a record type by its own name
+abbrev pub IsRecordType : Program → QName → Type 0
+IsRecordType program q = (line : List QName) × (record_in program q ≡ RecordForm (q ∷ line) (fields_of (record_in program q)))
+
+-- a test or a guard is for a record type that extends the static one
+abbrev pub TestOk : Program → QName → Form → Type 0
+TestOk program q t = IsRecordType program q × Sub (record_in program q) t
+
+-- a record parameter by VAR, with its guards
+abbrev pub IsVariableRecord : Desig → Type 0
+IsVariableRecord (OfVariable (variable.Parameter passing.VariableRecord x) t) = Unit {0}
+IsVariableRecord (Guard d guarded.Record q at t) = IsVariableRecord d
+IsVariableRecord d = ⊥
+
 module _ (program : Program) (Has : Signature → QName → Type 0) (unit : List ℕ) (held : List Held) (result : Option TypeRef) where
   -- what may stand for a scalar type: itself; a smaller integer type; a pointer to an extension
   pub data Widens : Form → Form → Type 0 where
@@ -217,8 +231,8 @@ module _ (program : Program) (Has : Signature → QName → Type 0) (unit : List
     DesigOk (Index d (Some n) i at t) = DesigOk d × (ExprOk i longint × (form_of d ≡ ArrayForm n (form_in program t)))
     DesigOk (Index d None i at t) = DesigOk d × (ExprOk i longint × (form_of d ≡ OpenForm (form_in program t)))
     DesigOk (Deref d at t) = DesigOk d × IsPointerTo (form_of d) (form_in program t)
-    DesigOk (Guard d guarded.Pointer q at t) = DesigOk d × (IsPointerTo (form_in program t) (record_in program q) × ((r : TypeRef) × (form_of d ≡ PointerForm r)))
-    DesigOk (Guard d guarded.Record q at t) = DesigOk d × (form_in program t ≡ record_in program q)
+    DesigOk (Guard d guarded.Pointer q at t) = DesigOk d × (IsPointerTo (form_in program t) (record_in program q) × ((r : TypeRef) × (form_of d ≡ PointerForm r) × TestOk program q (form_in program r)))
+    DesigOk (Guard d guarded.Record q at t) = DesigOk d × ((form_in program t ≡ record_in program q) × TestOk program q (form_of d))
 
     -- the value of an expression fits a type
     pub ExprOk : Expr → Form → Type 0
@@ -229,8 +243,8 @@ module _ (program : Program) (Has : Signature → QName → Type 0) (unit : List
     ExprOk (Dyadic o a b at) t = (u : Form) × (v : Form) × (r : Form) × BinaryOk o u v r × ExprOk a u × ExprOk b v × Widens r t
     ExprOk (Logical o a b) t = ExprOk a boolean × (ExprOk b boolean × Widens boolean t)
     ExprOk (CompareTexts r a b at) t = TextOk a × (TextOk b × Widens boolean t)
-    ExprOk (IsPointer e q) t = ((u : TypeRef) × ExprOk e (PointerForm u)) × Widens boolean t
-    ExprOk (IsRecord d q) t = DesigOk d × Widens boolean t
+    ExprOk (IsPointer e q) t = ((u : TypeRef) × ExprOk e (PointerForm u) × TestOk program q (form_in program u)) × Widens boolean t
+    ExprOk (IsRecord d q) t = DesigOk d × (IsVariableRecord d × (TestOk program q (form_of d) × Widens boolean t))
     ExprOk (Length d) t = DesigOk d × (((u : Form) × (form_of d ≡ OpenForm u)) × Widens longint t)
     ExprOk (Call c es at r) t = CallOk c r (ActualsOk es) (OutOk es) × ResultOk r t
     ExprOk (CallVariable d es at r) t = (DesigOk d × ((s : Signature) × (form_of d ≡ ProcedureForm s) × (s.result ≡ r) × SignatureOk es s.params)) × ResultOk r t
@@ -277,7 +291,7 @@ module _ (program : Program) (Has : Signature → QName → Type 0) (unit : List
   AssignedOk assigned.Scalar d e = ExprOk e (form_of d) × Scalar (form_of d)
   AssignedOk assigned.Text d e = (n : ℕ) × (form_of d ≡ ArrayForm n char) × StructureOk e (form_of d)
   AssignedOk assigned.Array d e = StructureOk e (form_of d)
-  AssignedOk (assigned.Record q) d e = (form_of d ≡ record_in program q) × StructureOk e (form_of d)
+  AssignedOk (assigned.Record q) d e = (form_of d ≡ record_in program q) × (IsRecordType program q × StructureOk e (form_of d))
 
   abbrev pub UpdateOk : Update → Desig → Expr → Type 0
   UpdateOk (update.Inc w) d e = ExprOk e (integer w) × (form_of d ≡ integer w)
