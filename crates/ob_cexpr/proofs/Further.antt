@@ -1,4 +1,4 @@
--- MAX and MIN with more than one parameter.
+-- MAX and MIN with more than one parameter, or with none.
 use denote.Param.Weighed.{most}
 use Rattle.std.proofs.Common.{◌≡◌, sym, ap, subst, ◌∙◌, ℕ, ◌-◌, ◌<◌, ◌≤◌, Bool, true, List, [], ◌∷◌, Option, Some, None, map, take, drop, length, get_or, arith}
 use Rattle.std.proofs.lemmas.List.{take_rest}
