@@ -130,7 +130,7 @@ module _ (c : Setting) (os : List AnObject) (cs : List Active) where
 
   -- OWN VARIABLES begin as 0
 
-  pub own_zero : (places : List ℕ → Place) (base : ℕ) (hs : List Held) → AllOwn hs → OwnFormsOk hs → AreDifferent hs → S c os cs places base hs (first_values hs) ≡ zeros (slots_words hs)
+  pub own_zero : (places : List ℕ → Place) (base : ℕ) (hs : List Held) → AllOwn hs → OwnFormsOk c.program hs → AreDifferent hs → S c os cs places base hs (first_values hs) ≡ zeros (slots_words hs)
   own_zero places base [] o f d = refl
   own_zero places base (Own x t ∷ hs) o f d =
       ap (λ v. W c os t v ++ S c os cs places base hs (changed (first_values hs) x (first t))) (changed_own (first_values hs) x x (first t) (bytes_same x))
@@ -139,7 +139,7 @@ module _ (c : Setting) (os : List AnObject) (cs : List Active) where
   own_zero places base (Referred x n t ∷ hs) o f d = absurd o
   own_zero places base (Copied x n t ∷ hs) o f d = absurd o
 
-  pub own_fine : (places : List ℕ → Place) (hs : List Held) → AllOwn hs → OwnFormsOk hs → AreDifferent hs → Hs c os cs places hs (first_values hs)
+  pub own_fine : (places : List ℕ → Place) (hs : List Held) → AllOwn hs → OwnFormsOk c.program hs → AreDifferent hs → Hs c os cs places hs (first_values hs)
   own_fine places [] o f d = tt
   own_fine places (Own x t ∷ hs) o f d = (f.0, (subst (λ v. F c os t v) (sym (changed_own (first_values hs) x x (first t) (bytes_same x))) (first_fine c os t f.0), fresh_fine c os cs places hs x (first_values hs) (first t) d.0 (own_fine places hs o f.1 d.1)))
   own_fine places (Referred x n t ∷ hs) o f d = absurd o
@@ -182,7 +182,7 @@ module _ (c : Setting) (os : List AnObject) (cs : List Active) where
     pub fine : Hs c os cs places hs g
     pub uncopied : Uncopied hs
 
-  scalar_ok : (t : Form) → Scalar t → FormOk t
+  scalar_ok : (t : Form) → Scalar t → FormOk c.program t
   scalar_ok (BasicForm b) s = tt
   scalar_ok (PointerForm b) s = tt
   scalar_ok (ProcedureForm b) s = tt
