@@ -1,5 +1,5 @@
 -- The code of actual parameters and of calls follows their meaning.
-use Rattle.std.proofs.Common.{◌≡◌, ℕ, suc, ◌+◌, ◌≤◌, List, [], ◌∷◌, ◌++◌, length, Option, Some, None, ℤ, refl, sym, ap, ◌∙◌, subst, arith, length-append, append_assoc}
+use Rattle.std.proofs.Common.{◌≡◌, ◌⊎◌, ⊎_elim, ℕ, suc, ◌+◌, ◌≤◌, List, [], ◌∷◌, ◌++◌, length, Option, Some, None, ℤ, refl, sym, ap, ◌∙◌, subst, arith, length-append, append_assoc}
 use Rattle.std.proofs.lemmas.Bool.Decides.{nat_tests}
 use Rattle.std.specs.Prelude.{pos, Bool, true, false, nat_lt, nat_le, take, drop, reverse, slice_get, bytes_eq}
 use Rattle.std.proofs.lemmas.Option.{slice_get_within}
@@ -24,23 +24,23 @@ use Rattle.ob_instr.specs.Table.{row}
 use Rattle.ob_instr.proofs.Goes as rows
 use Rattle.ob_instr.proofs.Steps as machine
 use Rattle.ob_meaning.specs.Values as values
-use Rattle.ob_meaning.specs.Values.{Form, form_in, Value, Place, Active, AnObject, State}
+use Rattle.ob_meaning.specs.Values.{Form, OpenForm, form_in, words, Value, Place, Active, AnObject, State}
 use Rattle.ob_meaning.specs.Results.{Res, Gives, Stops, M, bind, give, Passed, ByValue, ByPlace, Caller}
 use Rattle.ob_meaning.specs.Meaning.{Stands, place, value, actuals, passed_from, result_of}
 use Rattle.ob_relation.specs.Layout.{module_number, static_held, address, place_form}
-use Rattle.ob_relation.specs.Relation.{OrElse, Fine, word_of, Scalar, Sub, PlaceOf, number_of}
+use Rattle.ob_relation.specs.Relation.{OrElse, FormOk, Fine, word_of, Scalar, Sub, PlaceOf, number_of}
 use Rattle.ob_relation.specs.Need.{need_expr, need_passed}
 use Rattle.ob_relation.specs.Ends.{end_place, end_expr, end_actuals}
 use Rattle.ob_relation.specs.Stands as code
 use Rattle.ob_relation.specs.Typed as typed
 use Rattle.ob_relation.proofs.Names.{bytes_true}
 use Rattle.ob_relation.proofs.Steps.{Reach, here, Follows, follows_bind, follows_value, FollowsBy, by_value, bind_by, by_bind_by, by_bind}
-use Rattle.ob_relation.proofs.Statements.{onto, result_slots, Activation, scope, go, fb, K, here_in, Keeps, PlaceFollows, ExprFollows, ActualsFollow, StmtFollows, ArgumentFits, ArgumentsFit, CallsFollow, result_words, ResultFine}
+use Rattle.ob_relation.proofs.Statements.{onto, result_slots, Activation, scope, go, fb, K, here_in, Keeps, PlaceFollows, ExprFollows, ActualsFollow, StmtFollows, PlaceFits, LongPlaceFits, TextFits, LongTextFits, ArgumentFits, ArgumentsFit, CallsFollow, result_words, ResultFine}
 use Rattle.ob_relation.proofs.Grow.{scalar_word, fine_more, address_same, place_of_more}
 use Rattle.ob_relation.proofs.Moves.{has_it}
 use Rattle.ob_relation.proofs.Exprs.{from_here, since}
 use Rattle.ob_relation.proofs.Values.{widen}
-use Rattle.ob_relation.specs.Linked.{KindIs, KindsAre, Linked, OneSlot, ProcedureStands}
+use Rattle.ob_relation.specs.Linked.{KindIs, KindsAre, Linked, OneSlot, IsRecord, IsOpen, IsNamed, ProcedureStands}
 use Rattle.ob_relation.specs.Setting.{Setting, has_of}
 
 -- BINDS
@@ -55,22 +55,37 @@ place_steps (Stops y s) f = refl
 
 module _ (c : Setting) where
   -- a parameter has as many words as its kind has slots
-  one_fits : (os : List AnObject) (cs : List Active) (p : TypedParameter) (y : Param) (x : Passed) (vs : List ℤ) → KindIs p.passing (form_in c.program p.of) y → ArgumentFits c os cs p x vs → length vs ≡ slots_of y
+  one_fits : (os : List AnObject) (cs : List Active) (p : TypedParameter) (y : Param) (x : Passed) (vs : List ℤ) → KindIs c.program p.passing (form_in c.program p.of) y → ArgumentFits c os cs p x vs → length vs ≡ slots_of y
   one_fits os cs p y x vs k f = by p.passing refl
     where
+      t : Form
+      t = form_in c.program p.of
+
       by : (how : Passing) → p.passing ≡ how → length vs ≡ slots_of y
       by passing.Scalar e =
-          let h : (y ≡ param.Scalar) × Scalar (form_in c.program p.of) = rw e at k in
-          let g : (v : Value) × (x ≡ ByValue v) × (vs ≡ word_of c.program (has_of c) c.img os v ∷ []) × Scalar (form_in c.program p.of) × Fine c.program (has_of c) os (form_in c.program p.of) v = rw e at f in
+          let h : (y ≡ param.Scalar) × Scalar t = rw e at k in
+          let g : (v : Value) × (x ≡ ByValue v) × (vs ≡ word_of c.program (has_of c) c.img os v ∷ []) × Scalar t × Fine c.program (has_of c) os t v = rw e at f in
           ap length g.2 ∙ sym (ap slots_of h.0)
       by passing.Variable e =
-          let h : (y ≡ param.Var) × OneSlot (form_in c.program p.of) = rw e at k in
-          let g : (q : Place) × (x ≡ ByPlace q) × (vs ≡ pos (address c.program c.img os cs q) ∷ []) × PlaceOf c.program (has_of c) c.img os cs (form_in c.program p.of) q = rw e at f in
+          let h : (y ≡ param.Var) × OneSlot t = rw e at k in
+          let g : PlaceFits c os cs t x vs = rw e at f in
           ap length g.2 ∙ sym (ap slots_of h.0)
-      by passing.Structure e = absurd (rw e at k)
-      by passing.OpenArray e = absurd (rw e at k)
-      by passing.VariableRecord e = absurd (rw e at k)
-      by passing.VariableOpenArray e = absurd (rw e at k)
+      by passing.Structure e =
+          let h : (y ≡ param.Value (words t)) × FormOk t × IsNamed c.program t = rw e at k in
+          let g : PlaceFits c os cs t x vs ⊎ TextFits c t x vs = rw e at f in
+          ⊎_elim (λ g. ap length g.2) (λ g. ap length g.4) g ∙ sym (ap slots_of h.0)
+      by passing.OpenArray e =
+          let h : (u : Form) × (t ≡ OpenForm u) × (y ≡ param.ValueArray (words u)) × FormOk u = rw e at k in
+          let g : LongPlaceFits c os cs t x vs ⊎ LongTextFits c t x vs = rw e at f in
+          ⊎_elim (λ g. ap length g.2) (λ g. ap length g.3) g ∙ sym (ap slots_of h.2)
+      by passing.VariableRecord e =
+          let h : (y ≡ param.VarRecord) × IsRecord t = rw e at k in
+          let g : LongPlaceFits c os cs t x vs = rw e at f in
+          ap length g.2 ∙ sym (ap slots_of h.0)
+      by passing.VariableOpenArray e =
+          let h : (y ≡ param.VarArray) × IsOpen t = rw e at k in
+          let g : LongPlaceFits c os cs t x vs = rw e at f in
+          ap length g.2 ∙ sym (ap slots_of h.0)
 
   pub slots_fit : (os : List AnObject) (cs : List Active) (ps : List TypedParameter) (ks : List Param) (xs : List Passed) (ws : List ℤ) → KindsAre c.program ps ks → ArgumentsFit c os cs ps xs ws → length ws ≡ slots ks
   slots_fit os cs [] [] [] ws k f = ap length f

@@ -61,6 +61,11 @@ char = BasicForm basic.Char
 abbrev pub set : Form
 set = BasicForm basic.Set
 
+-- numbers of characters
+abbrev pub AreCharacters : List ℕ → Type 0
+AreCharacters [] = Unit {0}
+AreCharacters (c ∷ cs) = (c < 256) × AreCharacters cs
+
 -- an integer type within another
 pub data Within : Width → Width → Type 0 where
   same : {w : Width} → Within w w
@@ -261,12 +266,12 @@ module _ (program : Program) (Has : Signature → QName → Type 0) (unit : List
 
     pub StructureOk : Expr → Form → Type 0
     StructureOk (ValueOf d) t = DesigOk d × Sub (form_of d) t
-    StructureOk (Constant (literal.Str text)) t = (n : ℕ) × (t ≡ ArrayForm n char) × (length text < n)
+    StructureOk (Constant (literal.Str text)) t = (n : ℕ) × (t ≡ ArrayForm n char) × (length text < n) × AreCharacters text
     StructureOk e t = ⊥
 
     pub ArrayOk : Expr → Form → Type 0
     ArrayOk (ValueOf d) t = DesigOk d × ((u : Form) × (t ≡ OpenForm u) × ((form_of d ≡ t) ⊎ ((n : ℕ) × (form_of d ≡ ArrayForm n u))))
-    ArrayOk (Constant (literal.Str text)) t = t ≡ OpenForm char
+    ArrayOk (Constant (literal.Str text)) t = (t ≡ OpenForm char) × AreCharacters text
     ArrayOk e t = ⊥
 
     pub ReferredOk : Expr → Form → Type 0
