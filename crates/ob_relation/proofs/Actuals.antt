@@ -40,7 +40,7 @@ use Rattle.ob_relation.proofs.Grow.{scalar_word, fine_more, address_same, place_
 use Rattle.ob_relation.proofs.Moves.{has_it}
 use Rattle.ob_relation.proofs.Exprs.{from_here, since}
 use Rattle.ob_relation.proofs.Values.{widen}
-use Rattle.ob_relation.specs.Linked.{KindIs, KindsAre, Linked, OneSlot, IsRecord, IsOpen, IsNamed, ProcedureStands}
+use Rattle.ob_relation.specs.Linked.{KindIs, KindsAre, Linked, OneSlot, IsRecord, IsOpen, ProcedureStands}
 use Rattle.ob_relation.specs.Setting.{Setting, has_of}
 
 -- BINDS
@@ -71,11 +71,11 @@ module _ (c : Setting) where
           let g : PlaceFits c os cs t x vs = rw e at f in
           ap length g.2 ∙ sym (ap slots_of h.0)
       by passing.Structure e =
-          let h : (y ≡ param.Value (words t)) × FormOk t × IsNamed c.program t = rw e at k in
+          let h : (y ≡ param.Value (words t)) × FormOk c.program t = rw e at k in
           let g : PlaceFits c os cs t x vs ⊎ TextFits c t x vs = rw e at f in
           ⊎_elim (λ g. ap length g.2) (λ g. ap length g.4) g ∙ sym (ap slots_of h.0)
       by passing.OpenArray e =
-          let h : (u : Form) × (t ≡ OpenForm u) × (y ≡ param.ValueArray (words u)) × FormOk u = rw e at k in
+          let h : (u : Form) × (t ≡ OpenForm u) × (y ≡ param.ValueArray (words u)) = rw e at k in
           let g : LongPlaceFits c os cs t x vs ⊎ LongTextFits c t x vs = rw e at f in
           ⊎_elim (λ g. ap length g.2) (λ g. ap length g.3) g ∙ sym (ap slots_of h.2)
       by passing.VariableRecord e =

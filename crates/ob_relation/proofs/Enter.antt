@@ -23,7 +23,7 @@ use Rattle.ob_relation.proofs.Frames.{Alike, own, referred as referred_alike, co
 use Rattle.ob_meaning.specs.Operators.{text_value}
 use Rattle.ob_relation.proofs.Copies.{Becomes, becomes_same, none_becomes, scalar_becomes, var_becomes, var_record_becomes, var_array_becomes, value_becomes, value_array_becomes}
 use Rattle.ob_relation.proofs.Sources.{front, back, room, CopyOf, structure_copy, open_copy, text_copy}
-use Rattle.ob_relation.specs.Linked.{KindIs, KindsAre, OneSlot, IsRecord, IsOpen, IsNamed, OwnFormsOk}
+use Rattle.ob_relation.specs.Linked.{KindIs, KindsAre, OneSlot, IsRecord, IsOpen, OwnFormsOk}
 use Rattle.ob_relation.specs.Setting.{Setting, StandIn, has_of}
 
 place_other : (places : List ℕ → Place) (y x : List ℕ) (q : Place) → bytes_eq y x ≡ false → changed places y q x ≡ places x
@@ -119,7 +119,7 @@ module _ (c : Setting) (os : List AnObject) (cs : List Active) where
 
   -- OWN VARIABLES begin as 0
 
-  pub own_zero : (places : List ℕ → Place) (base : ℕ) (hs : List Held) → AllOwn hs → OwnFormsOk hs → AreDifferent hs → S c os cs places base hs (first_values hs) ≡ zeros (slots_words hs)
+  pub own_zero : (places : List ℕ → Place) (base : ℕ) (hs : List Held) → AllOwn hs → OwnFormsOk c.program hs → AreDifferent hs → S c os cs places base hs (first_values hs) ≡ zeros (slots_words hs)
   own_zero places base [] o f d = refl
   own_zero places base (Own x t ∷ hs) o f d =
       ap (λ v. W c os t v ++ S c os cs places base hs (changed (first_values hs) x (first t))) (changed_own (first_values hs) x x (first t) (bytes_same x))
@@ -128,7 +128,7 @@ module _ (c : Setting) (os : List AnObject) (cs : List Active) where
   own_zero places base (Referred x n t ∷ hs) o f d = absurd o
   own_zero places base (Copied x n t ∷ hs) o f d = absurd o
 
-  pub own_fine : (places : List ℕ → Place) (hs : List Held) → AllOwn hs → OwnFormsOk hs → AreDifferent hs → Hs c os cs places hs (first_values hs)
+  pub own_fine : (places : List ℕ → Place) (hs : List Held) → AllOwn hs → OwnFormsOk c.program hs → AreDifferent hs → Hs c os cs places hs (first_values hs)
   own_fine places [] o f d = tt
   own_fine places (Own x t ∷ hs) o f d = (f.0, (subst (λ v. F c os t v) (sym (changed_own (first_values hs) x x (first t) (bytes_same x))) (first_fine c os t f.0), fresh_fine c os cs places hs x (first_values hs) (first t) d.0 (own_fine places hs o f.1 d.1)))
   own_fine places (Referred x n t ∷ hs) o f d = absurd o
@@ -165,7 +165,7 @@ module _ (c : Setting) (os : List AnObject) (cs : List Active) where
   places_fresh_fine places y q (Referred x n t ∷ hs) g f h = (h.0, (subst (λ z. PlaceOf c.program (has_of c) c.img os cs t z) (sym (place_other places y x q f.0)) h.1.0, places_fresh_fine places y q hs g f.1 h.1.1))
   places_fresh_fine places y q (Copied x n t ∷ hs) g f h = (h.0, (h.1.0, places_fresh_fine places y q hs g f.1 h.1.1))
 
-  scalar_ok : (t : Form) → Scalar t → FormOk t
+  scalar_ok : (t : Form) → Scalar t → FormOk c.program t
   scalar_ok (BasicForm b) s = tt
   scalar_ok (PointerForm b) s = tt
   scalar_ok (ProcedureForm b) s = tt
@@ -273,10 +273,10 @@ module _ (c : Setting) (cs : List Active) (s : State) (w : World) (st : StandIn 
     copy_changed : C c os cs (changed places y q) (Copied y 1 t ∷ hs) (changed g y v) ≡ W c os t v ++ C c os cs places hs g
     copy_changed = ap (λ u. W c os t u ++ C c os cs places hs (changed g y v)) (changed_own g y y v (bytes_same y)) ∙ ap (λ l. W c os t v ++ l) (copies_fresh c os cs places hs y g v fresh)
 
-    copy_is_fine : (n : ℕ) → FormOk t → CopySlots c.program (has_of c) c.img n → F c os t v → Hs c os cs (changed places y q) (Copied y n t ∷ hs) (changed g y v)
+    copy_is_fine : (n : ℕ) → FormOk c.program t → CopySlots c.program (has_of c) c.img n → F c os t v → Hs c os cs (changed places y q) (Copied y n t ∷ hs) (changed g y v)
     copy_is_fine n ok few fine = ((ok, few), (subst (λ u. F c os t u) (sym (changed_own g y y v (bytes_same y))) fine, fine_changed y v q hs places g fresh r.fine))
 
-    copied_passes : (a : ℕ) → FormOk t → CopyOf c cs s w st t a v → Passes (Copied y 1 t ∷ hs) (changed places y q) (changed g y v) (param.Value (words t) ∷ ks) (pos a ∷ ws)
+    copied_passes : (a : ℕ) → FormOk c.program t → CopyOf c cs s w st t a v → Passes (Copied y 1 t ∷ hs) (changed places y q) (changed g y v) (param.Value (words t) ∷ ks) (pos a ∷ ws)
     copied_passes a ok copy = record {
       becomes = becomes_same (front c cs s w st) (back c cs s w st) (room c cs s w st) _ _ _ _ _ _
           (value_becomes (front c cs s w st) (back c cs s w st) (room c cs s w st) ks ws _ _ r.becomes a (W c os t v) (words t) copy.source (sym (flat-length c os t v)) st.stack_free refl)
@@ -285,7 +285,7 @@ module _ (c : Setting) (cs : List Active) (s : State) (w : World) (st : StandIn 
       fine = copy_is_fine 1 ok (inl refl) copy.fine;
     }
 
-  copied_open_passes : (y : List ℕ) (u : Form) (n : ℕ) (v : Value) (q : Place) (hs : List Held) (places : List ℕ → Place) (g : List ℕ → Value) (ks : List Param) (ws : List ℤ) → Fresh y hs → Passes hs places g ks ws → (a : ℕ) → FormOk u → CopyOf c cs s w st (ArrayForm n u) a v → Passes (Copied y 2 (ArrayForm n u) ∷ hs) (changed places y q) (changed g y v) (param.ValueArray (words u) ∷ ks) (pos a ∷ pos n ∷ ws)
+  copied_open_passes : (y : List ℕ) (u : Form) (n : ℕ) (v : Value) (q : Place) (hs : List Held) (places : List ℕ → Place) (g : List ℕ → Value) (ks : List Param) (ws : List ℤ) → Fresh y hs → Passes hs places g ks ws → (a : ℕ) → FormOk c.program (ArrayForm n u) → CopyOf c cs s w st (ArrayForm n u) a v → Passes (Copied y 2 (ArrayForm n u) ∷ hs) (changed places y q) (changed g y v) (param.ValueArray (words u) ∷ ks) (pos a ∷ pos n ∷ ws)
   copied_open_passes y u n v q hs places g ks ws fresh r a ok copy = record {
     becomes = becomes_same (front c cs s w st) (back c cs s w st) (room c cs s w st) _ _ _ _ _ _
         (value_array_becomes (front c cs s w st) (back c cs s w st) (room c cs s w st) ks ws _ _ r.becomes a (W c os (ArrayForm n u) v) n (words u) copy.source (sym (flat-length c os (ArrayForm n u) v)) st.stack_free refl)
@@ -329,39 +329,39 @@ module _ (c : Setting) (cs : List Active) (s : State) (w : World) (st : StandIn 
           let fr : Fresh p.name hs = rw e at fresh in
           so passing.VariableOpenArray (ByPlace h.0) _ param.VarArray e h.1 h.2 i.0 (ref_open_passes p.name t _ h.0 hs places g ks us fr r i.1 h.3)
       by passing.Structure e =
-          let i : (k ≡ param.Value (words t)) × FormOk t × IsNamed c.program t = rw e at kind in
+          let i : (k ≡ param.Value (words t)) × FormOk c.program t = rw e at kind in
           let h : PlaceFits c os cs t x vs ⊎ TextFits c t x vs = rw e at f in
           let fr : Fresh p.name hs = rw e at fresh in
           ⊎_elim
-          (λ h. so passing.Structure (ByPlace h.0) _ (param.Value (words t)) e h.1 h.2 i.0 (copied_passes p.name t _ h.0 hs places g ks us fr r _ i.1 (structure_copy c cs s w st t h.0 i.1 i.2 h.3)))
+          (λ h. so passing.Structure (ByPlace h.0) _ (param.Value (words t)) e h.1 h.2 i.0 (copied_passes p.name t _ h.0 hs places g ks us fr r _ i.1 (structure_copy c cs s w st t h.0 i.1 h.3)))
           (λ h. so passing.Structure (ByText h.0) _ (param.Value (words t)) e h.3 h.4 i.0 (string fr h.0 h.1 h.2 i.1 h.5 h.6 h.7))
           h
         where
-          string : Fresh p.name hs → (text : List ℕ) (a n : ℕ) → FormOk t → t ≡ ArrayForm n char → AreCharacters text → AlwaysAt c a (text_words text n) → Goal passing.Structure t (ByText text) (pos a ∷ []) (param.Value (words t))
-          string fr text a n ok e chars h = subst (λ t. Goal passing.Structure t (ByText text) (pos a ∷ []) (param.Value (words t))) (sym e) (copied_passes p.name (ArrayForm n char) _ _ hs places g ks us fr r a tt (text_copy c cs s w st text n a chars h))
+          string : Fresh p.name hs → (text : List ℕ) (a n : ℕ) → FormOk c.program t → t ≡ ArrayForm n char → AreCharacters text → AlwaysAt c a (text_words text n) → Goal passing.Structure t (ByText text) (pos a ∷ []) (param.Value (words t))
+          string fr text a n ok e chars h = subst (λ t. Goal passing.Structure t (ByText text) (pos a ∷ []) (param.Value (words t))) (sym e) (copied_passes p.name (ArrayForm n char) _ _ hs places g ks us fr r a (subst (λ t. FormOk c.program t) e ok) (text_copy c cs s w st text n a chars h))
       by passing.OpenArray e =
-          let i : (u : Form) × (t ≡ OpenForm u) × (k ≡ param.ValueArray (words u)) × FormOk u = rw e at kind in
+          let i : (u : Form) × (t ≡ OpenForm u) × (k ≡ param.ValueArray (words u)) = rw e at kind in
           let h : LongPlaceFits c os cs t x vs ⊎ LongTextFits c t x vs = rw e at f in
           let fr : Fresh p.name hs = rw e at fresh in
           ⊎_elim
-          (λ h. so passing.OpenArray (ByPlace h.0) _ (param.ValueArray (words i.0)) e h.1 h.2 i.2 (array fr i.0 i.1 i.3 h.0 h.3))
+          (λ h. so passing.OpenArray (ByPlace h.0) _ (param.ValueArray (words i.0)) e h.1 h.2 i.2 (array fr i.0 i.1 h.0 h.3))
           (λ h. so passing.OpenArray (ByText h.0) _ (param.ValueArray (words i.0)) e h.2 h.3 i.2 (string fr i.0 i.1 h.0 h.1 h.4 h.5 h.6))
           h
         where
-          array : Fresh p.name hs → (u : Form) → t ≡ OpenForm u → FormOk u → (q : Place) → PlaceOf c.program (has_of c) c.img os cs t q → Goal passing.OpenArray t (ByPlace q) (pos (address c.program c.img os cs q) ∷ second_word c.program (has_of c) c.img (place_form c.program c.img os cs q) ∷ []) (param.ValueArray (words u))
-          array fr u e ok q h =
+          array : Fresh p.name hs → (u : Form) → t ≡ OpenForm u → (q : Place) → PlaceOf c.program (has_of c) c.img os cs t q → Goal passing.OpenArray t (ByPlace q) (pos (address c.program c.img os cs q) ∷ second_word c.program (has_of c) c.img (place_form c.program c.img os cs q) ∷ []) (param.ValueArray (words u))
+          array fr u e q h =
               let o = open_copy c cs s w st u q (subst (λ t. PlaceOf c.program (has_of c) c.img os cs t q) e h) in
               subst (λ t. Goal passing.OpenArray t (ByPlace q) (pos (address c.program c.img os cs q) ∷ second_word c.program (has_of c) c.img (place_form c.program c.img os cs q) ∷ []) (param.ValueArray (words u))) (sym e)
               (subst (λ z. Goal passing.OpenArray (OpenForm u) (ByPlace q) (pos (address c.program c.img os cs q) ∷ z ∷ []) (param.ValueArray (words u))) (sym (ap (second_word c.program (has_of c) c.img) o.form))
               (subst (λ m. Passes (Copied p.name 2 (ArrayForm m u) ∷ hs) (changed places p.name q) (changed g p.name (value_at s.store q)) (param.ValueArray (words u) ∷ ks) (pos (address c.program c.img os cs q) ∷ pos o.n ∷ us)) (sym o.len)
-              (copied_open_passes p.name u o.n (value_at s.store q) q hs places g ks us fr r _ ok o.copy)))
+              (copied_open_passes p.name u o.n (value_at s.store q) q hs places g ks us fr r _ o.ok o.copy)))
 
           string : Fresh p.name hs → (u : Form) → t ≡ OpenForm u → (text : List ℕ) (a : ℕ) → t ≡ OpenForm char → AreCharacters text → AlwaysAt c a (text_words text (suc (length text))) → Goal passing.OpenArray t (ByText text) (pos a ∷ pos (suc (length text)) ∷ []) (param.ValueArray (words u))
           string fr u e text a e2 chars h =
               let same : char ≡ u = ap element_form (sym e2 ∙ e) in
               subst (λ t. Goal passing.OpenArray t (ByText text) (pos a ∷ pos (suc (length text)) ∷ []) (param.ValueArray (words u))) (sym e2)
               (subst (λ u. Goal passing.OpenArray (OpenForm char) (ByText text) (pos a ∷ pos (suc (length text)) ∷ []) (param.ValueArray (words u))) same
-              (copied_open_passes p.name char (suc (length text)) (text_value (suc (length text)) text) _ hs places g ks us fr r a tt (text_copy c cs s w st text (suc (length text)) a chars h)))
+              (copied_open_passes p.name char (suc (length text)) (text_value (suc (length text)) text) _ hs places g ks us fr r a (omega arith, tt) (text_copy c cs s w st text (suc (length text)) a chars h)))
 
   pub passes : (g0 : List ℕ → Value) (ps : List TypedParameter) (ks : List Param) (xs : List Passed) (ws : List ℤ) → KindsAre c.program ps ks → ArgumentsFit c os cs ps xs ws → AreDifferent (held_parameters c.program ps s.store xs) → Passes (held_parameters c.program ps s.store xs) (places_for ps xs) (with_parameters c.program ps s.store xs g0) ks ws
   passes g0 [] [] [] ws k f d = record { becomes = subst (λ ws. Becomes (front c cs s w st) (back c cs s w st) (room c cs s w st) [] ws (λ base. []) []) (sym f) (none_becomes (front c cs s w st) (back c cs s w st) (room c cs s w st)); fine = tt }

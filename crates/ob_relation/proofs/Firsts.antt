@@ -38,16 +38,16 @@ module _ (c : Setting) (os : List AnObject) where
   elements_words (suc n) m l e = let f : n * m + m ≡ suc n * m = omega arith in ap (λ k. k ++ l) (elements_words n m l e) ∙ ap (λ k. zeros (n * m) ++ k) e ∙ zeros_both (n * m) m ∙ ap zeros f
 
   mutual
-    pub first_words : (t : Form) → FormOk t → W c os t (first t) ≡ zeros (words t)
+    pub first_words : (t : Form) → FormOk c.program t → W c os t (first t) ≡ zeros (words t)
     first_words (BasicForm b) ok = basic_words b
     first_words (PointerForm t) ok = refl
     first_words (ProcedureForm s) ok = refl
-    first_words (ArrayForm n t) ok = elements_words n (words t) (W c os t (first t)) (first_words t ok)
+    first_words (ArrayForm n t) ok = elements_words n (words t) (W c os t (first t)) (first_words t ok.1)
     first_words (OpenForm t) ok = absurd ok
     first_words (RecordForm [] fs) ok = absurd ok
-    first_words (RecordForm (q ∷ line) fs) ok = firsts_words fs ok
+    first_words (RecordForm (q ∷ line) fs) ok = firsts_words fs ok.1
 
-    firsts_words : (fs : Fields) → FieldsOk fs → Ws c os fs (firsts fs) ≡ zeros (fields_words fs)
+    firsts_words : (fs : Fields) → FieldsOk c.program fs → Ws c os fs (firsts fs) ≡ zeros (fields_words fs)
     firsts_words NoField ok = refl
     firsts_words (AField owner name t fs) ok =
         ap (λ v. W c os t v ++ Ws c os fs (put c os (firsts fs) owner name (first t))) (put_own c os (firsts fs) owner name (first t) owner name (field_same owner name))
@@ -55,16 +55,16 @@ module _ (c : Setting) (os : List AnObject) where
         ∙ ap (λ l. l ++ Ws c os fs (firsts fs)) (first_words t ok.1.0) ∙ ap (λ l. zeros (words t) ++ l) (firsts_words fs ok.1.1) ∙ zeros_both (words t) (fields_words fs)
 
   mutual
-    pub first_fine : (t : Form) → FormOk t → F c os t (first t)
+    pub first_fine : (t : Form) → FormOk c.program t → F c os t (first t)
     first_fine (BasicForm b) ok = basic_fine b
     first_fine (PointerForm t) ok = inl refl
     first_fine (ProcedureForm s) ok = inl refl
-    first_fine (ArrayForm n t) ok = (refl, λ i lt. first_fine t ok)
+    first_fine (ArrayForm n t) ok = (refl, λ i lt. first_fine t ok.1)
     first_fine (OpenForm t) ok = absurd ok
     first_fine (RecordForm [] fs) ok = absurd ok
-    first_fine (RecordForm (q ∷ line) fs) ok = (refl, firsts_fine fs ok)
+    first_fine (RecordForm (q ∷ line) fs) ok = (refl, firsts_fine fs ok.1)
 
-    firsts_fine : (fs : Fields) → FieldsOk fs → Fs c os fs (firsts fs)
+    firsts_fine : (fs : Fields) → FieldsOk c.program fs → Fs c os fs (firsts fs)
     firsts_fine NoField ok = tt
     firsts_fine (AField owner name t fs) ok =
         (subst (λ v. F c os t v) (sym (put_own c os (firsts fs) owner name (first t) owner name (field_same owner name))) (first_fine t ok.1.0), fresh_keeps c os fs owner name (firsts fs) (first t) ok.0 (firsts_fine fs ok.1.1))

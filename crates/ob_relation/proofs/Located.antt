@@ -18,19 +18,19 @@ use Rattle.ob_relation.proofs.Modules.{Ms, module_known, modules-length}
 use Rattle.ob_relation.specs.Setting.{Setting, StandIn, has_of}
 
 module _ (c : Setting) where
-  call_form_ok : (os : List AnObject) (cs : List Active) (g : ℕ → List ℕ → Value) (k : ℕ) (x : List ℕ) → ValueIn (held_at cs k) x → CsFine c os g cs → FormOk (form_named (held_at cs k) x)
+  pub call_form_ok : (os : List AnObject) (cs : List Active) (g : ℕ → List ℕ → Value) (k : ℕ) (x : List ℕ) → ValueIn (held_at cs k) x → CsFine c os g cs → FormOk c.program (form_named (held_at cs k) x)
   call_form_ok os [] g k x here fine = absurd here
   call_form_ok os (a ∷ cs) g k x here fine = go (nat_eq k (length cs)) here (λ h. call_form_ok os cs g k x h fine.0)
     where
-      go : (b : Bool) → ValueIn (if b then a.held else held_at cs k) x → (ValueIn (held_at cs k) x → FormOk (form_named (held_at cs k) x)) → FormOk (form_named (if b then a.held else held_at cs k) x)
+      go : (b : Bool) → ValueIn (if b then a.held else held_at cs k) x → (ValueIn (held_at cs k) x → FormOk c.program (form_named (held_at cs k) x)) → FormOk c.program (form_named (if b then a.held else held_at cs k) x)
       go true h rest = (in_frame c os cs a.places a.held 0 x (g (length cs)) h fine.1.0).ok fine.1.1
       go false h rest = rest h
 
-  object_form_ok : (all os : List AnObject) (g : ℕ → Value) (n : ℕ) → n < length os → OsFine c all os g → FormOk (object_at os n)
+  pub object_form_ok : (all os : List AnObject) (g : ℕ → Value) (n : ℕ) → n < length os → OsFine c all os g → FormOk c.program (object_at os n)
   object_form_ok all [] g n lt fine = absurd (omega arith)
   object_form_ok all (x ∷ xs) g n lt fine = go (nat_eq n (length xs)) refl (λ l. object_form_ok all xs g n l fine.0)
     where
-      go : (b : Bool) → nat_eq n (length xs) ≡ b → (n < length xs → FormOk (object_at xs n)) → FormOk (if b then object_form x else object_at xs n)
+      go : (b : Bool) → nat_eq n (length xs) ≡ b → (n < length xs → FormOk c.program (object_at xs n)) → FormOk c.program (if b then object_form x else object_at xs n)
       go true e rest = fine.1.0
       go false e rest = rest (grind (arith, nat_tests))
 
@@ -69,7 +69,7 @@ module _ (c : Setting) where
       stands = λ v f. subst (λ l. StandIn c cs (record s { store = with_value_at s.store p v }) (record w { words = l })) (q.will v f) (stands v f);
     }
 
-    abbrev path_in : (t : Form) (v : Value) (now : List ℤ) (after : Value → List ℤ) (n : ℕ) (Fits : Value → Type 0) (path : _) → Known c s.made t v now after n Fits → FormOk t → PathIn t path → Known c s.made (path_form t path) (part v path) now (λ w. after (with_part v path w)) (n + path_offset t path) (λ w. Fits (with_part v path w))
+    abbrev path_in : (t : Form) (v : Value) (now : List ℤ) (after : Value → List ℤ) (n : ℕ) (Fits : Value → Type 0) (path : _) → Known c s.made t v now after n Fits → FormOk c.program t → PathIn t path → Known c s.made (path_form t path) (part v path) now (λ w. after (with_part v path w)) (n + path_offset t path) (λ w. Fits (with_part v path w))
     path_in t v now after n Fits path k ok here = known_inside c s.made t (path_form t path) v (part v path) now after (λ w. with_part v path w) n (path_offset t path) Fits k (path_known c s.made path t v ok here k.fine)
 
     pub located : (p : Place) → PlaceIn c.program (has_of c) c.img s.made cs p → Located p

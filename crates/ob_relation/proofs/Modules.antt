@@ -64,7 +64,7 @@ module _ (c : Setting) (os : List AnObject) where
   -- a module's variable, with its type's form in order
   pub record ModuleKnown (t : Form) (v : Value) (now : List ℤ) (after : Value → List ℤ) (n : ℕ) (Fits : Value → Type 0) : Type 0 where
     pub known : Known c os t v now after n Fits
-    pub ok : FormOk t
+    pub ok : FormOk c.program t
 
   pub module_known : (ms : List Module) (g : List ℕ → List ℕ → Value) (m x : List ℕ) → ModulesOk c.program ms → ValueIn (variables_in c.program ms m) x → MsFine ms g → ModuleKnown (form_named (variables_in c.program ms m) x) (g m x) (Ms ms g) (λ w. Ms ms (changed g m (changed (g m) x w))) (module_offset c.program ms m + slot (variables_in c.program ms m) x) (λ w. MsFine ms (changed g m (changed (g m) x w)))
   module_known [] g m x ok here fine = absurd here

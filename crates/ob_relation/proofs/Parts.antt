@@ -103,7 +103,7 @@ module _ (c : Setting) (os : List AnObject) where
   fresh_keeps NoField o x g w fresh fine = tt
   fresh_keeps (AField owner name t fs) o x g w fresh fine = (subst (λ v. F t v) (sym (put_other g o x w owner name fresh.0)) fine.0, fresh_keeps fs o x g w fresh.1 fine.1)
 
-  field_part : (fs : Fields) (o : QName) (x : List ℕ) (g : QName → List ℕ → Value) → FieldIn fs o x → FieldsOk fs → Part (field_form fs o x) (g o x) (Ws fs g) (λ w. Ws fs (put g o x w)) (field_offset fs o x)
+  field_part : (fs : Fields) (o : QName) (x : List ℕ) (g : QName → List ℕ → Value) → FieldIn fs o x → FieldsOk c.program fs → Part (field_form fs o x) (g o x) (Ws fs g) (λ w. Ws fs (put g o x w)) (field_offset fs o x)
   field_part NoField o x g here ok = absurd here
   field_part (AField owner name t fs) o x g here ok = go (λ i. field_part fs o x g i ok.1.1) (same_field o x owner name) refl here
     where
@@ -124,11 +124,11 @@ module _ (c : Setting) (os : List AnObject) where
           (part_before (field_form fs o x) (g o x) (W t (g owner name)) (Ws fs g) (λ w. Ws fs (put g o x w)) (field_offset fs o x) (rest i))
           refl refl (λ w f. ap (λ v. W t v ++ Ws fs (put g o x w)) (put_other g o x w owner name e)) (ap (λ n. n + field_offset fs o x) (flat-length t (g owner name)))
 
-  field_ok : (fs : Fields) (o : QName) (x : List ℕ) → FieldIn fs o x → FieldsOk fs → FormOk (field_form fs o x)
+  pub field_ok : (fs : Fields) (o : QName) (x : List ℕ) → FieldIn fs o x → FieldsOk c.program fs → FormOk c.program (field_form fs o x)
   field_ok NoField o x here ok = absurd here
   field_ok (AField owner name t fs) o x here ok = go (same_field o x owner name) here (λ i. field_ok fs o x i ok.1.1)
     where
-      go : (b : Bool) → OrElse b (Unit {0}) (FieldIn fs o x) → (FieldIn fs o x → FormOk (field_form fs o x)) → FormOk (if b then t else field_form fs o x)
+      go : (b : Bool) → OrElse b (Unit {0}) (FieldIn fs o x) → (FieldIn fs o x → FormOk c.program (field_form fs o x)) → FormOk c.program (if b then t else field_form fs o x)
       go true i rest = ok.1.0
       go false i rest = rest i
 
@@ -140,7 +140,7 @@ module _ (c : Setting) (os : List AnObject) where
       go true e i rest = let h = field_true o x owner name e in subst (λ v. F t v) (sym (ap (λ q. g q x) h.0 ∙ ap (λ y. g owner y) h.1)) fine.0
       go false e i rest = rest i
 
-  field_keeps : (fs : Fields) (o : QName) (x : List ℕ) (g : QName → List ℕ → Value) (w : Value) → FieldIn fs o x → FieldsOk fs → F (field_form fs o x) w → Fs fs g → Fs fs (put g o x w)
+  field_keeps : (fs : Fields) (o : QName) (x : List ℕ) (g : QName → List ℕ → Value) (w : Value) → FieldIn fs o x → FieldsOk c.program fs → F (field_form fs o x) w → Fs fs g → Fs fs (put g o x w)
   field_keeps NoField o x g w here ok new fine = absurd here
   field_keeps (AField owner name t fs) o x g w here ok new fine = go (same_field o x owner name) refl here new (λ i n. field_keeps fs o x g w i ok.1.1 n fine.1)
     where
@@ -209,7 +209,7 @@ module _ (c : Setting) (os : List AnObject) where
   field_of_new : (v : Value) (q : QName) (o : QName) (x : List ℕ) (w : Value) → type_of v ≡ Some q → with_field v o x w ≡ Record q (put (field_of v) o x w)
   field_of_new v q o x w e = ap (λ t. typed_record t (put (field_of v) o x w)) e
 
-  field_known : (q : QName) (line : List QName) (fs : Fields) (o : QName) (x : List ℕ) (v : Value) → FieldIn fs o x → FieldsOk fs → F (RecordForm (q ∷ line) fs) v → Known (field_form fs o x) (field_of v o x) (W (RecordForm (q ∷ line) fs) v) (λ w. W (RecordForm (q ∷ line) fs) (with_field v o x w)) (field_offset fs o x) (λ w. F (RecordForm (q ∷ line) fs) (with_field v o x w))
+  field_known : (q : QName) (line : List QName) (fs : Fields) (o : QName) (x : List ℕ) (v : Value) → FieldIn fs o x → FieldsOk c.program fs → F (RecordForm (q ∷ line) fs) v → Known (field_form fs o x) (field_of v o x) (W (RecordForm (q ∷ line) fs) v) (λ w. W (RecordForm (q ∷ line) fs) (with_field v o x w)) (field_offset fs o x) (λ w. F (RecordForm (q ∷ line) fs) (with_field v o x w))
   field_known q line fs o x v here ok fine = record {
     part = part_same (field_form fs o x) _ _ _ _ _ (λ w. Ws fs (field_of (with_field v o x w))) _ _ (field_part fs o x (field_of v) here ok) refl refl (λ w f. ap (λ n. Ws fs (field_of n)) (field_of_new v q o x w fine.0)) refl;
     fine = field_fine fs o x (field_of v) here fine.1;
@@ -230,7 +230,7 @@ module _ (c : Setting) (os : List AnObject) where
     keeps = λ w f. element_keeps n i t v w fine f;
   }
 
-  pub path_known : (path : List Step) (t : Form) (v : Value) → FormOk t → PathIn t path → F t v → Known (path_form t path) (part v path) (W t v) (λ w. W t (with_part v path w)) (path_offset t path) (λ w. F t (with_part v path w))
+  pub path_known : (path : List Step) (t : Form) (v : Value) → FormOk c.program t → PathIn t path → F t v → Known (path_form t path) (part v path) (W t v) (λ w. W t (with_part v path w)) (path_offset t path) (λ w. F t (with_part v path w))
   path_known [] t v ok here fine = record {
     part = record { before = []; behind = []; len = refl; is = sym (append-nil _); will = λ w f. sym (append-nil _) };
     fine = fine;
@@ -244,8 +244,8 @@ module _ (c : Setting) (os : List AnObject) where
   path_known (FieldStep o x ∷ path) (RecordForm [] fs) v ok here fine = absurd ok
   path_known (FieldStep o x ∷ path) (RecordForm (q ∷ line) fs) v ok here fine =
       known_inside (field_form fs o x) (path_form (field_form fs o x) path) (field_of v o x) (part (field_of v o x) path) (W (RecordForm (q ∷ line) fs) v) (λ w. W (RecordForm (q ∷ line) fs) (with_field v o x w)) (λ w. with_part (field_of v o x) path w) (field_offset fs o x) (path_offset (field_form fs o x) path) (λ w. F (RecordForm (q ∷ line) fs) (with_field v o x w))
-      (field_known q line fs o x v here.0 ok fine)
-      (path_known path (field_form fs o x) (field_of v o x) (field_ok fs o x here.0 ok) here.1 (field_fine fs o x (field_of v) here.0 fine.1))
+      (field_known q line fs o x v here.0 ok.1 fine)
+      (path_known path (field_form fs o x) (field_of v o x) (field_ok fs o x here.0 ok.1) here.1 (field_fine fs o x (field_of v) here.0 fine.1))
   path_known (ElementStep i ∷ path) (BasicForm b) v ok here fine = absurd here
   path_known (ElementStep i ∷ path) (PointerForm b) v ok here fine = absurd here
   path_known (ElementStep i ∷ path) (ProcedureForm b) v ok here fine = absurd here
@@ -254,4 +254,4 @@ module _ (c : Setting) (os : List AnObject) where
   path_known (ElementStep i ∷ path) (ArrayForm n t) v ok here fine =
       known_inside t (path_form t path) (element_of v i) (part (element_of v i) path) (W (ArrayForm n t) v) (λ w. W (ArrayForm n t) (with_element v i w)) (λ w. with_part (element_of v i) path w) (i * words t) (path_offset t path) (λ w. F (ArrayForm n t) (with_element v i w))
       (element_known n i t v here.0 fine)
-      (path_known path t (element_of v i) ok here.1 (fine.1 i here.0))
+      (path_known path t (element_of v i) ok.1 here.1 (fine.1 i here.0))

@@ -28,7 +28,7 @@ use Rattle.ob_relation.specs.Setting.{Setting, has_of}
 
 -- A STEP MORE
 
-path_in-append : (p q : List Step) (t : Form) → PathIn t p → PathIn (path_form t p) q → PathIn t (p ++ q)
+pub path_in-append : (p q : List Step) (t : Form) → PathIn t p → PathIn (path_form t p) q → PathIn t (p ++ q)
 path_in-append [] q t h k = k
 path_in-append (FieldStep o x ∷ p) q (RecordForm line fs) h k = (h.0, path_in-append p q (field_form fs o x) h.1 k)
 path_in-append (FieldStep o x ∷ p) q (BasicForm b) h k = absurd h
@@ -43,7 +43,7 @@ path_in-append (ElementStep i ∷ p) q (ProcedureForm b) h k = absurd h
 path_in-append (ElementStep i ∷ p) q (OpenForm t) h k = absurd h
 path_in-append (ElementStep i ∷ p) q (RecordForm line fs) h k = absurd h
 
-path_form-append : (p q : List Step) (t : Form) → path_form t (p ++ q) ≡ path_form (path_form t p) q
+pub path_form-append : (p q : List Step) (t : Form) → path_form t (p ++ q) ≡ path_form (path_form t p) q
 path_form-append [] q t = refl
 path_form-append (FieldStep o x ∷ p) q t = path_form-append p q (field_form (fields_of t) o x)
 path_form-append (ElementStep i ∷ p) q t = path_form-append p q (element_of_form t)
@@ -54,13 +54,13 @@ path_offset-append (FieldStep o x ∷ p) q t = let e = path_offset-append p q (f
 path_offset-append (ElementStep i ∷ p) q t = let e = path_offset-append p q (element_of_form t) in omega (arith, e)
 
 module _ (c : Setting) (os : List AnObject) (cs : List Active) where
-  inside_in : (p : Place) (q : Step) → PlaceIn c.program (has_of c) c.img os cs p → PathIn (place_form c.program c.img os cs p) (q ∷ []) → PlaceIn c.program (has_of c) c.img os cs (inside p q)
+  pub inside_in : (p : Place) (q : Step) → PlaceIn c.program (has_of c) c.img os cs p → PathIn (place_form c.program c.img os cs p) (q ∷ []) → PlaceIn c.program (has_of c) c.img os cs (inside p q)
   inside_in (At root path) q h k = (h.0, path_in-append path (q ∷ []) (root_form c.program c.img os cs root) h.1 k)
 
-  inside_form : (p : Place) (q : Step) → place_form c.program c.img os cs (inside p q) ≡ path_form (place_form c.program c.img os cs p) (q ∷ [])
+  pub inside_form : (p : Place) (q : Step) → place_form c.program c.img os cs (inside p q) ≡ path_form (place_form c.program c.img os cs p) (q ∷ [])
   inside_form (At root path) q = path_form-append path (q ∷ []) (root_form c.program c.img os cs root)
 
-  inside_address : (p : Place) (q : Step) → address c.program c.img os cs p + path_offset (place_form c.program c.img os cs p) (q ∷ []) ≡ address c.program c.img os cs (inside p q)
+  pub inside_address : (p : Place) (q : Step) → address c.program c.img os cs p + path_offset (place_form c.program c.img os cs p) (q ∷ []) ≡ address c.program c.img os cs (inside p q)
   inside_address (At root path) q = let e = path_offset-append path (q ∷ []) (root_form c.program c.img os cs root) in omega (arith, e)
 
 -- FIELDS OF AN EXTENSION
@@ -95,7 +95,7 @@ joined_offset (AField owner name t fs) gs o x h = go (bytes_eq x name && same_na
     go true h r = refl
     go false h r = ap (λ n. words t + n) (r h)
 
-sub_field : (t u : Form) (line : List QName) (fs : Fields) (o : QName) (x : List ℕ) → Sub t u → u ≡ RecordForm line fs → FieldIn fs o x → Same t o x fs
+pub sub_field : (t u : Form) (line : List QName) (fs : Fields) (o : QName) (x : List ℕ) → Sub t u → u ≡ RecordForm line fs → FieldIn fs o x → Same t o x fs
 sub_field _ u line fs o x itself e h = subst (λ u. Same u o x fs) (sym e) (record { in_it = (h, tt); form = refl; offset = refl })
 sub_field _ _ line fs o x (extended more gs {line = line2} {fs = fs2}) e h =
     let same : fs2 ≡ fs = ap fields_of e in
@@ -103,7 +103,7 @@ sub_field _ _ line fs o x (extended more gs {line = line2} {fs = fs2}) e h =
     record { in_it = (joined_in fs2 gs o x h2, tt); form = joined_form fs2 gs o x h2 ∙ ap (λ f. field_form f o x) same; offset = joined_offset fs2 gs o x h2 ∙ ap (λ f. field_offset f o x) same }
 sub_field _ _ line fs o x (opened n) e h = absurd (cc)
 
-sub_array : (t u : Form) (n : ℕ) (v : Form) → Sub t u → u ≡ ArrayForm n v → t ≡ ArrayForm n v
+pub sub_array : (t u : Form) (n : ℕ) (v : Form) → Sub t u → u ≡ ArrayForm n v → t ≡ ArrayForm n v
 sub_array _ u n v itself e = e
 sub_array _ _ n v (extended more gs) e = absurd (cc)
 sub_array _ _ n v (opened k) e = absurd (cc)

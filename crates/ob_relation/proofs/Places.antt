@@ -82,7 +82,7 @@ module _ (c : Setting) (os : List AnObject) where
       pub own_same : copy ≡ false → (w : Value) → afterc w ≡ nowc
       pub copied : copy ≡ true → Part c os t (g x) nowc afterc cat
       pub copied_same : copy ≡ true → (w : Value) → after w ≡ now
-      pub ok : Fit → FormOk t
+      pub ok : Fit → FormOk c.program t
       pub fine : Fit → F c os t (g x)
       pub keeps : Fit → (w : Value) → F c os t w → Fits w
 
@@ -93,7 +93,7 @@ module _ (c : Setting) (os : List AnObject) where
     in_frame [] base x g here ok = absurd here
     in_frame (Own y t ∷ hs) base x g here ok = go (λ i. in_frame hs base x g i ok.1) (bytes_eq x y) refl here
       where
-        go : (ValueIn hs x → Frame base hs x g) → (b : Bool) → bytes_eq x y ≡ b → OrElse b (Unit {0}) (ValueIn hs x) → InFrame (if b then t else form_named hs x) (if b then false else has_copy hs x) (if b then 0 else words t + slot hs x) (if b then 0 else copy_offset hs x) base (Own y t ∷ hs) x g (W c os t (g y) ++ S base hs g) (C hs g) (λ w. W c os t (changed g x w y) ++ S base hs (changed g x w)) (λ w. Cw hs g x w) (FormOk t × (F c os t (g y) × Hs hs g)) (λ w. FormOk t × (F c os t (changed g x w y) × Hs hs (changed g x w)))
+        go : (ValueIn hs x → Frame base hs x g) → (b : Bool) → bytes_eq x y ≡ b → OrElse b (Unit {0}) (ValueIn hs x) → InFrame (if b then t else form_named hs x) (if b then false else has_copy hs x) (if b then 0 else words t + slot hs x) (if b then 0 else copy_offset hs x) base (Own y t ∷ hs) x g (W c os t (g y) ++ S base hs g) (C hs g) (λ w. W c os t (changed g x w y) ++ S base hs (changed g x w)) (λ w. Cw hs g x w) (FormOk c.program t × (F c os t (g y) × Hs hs g)) (λ w. FormOk c.program t × (F c os t (changed g x w y) × Hs hs (changed g x w)))
         go rest true e i =
             let same = bytes_true x y e in
             let fresh : Fresh x hs = subst (λ z. Fresh z hs) (sym same) ok.0 in

@@ -3,21 +3,20 @@ use Rattle.std.proofs.Common.{◌≡◌, ℕ, zero, suc, ◌≤◌, ◌<◌, Lis
 use Rattle.std.specs.Prelude.{ℤ, pos, Bool, true, false, map, take, replicate, ◌||◌, if◌then◌else◌}
 use Rattle.ob_tree.specs.declared.names.QName.{QName}
 use Rattle.ob_instr.specs.Image.{World}
-use Rattle.ob_meaning.specs.Values.{Form, BasicForm, PointerForm, ProcedureForm, ArrayForm, OpenForm, RecordForm, Fields, NoField, AField, joined, fields_of, record_in, Value, Nil, length_of, field_of, value_at, Place, Active, AnObject, State}
+use Rattle.ob_meaning.specs.Values.{Form, BasicForm, PointerForm, ProcedureForm, ArrayForm, OpenForm, RecordForm, Fields, NoField, AField, joined, fields_of, record_in, Value, Nil, length_of, field_of, value_at, OfModule, OfCall, OfObject, Step, FieldStep, ElementStep, Place, At, Active, AnObject, State}
 use Rattle.ob_meaning.specs.Meaning.{has_field}
 use Rattle.ob_meaning.specs.Operators.{character_at, text_value}
 use Rattle.ob_meaning.specs.Calls.{copied_place}
-use Rattle.ob_relation.specs.Layout.{place_form, address}
-use Rattle.ob_relation.specs.Relation.{OrElse, Sub, itself, extended, opened, FieldIn, FormOk, PlaceIn, PlaceOf}
+use Rattle.ob_relation.specs.Layout.{field_form, path_form, place_form, address}
+use Rattle.ob_relation.specs.Relation.{OrElse, Sub, itself, extended, opened, FieldIn, FormOk, PathIn, PlaceIn, PlaceOf}
 use Rattle.ob_relation.specs.Texts.{text_words}
 use Rattle.ob_relation.specs.Typed.{AreCharacters, char}
-use Rattle.ob_relation.specs.Linked.{IsNamed}
 use Rattle.ob_relation.proofs.Names.{same_field, field_same}
 use Rattle.ob_relation.proofs.Statements.{AlwaysAt}
-use Rattle.ob_relation.proofs.Parts.{F, Fs, W, Ws, We}
+use Rattle.ob_relation.proofs.Parts.{F, Fs, W, Ws, We, field_ok}
 use Rattle.ob_relation.proofs.Places.{Cs, Os}
-use Rattle.ob_relation.proofs.Modules.{Ms}
-use Rattle.ob_relation.proofs.Located.{located}
+use Rattle.ob_relation.proofs.Modules.{Ms, module_known}
+use Rattle.ob_relation.proofs.Located.{call_form_ok, object_form_ok, located}
 use Rattle.ob_relation.proofs.Copies.{among, Source}
 use Rattle.ob_relation.specs.Setting.{Setting, StandIn, has_of}
 
@@ -134,6 +133,27 @@ module _ (c : Setting) (cs : List Active) (s : State) (w : World) (st : StandIn 
   place_fine : (q : Place) → PlaceIn c.program (has_of c) c.img s.made cs q → F c s.made (place_form c.program c.img s.made cs q) (value_at s.store q)
   place_fine q here = (located c cs s w st q here).fine
 
+  path_ok : (path : List Step) (t : Form) → FormOk c.program t → PathIn t path → FormOk c.program (path_form t path)
+  path_ok [] t ok here = ok
+  path_ok (FieldStep o x ∷ path) (BasicForm b) ok here = absurd here
+  path_ok (FieldStep o x ∷ path) (PointerForm b) ok here = absurd here
+  path_ok (FieldStep o x ∷ path) (ProcedureForm b) ok here = absurd here
+  path_ok (FieldStep o x ∷ path) (ArrayForm n t) ok here = absurd here
+  path_ok (FieldStep o x ∷ path) (OpenForm t) ok here = absurd here
+  path_ok (FieldStep o x ∷ path) (RecordForm [] fs) ok here = absurd ok
+  path_ok (FieldStep o x ∷ path) (RecordForm (q ∷ line) fs) ok here = path_ok path (field_form fs o x) (field_ok c s.made fs o x here.0 ok.1) here.1
+  path_ok (ElementStep i ∷ path) (BasicForm b) ok here = absurd here
+  path_ok (ElementStep i ∷ path) (PointerForm b) ok here = absurd here
+  path_ok (ElementStep i ∷ path) (ProcedureForm b) ok here = absurd here
+  path_ok (ElementStep i ∷ path) (OpenForm t) ok here = absurd here
+  path_ok (ElementStep i ∷ path) (RecordForm line fs) ok here = absurd here
+  path_ok (ElementStep i ∷ path) (ArrayForm n t) ok here = path_ok path t ok.1 here.1
+
+  place_ok : (q : Place) → PlaceIn c.program (has_of c) c.img s.made cs q → FormOk c.program (place_form c.program c.img s.made cs q)
+  place_ok (At (OfModule m x) path) here = path_ok path _ (module_known c s.made c.program s.store.globals m x c.ok here.0 st.modules_fine).ok here.1
+  place_ok (At (OfCall k x) path) here = path_ok path _ (call_form_ok c s.made cs s.store.locals k x here.0.1 st.calls_fine) here.1
+  place_ok (At (OfObject n) path) here = path_ok path _ (object_form_ok c s.made s.made s.store.objects n here.0 st.objects_fine) here.1
+
   front_source : (a : ℕ) (vs us : List ℤ) → Src a (vs ++ us) → Src a vs
   front_source a vs us r = record { stand = λ mid e. let k = r.stand mid e in record { before = k.before; behind = us ++ k.behind; at = k.at; is = k.is ∙ ap (λ l. k.before ++ l) (append_assoc vs us k.behind) } }
 
@@ -149,7 +169,7 @@ module _ (c : Setting) (cs : List Active) (s : State) (w : World) (st : StandIn 
     pub source : Src a (W c s.made t v)
     pub fine : F c s.made t v
 
-  record_copy : (q : QName) (line : List QName) (fs gs : Fields) (a : ℕ) (v : Value) → IsNamed c.program (RecordForm (q ∷ line) fs) → Src a (Ws c s.made (joined fs gs) (field_of v)) → Fs c s.made (joined fs gs) (field_of v) → CopyOf (RecordForm (q ∷ line) fs) a (copied_place c.program (RecordForm (q ∷ line) fs) v)
+  record_copy : (q : QName) (line : List QName) (fs gs : Fields) (a : ℕ) (v : Value) → record_in c.program q ≡ RecordForm (q ∷ line) fs → Src a (Ws c s.made (joined fs gs) (field_of v)) → Fs c s.made (joined fs gs) (field_of v) → CopyOf (RecordForm (q ∷ line) fs) a (copied_place c.program (RecordForm (q ∷ line) fs) v)
   record_copy q line fs gs a v named source fine =
       let all = fields_of (record_in c.program q) in
       let g = field_of v in
@@ -164,31 +184,32 @@ module _ (c : Setting) (cs : List Active) (s : State) (w : World) (st : StandIn 
   joined_none NoField = refl
   joined_none (AField owner name t fs) = ap (λ gs. AField owner name t gs) (joined_none fs)
 
-  same_copy : (t : Form) (a : ℕ) (v : Value) → FormOk t → IsNamed c.program t → Src a (W c s.made t v) → F c s.made t v → CopyOf t a (copied_place c.program t v)
-  same_copy (BasicForm b) a v ok named source fine = record { source = source; fine = fine }
-  same_copy (PointerForm b) a v ok named source fine = record { source = source; fine = fine }
-  same_copy (ProcedureForm b) a v ok named source fine = record { source = source; fine = fine }
-  same_copy (ArrayForm n t) a v ok named source fine = record { source = source; fine = fine }
-  same_copy (OpenForm t) a v ok named source fine = absurd ok
-  same_copy (RecordForm [] fs) a v ok named source fine = absurd ok
-  same_copy (RecordForm (q ∷ line) fs) a v ok named source fine =
-      record_copy q line fs NoField a v named (subst (λ gs. Src a (Ws c s.made gs (field_of v))) (sym (joined_none fs)) source) (subst (λ gs. Fs c s.made gs (field_of v)) (sym (joined_none fs)) fine.1)
+  same_copy : (t : Form) (a : ℕ) (v : Value) → FormOk c.program t → Src a (W c s.made t v) → F c s.made t v → CopyOf t a (copied_place c.program t v)
+  same_copy (BasicForm b) a v ok source fine = record { source = source; fine = fine }
+  same_copy (PointerForm b) a v ok source fine = record { source = source; fine = fine }
+  same_copy (ProcedureForm b) a v ok source fine = record { source = source; fine = fine }
+  same_copy (ArrayForm n t) a v ok source fine = record { source = source; fine = fine }
+  same_copy (OpenForm t) a v ok source fine = absurd ok
+  same_copy (RecordForm [] fs) a v ok source fine = absurd ok
+  same_copy (RecordForm (q ∷ line) fs) a v ok source fine =
+      record_copy q line fs NoField a v ok.0 (subst (λ gs. Src a (Ws c s.made gs (field_of v))) (sym (joined_none fs)) source) (subst (λ gs. Fs c s.made gs (field_of v)) (sym (joined_none fs)) fine.1)
 
-  sub_copy : (u t : Form) (a : ℕ) (v : Value) → Sub u t → FormOk t → IsNamed c.program t → Src a (W c s.made u v) → F c s.made u v → CopyOf t a (copied_place c.program t v)
-  sub_copy _ t a v itself ok named source fine = same_copy t a v ok named source fine
-  sub_copy _ _ a v (extended more gs {line = []} {fs = fs}) ok named source fine = absurd ok
-  sub_copy _ _ a v (extended more gs {line = q ∷ line} {fs = fs}) ok named source fine = record_copy q line fs gs a v named source fine.1
-  sub_copy _ _ a v (opened n) ok named source fine = absurd ok
+  sub_copy : (u t : Form) (a : ℕ) (v : Value) → Sub u t → FormOk c.program t → Src a (W c s.made u v) → F c s.made u v → CopyOf t a (copied_place c.program t v)
+  sub_copy _ t a v itself ok source fine = same_copy t a v ok source fine
+  sub_copy _ _ a v (extended more gs {line = []} {fs = fs}) ok source fine = absurd ok
+  sub_copy _ _ a v (extended more gs {line = q ∷ line} {fs = fs}) ok source fine = record_copy q line fs gs a v ok.0 source fine.1
+  sub_copy _ _ a v (opened n) ok source fine = absurd ok
 
   -- a variable of a type, or of an extension
-  pub structure_copy : (t : Form) (q : Place) → FormOk t → IsNamed c.program t → PlaceOf c.program (has_of c) c.img s.made cs t q → CopyOf t (address c.program c.img s.made cs q) (copied_place c.program t (value_at s.store q))
-  structure_copy t q ok named h = sub_copy (place_form c.program c.img s.made cs q) t _ _ h.1 ok named (place_source q h.0) (place_fine q h.0)
+  pub structure_copy : (t : Form) (q : Place) → FormOk c.program t → PlaceOf c.program (has_of c) c.img s.made cs t q → CopyOf t (address c.program c.img s.made cs q) (copied_place c.program t (value_at s.store q))
+  structure_copy t q ok h = sub_copy (place_form c.program c.img s.made cs q) t _ _ h.1 ok (place_source q h.0) (place_fine q h.0)
 
   -- an array whose length is not known before
   pub record OpenCopy (u : Form) (q : Place) : Type 0 where
     pub n : ℕ
     pub form : place_form c.program c.img s.made cs q ≡ ArrayForm n u
     pub len : length_of (value_at s.store q) ≡ n
+    pub ok : FormOk c.program (ArrayForm n u)
     pub copy : CopyOf (ArrayForm n u) (address c.program c.img s.made cs q) (value_at s.store q)
 
   array_form : (f t u : Form) (v : Value) → Sub f t → t ≡ OpenForm u → F c s.made f v → (n : ℕ) × (f ≡ ArrayForm n u)
@@ -209,6 +230,7 @@ module _ (c : Setting) (cs : List Active) (s : State) (w : World) (st : StandIn 
         n = k.0;
         form = k.1;
         len = there.0;
+        ok = subst (λ f. FormOk c.program f) k.1 (place_ok q h.0);
         copy = record { source = subst (λ f. Src (address c.program c.img s.made cs q) (W c s.made f (value_at s.store q))) k.1 (place_source q h.0); fine = there };
       }
 

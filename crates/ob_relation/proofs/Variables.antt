@@ -27,7 +27,7 @@ use Rattle.ob_relation.proofs.Moves.{goes, address_small, small_word, all_length
 use Rattle.ob_relation.specs.Setting.{Setting, StandIn, has_of}
 use Rattle.ob_relation.specs.Plain.{Plain}
 
-got_within : (l : List ℤ) (n : ℕ) (x : ℤ) → word_at l (pos n) ≡ Some x → n ≤ length l
+pub got_within : (l : List ℤ) (n : ℕ) (x : ℤ) → word_at l (pos n) ≡ Some x → n ≤ length l
 got_within l zero x e = omega arith
 got_within l (suc n) x e = let h = slice_get_within l n x e in omega (arith, h)
 
@@ -36,12 +36,12 @@ module _ (c : Setting) (a : Activation c) where
   VariableOk v t = typed.VariableOk c.program (has_of c) a.unit (static_held c.program a.procedure) a.procedure.result v t
 
   module _ (s : State) (w : World) (st : StandIn c (K c a) s w) where
-    own_of : (x : List ℕ) (t : Form) → As IsOwn (static_held c.program a.procedure) x → form_named (static_held c.program a.procedure) x ≡ t → PlaceOf c.program (has_of c) c.img s.made (K c a) t (At (OfCall (length a.cs) x) [])
+    pub own_of : (x : List ℕ) (t : Form) → As IsOwn (static_held c.program a.procedure) x → form_named (static_held c.program a.procedure) x ≡ t → PlaceOf c.program (has_of c) c.img s.made (K c a) t (At (OfCall (length a.cs) x) [])
     own_of x t h e =
         let k = same_alike IsOwn own_fixed _ _ x (call_alike c.program a.procedure a.active a.call) h in
         (own_place c s.made a.cs a.active x (own_value a.active.held x k.as_it), subst (λ u. Sub u t) (sym (own_form c s.made a.cs a.active x ∙ k.form ∙ e)) itself)
 
-    ref_of : (n : ℕ) (x : List ℕ) (t : Form) → As (IsReferred n) (static_held c.program a.procedure) x → form_named (static_held c.program a.procedure) x ≡ t → PlaceOf c.program (has_of c) c.img s.made (K c a) t (a.active.places x)
+    pub ref_of : (n : ℕ) (x : List ℕ) (t : Form) → As (IsReferred n) (static_held c.program a.procedure) x → form_named (static_held c.program a.procedure) x ≡ t → PlaceOf c.program (has_of c) c.img s.made (K c a) t (a.active.places x)
     ref_of n x t h e =
         let k = same_alike (IsReferred n) (referred_fixed n) _ _ x (call_alike c.program a.procedure a.active a.call) h in
         let r = ref_place c s.made a.cs a.active.places a.active.held n x (s.store.locals (length a.cs)) k.as_it st.calls_fine.1.1 in
@@ -57,10 +57,10 @@ module _ (c : Setting) (a : Activation c) where
     variable_of (variable.Parameter passing.VariableRecord x) t pl ok = absurd pl
     variable_of (variable.Parameter passing.VariableOpenArray x) t pl ok = absurd pl
 
-    abbrev at_place : Place → ℕ
+    abbrev pub at_place : Place → ℕ
     at_place p = address c.program c.img s.made (K c a) p
 
-    static_slot : (x : List ℕ) → slot (static_held c.program a.procedure) x ≡ slot a.active.held x
+    pub static_slot : (x : List ℕ) → slot (static_held c.program a.procedure) x ≡ slot a.active.held x
     static_slot x = slot_alike _ _ x (call_alike c.program a.procedure a.active a.call)
 
     local_goes : (x : List ℕ) (t : Form) (pc : ℕ) (ops : List ℤ) → length ops + 1 ≤ 256 → code.Has (scope c a) pc (code.with_a op.Local (slot (static_held c.program a.procedure) x)) → As IsOwn (static_held c.program a.procedure) x → form_named (static_held c.program a.procedure) x ≡ t → Reach c (go c a pc ops w) (go c a (suc pc) (pos (at_place (At (OfCall (length a.cs) x) [])) ∷ ops) w)

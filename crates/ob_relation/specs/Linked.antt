@@ -47,16 +47,11 @@ abbrev pub IsOpen : Form → Type 0
 IsOpen (OpenForm t) = Unit {0}
 IsOpen t = ⊥
 
--- a record type is the type of its name
-abbrev pub IsNamed : Program → Form → Type 0
-IsNamed program (RecordForm (q ∷ line) fs) = record_in program q ≡ RecordForm (q ∷ line) fs
-IsNamed program t = Unit {0}
-
 -- how the machine takes a parameter: a record or an array by value as so many words, an open one as elements of so many words
 abbrev pub KindIs : Program → Passing → Form → Param → Type 0
 KindIs program passing.Scalar t k = (k ≡ param.Scalar) × Scalar t
-KindIs program passing.Structure t k = (k ≡ param.Value (words t)) × FormOk t × IsNamed program t
-KindIs program passing.OpenArray t k = (u : Form) × (t ≡ OpenForm u) × (k ≡ param.ValueArray (words u)) × FormOk u
+KindIs program passing.Structure t k = (k ≡ param.Value (words t)) × FormOk program t
+KindIs program passing.OpenArray t k = (u : Form) × (t ≡ OpenForm u) × (k ≡ param.ValueArray (words u))
 KindIs program passing.Variable t k = (k ≡ param.Var) × OneSlot t
 KindIs program passing.VariableRecord t k = (k ≡ param.VarRecord) × IsRecord t
 KindIs program passing.VariableOpenArray t k = (k ≡ param.VarArray) × IsOpen t
@@ -71,9 +66,9 @@ KindsAre program (p ∷ ps) (k ∷ ks) = KindIs program p.passing (form_in progr
 abbrev pub own_variables : Program → Procedure → List Held
 own_variables program p = map (held_variable program) p.locals ++ map hidden_held (hidden_of_all p.body)
 
-abbrev pub OwnFormsOk : List Held → Type 0
-OwnFormsOk [] = Unit {0}
-OwnFormsOk (h ∷ hs) = FormOk (held_form h) × OwnFormsOk hs
+abbrev pub OwnFormsOk : Program → List Held → Type 0
+OwnFormsOk program [] = Unit {0}
+OwnFormsOk program (h ∷ hs) = FormOk program (held_form h) × OwnFormsOk program hs
 
 abbrev pub scope_of : Setting → ModuleImage → List ℕ → Procedure → (Family → ℕ) → Scope
 scope_of c u unit p methods = record { program = c.program; img = c.img; u = u; unit = unit; held = static_held c.program p; method_number = methods }
@@ -102,14 +97,14 @@ pub record ProcedureStands (c : Setting) (q : QName) (p : Procedure) : Type 0 wh
   pub need : need_stmts p.body ≤ 256
   pub ok : typed.StmtsOk c.program (has_of c) q.module (static_held c.program p) p.result p.body false
   pub different : AreDifferent (static_held c.program p)
-  pub forms : OwnFormsOk (own_variables c.program p)
+  pub forms : OwnFormsOk c.program (own_variables c.program p)
 
 abbrev pub Linked : Setting → Type 0
 Linked c = (q : QName) (p : Procedure) → procedure_of c.program q ≡ Some p → ProcedureStands c q p
 
 -- what an image has of each record type, as far as NEW goes
 pub record TypeStands (c : Setting) (q : QName) : Type 0 where
-  pub ok : FormOk (record_in c.program q)
+  pub ok : FormOk c.program (record_in c.program q)
   pub descriptor : Descriptor
   pub found : slice_get c.img.types (type_number c.img.types q) ≡ Some descriptor
   pub size : descriptor.words ≡ words (record_in c.program q)

@@ -39,7 +39,7 @@ use Rattle.ob_meaning.specs.Values.{Program, procedure_of, Form, BasicForm, Poin
 use Rattle.ob_meaning.specs.Operators.{is_in}
 use Rattle.ob_meaning.specs.Meaning.{nearest, hidden}
 use Rattle.ob_relation.specs.Layout.{field_offset, field_form, held_name, form_named, variables_in}
-use Rattle.ob_relation.specs.Relation.{OrElse, Sub, Scalar, FieldIn, ValueIn}
+use Rattle.ob_relation.specs.Relation.{OrElse, FormOk, LengthFits, Sub, Scalar, FieldIn, ValueIn}
 
 abbrev pub basic_of : Width → Basic
 basic_of width.ShortInt = basic.ShortInt
@@ -61,17 +61,17 @@ char = BasicForm basic.Char
 abbrev pub set : Form
 set = BasicForm basic.Set
 
--- numbers of characters
-abbrev pub AreCharacters : List ℕ → Type 0
-AreCharacters [] = Unit {0}
-AreCharacters (c ∷ cs) = (c < 256) × AreCharacters cs
-
 -- an integer type within another
 pub data Within : Width → Width → Type 0 where
   same : {w : Width} → Within w w
   short : Within width.ShortInt width.Integer
   shorter : Within width.ShortInt width.LongInt
   middle : Within width.Integer width.LongInt
+
+-- the characters of a string
+abbrev pub AreCharacters : List ℕ → Type 0
+AreCharacters [] = Unit {0}
+AreCharacters (c ∷ cs) = (c < 256) × AreCharacters cs
 
 abbrev pub IsEquality : Comparison → Type 0
 IsEquality comparison.Equal = Unit {0}
@@ -111,12 +111,26 @@ abbrev pub IsCopied : ℕ → Held → Type 0
 IsCopied k (Copied x n t) = n ≡ k
 IsCopied k h = ⊥
 
+-- a record type by its own name
+abbrev pub IsRecordType : Program → QName → Type 0
+IsRecordType program q = (line : List QName) × (record_in program q ≡ RecordForm (q ∷ line) (fields_of (record_in program q)))
+
+-- a test or a guard is for a record type that extends the static one
+abbrev pub TestOk : Program → QName → Form → Type 0
+TestOk program q t = IsRecordType program q × Sub (record_in program q) t
+
+-- a record parameter by VAR, with its guards
+abbrev pub IsVariableRecord : Desig → Type 0
+IsVariableRecord (OfVariable (variable.Parameter passing.VariableRecord x) t) = Unit {0}
+IsVariableRecord (Guard d guarded.Record q at t) = IsVariableRecord d
+IsVariableRecord d = ⊥
+
 module _ (program : Program) (Has : Signature → QName → Type 0) (unit : List ℕ) (held : List Held) (result : Option TypeRef) where
   -- what may stand for a scalar type: itself; a smaller integer type; a pointer to an extension
   pub data Widens : Form → Form → Type 0 where
     itself : {t : Form} → Widens t t
     integers : (v w : Width) → Within v w → Widens (integer v) (integer w)
-    pointers : (t u : TypeRef) → ((a : Form) → Sub a (form_in program t) → Sub a (form_in program u)) → Widens (PointerForm t) (PointerForm u)
+    pointers : (t u : TypeRef) → ((a : Form) → Sub a (form_in program t) → Sub a (form_in program u)) → ((has : Bool) → LengthFits (form_in program t) has → LengthFits (form_in program u) has) → Widens (PointerForm t) (PointerForm u)
     procedures : (s t : Signature) → ((q : QName) → Has s q → Has t q) → Widens (ProcedureForm s) (ProcedureForm t)
 
   abbrev pub ParameterOk : Passing → List ℕ → Type 0
@@ -222,8 +236,8 @@ module _ (program : Program) (Has : Signature → QName → Type 0) (unit : List
     DesigOk (Index d (Some n) i at t) = DesigOk d × (ExprOk i longint × (form_of d ≡ ArrayForm n (form_in program t)))
     DesigOk (Index d None i at t) = DesigOk d × (ExprOk i longint × (form_of d ≡ OpenForm (form_in program t)))
     DesigOk (Deref d at t) = DesigOk d × IsPointerTo (form_of d) (form_in program t)
-    DesigOk (Guard d guarded.Pointer q at t) = DesigOk d × (IsPointerTo (form_in program t) (record_in program q) × ((r : TypeRef) × (form_of d ≡ PointerForm r)))
-    DesigOk (Guard d guarded.Record q at t) = DesigOk d × (form_in program t ≡ record_in program q)
+    DesigOk (Guard d guarded.Pointer q at t) = DesigOk d × (IsPointerTo (form_in program t) (record_in program q) × ((r : TypeRef) × (form_of d ≡ PointerForm r) × TestOk program q (form_in program r)))
+    DesigOk (Guard d guarded.Record q at t) = DesigOk d × ((form_in program t ≡ record_in program q) × TestOk program q (form_of d))
 
     -- the value of an expression fits a type
     pub ExprOk : Expr → Form → Type 0
@@ -234,15 +248,15 @@ module _ (program : Program) (Has : Signature → QName → Type 0) (unit : List
     ExprOk (Dyadic o a b at) t = (u : Form) × (v : Form) × (r : Form) × BinaryOk o u v r × ExprOk a u × ExprOk b v × Widens r t
     ExprOk (Logical o a b) t = ExprOk a boolean × (ExprOk b boolean × Widens boolean t)
     ExprOk (CompareTexts r a b at) t = TextOk a × (TextOk b × Widens boolean t)
-    ExprOk (IsPointer e q) t = ((u : TypeRef) × ExprOk e (PointerForm u)) × Widens boolean t
-    ExprOk (IsRecord d q) t = DesigOk d × Widens boolean t
+    ExprOk (IsPointer e q) t = ((u : TypeRef) × ExprOk e (PointerForm u) × TestOk program q (form_in program u)) × Widens boolean t
+    ExprOk (IsRecord d q) t = DesigOk d × (IsVariableRecord d × (TestOk program q (form_of d) × Widens boolean t))
     ExprOk (Length d) t = DesigOk d × (((u : Form) × (form_of d ≡ OpenForm u)) × Widens longint t)
     ExprOk (Call c es at r) t = CallOk c r (ActualsOk es) (OutOk es) × ResultOk r t
     ExprOk (CallVariable d es at r) t = (DesigOk d × ((s : Signature) × (form_of d ≡ ProcedureForm s) × (s.result ≡ r) × SignatureOk es s.params)) × ResultOk r t
 
     pub TextOk : Expr → Type 0
     TextOk (ValueOf d) = DesigOk d × IsText (form_of d)
-    TextOk (Constant (literal.Str text)) = Unit {0}
+    TextOk (Constant (literal.Str text)) = AreCharacters text
     TextOk e = ⊥
 
     pub OutOk : Actuals → Type 0
@@ -281,8 +295,8 @@ module _ (program : Program) (Has : Signature → QName → Type 0) (unit : List
   abbrev pub AssignedOk : Assigned → Desig → Expr → Type 0
   AssignedOk assigned.Scalar d e = ExprOk e (form_of d) × Scalar (form_of d)
   AssignedOk assigned.Text d e = (n : ℕ) × (form_of d ≡ ArrayForm n char) × StructureOk e (form_of d)
-  AssignedOk assigned.Array d e = StructureOk e (form_of d)
-  AssignedOk (assigned.Record q) d e = (form_of d ≡ record_in program q) × StructureOk e (form_of d)
+  AssignedOk assigned.Array d e = ((n : ℕ) × (u : Form) × (form_of d ≡ ArrayForm n u)) × StructureOk e (form_of d)
+  AssignedOk (assigned.Record q) d e = (form_of d ≡ record_in program q) × (IsRecordType program q × StructureOk e (form_of d))
 
   abbrev pub UpdateOk : Update → Desig → Expr → Type 0
   UpdateOk (update.Inc w) d e = ExprOk e (integer w) × (form_of d ≡ integer w)
@@ -292,7 +306,7 @@ module _ (program : Program) (Has : Signature → QName → Type 0) (unit : List
 
   abbrev pub MadeOk : Made → Form → Type 0
   MadeOk (made.Record q) t = IsPointerTo t (record_in program q) × ((line : List QName) × (record_in program q ≡ RecordForm (q ∷ line) (fields_of (record_in program q))))
-  MadeOk (made.Array u) t = IsPointerTo t (form_in program u)
+  MadeOk (made.Array u) t = IsPointerTo t (form_in program u) × ((n : ℕ) × (v : Form) × (form_in program u ≡ ArrayForm n v) × FormOk program (ArrayForm n v))
 
   abbrev pub ReturnOk : Option Expr → Option TypeRef → Type 0
   ReturnOk None None = Unit {0}
@@ -324,7 +338,7 @@ module _ (program : Program) (Has : Signature → QName → Type 0) (unit : List
     StmtOk (Updated o d e at) l = DesigOk d × UpdateOk o d e
     StmtOk (Copy e d at) l = TextOk e × (DesigOk d × IsText (form_of d))
     StmtOk (New d what at) l = DesigOk d × MadeOk what (form_of d)
-    StmtOk (NewOpenArray d t n at) l = DesigOk d × (IsPointerTo (form_of d) (OpenForm (form_in program t)) × ExprOk n longint)
+    StmtOk (NewOpenArray d t n at) l = DesigOk d × (IsPointerTo (form_of d) (OpenForm (form_in program t)) × (FormOk program (form_in program t) × ExprOk n longint))
     StmtOk (Assert e number at) l = ExprOk e boolean
     StmtOk (Halt number at) l = Unit {0}
     StmtOk (If branches otherwise) l = BranchesOk branches l × StmtsOk otherwise l
