@@ -24,11 +24,16 @@ use Rattle.ob_relation.proofs.Places.{S, C, Hs, Cs, Call, Os, slots_fresh, fresh
 use Rattle.ob_relation.proofs.Modules.{Ms}
 use Rattle.ob_relation.proofs.Firsts.{zeros}
 use Rattle.ob_relation.proofs.Frames.{call_alike}
+use Rattle.ob_relation.proofs.Copies as copies
 use Rattle.ob_relation.proofs.Copies.{among, total, among_length, Becomes, put_at}
 use Rattle.ob_relation.proofs.Sources.{front, back, room}
 use Rattle.ob_relation.proofs.Enter.{different_alike, apart, AllFresh, AllOwn, own_none, slots_both, copies_both, fine_both, own_zero, own_fine, firsts_behind, firsts_behind_fine, params_held, passes}
 use Rattle.ob_relation.specs.Linked.{ProcedureStands, own_variables}
 use Rattle.ob_relation.specs.Setting.{Setting, StandIn, has_of}
+
+-- as it stands beside the copies
+pub put_seam : (l front part back new : List ℤ) (n m : ℕ) → l ≡ front ++ (part ++ back) → length front ≡ n → length part ≡ m → length new ≡ m → take n l ++ (new ++ drop (n + length new) l) ≡ front ++ (new ++ back)
+put_seam l front part back new n m e len len2 len3 = copies.put_seam l front part back new n m e len len2 len3
 
 -- variables of a call that are its own
 variables_own : (program : Program) (vs : List TypedVariable) (rest : List Held) → AllOwn rest → AllOwn (map (held_variable program) vs ++ rest)

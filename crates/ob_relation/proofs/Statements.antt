@@ -199,6 +199,15 @@ module _ (c : Setting) where
       TaggedFollows d = (pc at : ℕ) (ops : List ℤ) (os : List AnObject) (s : State) (w : World) → length ops + need_tagged d ≤ 256 → code.TaggedCode scope d pc at → DesigOk d → Keeps os s w →
           Follows c (go pc ops w) (LongTo (ends.end_tagged c.program d pc) ops) (PlaceKept (code.form_of scope d) os) (place d here_in s)
 
+      -- the same of a record, and of an open array
+      abbrev pub RecordFollows : Desig → Type 0
+      RecordFollows d = (pc at : ℕ) (ops : List ℤ) (os : List AnObject) (s : State) (w : World) → length ops + need_tagged d ≤ 256 → code.TaggedCode scope d pc at → DesigOk d → typed.IsRecordForm (code.form_of scope d) → Keeps os s w →
+          Follows c (go pc ops w) (LongTo (ends.end_tagged c.program d pc) ops) (PlaceKept (code.form_of scope d) os) (place d here_in s)
+
+      abbrev pub OpenArrayFollows : Desig → Type 0
+      OpenArrayFollows d = (u : Form) (pc at : ℕ) (ops : List ℤ) (os : List AnObject) (s : State) (w : World) → length ops + need_open d ≤ 256 → code.OpenCode scope d pc at → DesigOk d → code.form_of scope d ≡ OpenForm u → Keeps os s w →
+          Follows c (go pc ops w) (LongTo (ends.end_open c.program d pc) ops) (PlaceKept (code.form_of scope d) os) (place d here_in s)
+
       abbrev pub OpenFollows : Desig → Type 0
       OpenFollows d = (pc at : ℕ) (ops : List ℤ) (os : List AnObject) (s : State) (w : World) → length ops + need_open d ≤ 256 → code.OpenCode scope d pc at → DesigOk d → Keeps os s w →
           Follows c (go pc ops w) (LongTo (ends.end_open c.program d pc) ops) (PlaceKept (code.form_of scope d) os) (place d here_in s)
