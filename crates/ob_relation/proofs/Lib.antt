@@ -26,3 +26,5 @@ pub mod Enter
 pub mod Rooms
 pub mod Heap
 pub mod Pointers
+pub mod Copied
+pub mod Parameters

@@ -44,7 +44,7 @@ hidden_own : (ps : List Pos) → AllOwn (map hidden_held ps)
 hidden_own [] = tt
 hidden_own (p ∷ ps) = hidden_own ps
 
-all_own : (program : Program) (p : Procedure) → AllOwn (own_variables program p)
+pub all_own : (program : Program) (p : Procedure) → AllOwn (own_variables program p)
 all_own program p = variables_own program p.locals (map hidden_held (hidden_of_all p.body)) (hidden_own (hidden_of_all p.body))
 
 module _ (c : Setting) where
