@@ -46,7 +46,7 @@ use Rattle.ob_meaning.specs.Operators.{is_positive}
 use Rattle.ob_meaning.specs.Meaning.{hidden}
 use Rattle.ob_meaning.specs.Globals.{texts_of_designator, texts_of_expr, texts_of, texts_of_all, texts_of_branches, texts_of_cases, passed_words}
 use Rattle.ob_relation.specs.Layout.{type_number, field_offset, slot, slots_words, variables_in, module_offset}
-use Rattle.ob_relation.specs.Texts.{texts_in}
+use Rattle.ob_relation.specs.Texts.{text_words, texts_in}
 use Rattle.ob_relation.specs.Relation.{OrElse, number_of}
 use Rattle.ob_relation.specs.Ends.{end_variable, end_test, end_step, end_place, end_tagged, end_open, end_expr, end_tag, end_address, end_record, end_array, end_actuals, end_labels, end_stmt, end_stmts, end_branches, end_cases, end_else}
 
@@ -236,6 +236,17 @@ module _ (sc : Scope) where
     pub is : texts_in sc.program sc.program sc.unit ≡ before ++ (map pos text ++ (pos 0 ∷ behind))
     pub offset : slots_words (variables_in sc.program sc.program sc.unit) + length before ≡ at
 
+  -- a string filled with 0X to so many words stands there
+  pub record FilledStands (text : List ℕ) (n at : ℕ) : Type 0 where
+    pub before : List ℤ
+    pub behind : List ℤ
+    pub is : texts_in sc.program sc.program sc.unit ≡ before ++ (text_words text n ++ behind)
+    pub offset : slots_words (variables_in sc.program sc.program sc.unit) + length before ≡ at
+
+  abbrev pub LiteralFilled : Literal → ℕ → ℕ → Type 0
+  LiteralFilled (literal.Str text) n at = FilledStands text n at
+  LiteralFilled c n at = Unit {0}
+
   abbrev pub LiteralStands : Literal → ℕ → Type 0
   LiteralStands (literal.Str text) at = TextStands text at
   LiteralStands c at = Unit {0}
@@ -335,6 +346,12 @@ module _ (sc : Scope) where
     AddressCode (Constant c) pc at = string_at pc at × LiteralStands c at
     AddressCode e pc at = ⊥
 
+    -- a record or an array by value, a string being filled to its words
+    pub StructureCode : Expr → ℕ → ℕ → ℕ → Type 0
+    StructureCode (ValueOf d) n pc at = PlaceCode d pc at
+    StructureCode (Constant c) n pc at = string_at pc at × LiteralFilled c n at
+    StructureCode e n pc at = ⊥
+
     pub RecordCode : Expr → ℕ → ℕ → Type 0
     RecordCode (ValueOf d) pc at = TaggedCode d pc at
     RecordCode e pc at = ⊥
@@ -347,7 +364,7 @@ module _ (sc : Scope) where
     pub ActualsCode : Actuals → ℕ → ℕ → Type 0
     ActualsCode NoActual pc at = Unit {0}
     ActualsCode (AnActual passing.Scalar t e rest) pc at = ExprCode e pc at × ActualsCode rest (end_expr sc.program e pc) (at + et e)
-    ActualsCode (AnActual passing.Structure t e rest) pc at = AddressCode e pc at × ActualsCode rest (end_address sc.program e pc) (at + passed_before passing.Structure t e)
+    ActualsCode (AnActual passing.Structure t e rest) pc at = StructureCode e (words (form_in sc.program t)) pc at × ActualsCode rest (end_address sc.program e pc) (at + passed_before passing.Structure t e)
     ActualsCode (AnActual passing.Variable t e rest) pc at = AddressCode e pc at × ActualsCode rest (end_address sc.program e pc) (at + et e)
     ActualsCode (AnActual passing.VariableRecord t e rest) pc at = RecordCode e pc at × ActualsCode rest (end_record sc.program e pc) (at + et e)
     ActualsCode (AnActual passing.OpenArray t e rest) pc at = ArrayCode e pc at × ActualsCode rest (end_array sc.program e pc) (at + et e)
