@@ -1,0 +1,4 @@
+pub mod Bases
+pub mod Tags
+pub mod Pointers
+pub mod With
