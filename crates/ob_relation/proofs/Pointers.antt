@@ -42,7 +42,7 @@ module _ (c : Setting) (a : Activation c) (n : ℕ) (call : Caller) (b : ℕ) wh
   abbrev W : List AnObject → Value → ℤ
   W os v = word_of c.program (has_of c) c.img os v
 
-  pointee_follows : (v : Value) (r : TypeRef) (t : Form) (at : Pos) (pc : ℕ) (ops : List ℤ) (os : List AnObject) (s : State) (w : World) → length ops + 1 ≤ 256 → code.HasAt (scope c a) pc (code.plain op.Deref) at → Fine c.program (has_of c) s.made (PointerForm r) v → form_in c.program r ≡ t → Kp os s w →
+  pub pointee_follows : (v : Value) (r : TypeRef) (t : Form) (at : Pos) (pc : ℕ) (ops : List ℤ) (os : List AnObject) (s : State) (w : World) → length ops + 1 ≤ 256 → code.HasAt (scope c a) pc (code.plain op.Deref) at → Fine c.program (has_of c) s.made (PointerForm r) v → form_in c.program r ≡ t → Kp os s w →
       Follows c (go c a pc (W s.made v ∷ ops) w) (PlaceTo c a n call b (suc pc) ops) (PlaceKept c a n call b t os) (pointee v (here_in c a n call b) at s)
   pointee_follows v r t at pc ops os s w le has fine e st = ⊎_elim (λ f. nil f) (λ k. object k.0 k.1 k.2 k.3) fine
     where
@@ -72,7 +72,7 @@ module _ (c : Setting) (a : Activation c) (n : ℕ) (call : Caller) (b : ℕ) wh
 
   -- NEW
 
-  made_follows : (x : AnObject) (r : TypeRef) (p : Place) (size : ℕ) (i : Instr) (at : Pos) (pc : ℕ) (ops : List ℤ) (os : List AnObject) (s : State) (w : World) → length ops ≤ 256 → code.HasAt (scope c a) pc i at → FormOk c.program (object_form x) → object_form x ≡ form_in c.program r → size ≡ words (object_form x) → PlaceOf c.program (has_of c) c.img s.made (K c a) (PointerForm r) p → (are_there (length w.words) (pos (address c.program c.img s.made (K c a) p)) 1 ≡ true → effect c a pc (pos (address c.program c.img s.made (K c a) p) ∷ ops) w i ≡ made (pos (address c.program c.img s.made (K c a) p)) (Ex c [] x) size ops w) → Kp os s w →
+  pub made_follows : (x : AnObject) (r : TypeRef) (p : Place) (size : ℕ) (i : Instr) (at : Pos) (pc : ℕ) (ops : List ℤ) (os : List AnObject) (s : State) (w : World) → length ops ≤ 256 → code.HasAt (scope c a) pc i at → FormOk c.program (object_form x) → Sub (object_form x) (form_in c.program r) → size ≡ words (object_form x) → PlaceOf c.program (has_of c) c.img s.made (K c a) (PointerForm r) p → (are_there (length w.words) (pos (address c.program c.img s.made (K c a) p)) 1 ≡ true → effect c a pc (pos (address c.program c.img s.made (K c a) p) ∷ ops) w i ≡ made (pos (address c.program c.img s.made (K c a) p)) (Ex c [] x) size ops w) → Kp os s w →
       Follows c (go c a pc (pos (address c.program c.img s.made (K c a) p) ∷ ops) w) (λ u s w. go c a (suc pc) ops w) (λ u s w. Kp os s w) (make x p (here_in c a n call b) at s)
   made_follows x r p size i at pc ops os s w le has ok is words_are here_p row st = by (nat_le (costs_of (x ∷ s.made)) c.heap) refl
     where
@@ -107,7 +107,7 @@ module _ (c : Setting) (a : Activation c) (n : ℕ) (call : Caller) (b : ℕ) wh
           let k = spot c (K c a) s2 w2 st2 p (subst (λ u. Scalar u) (sym form) tt) here_2.0 in
           let own = nat_same (length s.made) in
           let at_it : object_at (x ∷ s.made) (length s.made) ≡ object_form x = ap (λ t. if t then object_form x else object_at s.made (length s.made)) own in
-          let fine : Fine c.program (has_of c) (x ∷ s.made) (PointerForm r) (Object (length s.made)) = inr (length s.made, refl, omega arith, subst (λ u. Sub u (form_in c.program r)) (sym (at_it ∙ is)) itself) in
+          let fine : Fine c.program (has_of c) (x ∷ s.made) (PointerForm r) (Object (length s.made)) = inr (length s.made, refl, omega arith, subst (λ u. Sub u (form_in c.program r)) (sym at_it) is) in
           let new = k.store (Object (length s.made)) (subst (λ u. Fine c.program (has_of c) (x ∷ s.made) u (Object (length s.made))) (sym form) fine) in
           let off : object_offset (x ∷ s.made) (length s.made) ≡ costs_of s.made + extra_words x = ap (λ t. if t then costs_of s.made + extra_words x else object_offset s.made (length s.made)) own in
           let there_at : heap_start c.program c.img + object_offset (x ∷ s.made) (length s.made) ≡ w.heap + length (Ex c [] x) = let h = extra-length c [] x in omega (arith, off, h, st.all.heap_next) in
@@ -125,7 +125,7 @@ module _ (c : Setting) (a : Activation c) (n : ℕ) (call : Caller) (b : ℕ) wh
       let p1 = end_place c.program d pc in
       let r = ok.1.0 in
       follows_bind c (ih pc k [] os s w (omega (arith, le)) has.0 ok.0 st) λ p s1 w1 k1.
-      follows_bind c (made_follows (Whole (form_in c.program t)) r p (words (form_in c.program t)) (code.with_a op.NewA (words (form_in c.program t))) at p1 [] os s1 w1 (omega arith) has.1 ok_form (sym ok.1.2) refl (subst (λ u. PlaceOf c.program (has_of c) c.img s1.made (K c a) u p) ok.1.1 k1.0)
+      follows_bind c (made_follows (Whole (form_in c.program t)) r p (words (form_in c.program t)) (code.with_a op.NewA (words (form_in c.program t))) at p1 [] os s1 w1 (omega arith) has.1 ok_form (subst (λ u. Sub u (form_in c.program r)) ok.1.2 itself) refl (subst (λ u. PlaceOf c.program (has_of c) c.img s1.made (K c a) u p) ok.1.1 k1.0)
       (λ there. rows.new_a_is c.img a.u a.m a.p (fb c a) p1 w1 (pos (address c.program c.img s1.made (K c a) p)) (words (form_in c.program t)) [] there ∙ ap (λ e. made (pos (address c.program c.img s1.made (K c a) p)) e (words (form_in c.program t)) [] w1) (sym no_tag)) k1.1)
       λ u s2 w2 k2. follows_value c w2 (here c _) (tt, k2)
 
@@ -137,6 +137,6 @@ module _ (c : Setting) (a : Activation c) (n : ℕ) (call : Caller) (b : ℕ) wh
       let x = Whole (record_in c.program q) in
       let ex : Ex c [] x ≡ tag (type_number c.img.types q) ∷ [] = ap (λ t. Ex c [] (Whole t)) ok.1.1.1 in
       follows_bind c (ih pc k [] os s w (omega (arith, le)) has.0 ok.0 st) λ p s1 w1 k1.
-      follows_bind c (made_follows x r p ts.descriptor.words (code.with_a op.NewR has.1.type.number) at p1 [] os s1 w1 (omega arith) (record { has = has.1.type.has; place = has.1.place }) ts.ok (sym ok.1.0.2) ts.size (subst (λ u. PlaceOf c.program (has_of c) c.img s1.made (K c a) u p) ok.1.0.1 k1.0)
+      follows_bind c (made_follows x r p ts.descriptor.words (code.with_a op.NewR has.1.type.number) at p1 [] os s1 w1 (omega arith) (record { has = has.1.type.has; place = has.1.place }) ts.ok (subst (λ u. Sub u (form_in c.program r)) ok.1.0.2 itself) ts.size (subst (λ u. PlaceOf c.program (has_of c) c.img s1.made (K c a) u p) ok.1.0.1 k1.0)
       (λ there. rows.new_r_is c.img a.u a.m a.p (fb c a) p1 w1 (pos (address c.program c.img s1.made (K c a) p)) has.1.type.number (type_number c.img.types q) ts.descriptor [] has.1.type.is ts.found there ∙ ap (λ e. made (pos (address c.program c.img s1.made (K c a) p)) e ts.descriptor.words [] w1) (sym ex)) k1.1)
       λ u s2 w2 k2. follows_value c w2 (here c _) (tt, k2)
