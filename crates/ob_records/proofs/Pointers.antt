@@ -154,7 +154,7 @@ module _ (c : Setting) (a : Activation c) (n : ℕ) (call : Caller) (b : ℕ) wh
 
   -- VALUES AND DEREFERENCES
 
-  holder_load : (p : Place) (t : Form) (pc : ℕ) (ops : List ℤ) (os : List AnObject) (s : State) (w : World) → length ops + 1 ≤ 256 → code.Has (scope c a) pc (code.plain op.Load) → HolderKept t os p s w → Follows c (PlaceTo c a n call b pc ops p s w) (ValueTo c a n call b (suc pc) ops) (ValueKept c a n call b t os) (read p s)
+  pub holder_load : (p : Place) (t : Form) (pc : ℕ) (ops : List ℤ) (os : List AnObject) (s : State) (w : World) → length ops + 1 ≤ 256 → code.Has (scope c a) pc (code.plain op.Load) → HolderKept t os p s w → Follows c (PlaceTo c a n call b pc ops p s w) (ValueTo c a n call b (suc pc) ops) (ValueKept c a n call b t os) (read p s)
   holder_load p t pc ops os s w le has k =
       let x = spot c (K c a) s w k.1.all p (wide_scalar t (form_at s p) k.0.0.1.1 k.0.0.1.0) k.0.0.0 in
       follows_value c w (goes c a _ w has (rows.load_next c.img a.u a.m a.p (fb c a) pc w (pos (address_at s p)) _ ops x.load) (omega (arith, le))) (k.0.1, k.1)

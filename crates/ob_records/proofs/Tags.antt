@@ -59,7 +59,7 @@ pub record IsRecord (c : Setting) (t : Form) : Type 0 where
   pub built : record_in c.program name ≡ RecordForm (name ∷ line) fields
 
 module _ (c : Setting) where
-  is_record : (t : Form) (line : List QName) (fs : Fields) → t ≡ RecordForm line fs → FormOk c.program t → IsRecord c t
+  pub is_record : (t : Form) (line : List QName) (fs : Fields) → t ≡ RecordForm line fs → FormOk c.program t → IsRecord c t
   is_record t [] fs e ok = absurd (subst (λ u. FormOk c.program u) e ok)
   is_record t (q ∷ line) fs e ok = record { name = q; line = line; fields = fs; is = e; built = (subst (λ u. FormOk c.program u) e ok).0 }
 
