@@ -5,3 +5,4 @@ pub mod With
 pub mod Slots
 pub mod Records
 pub mod Exact
+pub mod Copies
