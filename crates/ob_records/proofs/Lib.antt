@@ -6,3 +6,4 @@ pub mod Slots
 pub mod Records
 pub mod Exact
 pub mod Copies
+pub mod Assign
