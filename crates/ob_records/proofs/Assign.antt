@@ -16,7 +16,7 @@ use Rattle.ob_meaning.specs.Values.{same_name, Form, RecordForm, Fields, fields_
 use Rattle.ob_meaning.specs.Results.{Trapped, Stops, Caller, assign}
 use Rattle.ob_meaning.specs.Meaning.{exec, Source, Stands, Text, source, choose, is_exactly, assign_record, as_record}
 use Rattle.ob_relation.specs.Layout.{type_number, address, place_form}
-use Rattle.ob_relation.specs.Relation.{OrElse, PlaceIn, PlaceOf, Sub, itself, second_word}
+use Rattle.ob_relation.specs.Relation.{OrElse, PlaceIn, PlaceOf, Sub, second_word}
 use Rattle.ob_relation.specs.Need.{need_place}
 use Rattle.ob_relation.specs.Ends.{end_place, end_tagged, end_target}
 use Rattle.ob_relation.specs.Stands as code
@@ -25,12 +25,11 @@ use Rattle.ob_relation.proofs.Names.{name_true, name_same}
 use Rattle.ob_relation.proofs.Steps.{Reach, here, Follows, follows_bind, follows_value, follows_stop, stands_any}
 use Rattle.ob_relation.proofs.Statements.{Activation, scope, go, fb, K, here_in, Keeps, PlaceTo, PlaceKept, PlaceFollows, StmtFollows, FlowTo, FlowKept, DesigOk}
 use Rattle.ob_relation.proofs.Grow.{address_same, form_same, place_more, place_of_more}
-use Rattle.ob_relation.proofs.Needs.{need_one}
 use Rattle.ob_relation.proofs.Moves.{goes, traps}
 use Rattle.ob_relation.proofs.Values.{nat_equal}
 use Rattle.ob_relation.proofs.Exprs.{from_here, since}
 use Rattle.ob_relation.proofs.Stmts.{plain_to, plain_kept}
-use Rattle.ob_relation.specs.Setting.{Setting, StandIn, has_of}
+use Rattle.ob_relation.specs.Setting.{Setting, has_of}
 use Rattle.ob_records.specs.Bases.{BasesStand}
 use Rattle.ob_records.proofs.Bases.{number_same, first_here}
 use Rattle.ob_records.proofs.Tags.{sub_sub, IsRecord, record_below, place_form_ok, type_at}

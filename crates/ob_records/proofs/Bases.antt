@@ -1,5 +1,5 @@
 -- The types that a type extends are those that its descriptor has as bases.
-use Rattle.std.proofs.Common.{◌≡◌, ℕ, zero, suc, ◌<◌, List, [], ◌∷◌, length, Option, Some, None, refl, sym, ap, ◌∙◌, subst, arith}
+use Rattle.std.proofs.Common.{◌≡◌, ℕ, zero, suc, ◌<◌, List, [], ◌∷◌, length, Option, Some, None, refl, sym, ap, ◌∙◌, arith}
 use Rattle.std.proofs.lemmas.Bool.{eqb-true}
 use Rattle.std.proofs.lemmas.Bool.Decides.{nat_tests}
 use Rattle.std.proofs.lemmas.Option.{slice_get_within}
@@ -7,9 +7,9 @@ use Rattle.std.specs.Prelude.{Bool, true, false, ◌&&◌, ◌||◌, nat_eq, nat
 use Rattle.ob_tree.specs.declared.names.QName.{QName}
 use Rattle.ob_tdesc.specs.declared.descriptor.Descriptor.{Descriptor}
 use Rattle.ob_tdesc.specs.Bases as descriptors
-use Rattle.ob_tdesc.specs.Bases.{base_in, base_of, with_bases, line_from}
+use Rattle.ob_tdesc.specs.Bases.{base_in, with_bases, line_from}
 use Rattle.ob_instr.specs.Rows.{tag, tag_passes}
-use Rattle.ob_meaning.specs.Values.{same_name, Form, RecordForm, Fields, fields_of, line_of, record_in, is_among}
+use Rattle.ob_meaning.specs.Values.{same_name, RecordForm, Fields, fields_of, line_of, record_in, is_among}
 use Rattle.ob_meaning.specs.Meaning.{is_extension}
 use Rattle.ob_relation.specs.Layout.{type_number}
 use Rattle.ob_relation.proofs.Names.{nat_same, and_both, bytes_true, name_true, name_same}

@@ -1,12 +1,12 @@
 -- A record copied to one of its type or of a base's: the words of the fields that both have.
 use Rattle.std.proofs.Math.Seq.{take-append_seam, drop-append_seam}
 use Rattle.std.proofs.lemmas.Bool.Decides.{nat_tests}
-use Rattle.std.proofs.Common.{◌≡◌, ℕ, zero, suc, ◌+◌, ◌-◌, ◌≤◌, List, [], ◌∷◌, ◌++◌, length, take, drop, Some, None, refl, sym, ap, ◌∙◌, subst, arith, append_assoc, append-nil, length-append}
+use Rattle.std.proofs.Common.{◌≡◌, ℕ, zero, suc, ◌+◌, ◌-◌, List, [], ◌∷◌, ◌++◌, length, take, drop, Some, None, refl, sym, ap, ◌∙◌, subst, arith, append_assoc, append-nil, length-append}
 use Rattle.std.specs.Prelude.{ℤ, pos, Bool, true, false, ◌&&◌, ◌||◌, nat_le, bytes_eq, if◌then◌else◌}
 use Rattle.ob_tree.specs.declared.names.QName.{QName}
-use Rattle.ob_mem.specs.Words.{are_there, copied, with_words, words_at}
+use Rattle.ob_mem.specs.Words.{copied, with_words, words_at}
 use Rattle.ob_instr.specs.Image.{World}
-use Rattle.ob_meaning.specs.Values.{same_name, Form, RecordForm, Fields, NoField, AField, joined, fields_of, record_in, words, fields_words, Value, Record, Nil, field_of, value_at, with_value_at, Place, Active, AnObject, State}
+use Rattle.ob_meaning.specs.Values.{same_name, Form, RecordForm, Fields, NoField, AField, joined, fields_of, record_in, words, fields_words, Value, Nil, field_of, value_at, with_value_at, Place, Active, AnObject, State}
 use Rattle.ob_meaning.specs.Meaning.{has_field, as_record}
 use Rattle.ob_relation.specs.Layout.{place_form, address}
 use Rattle.ob_relation.specs.Relation.{PlaceIn, PlaceOf, Sub, itself, extended, opened}
@@ -32,7 +32,7 @@ copied_words l f1 m1 b1 f2 m2 b2 (suc n) e1 e2 n1 n2 =
     let first1 : suc (length f1) - 1 ≡ length f1 = omega arith in
     let first2 : suc (length f2) - 1 ≡ length f2 = omega arith in
     let read : words_at l (pos (suc (length f2))) (suc n) ≡ m2 =
-        ap (λ k. take (suc n) (drop k l)) first2 ∙ ap (λ l. take (suc n) (drop (length f2) l)) e2 ∙ ap (take (suc n)) (drop-append_seam f2 (m2 ++ b2)) ∙ ap (λ k. take k (m2 ++ b2)) (sym n2) ∙ take-append_seam m2 b2 in
+    ap (λ k. take (suc n) (drop k l)) first2 ∙ ap (λ l. take (suc n) (drop (length f2) l)) e2 ∙ ap (take (suc n)) (drop-append_seam f2 (m2 ++ b2)) ∙ ap (λ k. take k (m2 ++ b2)) (sym n2) ∙ take-append_seam m2 b2 in
     ap (λ x. if x && nat_le (length f2 + suc n) (length l) then Some (with_words l (pos (suc (length f1))) (words_at l (pos (suc (length f2))) (suc n))) else None) there1
     ∙ ap (λ x. if x then Some (with_words l (pos (suc (length f1))) (words_at l (pos (suc (length f2))) (suc n))) else None) there2
     ∙ ap (λ m. Some (with_words l (pos (suc (length f1))) m)) read
@@ -132,10 +132,11 @@ module _ (c : Setting) (cs : List Active) (s : State) (w : World) (st : StandIn 
       let y = fields_at t line fs p2 k2 e in
       let g = field_of (value_at s.store p) in
       let h = field_of (value_at s.store p2) in
-      let size : words t ≡ fields_words fs = ap words e in
-      (x.before ++ (Ws c s.made fs h ++ x.behind),
-      ap (λ m. copied w.words (pos m) (pos (address_at p2)) (words t)) (sym x.at) ∙ ap (λ m. copied w.words (pos (suc (length x.before))) (pos m) (words t)) (sym y.at)
-      ∙ copied_words w.words x.before (Ws c s.made fs g) x.behind y.before (Ws c s.made fs h) y.behind (words t) x.is y.is (fields-length c s.made fs g ∙ sym size) (fields-length c s.made fs h ∙ sym size))
+      let size : words t ≡ fields_words fs = ap words e in (
+        x.before ++ (Ws c s.made fs h ++ x.behind),
+        ap (λ m. copied w.words (pos m) (pos (address_at p2)) (words t)) (sym x.at) ∙ ap (λ m. copied w.words (pos (suc (length x.before))) (pos m) (words t)) (sym y.at)
+            ∙ copied_words w.words x.before (Ws c s.made fs g) x.behind y.before (Ws c s.made fs h) y.behind (words t) x.is y.is (fields-length c s.made fs g ∙ sym size) (fields-length c s.made fs h ∙ sym size),
+      )
 
   -- a copy to a target of the very type
   pub copy_stands : (q : QName) (line : List QName) (fs : Fields) (p p2 : Place) → record_in c.program q ≡ RecordForm (q ∷ line) fs → PlaceIn c.program (has_of c) c.img s.made cs p → form_at p ≡ record_in c.program q → PlaceOf c.program (has_of c) c.img s.made cs (record_in c.program q) p2 →
@@ -152,8 +153,9 @@ module _ (c : Setting) (cs : List Active) (s : State) (w : World) (st : StandIn 
       let old_is : W c s.made (form_at p) (value_at s.store p) ≡ Ws c s.made fs (field_of (value_at s.store p)) = ap (λ u. W c s.made u (value_at s.store p)) form in
       let new_is : W c s.made (form_at p) new ≡ Ws c s.made fs h = ap (λ u. W c s.made u new) form ∙ ap (λ k. Ws c s.made fs (alone k h)) own ∙ alone_words c s.made fs fs h (among_all fs) in
       let fine_fields : Fs c s.made fs (alone (fields_of t) h) = subst (λ k. Fs c s.made fs (alone k h)) (sym own) (alone_fine c s.made fs fs h (among_all fs) y.fine) in
-      let fine : F c s.made (form_at p) new = subst (λ u. F c s.made u new) (sym form) (refl, fine_fields) in
-      (x.before ++ (Ws c s.made fs h ++ x.behind),
-      ap (λ m. copied w.words (pos m) (pos (address_at p2)) (words t)) (sym x.at) ∙ ap (λ m. copied w.words (pos (suc (length x.before))) (pos m) (words t)) (sym y.at)
-      ∙ copied_words w.words x.before (Ws c s.made fs (field_of (value_at s.store p))) x.behind y.before (Ws c s.made fs h) y.behind (words t) (x.is ∙ ap (λ m. x.before ++ (m ++ x.behind)) old_is) y.is (fields-length c s.made fs (field_of (value_at s.store p)) ∙ sym size) (fields-length c s.made fs h ∙ sym size),
-      subst (λ m. StandIn c cs (record s { store = with_value_at s.store p new }) (record w { words = x.before ++ (m ++ x.behind) })) new_is (x.stands new fine))
+      let fine : F c s.made (form_at p) new = subst (λ u. F c s.made u new) (sym form) (refl, fine_fields) in (
+        x.before ++ (Ws c s.made fs h ++ x.behind),
+        ap (λ m. copied w.words (pos m) (pos (address_at p2)) (words t)) (sym x.at) ∙ ap (λ m. copied w.words (pos (suc (length x.before))) (pos m) (words t)) (sym y.at)
+            ∙ copied_words w.words x.before (Ws c s.made fs (field_of (value_at s.store p))) x.behind y.before (Ws c s.made fs h) y.behind (words t) (x.is ∙ ap (λ m. x.before ++ (m ++ x.behind)) old_is) y.is (fields-length c s.made fs (field_of (value_at s.store p)) ∙ sym size) (fields-length c s.made fs h ∙ sym size),
+        subst (λ m. StandIn c cs (record s { store = with_value_at s.store p new }) (record w { words = x.before ++ (m ++ x.behind) })) new_is (x.stands new fine),
+      )

@@ -14,18 +14,17 @@ use Rattle.ob_instr.specs.declared.opcode.Opcode.TheVariants as op
 use Rattle.ob_instr.specs.Image.{World}
 use Rattle.ob_instr.specs.Rows.{Next, is_zero, tag}
 use Rattle.ob_instr.proofs.Goes as rows
-use Rattle.ob_meaning.specs.Values.{Form, PointerForm, ArrayForm, RecordForm, fields_of, form_in, record_in, words, Value, Nil, Object, integer_of, FieldStep, ElementStep, OfCall, OfObject, Place, At, inside, Held, Own, Referred, Copied, Active, AnObject, State}
+use Rattle.ob_meaning.specs.Values.{Form, PointerForm, ArrayForm, fields_of, form_in, record_in, words, Value, Nil, Object, integer_of, FieldStep, ElementStep, OfCall, OfObject, Place, At, inside, Held, Own, Referred, Copied, Active, AnObject, State}
 use Rattle.ob_meaning.specs.Results.{Trapped, Gives, Stops, Caller}
 use Rattle.ob_meaning.specs.Meaning.{place, place_of, choose, element_place, pointee}
 use Rattle.ob_relation.specs.Layout.{type_number, field_offset, element_of_form, path_offset, form_named, static_held, object_at, object_offset, heap_start, place_form, address}
 use Rattle.ob_relation.specs.Relation.{OrElse, Fine, HeldFine, Scalar, SlotsFit, PathIn, PlaceIn, Sub, itself, word_of, second_word}
 use Rattle.ob_relation.specs.Need.{need_place}
-use Rattle.ob_relation.specs.Ends.{end_variable, end_place, end_expr, end_tagged, end_tagged_variable}
+use Rattle.ob_relation.specs.Ends.{end_variable, end_place, end_expr}
 use Rattle.ob_relation.specs.Stands as code
 use Rattle.ob_relation.specs.Typed.{As, IsOwn, IsReferred, longint}
 use Rattle.ob_relation.specs.Plain.{Plain}
-use Rattle.ob_relation.proofs.Names.{bytes_true}
-use Rattle.ob_relation.proofs.Steps.{Reach, here, then_reach, Follows, follows_bind, follows_value, follows_stop, follows_map, stands_any}
+use Rattle.ob_relation.proofs.Steps.{Reach, Follows, follows_bind, follows_value, follows_stop, follows_map, stands_any}
 use Rattle.ob_relation.proofs.Statements.{Activation, scope, go, fb, K, here_in, Keeps, PlaceTo, LongTo, PlaceKept, PlaceFollows, ExprFollows, DesigOk}
 use Rattle.ob_relation.proofs.Grow.{address_same, place_of_more}
 use Rattle.ob_relation.proofs.Needs.{need_one, need_one_e}
@@ -37,9 +36,9 @@ use Rattle.ob_relation.proofs.Exprs.{from_here, since}
 use Rattle.ob_relation.specs.Setting.{Setting, StandIn, has_of}
 use Rattle.ob_records.specs.Bases.{BasesStand}
 use Rattle.ob_records.proofs.Bases.{there}
-use Rattle.ob_records.proofs.Tags.{one_less, IsRecord, is_record, record_below, place_form_ok, object_tag}
+use Rattle.ob_records.proofs.Tags.{one_less, is_record, record_below, place_form_ok, object_tag}
 use Rattle.ob_records.proofs.Pointers.{HolderFollows, holder_load}
-use Rattle.ob_records.proofs.Records.{IsRecordForm, RecordFollows, two_tagged}
+use Rattle.ob_records.proofs.Records.{IsRecordForm, RecordFollows}
 
 module _ (c : Setting) where
   -- a parameter by VAR has as many slots as its type asks for

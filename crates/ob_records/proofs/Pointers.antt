@@ -1,6 +1,6 @@
 -- Type tests and guards on pointers, and what is done with guarded pointers.
-use Rattle.std.proofs.Common.{◌≡◌, ℕ, suc, ◌+◌, ◌≤◌, ◌<◌, List, [], ◌∷◌, ◌++◌, length, Some, None, ℤ, refl, sym, ap, ◌∙◌, subst, arith, inl, inr, ⊎_elim}
-use Rattle.std.specs.Prelude.{pos, Bool, true, false, ◌-ℤ◌}
+use Rattle.std.proofs.Common.{◌≡◌, ℕ, suc, ◌+◌, ◌≤◌, ◌<◌, List, [], ◌∷◌, length, Some, None, ℤ, refl, sym, ap, ◌∙◌, subst, arith, inr, ⊎_elim}
+use Rattle.std.specs.Prelude.{pos, Bool, true, false}
 use Rattle.ob_tree.specs.declared.pos.Pos.{Pos}
 use Rattle.ob_tree.specs.declared.names.QName.{QName}
 use Rattle.ob_types.specs.declared.types.TypeRef.{TypeRef}
@@ -10,13 +10,13 @@ use Rattle.ob_types.specs.declared.typed.Made.TheVariants as made_of
 use Rattle.ob_types.specs.TypedSyntax.{Desig, OfVariable, Field, Index, Deref, Guard, Expr, ValueOf, IsPointer, Assign, New}
 use Rattle.ob_instr.specs.declared.opcode.Opcode.TheVariants as op
 use Rattle.ob_instr.specs.Image.{World}
-use Rattle.ob_instr.specs.Rows.{tag, made, tag_passes, passes_at, pointer_passes}
+use Rattle.ob_instr.specs.Rows.{tag, made, passes_at, pointer_passes}
 use Rattle.ob_instr.proofs.Goes as rows
 use Rattle.ob_mem.specs.Words.{word_at}
-use Rattle.ob_meaning.specs.Values.{Form, PointerForm, RecordForm, fields_of, form_in, record_in, bases_in, is_among, line_of, Value, Nil, Object, OfObject, Place, At, value_at, AnObject, Whole, Active, State}
+use Rattle.ob_meaning.specs.Values.{Form, PointerForm, form_in, record_in, is_among, line_of, Value, Nil, Object, OfObject, Place, At, value_at, AnObject, Whole, Active, State}
 use Rattle.ob_meaning.specs.Results.{Trapped, Gives, Stops, read, assign, Caller}
-use Rattle.ob_meaning.specs.Meaning.{choose, place, pointee, pointee_type, dynamic_type, guarded_place, is_extension}
-use Rattle.ob_relation.specs.Layout.{static_held, type_number, object_at, object_offset, address, place_form, heap_start}
+use Rattle.ob_meaning.specs.Meaning.{choose, place, pointee_type, guarded_place, is_extension}
+use Rattle.ob_relation.specs.Layout.{static_held, type_number, object_at, address, place_form}
 use Rattle.ob_relation.specs.Relation.{Fine, IsPointer as PointsTo, word_of, Scalar, PlaceIn, PlaceOf, Sub, itself}
 use Rattle.ob_relation.specs.Need.{need_place, need_tagged}
 use Rattle.ob_relation.specs.Ends.{end_place, end_expr}
@@ -24,10 +24,10 @@ use Rattle.ob_relation.specs.Stands as code
 use Rattle.ob_relation.specs.Typed as typed
 use Rattle.ob_relation.specs.Typed.{boolean, TestOk}
 use Rattle.ob_relation.proofs.Steps.{here, Follows, follows_bind, follows_value, follows_stop, follows_map, stands_any}
-use Rattle.ob_relation.proofs.Statements.{Activation, scope, go, fb, K, here_in, Keeps, PlaceTo, PlaceKept, ValueTo, ValueKept, PlaceFollows, ExprFollows, StmtFollows, DesigOk}
+use Rattle.ob_relation.proofs.Statements.{Activation, scope, go, fb, K, here_in, Keeps, PlaceTo, ValueTo, ValueKept, PlaceFollows, ExprFollows, StmtFollows, DesigOk}
 use Rattle.ob_relation.proofs.Grow.{G, place_more, form_same, address_same}
 use Rattle.ob_relation.proofs.Places.{Ex}
-use Rattle.ob_relation.proofs.Located.{located, spot}
+use Rattle.ob_relation.proofs.Located.{spot}
 use Rattle.ob_relation.proofs.Needs.{need_one, need_one_e}
 use Rattle.ob_relation.proofs.Moves.{goes, traps}
 use Rattle.ob_relation.proofs.Values.{sub_scalar, widen}

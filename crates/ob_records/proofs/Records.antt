@@ -1,5 +1,5 @@
 -- Record parameters by VAR, their tags, and tests and guards on them.
-use Rattle.std.proofs.Common.{◌≡◌, ℕ, suc, ◌+◌, ◌≤◌, List, [], ◌∷◌, length, Some, None, ℤ, refl, sym, ap, ◌∙◌, subst, arith}
+use Rattle.std.proofs.Common.{◌≡◌, ℕ, suc, ◌+◌, ◌≤◌, List, ◌∷◌, length, Some, None, ℤ, refl, sym, ap, ◌∙◌, subst, arith}
 use Rattle.std.specs.Prelude.{pos, Bool, true, false}
 use Rattle.ob_tree.specs.declared.pos.Pos.{Pos}
 use Rattle.ob_tree.specs.declared.names.QName.{QName}
@@ -16,10 +16,10 @@ use Rattle.ob_instr.proofs.Goes as rows
 use Rattle.ob_meaning.specs.Values.{Form, RecordForm, fields_of, line_of, form_in, record_in, is_among, type_of, Place, value_at, Active, AnObject, State}
 use Rattle.ob_meaning.specs.Results.{Trapped, Gives, Stops, Caller}
 use Rattle.ob_meaning.specs.Meaning.{place, place_of, choose, guarded_place, is_extension}
-use Rattle.ob_relation.specs.Layout.{type_number, slot, form_named, static_held, address, place_form}
-use Rattle.ob_relation.specs.Relation.{PlaceIn, PlaceOf, Sub, second_word}
+use Rattle.ob_relation.specs.Layout.{type_number, slot, static_held, address, place_form}
+use Rattle.ob_relation.specs.Relation.{PlaceOf, Sub, second_word}
 use Rattle.ob_relation.specs.Need.{need_tagged}
-use Rattle.ob_relation.specs.Ends.{end_place, end_tagged, end_tag}
+use Rattle.ob_relation.specs.Ends.{end_tagged, end_tag}
 use Rattle.ob_relation.specs.Stands as code
 use Rattle.ob_relation.specs.Typed.{As, IsReferred, boolean, TestOk, IsVariableRecord}
 use Rattle.ob_relation.proofs.Steps.{Reach, here, then_reach, Follows, follows_bind, follows_value, follows_stop, follows_map, stands_any}

@@ -1,5 +1,5 @@
 -- The second word in the slots of a parameter by VAR: a record's tag.
-use Rattle.std.proofs.Common.{◌≡◌, ℕ, zero, suc, ◌+◌, List, [], ◌∷◌, ◌++◌, length, Some, refl, sym, ap, ◌∙◌, subst, arith}
+use Rattle.std.proofs.Common.{◌≡◌, ℕ, zero, suc, ◌+◌, List, [], ◌∷◌, ◌++◌, length, Some, refl, sym, ap, ◌∙◌, arith}
 use Rattle.std.specs.Prelude.{ℤ, pos, Bool, true, false, bytes_eq, replicate, if◌then◌else◌}
 use Rattle.ob_mem.specs.Words.{word_at}
 use Rattle.ob_instr.specs.Image.{World}
