@@ -55,10 +55,10 @@ module _ (c : Setting) (a : Activation c) (n : ℕ) (call : Caller) where
 
     -- ASSIGNMENT
 
-    abbrev plain_to : ℕ → List ℤ → Unit {0} → State → World → Point
+    abbrev pub plain_to : ℕ → List ℤ → Unit {0} → State → World → Point
     plain_to pc ops u s w = go c a pc ops w
 
-    abbrev plain_kept : List AnObject → Unit {0} → State → World → Type 0
+    abbrev pub plain_kept : List AnObject → Unit {0} → State → World → Type 0
     plain_kept os u s w = Kp os s w
 
     pub store_follows : (p : Place) (t : Form) (v : Value) (pc : ℕ) (ops : List ℤ) (os : List AnObject) (s : State) (w : World) → length ops ≤ 256 → code.Has (scope c a) pc (code.plain op.Store) → Scalar t → PlaceOf c.program (has_of c) c.img s.made (K c a) t p → F s.made t v → Kp os s w → Follows c (go c a pc (W s.made v ∷ pos (address c.program c.img s.made (K c a) p) ∷ ops) w) (plain_to (suc pc) ops) (plain_kept os) (assign p v s)

@@ -7,28 +7,56 @@ use Rattle.ob_types.specs.declared.typed.OutProcedure.TheVariants as out
 use Rattle.ob_types.specs.declared.typed.Made.TheVariants as made
 use Rattle.ob_types.specs.declared.typed.Update.TheVariants as update
 use Rattle.ob_types.specs.declared.typed.Passing.TheVariants as passing
+use Rattle.ob_types.specs.declared.typed.Variable.{Variable}
+use Rattle.ob_types.specs.declared.typed.Variable.TheVariants as variable
+use Rattle.ob_types.specs.declared.typed.Guarded.TheVariants as guarded
 use Rattle.ob_types.specs.declared.typed.Callee.TheVariants as callee
 use Rattle.ob_types.specs.declared.typed.Assigned.TheVariants as assigned
-use Rattle.ob_types.specs.TypedSyntax.{Desig, OfVariable, Field, Index, Deref, Expr, Constant, ValueOf, Monadic, Dyadic, Logical, Call, Actuals, NoActual, AnActual, Stmt, Assign, CallProper, Updated, Assert, Halt, If, While, Repeat, Loop, Exit, Return, Stmts, Nothing, Then, Branches, NoBranch, Branch, New, Procedure}
+use Rattle.ob_types.specs.TypedSyntax.{Desig, OfVariable, Field, Index, Deref, Guard, Expr, Constant, ValueOf, Monadic, Dyadic, Logical, IsPointer, IsRecord, Call, Actuals, NoActual, AnActual, Stmt, Assign, CallProper, Updated, Assert, Halt, If, While, Repeat, Loop, Exit, Return, With, Stmts, Nothing, Then, Branches, NoBranch, Branch, NoElse, Else, New, Procedure}
 use Rattle.ob_meaning.specs.Values as values
 use Rattle.ob_relation.specs.Setting.{Setting}
 
 use Rattle.ob_relation.specs.Plain.{Plain, PlainBinary, PlainUnary, PlainLiteral}
 
+abbrev pub InVariable : Variable → Type 0
+InVariable (variable.Parameter passing.VariableRecord x) = Unit {0}
+InVariable v = Plain v
+
 abbrev mutual
   pub InDesig : Desig → Type 0
-  InDesig (OfVariable v t) = Plain v
+  InDesig (OfVariable v t) = InVariable v
   InDesig (Field d o x t) = InDesig d
-  InDesig (Deref d at t) = InDesig d
+  InDesig (Deref d at t) = InHolder d
   InDesig (Index d (Some l) i at t) = InDesig d × InExpr i
+  InDesig (Guard d guarded.Record q at t) = InTagged d
   InDesig d = ⊥
+
+  -- what holds a scalar of a type for now: also a guarded pointer
+  pub InHolder : Desig → Type 0
+  InHolder (OfVariable v t) = InVariable v
+  InHolder (Field d o x t) = InDesig d
+  InHolder (Deref d at t) = InHolder d
+  InHolder (Index d (Some l) i at t) = InDesig d × InExpr i
+  InHolder (Guard d guarded.Pointer q at t) = InHolder d
+  InHolder d = ⊥
+
+  -- a record by its address and tag
+  pub InTagged : Desig → Type 0
+  InTagged (OfVariable v t) = InVariable v
+  InTagged (Field d o x t) = InDesig d
+  InTagged (Deref d at t) = InHolder d
+  InTagged (Index d (Some l) i at t) = InDesig d × InExpr i
+  InTagged (Guard d guarded.Record q at t) = InTagged d
+  InTagged d = ⊥
 
   pub InExpr : Expr → Type 0
   InExpr (Constant l) = PlainLiteral l
-  InExpr (ValueOf d) = InDesig d
+  InExpr (ValueOf d) = InHolder d
   InExpr (Monadic o e at) = PlainUnary o × InExpr e
   InExpr (Dyadic o x y at) = PlainBinary o × (InExpr x × InExpr y)
   InExpr (Logical o x y) = InExpr x × InExpr y
+  InExpr (IsPointer e q) = InExpr e
+  InExpr (IsRecord d q) = Unit {0}
   InExpr (Call (callee.Declared q) es at r) = InActuals es
   InExpr e = ⊥
 
@@ -44,12 +72,13 @@ InOptional (Some e) = InExpr e
 
 abbrev mutual
   pub InStmt : Stmt → Type 0
-  InStmt (Assign d assigned.Scalar e at) = InDesig d × InExpr e
+  InStmt (Assign d assigned.Scalar e at) = InHolder d × InExpr e
+  InStmt (Assign d (assigned.Record q) (ValueOf e) at) = InTagged d × InDesig e
   InStmt (CallProper (Call (callee.Declared q) es at r)) = InActuals es
   InStmt (CallProper (Call (callee.Out out.Ln) NoActual at r)) = Unit {0}
   InStmt (CallProper (Call (callee.Out out.Char) (AnActual passing.Scalar (ref.Basic basic.Char) e NoActual) at r)) = InExpr e
   InStmt (CallProper (Call (callee.Out out.Int) (AnActual passing.Scalar (ref.Basic basic.LongInt) e (AnActual passing.Scalar (ref.Basic basic.LongInt) f NoActual)) at r)) = InExpr e × InExpr f
-  InStmt (New d (made.Record q) at) = InDesig d
+  InStmt (New d (made.Record q) at) = InHolder d
   InStmt (Updated (update.Inc w) d e at) = InDesig d × InExpr e
   InStmt (Updated (update.Dec w) d e at) = InDesig d × InExpr e
   InStmt (Assert e number at) = InExpr e
@@ -60,6 +89,8 @@ abbrev mutual
   InStmt (Loop body at) = InStmts body
   InStmt Exit = Unit {0}
   InStmt (Return e) = InOptional e
+  InStmt (With branches NoElse at) = InBranches branches
+  InStmt (With branches (Else body) at) = InBranches branches × InStmts body
   InStmt t = ⊥
 
   pub InStmts : Stmts → Type 0
