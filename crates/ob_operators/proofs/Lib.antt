@@ -1,0 +1,4 @@
+pub mod Sets
+pub mod Numbers
+pub mod Same
+pub mod Rows
