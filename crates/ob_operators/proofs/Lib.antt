@@ -2,3 +2,4 @@ pub mod Sets
 pub mod Numbers
 pub mod Same
 pub mod Rows
+pub mod Exprs
