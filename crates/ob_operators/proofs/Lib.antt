@@ -3,3 +3,4 @@ pub mod Numbers
 pub mod Same
 pub mod Rows
 pub mod Exprs
+pub mod Updates

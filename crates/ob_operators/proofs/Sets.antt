@@ -201,3 +201,23 @@ words_agree f g e = let same : bits_below 32 f ≡ bits_below 32 g = sym (unsign
 
 pub agree_words : (f g : ℕ → Bool) → agree_below 32 f g ≡ true → set_word f ≡ set_word g
 agree_words f g e = set_same f g (agree_is 32 f g e)
+
+-- WITH ONE ELEMENT MORE OR LESS
+
+or_turned : (x y : Bool) → (x || y) ≡ (y || x)
+or_turned true true = refl
+or_turned true false = refl
+or_turned false true = refl
+or_turned false false = refl
+
+and_turned : (x y : Bool) → (x && y) ≡ (y && x)
+and_turned true true = refl
+and_turned true false = refl
+and_turned false true = refl
+and_turned false false = refl
+
+pub with_one : (f : ℕ → Bool) (i : ℕ) → i < 32 → int_bit_or w32 (set_word f) (set_from i i) ≡ set_word (λ k. nat_eq k i || f k)
+with_one f i lt = ap (int_bit_or w32 (set_word f)) (element_set i lt) ∙ or_set f (λ k. nat_eq k i) ∙ set_same (λ k. f k || nat_eq k i) (λ k. nat_eq k i || f k) (λ k small. or_turned (f k) (nat_eq k i))
+
+pub without_one : (f : ℕ → Bool) (i : ℕ) → i < 32 → int_bit_and w32 (set_word f) (int_bit_not w32 (set_from i i)) ≡ set_word (λ k. not (nat_eq k i) && f k)
+without_one f i lt = ap (λ z. int_bit_and w32 (set_word f) (int_bit_not w32 z)) (element_set i lt) ∙ minus_set f (λ k. nat_eq k i) ∙ set_same (λ k. f k && not (nat_eq k i)) (λ k. not (nat_eq k i) && f k) (λ k small. and_turned (f k) (not (nat_eq k i)))
