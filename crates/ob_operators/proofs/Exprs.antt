@@ -35,16 +35,12 @@ use Rattle.ob_relation.proofs.Grow.{scalar_word, fine_more}
 use Rattle.ob_relation.proofs.Needs.{need_one_e}
 use Rattle.ob_relation.proofs.Moves.{goes, traps, effect}
 use Rattle.ob_relation.proofs.Values.{RowIs, UnaryIs}
-use Rattle.ob_relation.proofs.Exprs.{from_here, since, widen_kept, constant_case}
+use Rattle.ob_relation.proofs.Exprs.{from_here, since, widen_kept, constant_case, int_goes, row_follows, binary_scalar, unary_follows, after_is}
 use Rattle.ob_relation.proofs.Actuals.{procedure_found}
 use Rattle.ob_relation.specs.Setting.{Setting, has_of}
 use Rattle.ob_operators.specs.Procedures.{ValuesNumbered}
 use Rattle.ob_operators.proofs.Sets.{literal_set}
 use Rattle.ob_operators.proofs.Rows.{any_binary_row, any_unary_row}
-
-abbrev after : Option Instr → ℕ → ℕ
-after None pc = pc
-after (Some i) pc = suc pc
 
 module _ (c : Setting) (a : Activation c) (n : ℕ) (call : Caller) (b : ℕ) where
   abbrev E : Expr → Type 0
@@ -67,65 +63,19 @@ module _ (c : Setting) (a : Activation c) (n : ℕ) (call : Caller) (b : ℕ) wh
 
   -- OPERATORS
 
-  pub row_follows : (o : Computed) (i : Instr) (at : Pos) (pc : ℕ) (ops0 ops : List ℤ) (t : Form) (os : List AnObject) (s : State) (w : World) → length ops + 1 ≤ 256 → code.HasAt (scope c a) pc i at → RowIs c s.made a pc w ops (effect c a pc ops0 w i) o t → Kp os s w → Follows c (go c a pc ops0 w) (VTo (suc pc) ops) (VKept t os) (computed o (here_in c a n call b) at s)
-  row_follows (Is v) i at pc ops0 ops t os s w le has r st = follows_value c w (goes c a _ w has.has r.0 (omega (arith, le))) (r.1, st)
-  row_follows (Traps k) i at pc ops0 ops t os s w le has r st = follows_stop c w (traps c a k (pos 0) w has r) (stands_any c st)
-
-  abbrev BinaryOk : Binary → Form → Form → Form → Type 0
-  BinaryOk o t u r = typed.BinaryOk c.program (has_of c) a.unit (static_held c.program a.procedure) a.procedure.result o t u r
-
-  binary_scalar : (o : Binary) (t u r : Form) → BinaryOk o t u r → Scalar t
-  binary_scalar _ _ _ _ (typed.sum v) = tt
-  binary_scalar _ _ _ _ (typed.difference v) = tt
-  binary_scalar _ _ _ _ (typed.product v) = tt
-  binary_scalar _ _ _ _ (typed.quotient v) = tt
-  binary_scalar _ _ _ _ (typed.remainder v) = tt
-  binary_scalar _ _ _ _ typed.union = tt
-  binary_scalar _ _ _ _ typed.without = tt
-  binary_scalar _ _ _ _ typed.meet = tt
-  binary_scalar _ _ _ _ typed.either = tt
-  binary_scalar _ _ _ _ typed.range = tt
-  binary_scalar _ _ _ _ typed.inside = tt
-  binary_scalar _ _ _ _ typed.ash = tt
-  binary_scalar _ _ _ _ (typed.integers r) = tt
-  binary_scalar _ _ _ _ (typed.chars r) = tt
-  binary_scalar _ _ _ _ (typed.booleans r q) = tt
-  binary_scalar _ _ _ _ (typed.sets r q) = tt
-  binary_scalar _ _ _ _ (typed.pointers r t u q) = tt
-  binary_scalar _ _ _ _ (typed.procedures r t u q) = tt
-
   pub any_dyadic_case : (o : Binary) (x y : Expr) (at : Pos) → ValuesNumbered c → E x → E y → E (Dyadic o x y at)
   any_dyadic_case o x y at nu ih_x ih_y t pc k ops os s w le has ok st =
       let p1 = end_expr c.program x pc in
       follows_map c
       (follows_bind c (ih_x ok.0 pc k ops os s w (omega (arith, le)) has.0 ok.4 st) λ v s1 w1 k1.
       follows_bind c (ih_y ok.1 p1 _ (W s1.made v ∷ ops) s1.made s1 w1 (omega (arith, le)) has.1.0 ok.5 (from_here c a n call b k1.1)) λ u s2 w2 k2.
-      let sc = binary_scalar o ok.0 ok.1 ok.2 ok.3 in
+      let sc = binary_scalar c a n call b o ok.0 ok.1 ok.2 ok.3 in
       let same = scalar_word c s1.made s2.made k2.1.objects ok.0 v sc k1.0 in
       subst (λ z. Follows c (go c a (end_expr c.program y p1) (W s2.made u ∷ z ∷ ops) w2) (VTo (suc (end_expr c.program y p1)) ops) (VKept ok.2 os) (computed (compute_both o v u) (here_in c a n call b) at s2)) same
-      (row_follows (compute_both o v u) (binary_code o) at (end_expr c.program y p1) (W s2.made u ∷ W s2.made v ∷ ops) ops ok.2 os s2 w2 (omega (arith, le, need_one_e y)) has.1.1
+      (row_follows c a n call b (compute_both o v u) (binary_code o) at (end_expr c.program y p1) (W s2.made u ∷ W s2.made v ∷ ops) ops ok.2 os s2 w2 (omega (arith, le, need_one_e y)) has.1.1
       (any_binary_row c s2.made a (end_expr c.program y p1) w2 ops o ok.0 ok.1 ok.2 nu ok.3 v u (fine_more c s1.made s2.made k2.1.objects ok.0 v k1.0) k2.0)
       (since c a n call b k1.1.objects k2.1)))
       (λ v s w k. here c _) (λ v s w k. widen_kept c a n call b _ t os v s w ok.6 k)
-
-  unary_follows : (i : Option Instr) (o : Unary) (at : Pos) (pc : ℕ) (ops : List ℤ) (u : Form) (os : List AnObject) (v : Value) (s : State) (w : World) → length ops + 1 ≤ 256 → code.UnaryCode (scope c a) i pc at → UnaryIs c s.made a pc w ops i o u v → Kp os s w → Follows c (go c a pc (W s.made v ∷ ops) w) (VTo (after i pc) ops) (VKept u os) (computed (compute o v) (here_in c a n call b) at s)
-  unary_follows None o at pc ops u os v s w le has r st =
-      subst (λ q. Follows c (go c a pc (W s.made v ∷ ops) w) (VTo pc ops) (VKept u os) (computed q (here_in c a n call b) at s)) (sym r.1)
-      (follows_value c w (subst (λ z. Reach c (go c a pc (z ∷ ops) w) (go c a pc (W s.made r.0 ∷ ops) w)) r.2 (here c _)) (r.3, st))
-  unary_follows (Some i) o at pc ops u os v s w le has r st = row_follows (compute o v) i at pc (W s.made v ∷ ops) ops u os s w le has r st
-
-  after_is : (o : Unary) (pc : ℕ) → after (unary_code o) pc ≡ end_unary o pc
-  after_is (unary.Negate v) pc = refl
-  after_is unary.Not pc = refl
-  after_is unary.Complement pc = refl
-  after_is (unary.Abs v) pc = refl
-  after_is unary.Cap pc = refl
-  after_is unary.Chr pc = refl
-  after_is (unary.Long v) pc = refl
-  after_is unary.Odd pc = refl
-  after_is unary.Ord pc = refl
-  after_is (unary.Short v) pc = refl
-  after_is unary.Element pc = refl
 
   abbrev out_form : Unary → Form
   out_form o = typed.unary_out c.program (has_of c) a.unit (static_held c.program a.procedure) a.procedure.result o
@@ -135,16 +85,15 @@ module _ (c : Setting) (a : Activation c) (n : ℕ) (call : Caller) (b : ℕ) wh
       let p1 = end_expr c.program x pc in
       follows_map c
       (follows_bind c (ih (typed.unary_in c.program (has_of c) a.unit (static_held c.program a.procedure) a.procedure.result o) pc k ops os s w le has.0 ok.0 st) λ v s1 w1 k1.
-      subst (λ z. Follows c (go c a p1 (W s1.made v ∷ ops) w1) (VTo z ops) (VKept (out_form o) os) (computed (compute o v) (here_in c a n call b) at s1)) (after_is o p1)
-      (unary_follows (unary_code o) o at p1 ops (out_form o) os v s1 w1 (omega (arith, le, need_one_e x)) has.1 (any_unary_row c s1.made a p1 w1 ops o v k1.0) k1.1))
+      subst (λ z. Follows c (go c a p1 (W s1.made v ∷ ops) w1) (VTo z ops) (VKept (out_form o) os) (computed (compute o v) (here_in c a n call b) at s1)) (after_is c a n call b o p1)
+      (unary_follows c a n call b (unary_code o) o at p1 ops (out_form o) os v s1 w1 (omega (arith, le, need_one_e x)) has.1 (any_unary_row c s1.made a p1 w1 ops o v k1.0) k1.1))
       (λ v s w k. here c _) (λ v s w k. widen_kept c a n call b _ t os v s w ok.1 k)
 
   -- LITERALS
 
   set_case : (x : ℕ) → E (Constant (literal.Set x))
   set_case x t pc at ops os s w le has ok st =
-      let reach = goes c a _ w has (rows.int_next c.img a.u a.m a.p (fb c a) pc w (literal_word (literal.Set x)) ops) (omega (arith, le)) in
-      follows_value c w (subst (λ z. Reach c (go c a pc ops w) (go c a (suc pc) (z ∷ ops) w)) (sym (literal_set x ok.0)) reach)
+      follows_value c w (subst (λ z. Reach c (go c a pc ops w) (go c a (suc pc) (z ∷ ops) w)) (sym (literal_set x ok.0)) (int_goes c a n call b (literal_word (literal.Set x)) pc ops w le has))
       (subst (λ u. F s.made u (constant_value (literal.Set x))) (sym ok.1) (_, refl), st)
 
   pub any_constant_case : (l : Literal) → E (Constant l)

@@ -4,3 +4,4 @@ pub mod Same
 pub mod Rows
 pub mod Exprs
 pub mod Updates
+pub mod For

@@ -28,7 +28,7 @@ use Rattle.ob_relation.specs.Stands.{unary_code, binary_code}
 use Rattle.ob_relation.specs.Plain.{PlainBinary, PlainUnary}
 use Rattle.ob_relation.proofs.Statements.{Activation}
 use Rattle.ob_relation.proofs.Moves.{effect}
-use Rattle.ob_relation.proofs.Values.{RowIs, Row2, UnaryIs, integer_is, is_integer, binary_row, unary_row, width_same}
+use Rattle.ob_relation.proofs.Values.{RowIs, Row2, UnaryIs, at_values, one_value, integer_is, is_integer, binary_row, unary_row, width_same}
 use Rattle.ob_relation.specs.Setting.{Setting, has_of}
 use Rattle.ob_operators.specs.Procedures.{ValuesNumbered}
 use Rattle.ob_operators.proofs.Numbers.{same_remainder, remainder_in, same_shift, same_odd, same_capital, capital_small, is_code, code_is}
@@ -50,12 +50,6 @@ module _ (c : Setting) (os : List AnObject) (a : Activation c) (pc : ℕ) (w : W
 
   abbrev RIs : Effect → Computed → Form → Type 0
   RIs e o t = RowIs c os a pc w ops e o t
-
-  both_values : (o : Binary) (t : Form) (x y x2 y2 : Value) → x ≡ x2 → y ≡ y2 → Is2 o t x2 y2 → Is2 o t x y
-  both_values o t x y x2 y2 e f h = subst (λ x. Is2 o t x y) (sym e) (subst (λ y. Is2 o t x2 y) (sym f) h)
-
-  one_value : (o : Unary) (t : Form) (x x2 : Value) → x ≡ x2 → Is1 o t x2 → Is1 o t x
-  one_value o t x x2 e h = subst (λ x. Is1 o t x) (sym e) h
 
   -- NUMBERS
 
@@ -187,30 +181,30 @@ module _ (c : Setting) (os : List AnObject) (a : Activation c) (pc : ℕ) (w : W
   any_binary_row _ _ _ _ nu (typed.difference v) x y h k = binary_row c os a pc w ops _ _ _ _ tt (typed.difference v) x y h k
   any_binary_row _ _ _ _ nu (typed.product v) x y h k = binary_row c os a pc w ops _ _ _ _ tt (typed.product v) x y h k
   any_binary_row _ _ _ _ nu (typed.quotient v) x y h k = binary_row c os a pc w ops _ _ _ _ tt (typed.quotient v) x y h k
-  any_binary_row _ _ _ _ nu (typed.remainder v) x y h k = let i = integer_is c os v x h in let j = integer_is c os v y k in both_values (binary.Remainder v) (integer v) x y _ _ i.2 j.2 (remainder_row v i.0 j.0 j.1)
-  any_binary_row _ _ _ _ nu typed.union x y h k = both_values binary.Union set x y _ _ h.1 k.1 (union_row h.0 k.0)
-  any_binary_row _ _ _ _ nu typed.without x y h k = both_values binary.Difference set x y _ _ h.1 k.1 (difference_row h.0 k.0)
-  any_binary_row _ _ _ _ nu typed.meet x y h k = both_values binary.Intersection set x y _ _ h.1 k.1 (intersection_row h.0 k.0)
-  any_binary_row _ _ _ _ nu typed.either x y h k = both_values binary.SymmetricDifference set x y _ _ h.1 k.1 (symmetric_row h.0 k.0)
-  any_binary_row _ _ _ _ nu typed.range x y h k = both_values binary.Range set x y _ _ h.2 k.2 (range_row h.0 k.0)
-  any_binary_row _ _ _ _ nu typed.inside x y h k = both_values binary.In boolean x y _ _ h.2 k.1 (in_row h.0 k.0)
-  any_binary_row _ _ _ _ nu typed.ash x y h k = both_values binary.Ash longint x y _ _ h.2 k.2 (ash_row h.0 k.0)
+  any_binary_row _ _ _ _ nu (typed.remainder v) x y h k = let i = integer_is c os v x h in let j = integer_is c os v y k in at_values c os a pc w ops (binary.Remainder v) (integer v) x y _ _ i.2 j.2 (remainder_row v i.0 j.0 j.1)
+  any_binary_row _ _ _ _ nu typed.union x y h k = at_values c os a pc w ops binary.Union set x y _ _ h.1 k.1 (union_row h.0 k.0)
+  any_binary_row _ _ _ _ nu typed.without x y h k = at_values c os a pc w ops binary.Difference set x y _ _ h.1 k.1 (difference_row h.0 k.0)
+  any_binary_row _ _ _ _ nu typed.meet x y h k = at_values c os a pc w ops binary.Intersection set x y _ _ h.1 k.1 (intersection_row h.0 k.0)
+  any_binary_row _ _ _ _ nu typed.either x y h k = at_values c os a pc w ops binary.SymmetricDifference set x y _ _ h.1 k.1 (symmetric_row h.0 k.0)
+  any_binary_row _ _ _ _ nu typed.range x y h k = at_values c os a pc w ops binary.Range set x y _ _ h.2 k.2 (range_row h.0 k.0)
+  any_binary_row _ _ _ _ nu typed.inside x y h k = at_values c os a pc w ops binary.In boolean x y _ _ h.2 k.1 (in_row h.0 k.0)
+  any_binary_row _ _ _ _ nu typed.ash x y h k = at_values c os a pc w ops binary.Ash longint x y _ _ h.2 k.2 (ash_row h.0 k.0)
   any_binary_row _ _ _ _ nu (typed.integers r) x y h k = binary_row c os a pc w ops _ _ _ _ tt (typed.integers r) x y h k
   any_binary_row _ _ _ _ nu (typed.chars r) x y h k = binary_row c os a pc w ops _ _ _ _ tt (typed.chars r) x y h k
   any_binary_row _ _ _ _ nu (typed.booleans r q) x y h k = binary_row c os a pc w ops _ _ _ _ tt (typed.booleans r q) x y h k
-  any_binary_row _ _ _ _ nu (typed.sets r q) x y h k = both_values (binary.Compare r compared.Set) boolean x y _ _ h.1 k.1 (sets_row r q h.0 k.0)
+  any_binary_row _ _ _ _ nu (typed.sets r q) x y h k = at_values c os a pc w ops (binary.Compare r compared.Set) boolean x y _ _ h.1 k.1 (sets_row r q h.0 k.0)
   any_binary_row _ _ _ _ nu (typed.pointers r t u q) x y h k = equal_row r q (Nv x) (Nv y) (is_same x y) (pointers_same c os t u x y h k)
   any_binary_row _ _ _ _ nu (typed.procedures r t u q) x y h k = equal_row r q (Nv x) (Nv y) (is_same x y) (procedures_same c os nu t u x y h k)
 
   pub any_unary_row : (o : Unary) → (x : Value) → Fv (input o) x → Is1 o (output o) x
   any_unary_row (unary.Negate v) x h = unary_row c os a pc w ops (unary.Negate v) tt x h
   any_unary_row unary.Not x h = unary_row c os a pc w ops unary.Not tt x h
-  any_unary_row unary.Complement x h = one_value unary.Complement set x _ h.1 (complement_row h.0)
+  any_unary_row unary.Complement x h = one_value c os a pc w ops unary.Complement set x _ h.1 (complement_row h.0)
   any_unary_row (unary.Abs v) x h = unary_row c os a pc w ops (unary.Abs v) tt x h
-  any_unary_row unary.Cap x h = one_value unary.Cap char x _ h.2 (cap_row h.0 h.1)
-  any_unary_row unary.Chr x h = one_value unary.Chr char x _ h.2 (chr_row h.0)
+  any_unary_row unary.Cap x h = one_value c os a pc w ops unary.Cap char x _ h.2 (cap_row h.0 h.1)
+  any_unary_row unary.Chr x h = one_value c os a pc w ops unary.Chr char x _ h.2 (chr_row h.0)
   any_unary_row (unary.Long v) x h = unary_row c os a pc w ops (unary.Long v) tt x h
-  any_unary_row unary.Odd x h = one_value unary.Odd boolean x _ h.2 (odd_row h.0)
+  any_unary_row unary.Odd x h = one_value c os a pc w ops unary.Odd boolean x _ h.2 (odd_row h.0)
   any_unary_row unary.Ord x h = unary_row c os a pc w ops unary.Ord tt x h
   any_unary_row (unary.Short v) x h = unary_row c os a pc w ops (unary.Short v) tt x h
-  any_unary_row unary.Element x h = one_value unary.Element set x _ h.2 (element_row h.0)
+  any_unary_row unary.Element x h = one_value c os a pc w ops unary.Element set x _ h.2 (element_row h.0)
