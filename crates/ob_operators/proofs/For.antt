@@ -4,10 +4,11 @@ use Rattle.std.proofs.lemmas.Bool.Decides.{nat_tests}
 use Rattle.std.specs.Prelude.{pos, negsuc, Bool, true, false, not, int_lt, int_le, if◌then◌else◌}
 use Rattle.ob_tree.specs.declared.pos.Pos.{Pos}
 use Rattle.ob_types.specs.declared.typed.Width.{Width}
+use Rattle.ob_types.specs.declared.typed.Passing.TheVariants as passing
 use Rattle.ob_types.specs.declared.typed.Variable.{Variable}
 use Rattle.ob_types.specs.declared.typed.Variable.TheVariants as variable
 use Rattle.ob_types.specs.declared.typed.Update.TheVariants as update
-use Rattle.ob_types.specs.TypedSyntax.{Expr, For, Stmts}
+use Rattle.ob_types.specs.TypedSyntax.{Expr, Stmt, For, Stmts}
 use Rattle.ob_instr.specs.declared.opcode.Opcode.TheVariants as op
 use Rattle.ob_instr.specs.Image.{World, Point}
 use Rattle.ob_instr.specs.Rows.{Next, truth}
@@ -24,7 +25,7 @@ use Rattle.ob_relation.specs.Typed as typed
 use Rattle.ob_relation.specs.Typed.{integer, longint}
 use Rattle.ob_relation.specs.Plain.{Plain}
 use Rattle.ob_relation.proofs.Steps.{Reach, here, Follows, follows_bind, follows_after, follows_value, follows_map}
-use Rattle.ob_relation.proofs.Statements.{Activation, scope, go, fb, K, here_in, Keeps, PlaceTo, PlaceKept, ValueTo, ValueKept, FlowTo, FlowKept, ExitLies, RoundTo, RoundKept}
+use Rattle.ob_relation.proofs.Statements.{Activation, scope, go, fb, K, here_in, Keeps, PlaceTo, PlaceKept, ValueTo, ValueKept, StmtsFollow, FlowTo, FlowKept, ExitLies, RoundTo, RoundKept}
 use Rattle.ob_relation.proofs.Grow.{address_same, place_of_more}
 use Rattle.ob_relation.proofs.Located.{spot}
 use Rattle.ob_relation.proofs.Behind.{expr_ends, stmts_end}
@@ -42,6 +43,16 @@ at_most (pos m) (negsuc n) = refl
 at_most (negsuc m) (pos n) = refl
 at_most (negsuc m) (negsuc n) = grind (arith, nat_tests)
 
+variable_ends : (v : Variable) (pc : ℕ) → suc pc ≤ end_variable v pc
+variable_ends (variable.Module m x) pc = omega arith
+variable_ends (variable.Local x) pc = omega arith
+variable_ends (variable.Parameter passing.Scalar x) pc = omega arith
+variable_ends (variable.Parameter passing.Structure x) pc = omega arith
+variable_ends (variable.Parameter passing.OpenArray x) pc = omega arith
+variable_ends (variable.Parameter passing.Variable x) pc = omega arith
+variable_ends (variable.Parameter passing.VariableRecord x) pc = omega arith
+variable_ends (variable.Parameter passing.VariableOpenArray x) pc = omega arith
+
 module _ (c : Setting) (a : Activation c) (n : ℕ) (call : Caller) where
   abbrev W : List AnObject → Value → ℤ
   W os v = word_of c.program (has_of c) c.img os v
@@ -51,6 +62,16 @@ module _ (c : Setting) (a : Activation c) (n : ℕ) (call : Caller) where
 
   abbrev pub VariableOk : Variable → Form → Type 0
   VariableOk v t = typed.VariableOk c.program (has_of c) a.unit (static_held c.program a.procedure) a.procedure.result v t
+
+  abbrev StmtOk : Stmt → Bool → Type 0
+  StmtOk t l = typed.StmtOk c.program (has_of c) a.unit (static_held c.program a.procedure) a.procedure.result t l
+
+  -- where the test of FOR begins, and its jump back
+  abbrev loop_start : Variable → Expr → Expr → ℕ → ℕ
+  loop_start v start end pc = suc (end_expr c.program start (end_variable v (suc (end_expr c.program end (suc pc)))))
+
+  abbrev loop_back : Variable → Expr → Expr → Stmts → ℕ → ℕ
+  loop_back v start end body pc = end_step v (end_stmts c.program body (suc (end_test v (loop_start v start end pc))))
 
   -- the hidden variable of a statement
   abbrev pub hidden_at : Pos → Place
@@ -130,3 +151,76 @@ module _ (c : Setting) (a : Activation c) (n : ℕ) (call : Caller) where
         (subst (λ z. Follows c (go c a (suc pc1) (step ∷ at_place s1 q ∷ []) m1) (λ u s m. go c a (end_step v pc) [] m) (λ u s m. Kp os s m) (bind (computed (updated (update.Inc w) z (Integer step)) (here_in c a n call b) at s1) (λ v s. assign q v s))) (sym old.2)
         (inc_follows c a n call b w q old.0 step at (suc pc1) [] os s1 m1 (omega arith) has3 k1.0 old.2 k1.1))
         λ u s2 m2 k2. follows_value c m2 (here c _) (refl, k2))
+
+    -- A ROUND
+
+    round_follows : (v : Variable) (w : Width) (start end : Expr) (step : ℤ) (body : Stmts) (at : Pos) → Plain v → StmtsFollow c a n call b body → (l : Bool) (exit pc k : ℕ) (os : List AnObject) (s : State) (m : World) → need_stmt (For v w start end step body at) ≤ 256 → end_stmt c.program (For v w start end step body at) pc < length a.u.code → ExitLies c a n call b l (end_stmt c.program (For v w start end step body at) pc) exit → code.StmtCode (scope c a) (For v w start end step body at) exit pc k → StmtOk (For v w start end step body at) l → Kp os s m →
+        Follows c (go c a (loop_start v start end pc) [] m) (RoundTo c a n call b (λ m. go c a (loop_back v start end body pc) [] m) (suc (loop_back v start end body pc)) exit) (RoundKept c a n call b l os)
+        (bind (for_test v step at s) (λ t. choose t (execs body (here_in c a n call b) >>= λ f. after_body f (find v >>= λ q. update_at (update.Inc w) q (Integer step) (here_in c a n call b) at >>= λ x. give Again)) (give (Leaving Done))))
+    round_follows v w start end step body at pl ih l exit pc k os s m le inside lies has ok st =
+        follows_bind c (test_follows v w step at l0 (suc back) os s m pl has.1.1.1.1.1.1.0 ok.0 ok.1.1.1.0 st) λ t s1 m1 k1. by t s1 m1 k1
+      where
+        l0 : ℕ
+        l0 = loop_start v start end pc
+
+        j : ℕ
+        j = end_test v l0
+
+        p4 : ℕ
+        p4 = end_stmts c.program body (suc j)
+
+        back : ℕ
+        back = loop_back v start end body pc
+
+        To : Round → State → World → Point
+        To = RoundTo c a n call b (λ m. go c a back [] m) (suc back) exit
+
+        Keep : Round → State → World → Type 0
+        Keep = RoundKept c a n call b l os
+
+        rest : M Round
+        rest = find v >>= λ q. update_at (update.Inc w) q (Integer step) (here_in c a n call b) at >>= λ x. give Again
+
+        up : p4 ≤ back
+        up = let h = variable_ends v p4 in omega (arith, h)
+
+        after : (f : Flow) (s2 : State) (m2 : World) → FlowKept c a n call b l os f s2 m2 → Follows c (FlowTo c a n call b p4 exit f s2 m2) To Keep (after_body f rest s2)
+        after Done s2 m2 h =
+            follows_map c (step_follows v w step at p4 os s2 m2 pl has.1.1.1.1.1.1.1.1.0 has.1.1.1.1.1.1.1.1.1.0 has.1.1.1.1.1.1.1.1.1.1.0 ok.0 h.1)
+            (λ r s m k. subst (λ r. Reach c (go c a back [] m) (To r s m)) (sym k.0) (here c _)) (λ r s m k. subst (λ r. Keep r s m) (sym k.0) k.1)
+        after Leaves s2 m2 h = follows_value c m2 (here c _) h
+        after (Back v) s2 m2 h = follows_value c m2 (here c _) h
+
+        by : (t : Bool) (s1 : State) (m1 : World) → Kp os s1 m1 → Follows c (go c a j (truth t ∷ []) m1) To Keep (choose t (execs body (here_in c a n call b) >>= λ f. after_body f rest) (give (Leaving Done)) s1)
+        by true s1 m1 st1 =
+            follows_after c (true_passes c a n call b (suc back) j [] m1 inside has.1.1.1.1.1.1.0.1.1.1.1.1 (omega arith))
+            (follows_bind c (ih l exit (suc j) _ os s1 m1 (omega (arith, le)) (omega (arith, inside, up)) (lies_less c a n call b l p4 (suc back) exit (omega (arith, up)) lies) has.1.1.1.1.1.1.1.0 ok.1.1.1.1.1 st1) λ f s2 m2 k2. after f s2 m2 k2)
+        by false s1 m1 st1 =
+            let h = stmts_end c.program body (suc j) in
+            follows_after c (false_jumps c a n call b (suc back) j [] m1 inside (omega (arith, h, up)) has.1.1.1.1.1.1.0.1.1.1.1.1 (omega arith))
+            (follows_value c m1 (here c _) (tt, st1))
+
+  pub for_case : (v : Variable) (w : Width) (start end : Expr) (step : ℤ) (body : Stmts) (at : Pos) → Plain v → AllExpr c a n call start → AllExpr c a n call end → AllStmts c a n call body → AllStmt c a n call (For v w start end step body at)
+  for_case v w start end step body at pl ih_start ih_end ih_body b le_b l exit pc k os s m le inside lies has ok st =
+      let p1 = end_expr c.program end (suc pc) in
+      let p2 = end_variable v (suc p1) in
+      let p3 = end_expr c.program start p2 in
+      let back = loop_back v start end body pc in
+      let hid : VariableOk (variable.Local (hidden at)) longint = ok.1.1.1.0 in
+      follows_after c (hidden_goes b at pc [] os s m (omega arith) has.0 hid st)
+      (follows_bind c (ih_end b le_b longint (suc pc) k (at_place b s (hidden_at at) ∷ []) s.made s m (omega (arith, le)) has.1.0 ok.1.1.0 (from_here c a n call b st)) λ e s1 m1 k1.
+      let hidden_in = variable_of c a s m st.all (variable.Local (hidden at)) longint tt hid in
+      follows_bind c
+      (subst (λ z. Follows c (go c a p1 (W s1.made e ∷ pos z ∷ []) m1) (λ u s m. go c a (suc p1) [] m) (λ u s m. Kp b os s m) (keep at e s1)) (address_same c s.made s1.made k1.1.objects (K c a) (hidden_at at) hidden_in.0)
+      (keep_follows b at e p1 os s1 m1 has.1.1.0 hid k1.0 (since c a n call b st.objects k1.1))) λ u s2 m2 k2.
+      follows_bind c (find_follows b v (integer w) pl (suc p1) [] os s2 m2 (omega arith) has.1.1.1.0 ok.0 k2) λ p s3 m3 k3.
+      follows_bind c (ih_start b le_b (integer w) p2 _ (at_place b s3 p ∷ []) s3.made s3 m3 (omega (arith, le)) has.1.1.1.1.0 ok.1.0 (from_here c a n call b k3.1)) λ i s4 m4 k4.
+      follows_bind c
+      (subst (λ z. Follows c (go c a p3 (W s4.made i ∷ pos z ∷ []) m4) (λ u s m. go c a (suc p3) [] m) (λ u s m. Kp b os s m) (assign p i s4)) (address_same c s3.made s4.made k4.1.objects (K c a) p k3.0.0)
+      (store_follows c a n call b p (integer w) i p3 [] os s4 m4 (omega arith) has.1.1.1.1.1.0 tt (place_of_more c s3.made s4.made k4.1.objects (K c a) (integer w) p k3.0) k4.0 (since c a n call b k3.1.objects k4.1))) λ u s5 m5 k5.
+      let h1 = variable_ends v (suc p3) in
+      let h2 = stmts_end c.program body (suc (end_test v (suc p3))) in
+      let h3 = variable_ends v (end_stmts c.program body (suc (end_test v (suc p3)))) in
+      loop_ends c a n call n b (λ m. go c a back [] m) (suc p3) (suc back) exit at l os _ le_b (omega arith) (back_jump c a n call b (suc p3) back at (omega (arith, h1, h2, h3)) (omega (arith, inside)) has.1.1.1.1.1.1.1.1.1.1.1.0)
+      (λ b2 s m le2 st. round_follows b2 v w start end step body at pl (ih_body b2 le2) l exit pc k os s m le inside (lies_same c a n call b b2 l _ exit lies) has ok st)
+      s5 m5 k5)
