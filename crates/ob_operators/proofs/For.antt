@@ -12,7 +12,7 @@ use Rattle.ob_types.specs.TypedSyntax.{Expr, Stmt, For, Stmts}
 use Rattle.ob_instr.specs.declared.opcode.Opcode.TheVariants as op
 use Rattle.ob_instr.specs.Image.{World, Point}
 use Rattle.ob_instr.specs.Rows.{Next, truth}
-use Rattle.ob_meaning.specs.Values.{Form, Value, Integer, integer_of, Place, AnObject, State, value_at}
+use Rattle.ob_meaning.specs.Values.{changed, Form, Value, Integer, integer_of, OfCall, Place, At, Store, AnObject, State, value_at, with_value_at}
 use Rattle.ob_meaning.specs.Results.{Gives, M, bind, ◌>>=◌, give, read, assign, Caller}
 use Rattle.ob_meaning.specs.Operators.{is_positive, updated}
 use Rattle.ob_meaning.specs.Meaning.{computed, place_of, find, own_place, choose, Flow, Done, Leaves, Back, Round, Again, Leave as Leaving, after_body, hidden, keep, kept, is_within, for_test, update_at, execs}
@@ -24,6 +24,7 @@ use Rattle.ob_relation.specs.Stands as code
 use Rattle.ob_relation.specs.Typed as typed
 use Rattle.ob_relation.specs.Typed.{integer, longint}
 use Rattle.ob_relation.specs.Plain.{Plain}
+use Rattle.ob_relation.proofs.Names.{nat_same, bytes_same}
 use Rattle.ob_relation.proofs.Steps.{Reach, here, Follows, follows_bind, follows_after, follows_value, follows_map}
 use Rattle.ob_relation.proofs.Statements.{Activation, scope, go, fb, K, here_in, Keeps, PlaceTo, PlaceKept, ValueTo, ValueKept, StmtsFollow, FlowTo, FlowKept, ExitLies, RoundTo, RoundKept}
 use Rattle.ob_relation.proofs.Grow.{address_same, place_of_more}
@@ -37,7 +38,7 @@ use Rattle.ob_relation.proofs.Stmts.{store_follows, lies_less, loop_ends, back_j
 use Rattle.ob_relation.proofs.Out.{inc_follows}
 use Rattle.ob_relation.specs.Setting.{Setting, has_of}
 
-at_most : (x y : ℤ) → not (int_lt y x) ≡ int_le x y
+pub at_most : (x y : ℤ) → not (int_lt y x) ≡ int_le x y
 at_most (pos m) (pos n) = grind (arith, nat_tests)
 at_most (pos m) (negsuc n) = refl
 at_most (negsuc m) (pos n) = refl
@@ -52,6 +53,10 @@ variable_ends (variable.Parameter passing.OpenArray x) pc = omega arith
 variable_ends (variable.Parameter passing.Variable x) pc = omega arith
 variable_ends (variable.Parameter passing.VariableRecord x) pc = omega arith
 variable_ends (variable.Parameter passing.VariableOpenArray x) pc = omega arith
+
+-- a variable of a call has the value that was assigned last
+own_changed : (g : Store) (k : ℕ) (x : List ℕ) (v : Value) → value_at (with_value_at g (At (OfCall k x) []) v) (At (OfCall k x) []) ≡ v
+own_changed g k x v = ap (λ b. (if b then changed (g.locals k) x v else g.locals k) x) (nat_same k) ∙ ap (λ b. if b then v else g.locals k x) (bytes_same x)
 
 module _ (c : Setting) (a : Activation c) (n : ℕ) (call : Caller) where
   abbrev W : List AnObject → Value → ℤ
@@ -99,10 +104,11 @@ module _ (c : Setting) (a : Activation c) (n : ℕ) (call : Caller) where
 
     -- a value is kept in it
     pub keep_follows : (at : Pos) (v : Value) (pc : ℕ) (os : List AnObject) (s : State) (w : World) → code.Has (scope c a) pc (code.plain op.Store) → VariableOk (variable.Local (hidden at)) longint → F s.made longint v → Kp os s w →
-        Follows c (go c a pc (W s.made v ∷ at_place s (hidden_at at) ∷ []) w) (λ u s w. go c a (suc pc) [] w) (λ u s w. Kp os s w) (keep at v s)
+        Follows c (go c a pc (W s.made v ∷ at_place s (hidden_at at) ∷ []) w) (λ u s w. go c a (suc pc) [] w) (λ u s w. Kp os s w × (value_at s.store (hidden_at at) ≡ v)) (keep at v s)
     keep_follows at v pc os s w has ok fine st =
-        subst (λ k. Follows c (go c a pc (W s.made v ∷ at_place s (hidden_at at) ∷ []) w) (λ u s w. go c a (suc pc) [] w) (λ u s w. Kp os s w) (assign (own_place k (hidden at)) v s)) (sym st.calls)
-        (store_follows c a n call b (hidden_at at) longint v pc [] os s w (omega arith) has tt (variable_of c a s w st.all (variable.Local (hidden at)) longint tt ok) fine st)
+        let h = (store_follows c a n call b (hidden_at at) longint v pc [] os s w (omega arith) has tt (variable_of c a s w st.all (variable.Local (hidden at)) longint tt ok) fine st).by in
+        subst (λ k. Follows c (go c a pc (W s.made v ∷ at_place s (hidden_at at) ∷ []) w) (λ u s w. go c a (suc pc) [] w) (λ u s w. Kp os s w × (value_at s.store (hidden_at at) ≡ v)) (assign (own_place k (hidden at)) v s)) (sym st.calls)
+        (follows_value c h.0 h.1 (h.2, own_changed s.store (length a.cs) (hidden at) v))
 
     -- and read
     pub kept_follows : (at : Pos) (pc : ℕ) (ops : List ℤ) (os : List AnObject) (s : State) (w : World) → length ops + 1 ≤ 256 → code.Has (scope c a) pc (code.with_a op.Local (code.hidden_slot (scope c a) at)) → code.Has (scope c a) (suc pc) (code.plain op.Load) → VariableOk (variable.Local (hidden at)) longint → Kp os s w →
@@ -211,9 +217,9 @@ module _ (c : Setting) (a : Activation c) (n : ℕ) (call : Caller) where
       (follows_bind c (ih_end b le_b longint (suc pc) k (at_place b s (hidden_at at) ∷ []) s.made s m (omega (arith, le)) has.1.0 ok.1.1.0 (from_here c a n call b st)) λ e s1 m1 k1.
       let hidden_in = variable_of c a s m st.all (variable.Local (hidden at)) longint tt hid in
       follows_bind c
-      (subst (λ z. Follows c (go c a p1 (W s1.made e ∷ pos z ∷ []) m1) (λ u s m. go c a (suc p1) [] m) (λ u s m. Kp b os s m) (keep at e s1)) (address_same c s.made s1.made k1.1.objects (K c a) (hidden_at at) hidden_in.0)
+      (subst (λ z. Follows c (go c a p1 (W s1.made e ∷ pos z ∷ []) m1) (λ u s m. go c a (suc p1) [] m) (λ u s m. Kp b os s m × (value_at s.store (hidden_at at) ≡ e)) (keep at e s1)) (address_same c s.made s1.made k1.1.objects (K c a) (hidden_at at) hidden_in.0)
       (keep_follows b at e p1 os s1 m1 has.1.1.0 hid k1.0 (since c a n call b st.objects k1.1))) λ u s2 m2 k2.
-      follows_bind c (find_follows b v (integer w) pl (suc p1) [] os s2 m2 (omega arith) has.1.1.1.0 ok.0 k2) λ p s3 m3 k3.
+      follows_bind c (find_follows b v (integer w) pl (suc p1) [] os s2 m2 (omega arith) has.1.1.1.0 ok.0 k2.0) λ p s3 m3 k3.
       follows_bind c (ih_start b le_b (integer w) p2 _ (at_place b s3 p ∷ []) s3.made s3 m3 (omega (arith, le)) has.1.1.1.1.0 ok.1.0 (from_here c a n call b k3.1)) λ i s4 m4 k4.
       follows_bind c
       (subst (λ z. Follows c (go c a p3 (W s4.made i ∷ pos z ∷ []) m4) (λ u s m. go c a (suc p3) [] m) (λ u s m. Kp b os s m) (assign p i s4)) (address_same c s3.made s4.made k4.1.objects (K c a) p k3.0.0)

@@ -5,3 +5,4 @@ pub mod Rows
 pub mod Exprs
 pub mod Updates
 pub mod For
+pub mod Case
