@@ -12,7 +12,7 @@ use Rattle.ob_instr.specs.declared.opcode.Opcode.TheVariants as op
 use Rattle.ob_instr.specs.Image.{World}
 use Rattle.ob_instr.specs.Rows.{Next, truth}
 use Rattle.ob_instr.proofs.Goes as rows
-use Rattle.ob_meaning.specs.Values.{Program, Form, Value, Character, Integer, integer_of, value_at, AnObject, State}
+use Rattle.ob_meaning.specs.Values.{Form, Value, Character, Integer, integer_of, value_at, AnObject, State}
 use Rattle.ob_meaning.specs.Results.{M, bind, trap, Caller}
 use Rattle.ob_meaning.specs.Operators.{is_in}
 use Rattle.ob_meaning.specs.Meaning.{value, choose, Flow, Done, Leaves, Back, hidden, keep, is_labelled, execs, exec_cases, exec_else}
@@ -27,7 +27,7 @@ use Rattle.ob_relation.proofs.Steps.{Reach, here, then_reach, Follows, follows_b
 use Rattle.ob_relation.proofs.Statements.{Activation, scope, go, fb, K, here_in, Keeps, ExprFollows, StmtsFollow, StmtFollows, FlowTo, FlowKept, ExitLies, OtherFollows}
 use Rattle.ob_relation.proofs.Grow.{address_same}
 use Rattle.ob_relation.proofs.Located.{spot}
-use Rattle.ob_relation.proofs.Behind.{stmts_end, cases_end, else_ends}
+use Rattle.ob_relation.proofs.Behind.{labels_end, stmts_end, cases_end, else_ends}
 use Rattle.ob_relation.proofs.Moves.{goes, traps}
 use Rattle.ob_relation.proofs.Variables.{variable_of}
 use Rattle.ob_relation.proofs.Values.{sub_scalar}
@@ -35,10 +35,6 @@ use Rattle.ob_relation.proofs.Exprs.{from_here, since, int_goes, true_passes, fa
 use Rattle.ob_relation.proofs.Stmts.{lies_less}
 use Rattle.ob_relation.specs.Setting.{Setting, has_of}
 use Rattle.ob_operators.proofs.For.{at_most, VariableOk, hidden_at, hidden_goes, keep_follows}
-
-labels_end : (program : Program) (ls : List Label) (pc : ℕ) → suc pc ≤ end_labels program ls pc
-labels_end program [] pc = omega arith
-labels_end program (l ∷ ls) pc = let h = labels_end program ls (suc (suc (suc (suc (suc (suc (suc (suc (suc (suc (suc pc))))))))))) in omega (arith, h)
 
 module _ (c : Setting) (a : Activation c) (n : ℕ) (call : Caller) (b : ℕ) where
   abbrev W : List AnObject → Value → ℤ

@@ -4,7 +4,6 @@ use Rattle.std.proofs.lemmas.Bool.Decides.{nat_tests}
 use Rattle.std.specs.Prelude.{pos, negsuc, Bool, true, false, not, int_lt, int_le, if◌then◌else◌}
 use Rattle.ob_tree.specs.declared.pos.Pos.{Pos}
 use Rattle.ob_types.specs.declared.typed.Width.{Width}
-use Rattle.ob_types.specs.declared.typed.Passing.TheVariants as passing
 use Rattle.ob_types.specs.declared.typed.Variable.{Variable}
 use Rattle.ob_types.specs.declared.typed.Variable.TheVariants as variable
 use Rattle.ob_types.specs.declared.typed.Update.TheVariants as update
@@ -29,7 +28,7 @@ use Rattle.ob_relation.proofs.Steps.{Reach, here, Follows, follows_bind, follows
 use Rattle.ob_relation.proofs.Statements.{Activation, scope, go, fb, K, here_in, Keeps, PlaceTo, PlaceKept, ValueTo, ValueKept, StmtsFollow, FlowTo, FlowKept, ExitLies, RoundTo, RoundKept}
 use Rattle.ob_relation.proofs.Grow.{address_same, place_of_more}
 use Rattle.ob_relation.proofs.Located.{spot}
-use Rattle.ob_relation.proofs.Behind.{expr_ends, stmts_end}
+use Rattle.ob_relation.proofs.Behind.{variable_ends, stmts_end}
 use Rattle.ob_relation.proofs.Moves.{goes}
 use Rattle.ob_relation.proofs.Variables.{variable_of, variable_goes}
 use Rattle.ob_relation.proofs.Values.{sub_scalar, integer_is}
@@ -43,16 +42,6 @@ at_most (pos m) (pos n) = grind (arith, nat_tests)
 at_most (pos m) (negsuc n) = refl
 at_most (negsuc m) (pos n) = refl
 at_most (negsuc m) (negsuc n) = grind (arith, nat_tests)
-
-variable_ends : (v : Variable) (pc : ℕ) → suc pc ≤ end_variable v pc
-variable_ends (variable.Module m x) pc = omega arith
-variable_ends (variable.Local x) pc = omega arith
-variable_ends (variable.Parameter passing.Scalar x) pc = omega arith
-variable_ends (variable.Parameter passing.Structure x) pc = omega arith
-variable_ends (variable.Parameter passing.OpenArray x) pc = omega arith
-variable_ends (variable.Parameter passing.Variable x) pc = omega arith
-variable_ends (variable.Parameter passing.VariableRecord x) pc = omega arith
-variable_ends (variable.Parameter passing.VariableOpenArray x) pc = omega arith
 
 -- a variable of a call has the value that was assigned last
 own_changed : (g : Store) (k : ℕ) (x : List ℕ) (v : Value) → value_at (with_value_at g (At (OfCall k x) []) v) (At (OfCall k x) []) ≡ v
