@@ -42,7 +42,6 @@ module _ (c : Setting) (a : Activation c) (n : ℕ) (call : Caller) (b : ℕ) wh
       (row : (x z : ℤ) (pc : ℕ) (ops : List ℤ) (m : World) → effect c a pc (z ∷ x ∷ ops) m (code.update_code o) ≡ on_found (word_at m.words x) (λ s. on_element z m (λ i. on_found (stored m.words x (word s i)) (λ l. Next ops (with_memory m l)))))
       (same : (f : ℕ → Bool) (i : ℕ) → i < 32 → word (set_word f) i ≡ set_word (new f i))
       (means : (f : ℕ → Bool) (z : ℤ) → updated o (SetOf f) (Integer z) ≡ with_element_in (element_in z) (λ i. SetOf (new f i))) where
-
     update_follows : (p : Place) (f : ℕ → Bool) (z : ℤ) (at : Pos) (pc : ℕ) (ops : List ℤ) (os : List AnObject) (s : State) (m : World) → length ops ≤ 256 → code.HasAt (scope c a) pc (code.update_code o) at → PlaceOf c.program (has_of c) c.img s.made (K c a) set p → value_at s.store p ≡ SetOf f → Kp os s m →
         Follows c (go c a pc (z ∷ pos (address c.program c.img s.made (K c a) p) ∷ ops) m) (λ u s m. go c a (suc pc) ops m) (λ u s m. Kp os s m) (bind (computed (with_element_in (element_in z) (λ i. SetOf (new f i))) (here_in c a n call b) at s) (λ v s. assign p v s))
     update_follows p f z at pc ops os s m le has k is st = by z (full z)
