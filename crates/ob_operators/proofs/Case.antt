@@ -1,7 +1,7 @@
 -- The code of CASE follows its meaning.
-use Rattle.std.proofs.Common.{◌≡◌, ℕ, suc, ◌+◌, ◌≤◌, ◌<◌, List, [], ◌∷◌, length, Some, ℤ, refl, sym, ap, ◌∙◌, subst, arith, ◌⊎◌, inl, inr, ⊎_elim}
+use Rattle.std.proofs.Common.{◌≡◌, ℕ, suc, ◌≤◌, ◌<◌, List, [], ◌∷◌, length, Some, ℤ, refl, sym, ap, ◌∙◌, subst, arith, ⊎_elim}
 use Rattle.std.proofs.lemmas.Bool.Decides.{nat_tests}
-use Rattle.std.specs.Prelude.{pos, Bool, true, false, not, ◌&&◌, ◌||◌, int_lt, int_le, nat_lt, if◌then◌else◌}
+use Rattle.std.specs.Prelude.{pos, Bool, true, false, ◌&&◌, ◌||◌, int_le, nat_lt, if◌then◌else◌}
 use Rattle.ob_tree.specs.declared.pos.Pos.{Pos}
 use Rattle.ob_types.specs.declared.typed.Width.TheVariants as width
 use Rattle.ob_types.specs.declared.typed.Variable.TheVariants as variable
@@ -12,7 +12,7 @@ use Rattle.ob_instr.specs.declared.opcode.Opcode.TheVariants as op
 use Rattle.ob_instr.specs.Image.{World}
 use Rattle.ob_instr.specs.Rows.{Next, truth}
 use Rattle.ob_instr.proofs.Goes as rows
-use Rattle.ob_meaning.specs.Values.{Form, Value, Character, Integer, integer_of, value_at, AnObject, State}
+use Rattle.ob_meaning.specs.Values.{Form, Value, Integer, integer_of, value_at, AnObject, State}
 use Rattle.ob_meaning.specs.Results.{M, bind, trap, Caller}
 use Rattle.ob_meaning.specs.Operators.{is_in}
 use Rattle.ob_meaning.specs.Meaning.{value, choose, Flow, Done, Leaves, Back, hidden, keep, is_labelled, execs, exec_cases, exec_else}

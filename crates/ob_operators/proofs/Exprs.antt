@@ -1,40 +1,37 @@
 -- The code of all operators, of literals and of procedure values follows their meaning.
-use Rattle.std.proofs.Common.{◌≡◌, ℕ, suc, ◌+◌, ◌≤◌, ◌<◌, List, ◌∷◌, length, Option, Some, None, ℤ, refl, sym, ap, ◌∙◌, subst, arith, inr, []}
+use Rattle.std.proofs.Common.{◌≡◌, ℕ, suc, ◌+◌, ◌≤◌, List, ◌∷◌, length, Some, ℤ, refl, sym, ap, ◌∙◌, subst, arith, inr, []}
 use Rattle.std.proofs.lemmas.Bool.Decides.{nat_tests}
 use Rattle.std.proofs.lemmas.Option.{slice_get_within}
-use Rattle.std.specs.Prelude.{pos, Bool, true, false, nat_lt, bytes_eq, slice_get}
+use Rattle.std.specs.Prelude.{Bool, true, false, nat_lt, bytes_eq, slice_get}
 use Rattle.ob_tree.specs.declared.names.QName.{QName}
 use Rattle.ob_tree.specs.declared.pos.Pos.{Pos}
 use Rattle.ob_types.specs.declared.types.Signature.{Signature}
 use Rattle.ob_types.specs.declared.value.Value.{Value as Literal}
 use Rattle.ob_types.specs.declared.value.Value.TheVariants as literal
 use Rattle.ob_types.specs.declared.typed.Unary.{Unary}
-use Rattle.ob_types.specs.declared.typed.Unary.TheVariants as unary
 use Rattle.ob_types.specs.declared.typed.Binary.{Binary}
 use Rattle.ob_types.specs.TypedSyntax.{Expr, Constant, ProcedureValue, Monadic, Dyadic}
-use Rattle.ob_instr.specs.declared.instr.Instr.{Instr}
 use Rattle.ob_instr.specs.declared.opcode.Opcode.TheVariants as op
 use Rattle.ob_instr.specs.Image.{World, Point}
 use Rattle.ob_instr.specs.Rows.{Next, in_width, procedures_of, proc_value}
 use Rattle.ob_instr.proofs.Goes as rows
 use Rattle.ob_meaning.specs.Values.{Form, Value, ProcedureAt, AnObject, State}
 use Rattle.ob_meaning.specs.Results.{Caller}
-use Rattle.ob_meaning.specs.Operators.{Computed, Is, Traps, compute, compute_both, constant_value}
+use Rattle.ob_meaning.specs.Operators.{compute, compute_both, constant_value}
 use Rattle.ob_meaning.specs.Meaning.{computed}
 use Rattle.ob_relation.specs.Layout.{static_held, module_number}
-use Rattle.ob_relation.specs.Relation.{OrElse, Fine, word_of, Scalar, number_of}
-use Rattle.ob_relation.specs.Ends.{end_expr, end_unary}
+use Rattle.ob_relation.specs.Relation.{OrElse, Fine, word_of, number_of}
+use Rattle.ob_relation.specs.Ends.{end_expr}
 use Rattle.ob_relation.specs.Stands as code
 use Rattle.ob_relation.specs.Stands.{unary_code, binary_code, literal_word}
 use Rattle.ob_relation.specs.Typed as typed
 use Rattle.ob_relation.specs.Linked.{Linked}
 use Rattle.ob_relation.proofs.Names.{bytes_true}
-use Rattle.ob_relation.proofs.Steps.{Reach, here, Follows, follows_bind, follows_value, follows_stop, follows_map, stands_any}
-use Rattle.ob_relation.proofs.Statements.{Activation, scope, go, fb, K, here_in, Keeps, ValueTo, ValueKept, ExprOk, ExprFollows}
+use Rattle.ob_relation.proofs.Steps.{Reach, here, Follows, follows_bind, follows_value, follows_map}
+use Rattle.ob_relation.proofs.Statements.{Activation, scope, go, fb, here_in, Keeps, ValueTo, ValueKept, ExprFollows}
 use Rattle.ob_relation.proofs.Grow.{scalar_word, fine_more}
 use Rattle.ob_relation.proofs.Needs.{need_one_e}
-use Rattle.ob_relation.proofs.Moves.{goes, traps, effect}
-use Rattle.ob_relation.proofs.Values.{RowIs, UnaryIs}
+use Rattle.ob_relation.proofs.Moves.{goes}
 use Rattle.ob_relation.proofs.Exprs.{from_here, since, widen_kept, constant_case, int_goes, row_follows, binary_scalar, unary_follows, after_is}
 use Rattle.ob_relation.proofs.Actuals.{procedure_found}
 use Rattle.ob_relation.specs.Setting.{Setting, has_of}

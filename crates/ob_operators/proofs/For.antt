@@ -1,5 +1,5 @@
 -- The code of FOR follows its meaning.
-use Rattle.std.proofs.Common.{◌≡◌, ℕ, suc, ◌+◌, ◌≤◌, ◌<◌, List, [], ◌∷◌, length, Some, ℤ, refl, sym, ap, ◌∙◌, subst, arith}
+use Rattle.std.proofs.Common.{◌≡◌, ℕ, suc, ◌+◌, ◌≤◌, ◌<◌, List, [], ◌∷◌, length, ℤ, refl, sym, ap, ◌∙◌, subst, arith}
 use Rattle.std.proofs.lemmas.Bool.Decides.{nat_tests}
 use Rattle.std.specs.Prelude.{pos, negsuc, Bool, true, false, not, int_lt, int_le, if◌then◌else◌}
 use Rattle.ob_tree.specs.declared.pos.Pos.{Pos}
@@ -11,12 +11,12 @@ use Rattle.ob_types.specs.TypedSyntax.{Expr, Stmt, For, Stmts}
 use Rattle.ob_instr.specs.declared.opcode.Opcode.TheVariants as op
 use Rattle.ob_instr.specs.Image.{World, Point}
 use Rattle.ob_instr.specs.Rows.{Next, truth}
-use Rattle.ob_meaning.specs.Values.{changed, Form, Value, Integer, integer_of, OfCall, Place, At, Store, AnObject, State, value_at, with_value_at}
+use Rattle.ob_meaning.specs.Values.{changed, Form, Value, Integer, OfCall, Place, At, Store, AnObject, State, value_at, with_value_at}
 use Rattle.ob_meaning.specs.Results.{Gives, M, bind, ◌>>=◌, give, read, assign, Caller}
 use Rattle.ob_meaning.specs.Operators.{is_positive, updated}
 use Rattle.ob_meaning.specs.Meaning.{computed, place_of, find, own_place, choose, Flow, Done, Leaves, Back, Round, Again, Leave as Leaving, after_body, hidden, keep, kept, is_within, for_test, update_at, execs}
-use Rattle.ob_relation.specs.Layout.{static_held, address, place_form}
-use Rattle.ob_relation.specs.Relation.{Fine, word_of, Scalar, PlaceOf}
+use Rattle.ob_relation.specs.Layout.{static_held, address}
+use Rattle.ob_relation.specs.Relation.{Fine, word_of, Scalar}
 use Rattle.ob_relation.specs.Need.{need_stmt}
 use Rattle.ob_relation.specs.Ends.{end_variable, end_test, end_step, end_expr, end_stmt, end_stmts}
 use Rattle.ob_relation.specs.Stands as code
@@ -25,7 +25,7 @@ use Rattle.ob_relation.specs.Typed.{integer, longint}
 use Rattle.ob_relation.specs.Plain.{Plain}
 use Rattle.ob_relation.proofs.Names.{nat_same, bytes_same}
 use Rattle.ob_relation.proofs.Steps.{Reach, here, Follows, follows_bind, follows_after, follows_value, follows_map}
-use Rattle.ob_relation.proofs.Statements.{Activation, scope, go, fb, K, here_in, Keeps, PlaceTo, PlaceKept, ValueTo, ValueKept, StmtsFollow, FlowTo, FlowKept, ExitLies, RoundTo, RoundKept}
+use Rattle.ob_relation.proofs.Statements.{Activation, scope, go, K, here_in, Keeps, PlaceTo, PlaceKept, ValueTo, ValueKept, StmtsFollow, FlowTo, FlowKept, ExitLies, RoundTo, RoundKept}
 use Rattle.ob_relation.proofs.Grow.{address_same, place_of_more}
 use Rattle.ob_relation.proofs.Located.{spot}
 use Rattle.ob_relation.proofs.Behind.{variable_ends, stmts_end}

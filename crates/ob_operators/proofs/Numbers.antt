@@ -4,13 +4,13 @@ use Rattle.std.proofs.lemmas.Bool.Decides.{nat_tests}
 use Rattle.std.proofs.lemmas.Nat.{div-add-mod'}
 use Rattle.std.proofs.lemmas.Int.{ints}
 use Rattle.std.proofs.Math.Nat.{mod-lt, suc-mod}
-use Rattle.std.specs.Prelude.{pos, negsuc, ◌+ℤ◌, ◌-ℤ◌, ◌*ℤ◌, ◌+◌, ◌*◌, ◌-◌, ◌/◌, ◌%◌, ◌^◌, unsigned_abs, int_lt, nat_lt, nat_le, nat_eq, Bool, true, false, ◌&&◌, if◌then◌else◌}
-use Rattle.std.specs.Int.{int_div_euclid, int_rem_euclid}
+use Rattle.std.specs.Prelude.{pos, negsuc, ◌+ℤ◌, ◌-◌, ◌%◌, unsigned_abs, int_lt, nat_le, nat_eq, Bool, true, false, ◌&&◌, if◌then◌else◌}
+use Rattle.std.specs.Int.{int_rem_euclid}
 use Rattle.ob_types.specs.declared.typed.Width.{Width}
 use Rattle.ob_types.specs.declared.typed.Width.TheVariants as width
 use Rattle.ob_instr.specs.Rows as rows
 use Rattle.ob_instr.specs.Rows.{truth, is_within}
-use Rattle.ob_meaning.specs.Operators.{is_in, is_odd, is_positive, capital, quotient, remainder, shifted}
+use Rattle.ob_meaning.specs.Operators.{is_in, is_odd, is_positive, capital, remainder, shifted}
 
 -- MOD, of a positive divisor
 

@@ -1,11 +1,9 @@
 -- What further operators compute is what their instructions compute.
-use Rattle.std.proofs.Common.{◌≤◌, ◌≡◌, ℕ, ◌<◌, List, ◌∷◌, Option, Some, None, ℤ, refl, sym, ap, ◌∙◌, subst, arith}
+use Rattle.std.proofs.Common.{◌≡◌, ℕ, ◌<◌, List, ◌∷◌, Option, Some, None, ℤ, refl, sym, ap, ◌∙◌, subst, arith}
 use Rattle.std.proofs.lemmas.Bool.Decides.{nat_tests, same_from_decides, Decides-int_eq}
-use Rattle.std.specs.Prelude.{pos, negsuc, ◌+ℤ◌, unsigned_abs, int_lt, nat_lt, nat_le, nat_eq, Bool, true, false, not, ◌&&◌, ◌||◌, if◌then◌else◌}
-use Rattle.std.specs.Int.{w32, int_rem_euclid, int_bit_and, int_bit_or, int_bit_xor, int_bit_not}
+use Rattle.std.specs.Prelude.{pos, negsuc, ◌+ℤ◌, unsigned_abs, int_lt, nat_lt, nat_le, nat_eq, Bool, true, false, not, ◌&&◌, if◌then◌else◌}
+use Rattle.std.specs.Int.{int_rem_euclid}
 use Rattle.std.specs.Ordering.{int_eq}
-use Rattle.ob_types.specs.declared.types.Basic.TheVariants as basic
-use Rattle.ob_types.specs.declared.value.Value.TheVariants as literal
 use Rattle.ob_types.specs.declared.typed.Width.{Width}
 use Rattle.ob_types.specs.declared.typed.Width.TheVariants as width
 use Rattle.ob_types.specs.declared.typed.Comparison.{Comparison}
@@ -18,14 +16,13 @@ use Rattle.ob_types.specs.declared.typed.Binary.TheVariants as binary
 use Rattle.ob_instr.specs.Image.{World}
 use Rattle.ob_instr.specs.Rows.{Effect, Next, in_type, truth, is_within, on_element, set_from, has_element}
 use Rattle.ob_instr.specs.Rows as rows
-use Rattle.ob_meaning.specs.Values.{Form, PointerForm, ProcedureForm, Value, Truth, Character, Integer, SetOf, AnObject}
-use Rattle.ob_meaning.specs.Operators.{is_positive, is_in, is_odd, is_same, capital, quotient, remainder, shifted, Computed, Is, Traps, unless, integer_in, element_in, with_element_in, with_elements_in, agree_below, holds, compute, compute_both}
+use Rattle.ob_meaning.specs.Values.{Form, Value, Truth, Character, Integer, SetOf, AnObject}
+use Rattle.ob_meaning.specs.Operators.{is_positive, is_in, is_odd, is_same, capital, remainder, shifted, Computed, Is, unless, element_in, with_element_in, with_elements_in, agree_below, holds}
 use Rattle.ob_relation.specs.Relation.{Fine, word_of, set_word}
 use Rattle.ob_relation.specs.Layout.{static_held}
 use Rattle.ob_relation.specs.Typed as typed
 use Rattle.ob_relation.specs.Typed.{integer, longint, boolean, char, set, IsEquality}
 use Rattle.ob_relation.specs.Stands.{unary_code, binary_code}
-use Rattle.ob_relation.specs.Plain.{PlainBinary, PlainUnary}
 use Rattle.ob_relation.proofs.Statements.{Activation}
 use Rattle.ob_relation.proofs.Moves.{effect}
 use Rattle.ob_relation.proofs.Values.{RowIs, Row2, UnaryIs, at_values, one_value, integer_is, is_integer, binary_row, unary_row, width_same}

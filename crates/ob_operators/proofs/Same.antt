@@ -1,9 +1,8 @@
 -- NIL, objects and procedures are the same where their words are.
-use Rattle.std.proofs.Common.{◌≡◌, ℕ, suc, ◌+◌, ◌≤◌, ◌<◌, List, [], ◌∷◌, length, Option, Some, None, ℤ, refl, sym, ap, ◌∙◌, subst, arith, inl, inr, ⊎_elim}
+use Rattle.std.proofs.Common.{◌≡◌, ℕ, suc, ◌+◌, ◌≤◌, ◌<◌, List, [], ◌∷◌, length, Some, refl, sym, ap, ◌∙◌, subst, arith, ⊎_elim}
 use Rattle.std.proofs.lemmas.Bool.{eqb-true}
-use Rattle.std.proofs.lemmas.Bool.Decides.{nat_tests, same_from_decides, Decides-int_eq, Decides-eqb}
-use Rattle.std.specs.Bool.{Decides}
-use Rattle.std.specs.Prelude.{◌*◌, ◌⊎◌, pos, Bool, true, false, nat_eq, nat_lt, bytes_eq, if◌then◌else◌}
+use Rattle.std.proofs.lemmas.Bool.Decides.{nat_tests, same_from_decides, Decides-int_eq}
+use Rattle.std.specs.Prelude.{◌*◌, pos, Bool, true, false, nat_eq, bytes_eq, if◌then◌else◌}
 use Rattle.std.specs.Ordering.{int_eq}
 use Rattle.ob_tree.specs.declared.names.QName.{QName}
 use Rattle.ob_tree.specs.declared.proc_ref.ProcRef.{ProcRef}
@@ -11,12 +10,12 @@ use Rattle.ob_types.specs.declared.types.TypeRef.{TypeRef}
 use Rattle.ob_types.specs.declared.types.Signature.{Signature}
 use Rattle.ob_types.specs.TypedSyntax.{Procedure}
 use Rattle.ob_instr.specs.Rows.{proc_value}
-use Rattle.ob_meaning.specs.Values.{same_name, Program, procedure_of, procedure_named, PointerForm, ProcedureForm, Value, Nil, Object, ProcedureAt, AnObject, Whole, Opened, words}
+use Rattle.ob_meaning.specs.Values.{same_name, Program, procedure_of, procedure_named, PointerForm, ProcedureForm, Value, Nil, Object, ProcedureAt, AnObject, Whole, Opened}
 use Rattle.ob_meaning.specs.Operators.{is_same}
 use Rattle.ob_meaning.specs.Meaning.{cost_of, costs_of}
 use Rattle.ob_relation.specs.Layout.{module_number, procedure_number, procedure_index, procedures_in, extra_words, object_offset, heap_start}
 use Rattle.ob_relation.specs.Relation.{Fine, word_of, number_of}
-use Rattle.ob_relation.proofs.Names.{bytes_true, bytes_same, name_true, name_same}
+use Rattle.ob_relation.proofs.Names.{bytes_true, name_true, name_same}
 use Rattle.ob_relation.proofs.Values.{nat_equal}
 use Rattle.ob_relation.specs.Setting.{Setting, has_of}
 use Rattle.ob_operators.specs.Procedures.{IsNumbered, ValuesNumbered}

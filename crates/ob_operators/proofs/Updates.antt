@@ -8,20 +8,18 @@ use Rattle.ob_types.specs.declared.typed.Update.{Update}
 use Rattle.ob_types.specs.declared.typed.Update.TheVariants as update
 use Rattle.ob_types.specs.TypedSyntax.{Desig, Expr, Updated}
 use Rattle.ob_mem.specs.Words.{word_at, stored}
-use Rattle.ob_instr.specs.declared.instr.Instr.{Instr}
 use Rattle.ob_instr.specs.Image.{World}
 use Rattle.ob_instr.specs.Rows as rows_of
 use Rattle.ob_instr.specs.Rows.{Effect, Next, on_found, on_element, set_from, with_memory}
-use Rattle.ob_meaning.specs.Values.{Value, Integer, SetOf, Place, value_at, AnObject, State}
+use Rattle.ob_meaning.specs.Values.{Integer, SetOf, Place, value_at, AnObject, State}
 use Rattle.ob_meaning.specs.Results.{bind, assign, Caller}
 use Rattle.ob_meaning.specs.Operators.{updated, element_in, with_element_in}
 use Rattle.ob_meaning.specs.Meaning.{computed, exec}
-use Rattle.ob_relation.specs.Layout.{static_held, address, place_form}
+use Rattle.ob_relation.specs.Layout.{address, place_form}
 use Rattle.ob_relation.specs.Relation.{Fine, Scalar, PlaceOf, word_of, set_word, IsSet}
 use Rattle.ob_relation.specs.Need.{need_stmt}
 use Rattle.ob_relation.specs.Ends.{end_place, end_expr}
 use Rattle.ob_relation.specs.Stands as code
-use Rattle.ob_relation.specs.Typed as typed
 use Rattle.ob_relation.specs.Typed.{set, longint}
 use Rattle.ob_relation.proofs.Steps.{here, Follows, follows_bind, follows_value, follows_stop, stands_any}
 use Rattle.ob_relation.proofs.Statements.{Activation, scope, go, K, here_in, Keeps, DesigOk, ExprOk, PlaceFollows, ExprFollows, StmtFollows, FlowTo, FlowKept}
