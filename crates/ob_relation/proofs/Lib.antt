@@ -9,6 +9,7 @@ pub mod Located
 pub mod Grow
 pub mod Slots
 pub mod Frames
+pub mod Stopping
 pub mod Moves
 pub mod Variables
 pub mod Values
