@@ -1,0 +1,5 @@
+pub mod Standing
+pub mod Described
+pub mod Fits
+pub mod Agrees
+pub mod Wanted
