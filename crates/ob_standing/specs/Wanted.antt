@@ -1,5 +1,6 @@
 -- What is wanted of designators and expressions, as what stands in the code, and where it ends.
 use Rattle.std.specs.Prelude.{ℕ, suc, List, length, Some}
+use Rattle.ob_types.specs.declared.value.Value.{Value as Literal}
 use Rattle.ob_types.specs.declared.value.Value.TheVariants as literal
 use Rattle.ob_types.specs.declared.typed.Label.{Label}
 use Rattle.ob_types.specs.TypedKinds.{variable_type}
@@ -8,6 +9,7 @@ use Rattle.ob_instr.specs.declared.opcode.Opcode.TheVariants as op
 use Rattle.ob_meaning.specs.Values.{Program, form_in}
 use Rattle.ob_code.specs.declared.want.Want.{Want}
 use Rattle.ob_code.specs.declared.want.Want.TheVariants as want
+use Rattle.ob_meaning.specs.Globals.{literal_words}
 use Rattle.ob_relation.specs.Ends.{is_open, type_form, end_place, end_tagged, end_open, end_tag, end_length, end_expr, end_address, end_record, end_array}
 use Rattle.ob_relation.specs.Stands.{Scope, Has, plain, with_a, fixed_length, form_of, Form2, PlaceCode, TaggedCode, OpenCode, TagCode, LengthCode, ExprCode, AddressCode, RecordCode, ArrayCode, et}
 
@@ -60,6 +62,10 @@ module _ (sc : Scope) where
   ExprStands want.Length e pc at = ⊥
 
   -- the words of its strings: one that fills an array has the words of the array
+  abbrev pub constant_texts : Want → Literal → ℕ
+  constant_texts (want.Room n) (literal.Str text) = n
+  constant_texts w v = literal_words v
+
   abbrev pub texts_wanted : Want → Expr → ℕ
-  texts_wanted (want.Room n) (Constant (literal.Str text)) = n
+  texts_wanted w (Constant v) = constant_texts w v
   texts_wanted w e = et sc e
