@@ -37,6 +37,9 @@ module _ (sc : Scope) where
   pub texts_on : {ls : List Line} {pc : ℕ} (at a b : ℕ) → Behind sc ls pc (at + a + b) → Behind sc ls pc (at + (a + b))
   texts_on {ls} {pc} at a b h = let e : at + a + b ≡ at + (a + b) = omega arith in subst (λ k. Behind sc ls pc k) e h
 
+  pub no_texts : {ls : List Line} {pc at : ℕ} → Behind sc ls pc at → Behind sc ls pc (at + 0)
+  no_texts {ls} {pc} {at} h = let e : at ≡ at + 0 = omega arith in subst (λ k. Behind sc ls pc k) e h
+
   -- INSIDE
 
   pub inside : (ls : List Line) (pc at : ℕ) → Behind sc ls pc at → pc < length sc.u.code
@@ -62,7 +65,7 @@ module _ (sc : Scope) where
   module _ (c : Context) (ag : Agrees sc c) where
     -- RECORD TYPES
 
-    type_found : (q : QName) (at : ℕ) (k : ℤ) → IsKnown c q → OperandIs sc (type_operand c q) at k → (n : ℕ) × (k ≡ pos n) × (slice_get sc.u.types n ≡ Some (type_number sc.img.types q))
+    pub type_found : (q : QName) (at : ℕ) (k : ℤ) → IsKnown c q → OperandIs sc (type_operand c q) at k → (n : ℕ) × (k ≡ pos n) × (slice_get sc.u.types n ≡ Some (type_number sc.img.types q))
     type_found q at k known h = go (is_own c q.module) refl known h
       where
         go : (b : Bool) → is_own c q.module ≡ b → OrElse b (AmongTypes (records c) q.object) (Unit {0}) → OperandIs sc (if b then count (type_index c q.object) else OtherType (own_types c) q) at k → (n : ℕ) × (k ≡ pos n) × (slice_get sc.u.types n ≡ Some (type_number sc.img.types q))
