@@ -233,7 +233,7 @@ module _ (c : Context) (program : Program) where
     pub counter_value : (v : Variable) (pc : ℕ) → VariableGives program c v want.Value (ref.Basic basic.LongInt) → behind (for_value c v) pc ≡ suc (end_variable v pc)
     counter_value v pc f = variable_ends v want.Value (ref.Basic basic.LongInt) pc f
 
-    value_place : (v : Variable) (t : TypeRef) → VariableGives program c v want.Value t → VariableGives program c v want.Place t
+    pub value_place : (v : Variable) (t : TypeRef) → VariableGives program c v want.Value t → VariableGives program c v want.Place t
     value_place (variable.Module m x) t f = tt
     value_place (variable.Local x) t f = tt
     value_place (variable.Parameter passing.Scalar x) t f = tt

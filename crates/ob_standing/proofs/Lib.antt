@@ -2,3 +2,6 @@ pub mod Ends
 pub mod Lines
 pub mod Pieces
 pub mod Expressions
+pub mod Counters
+pub mod Assignments
+pub mod Statements
