@@ -1,5 +1,5 @@
 -- The code of assignments, NEW and labels stands as the law of simulation asks.
-use Rattle.std.proofs.Common.{◌≡◌, ℕ, suc, ◌+◌, ◌<◌, List, [], ◌∷◌, ◌++◌, ℤ, refl, sym, ap, ◌∙◌, subst, arith, Option, Some, None}
+use Rattle.std.proofs.Common.{◌≡◌, ℕ, suc, ◌+◌, ◌<◌, List, [], ◌∷◌, ◌++◌, ℤ, refl, sym, ap, ◌∙◌, subst, arith, Option, Some, None, inl, inr}
 use Rattle.std.proofs.lemmas.Bool.Decides.{nat_tests}
 use Rattle.std.specs.Prelude.{pos, negsuc, zero, length, nat_lt, Bool, true, false, if◌then◌else◌}
 use Rattle.ob_tree.specs.declared.pos.Pos.{Pos}
@@ -77,9 +77,9 @@ module _ (sc : Scope) (c : Context) (ag : Agrees sc c) where
       let r = desig_stands sc c ag want.PlaceAndTag d pc at (E sc c ag want.Place e k ++ (copy_record c true q p ∷ rest)) f (apart_two sc (D sc c ag want.PlaceAndTag d pc) (E sc c ag want.Place e k) _ rest pc at h) in
       let s = expr_stands sc c ag want.Place e p1 (at + dt sc d) (copy_record c true q p ∷ rest) g (on_expr sc c ag want.Place e k p1 _ _ _ (desig_ends c sc.program ag.described want.PlaceAndTag d pc f) refl r.1) in
       let l = s.1.lines.0 in
-      let t = type_found sc c ag q _ l.b known l.second in
+      let t = type_found sc c ag q _ l.b known (l.second (inl tt)) in
       let n : words c (ref.Named q) ≡ words_in (form_of sc d) = ag.described.sizes (ref.Named q) ∙ ap words_in (sym same) in
-      let i : Some (instr op.CopyRec l.a l.b) ≡ Some (instr op.CopyRec (pos (words_in (form_of sc d))) (pos t.0)) = ap (λ x. Some (instr op.CopyRec x l.b)) (l.first ∙ ap pos n) ∙ ap (λ x. Some (instr op.CopyRec (pos (words_in (form_of sc d))) x)) t.1 in
+      let i : Some (instr op.CopyRec l.a l.b) ≡ Some (instr op.CopyRec (pos (words_in (form_of sc d))) (pos t.0)) = ap (λ x. Some (instr op.CopyRec x l.b)) ((l.first (inl tt)) ∙ ap pos n) ∙ ap (λ x. Some (instr op.CopyRec (pos (words_in (form_of sc d))) x)) t.1 in
       ((r.0, (s.0, record { number = t.0; has = record { has = record { is = l.is ∙ i }; place = l.place }; is = t.2 })), moved sc _ _ refl (type_past sc c ag q _ ∙ ap (λ m. at + dt sc d + m) (place_texts sc c ag e)) (next sc s.1))
   record_stands false q d e p pc at rest same known f g h =
       let k = scheme.end_desig c want.Place d pc in

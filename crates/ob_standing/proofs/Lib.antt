@@ -5,3 +5,4 @@ pub mod Expressions
 pub mod Counters
 pub mod Assignments
 pub mod Statements
+pub mod Numbered

@@ -1,5 +1,5 @@
 -- Single lines that stand in the code.
-use Rattle.std.proofs.Common.{◌≡◌, ℕ, suc, ◌+◌, ◌<◌, List, [], ◌∷◌, ◌++◌, length, ℤ, refl, sym, ap, ◌∙◌, subst, arith, append_assoc, Option, Some, None}
+use Rattle.std.proofs.Common.{◌≡◌, ℕ, suc, ◌+◌, ◌<◌, List, [], ◌∷◌, ◌++◌, length, ℤ, refl, sym, ap, ◌∙◌, subst, arith, append_assoc, Option, Some, None, inl, inr}
 use Rattle.std.proofs.lemmas.Option.{slice_get_within}
 use Rattle.std.specs.Prelude.{pos, Bool, true, false, bytes_eq, if◌then◌else◌, slice_get}
 use Rattle.ob_tree.specs.declared.pos.Pos.{Pos}
@@ -49,7 +49,7 @@ module _ (sc : Scope) where
   -- LINES OF NUMBERS
 
   pub has_line : (o : Opcode) (a b : ℤ) (p : Option Pos) (pc at : ℕ) → LineStands sc (line_of o (Number a) (Number b) p) pc at → code.Has sc pc (instr o a b)
-  has_line o a b p pc at h = record { is = h.is ∙ ap (λ x. Some (instr o x h.b)) h.first ∙ ap (λ x. Some (instr o a x)) h.second }
+  has_line o a b p pc at h = record { is = h.is ∙ ap (λ x. Some (instr o x h.b)) (h.first (inr tt)) ∙ ap (λ x. Some (instr o a x)) (h.second (inr tt)) }
 
   or_place : {A : Type 0} (b : Bool) → A → OrElse b (Unit {0}) A
   or_place true x = tt
@@ -70,7 +70,7 @@ module _ (sc : Scope) where
       where
         go : (b : Bool) → is_own c q.module ≡ b → OrElse b (AmongTypes (records c) q.object) (Unit {0}) → OperandIs sc (if b then count (type_index c q.object) else OtherType (own_types c) q) at k → (n : ℕ) × (k ≡ pos n) × (slice_get sc.u.types n ≡ Some (type_number sc.img.types q))
         go true e i h = (type_index c q.object, h, ag.types q e i)
-        go false e i h = h
+        go false e i h = (h.0, h.1, h.2 ag.own)
 
     pub type_past : (q : QName) (at : ℕ) → past (type_operand c q) at ≡ at
     type_past q at = go (is_own c q.module)
@@ -81,8 +81,8 @@ module _ (sc : Scope) where
 
     pub has_type : (o : Opcode) (q : QName) (p : Option Pos) (pc at : ℕ) → IsKnown c q → LineStands sc (line_of o (type_operand c q) none p) pc at → code.HasType sc pc o q
     has_type o q p pc at known h =
-        let r = type_found q at h.a known h.first in
-        record { number = r.0; has = record { is = h.is ∙ ap (λ x. Some (instr o x h.b)) r.1 ∙ ap (λ x. Some (instr o (pos r.0) x)) h.second }; is = r.2 }
+        let r = type_found q at h.a known (h.first (inr tt)) in
+        record { number = r.0; has = record { is = h.is ∙ ap (λ x. Some (instr o x h.b)) r.1 ∙ ap (λ x. Some (instr o (pos r.0) x)) (h.second (inr tt)) }; is = r.2 }
 
     pub has_type_at : (o : Opcode) (q : QName) (p : Pos) (pc at : ℕ) → IsKnown c q → LineStands sc (line_of o (type_operand c q) none (Some p)) pc at → code.HasTypeAt sc pc o q p
     has_type_at o q p pc at known h = record { type = has_type o q (Some p) pc at known h; place = h.place }
@@ -97,7 +97,7 @@ module _ (sc : Scope) where
       where
         go : (b : Bool) → is_own c m ≡ b → LineStands sc (if b then plain op.Global (count (variable_place c x)) else plain op.ExtVar (OtherVariable m x)) pc at → OrElse b (code.Has sc pc (with_a op.Global (slot (variables_in sc.program sc.program m) x))) (code.HasLink sc pc m x)
         go true e h = subst (λ n. code.Has sc pc (with_a op.Global n)) (ag.variables m x e) (has_line op.Global (pos (variable_place c x)) (pos 0) None pc at h)
-        go false e h = record { number = h.first.0; has = record { is = h.is ∙ ap (λ k. Some (instr op.ExtVar k h.b)) h.first.1 ∙ ap (λ k. Some (instr op.ExtVar (pos h.first.0) k)) h.second }; is = h.first.2 }
+        go false e h = record { number = (h.first (inr tt)).0; has = record { is = h.is ∙ ap (λ k. Some (instr op.ExtVar k h.b)) (h.first (inr tt)).1 ∙ ap (λ k. Some (instr op.ExtVar (pos (h.first (inr tt)).0) k)) (h.second (inr tt)) }; is = (h.first (inr tt)).2 }
         none_past : (b : Bool) → past (if b then plain op.Global (count (variable_place c x)) else plain op.ExtVar (OtherVariable m x)).b (past (if b then plain op.Global (count (variable_place c x)) else plain op.ExtVar (OtherVariable m x)).a at) ≡ at
         none_past true = refl
         none_past false = refl
@@ -112,7 +112,7 @@ module _ (sc : Scope) where
       where
         go : (b : Bool) → is_own c q.module ≡ b → LineStands sc (if b then plain op.Proc (count (procedure_index c q.object)) else plain op.ProcX (OtherProcedure q.module q.object)) pc at → OrElse b (code.Has sc pc (with_a op.Proc (number q).proc)) ((k : ℕ) × code.Has sc pc (with_a op.ProcX k) × (slice_get sc.u.procedure_links k ≡ Some (number q)))
         go true e h = subst (λ n. code.Has sc pc (with_a op.Proc n)) (ag.procedures q e named) (has_line op.Proc (pos (procedure_index c q.object)) (pos 0) None pc at h)
-        go false e h = (h.first.0, record { is = h.is ∙ ap (λ k. Some (instr op.ProcX k h.b)) h.first.1 ∙ ap (λ k. Some (instr op.ProcX (pos h.first.0) k)) h.second }, h.first.2)
+        go false e h = ((h.first (inr tt)).0, record { is = h.is ∙ ap (λ k. Some (instr op.ProcX k h.b)) (h.first (inr tt)).1 ∙ ap (λ k. Some (instr op.ProcX (pos (h.first (inr tt)).0) k)) (h.second (inr tt)) }, (h.first (inr tt)).2)
         none_past : (b : Bool) → past (if b then plain op.Proc (count (procedure_index c q.object)) else plain op.ProcX (OtherProcedure q.module q.object)).b (past (if b then plain op.Proc (count (procedure_index c q.object)) else plain op.ProcX (OtherProcedure q.module q.object)).a at) ≡ at
         none_past true = refl
         none_past false = refl
@@ -129,7 +129,7 @@ module _ (sc : Scope) where
       where
         go : (b : Bool) → is_own c q.module ≡ b → LineStands sc (if b then placed op.Call (count (procedure_index c q.object)) p else placed op.CallX (OtherProcedure q.module q.object) p) pc at → OrElse b (code.Has sc pc (with_a op.Call (number q).proc)) ((k : ℕ) × code.Has sc pc (with_a op.CallX k) × (slice_get sc.u.procedure_links k ≡ Some (number q)))
         go true e h = subst (λ n. code.Has sc pc (with_a op.Call n)) (ag.procedures q e named) (has_line op.Call (pos (procedure_index c q.object)) (pos 0) (Some p) pc at h)
-        go false e h = (h.first.0, record { is = h.is ∙ ap (λ k. Some (instr op.CallX k h.b)) h.first.1 ∙ ap (λ k. Some (instr op.CallX (pos h.first.0) k)) h.second }, h.first.2)
+        go false e h = ((h.first (inr tt)).0, record { is = h.is ∙ ap (λ k. Some (instr op.CallX k h.b)) (h.first (inr tt)).1 ∙ ap (λ k. Some (instr op.CallX (pos (h.first (inr tt)).0) k)) (h.second (inr tt)) }, (h.first (inr tt)).2)
         place : (b : Bool) → LineStands sc (if b then placed op.Call (count (procedure_index c q.object)) p else placed op.CallX (OtherProcedure q.module q.object) p) pc at → position_at sc.u.positions pc ≡ p
         place true h = h.place
         place false h = h.place

@@ -132,7 +132,7 @@ module _ (sc : Scope) where
   string_stands : (text : List ℕ) (n pc at : ℕ) (rest : List Line) → Behind sc (string_line text n ∷ rest) pc at → Has sc pc (with_a op.Global at) × Behind sc rest (suc pc) (at + n)
   string_stands text n pc at rest h =
       let l = h.lines.0 in
-      (record { is = l.is ∙ ap (λ k. Some (instr op.Global k l.b)) l.first ∙ ap (λ k. Some (instr op.Global (pos at) k)) l.second }, next sc h)
+      (record { is = l.is ∙ ap (λ k. Some (instr op.Global k l.b)) (l.first (inr tt)) ∙ ap (λ k. Some (instr op.Global (pos at) k)) (l.second (inr tt)) }, next sc h)
 
   word_stands : (z y : ℤ) (pc at : ℕ) (rest : List Line) → z ≡ y → Behind sc (plain op.Int (Number z) ∷ rest) pc at → Has sc pc (instr op.Int y (pos 0)) × Behind sc rest (suc pc) (at + 0)
   word_stands z y pc at rest e h = let i = int_stands z y pc at rest e h in (i.0, no_texts sc i.1)
@@ -360,7 +360,7 @@ module _ (sc : Scope) where
     call_stands (callee.Bound g receiver.Record) es p pc at rest f h = (bound_at op.CallR g es p pc at h.lines.0, next sc h)
     call_stands (callee.Super base g r) es p pc at rest f h =
         let l = h.lines.0 in
-        let t = type_found sc c ag base at l.a f l.first in
-        let e : Some (instr op.CallS l.a l.b) ≡ Some (instr op.CallS (pos t.0) (pos (sc.method_number g))) = ap (λ x. Some (instr op.CallS x l.b)) t.1 ∙ ap (λ x. Some (instr op.CallS (pos t.0) x)) l.second ∙ ap (λ n. Some (instr op.CallS (pos t.0) (pos n))) (sym (ag.methods g)) in
+        let t = type_found sc c ag base at l.a f (l.first (inr tt)) in
+        let e : Some (instr op.CallS l.a l.b) ≡ Some (instr op.CallS (pos t.0) (pos (sc.method_number g))) = ap (λ x. Some (instr op.CallS x l.b)) t.1 ∙ ap (λ x. Some (instr op.CallS (pos t.0) x)) (l.second (inr tt)) ∙ ap (λ n. Some (instr op.CallS (pos t.0) (pos n))) (sym (ag.methods g)) in
         ((t.0, record { has = record { is = l.is ∙ e }; place = l.place }, t.2), moved sc _ _ refl (type_past sc c ag base at) (next sc h))
     call_stands (callee.Out o) es p pc at rest f h = (subst (λ n. HasAt sc pc (with_a op.Out n) p) (out_same o) (has_at sc op.Out _ _ p pc at h.lines.0), next sc h)

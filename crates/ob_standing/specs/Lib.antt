@@ -3,3 +3,4 @@ pub mod Described
 pub mod Fits
 pub mod Agrees
 pub mod Wanted
+pub mod Resolved
