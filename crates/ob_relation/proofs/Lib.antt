@@ -10,6 +10,7 @@ pub mod Grow
 pub mod Slots
 pub mod Frames
 pub mod Copies
+pub mod Stopping
 pub mod Moves
 pub mod Variables
 pub mod Values

@@ -108,6 +108,24 @@ binary_code binary.In = plain op.In
 binary_code binary.Ash = plain op.Ash
 binary_code (binary.Compare r c) = plain (comparison_code r)
 
+-- the operators that have a result for all operands: they neither trap nor spend a turn, and files have no position for them
+abbrev pub never_stops : Opcode → Bool
+never_stops op.Not = true
+never_stops op.Compl = true
+never_stops op.Cap = true
+never_stops op.Odd = true
+never_stops op.Union = true
+never_stops op.Minus = true
+never_stops op.Meet = true
+never_stops op.Xor = true
+never_stops op.Eq = true
+never_stops op.Ne = true
+never_stops op.Lt = true
+never_stops op.Le = true
+never_stops op.Gt = true
+never_stops op.Ge = true
+never_stops o = false
+
 abbrev pub update_code : Update → Instr
 update_code (update.Inc w) = with_a op.Inc (bytes w)
 update_code (update.Dec w) = with_a op.Dec (bytes w)
@@ -164,9 +182,10 @@ module _ (sc : Scope) where
   pub record Has (pc : ℕ) (i : Instr) : Type 0 where
     pub is : slice_get sc.u.code pc ≡ Some i
 
+  -- with its position, unless it never stops
   pub record HasAt (pc : ℕ) (i : Instr) (at : Pos) : Type 0 where
     pub has : Has pc i
-    pub place : position_at sc.u.positions pc ≡ at
+    pub place : OrElse (never_stops i.op) (Unit {0}) (position_at sc.u.positions pc ≡ at)
 
   -- an instruction with a number of this module's that stands for a type
   pub record HasType (pc : ℕ) (o : Opcode) (q : QName) : Type 0 where
