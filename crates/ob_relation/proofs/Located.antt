@@ -18,7 +18,7 @@ use Rattle.ob_relation.proofs.Modules.{Ms, module_known, modules-length}
 use Rattle.ob_relation.specs.Setting.{Setting, StandIn, has_of}
 
 module _ (c : Setting) where
-  call_form_ok : (os : List AnObject) (cs : List Active) (g : ℕ → List ℕ → Value) (k : ℕ) (x : List ℕ) → ValueIn (held_at cs k) x → CsFine c os g cs → FormOk (form_named (held_at cs k) x)
+  pub call_form_ok : (os : List AnObject) (cs : List Active) (g : ℕ → List ℕ → Value) (k : ℕ) (x : List ℕ) → ValueIn (held_at cs k) x → CsFine c os g cs → FormOk (form_named (held_at cs k) x)
   call_form_ok os [] g k x here fine = absurd here
   call_form_ok os (a ∷ cs) g k x here fine = go (nat_eq k (length cs)) here (λ h. call_form_ok os cs g k x h fine.0)
     where
@@ -26,7 +26,7 @@ module _ (c : Setting) where
       go true h rest = (in_frame c os cs a.places a.held 0 x (g (length cs)) h fine.1.0).ok fine.1.1
       go false h rest = rest h
 
-  object_form_ok : (all os : List AnObject) (g : ℕ → Value) (n : ℕ) → n < length os → OsFine c all os g → FormOk (object_at os n)
+  pub object_form_ok : (all os : List AnObject) (g : ℕ → Value) (n : ℕ) → n < length os → OsFine c all os g → FormOk (object_at os n)
   object_form_ok all [] g n lt fine = absurd (omega arith)
   object_form_ok all (x ∷ xs) g n lt fine = go (nat_eq n (length xs)) refl (λ l. object_form_ok all xs g n l fine.0)
     where

@@ -124,7 +124,7 @@ module _ (c : Setting) (os : List AnObject) where
           (part_before (field_form fs o x) (g o x) (W t (g owner name)) (Ws fs g) (λ w. Ws fs (put g o x w)) (field_offset fs o x) (rest i))
           refl refl (λ w f. ap (λ v. W t v ++ Ws fs (put g o x w)) (put_other g o x w owner name e)) (ap (λ n. n + field_offset fs o x) (flat-length t (g owner name)))
 
-  field_ok : (fs : Fields) (o : QName) (x : List ℕ) → FieldIn fs o x → FieldsOk fs → FormOk (field_form fs o x)
+  pub field_ok : (fs : Fields) (o : QName) (x : List ℕ) → FieldIn fs o x → FieldsOk fs → FormOk (field_form fs o x)
   field_ok NoField o x here ok = absurd here
   field_ok (AField owner name t fs) o x here ok = go (same_field o x owner name) here (λ i. field_ok fs o x i ok.1.1)
     where
@@ -254,4 +254,4 @@ module _ (c : Setting) (os : List AnObject) where
   path_known (ElementStep i ∷ path) (ArrayForm n t) v ok here fine =
       known_inside t (path_form t path) (element_of v i) (part (element_of v i) path) (W (ArrayForm n t) v) (λ w. W (ArrayForm n t) (with_element v i w)) (λ w. with_part (element_of v i) path w) (i * words t) (path_offset t path) (λ w. F (ArrayForm n t) (with_element v i w))
       (element_known n i t v here.0 fine)
-      (path_known path t (element_of v i) ok here.1 (fine.1 i here.0))
+      (path_known path t (element_of v i) ok.1 here.1 (fine.1 i here.0))

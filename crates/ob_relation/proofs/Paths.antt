@@ -54,13 +54,13 @@ path_offset-append (FieldStep o x ∷ p) q t = let e = path_offset-append p q (f
 path_offset-append (ElementStep i ∷ p) q t = let e = path_offset-append p q (element_of_form t) in omega (arith, e)
 
 module _ (c : Setting) (os : List AnObject) (cs : List Active) where
-  inside_in : (p : Place) (q : Step) → PlaceIn c.program (has_of c) c.img os cs p → PathIn (place_form c.program c.img os cs p) (q ∷ []) → PlaceIn c.program (has_of c) c.img os cs (inside p q)
+  pub inside_in : (p : Place) (q : Step) → PlaceIn c.program (has_of c) c.img os cs p → PathIn (place_form c.program c.img os cs p) (q ∷ []) → PlaceIn c.program (has_of c) c.img os cs (inside p q)
   inside_in (At root path) q h k = (h.0, path_in-append path (q ∷ []) (root_form c.program c.img os cs root) h.1 k)
 
-  inside_form : (p : Place) (q : Step) → place_form c.program c.img os cs (inside p q) ≡ path_form (place_form c.program c.img os cs p) (q ∷ [])
+  pub inside_form : (p : Place) (q : Step) → place_form c.program c.img os cs (inside p q) ≡ path_form (place_form c.program c.img os cs p) (q ∷ [])
   inside_form (At root path) q = path_form-append path (q ∷ []) (root_form c.program c.img os cs root)
 
-  inside_address : (p : Place) (q : Step) → address c.program c.img os cs p + path_offset (place_form c.program c.img os cs p) (q ∷ []) ≡ address c.program c.img os cs (inside p q)
+  pub inside_address : (p : Place) (q : Step) → address c.program c.img os cs p + path_offset (place_form c.program c.img os cs p) (q ∷ []) ≡ address c.program c.img os cs (inside p q)
   inside_address (At root path) q = let e = path_offset-append path (q ∷ []) (root_form c.program c.img os cs root) in omega (arith, e)
 
 -- FIELDS OF AN EXTENSION
@@ -103,7 +103,7 @@ sub_field _ _ line fs o x (extended more gs {line = line2} {fs = fs2}) e h =
     record { in_it = (joined_in fs2 gs o x h2, tt); form = joined_form fs2 gs o x h2 ∙ ap (λ f. field_form f o x) same; offset = joined_offset fs2 gs o x h2 ∙ ap (λ f. field_offset f o x) same }
 sub_field _ _ line fs o x (opened n) e h = absurd (cc)
 
-sub_array : (t u : Form) (n : ℕ) (v : Form) → Sub t u → u ≡ ArrayForm n v → t ≡ ArrayForm n v
+pub sub_array : (t u : Form) (n : ℕ) (v : Form) → Sub t u → u ≡ ArrayForm n v → t ≡ ArrayForm n v
 sub_array _ u n v itself e = e
 sub_array _ _ n v (extended more gs) e = absurd (cc)
 sub_array _ _ n v (opened k) e = absurd (cc)

@@ -56,13 +56,13 @@ pub record WordAt (l : List ℤ) (offset : ℕ) (word : ℤ) : Type 0 where
   pub len : length before ≡ offset
   pub is : l ≡ before ++ (word ∷ behind)
 
-word_before : (l now : List ℤ) (n : ℕ) (x : ℤ) → WordAt now n x → WordAt (l ++ now) (length l + n) x
+pub word_before : (l now : List ℤ) (n : ℕ) (x : ℤ) → WordAt now n x → WordAt (l ++ now) (length l + n) x
 word_before l now n x r = record { before = l ++ r.before; behind = r.behind; len = length-append l r.before ∙ omega (arith, r.len); is = ap (λ k. l ++ k) r.is ∙ simp append_assoc }
 
-word_behind : (l now : List ℤ) (n : ℕ) (x : ℤ) → WordAt now n x → WordAt (now ++ l) n x
+pub word_behind : (l now : List ℤ) (n : ℕ) (x : ℤ) → WordAt now n x → WordAt (now ++ l) n x
 word_behind l now n x r = record { before = r.before; behind = r.behind ++ l; len = r.len; is = ap (λ k. k ++ l) r.is ∙ simp append_assoc }
 
-word_same : (l l2 : List ℤ) (m n : ℕ) (x y : ℤ) → WordAt l m x → l ≡ l2 → m ≡ n → x ≡ y → WordAt l2 n y
+pub word_same : (l l2 : List ℤ) (m n : ℕ) (x y : ℤ) → WordAt l m x → l ≡ l2 → m ≡ n → x ≡ y → WordAt l2 n y
 word_same l l2 m n x y r e f g = record { before = r.before; behind = r.behind; len = r.len ∙ f; is = sym e ∙ r.is ∙ ap (λ z. r.before ++ (z ∷ r.behind)) g }
 
 module _ (c : Setting) where

@@ -119,7 +119,7 @@ module _ (c : Setting) (os : List AnObject) where
     pub widen : (t u : Form) (v : Value) → Widens t u → F t v → F u v
     widen _ _ v typed.itself h = h
     widen _ _ v (typed.integers k w le) h = let i = integer_is k v h in is_integer w v (i.0, within_in k w le i.0 i.1, i.2)
-    widen _ _ v (typed.pointers t u f) h = ⊎_elim (λ e. inl e) (λ k. inr (k.0, k.1, k.2, f _ k.3)) h
+    widen _ _ v (typed.pointers t u f g) h = ⊎_elim (λ e. inl e) (λ k. inr (k.0, k.1, k.2, f _ k.3, g _ k.4)) h
     widen _ _ v (typed.procedures s t f) h = ⊎_elim (λ e. inl e) (λ k. inr (k.0, k.1, f k.0 k.2)) h
 
     module _ (pc : ℕ) (w : World) (ops : List ℤ) where

@@ -39,7 +39,7 @@ use Rattle.ob_meaning.specs.Values.{Program, procedure_of, Form, BasicForm, Poin
 use Rattle.ob_meaning.specs.Operators.{is_in}
 use Rattle.ob_meaning.specs.Meaning.{nearest, hidden}
 use Rattle.ob_relation.specs.Layout.{field_offset, field_form, held_name, form_named, variables_in}
-use Rattle.ob_relation.specs.Relation.{OrElse, Sub, Scalar, FieldIn, ValueIn}
+use Rattle.ob_relation.specs.Relation.{OrElse, FormOk, LengthFits, Sub, Scalar, FieldIn, ValueIn}
 
 abbrev pub basic_of : Width → Basic
 basic_of width.ShortInt = basic.ShortInt
@@ -67,6 +67,11 @@ pub data Within : Width → Width → Type 0 where
   short : Within width.ShortInt width.Integer
   shorter : Within width.ShortInt width.LongInt
   middle : Within width.Integer width.LongInt
+
+-- the characters of a string
+abbrev pub AreCharacters : List ℕ → Type 0
+AreCharacters [] = Unit {0}
+AreCharacters (c ∷ cs) = (c < 256) × AreCharacters cs
 
 abbrev pub IsEquality : Comparison → Type 0
 IsEquality comparison.Equal = Unit {0}
@@ -111,7 +116,7 @@ module _ (program : Program) (Has : Signature → QName → Type 0) (unit : List
   pub data Widens : Form → Form → Type 0 where
     itself : {t : Form} → Widens t t
     integers : (v w : Width) → Within v w → Widens (integer v) (integer w)
-    pointers : (t u : TypeRef) → ((a : Form) → Sub a (form_in program t) → Sub a (form_in program u)) → Widens (PointerForm t) (PointerForm u)
+    pointers : (t u : TypeRef) → ((a : Form) → Sub a (form_in program t) → Sub a (form_in program u)) → ((has : Bool) → LengthFits (form_in program t) has → LengthFits (form_in program u) has) → Widens (PointerForm t) (PointerForm u)
     procedures : (s t : Signature) → ((q : QName) → Has s q → Has t q) → Widens (ProcedureForm s) (ProcedureForm t)
 
   abbrev pub ParameterOk : Passing → List ℕ → Type 0
@@ -237,7 +242,7 @@ module _ (program : Program) (Has : Signature → QName → Type 0) (unit : List
 
     pub TextOk : Expr → Type 0
     TextOk (ValueOf d) = DesigOk d × IsText (form_of d)
-    TextOk (Constant (literal.Str text)) = Unit {0}
+    TextOk (Constant (literal.Str text)) = AreCharacters text
     TextOk e = ⊥
 
     pub OutOk : Actuals → Type 0
@@ -261,7 +266,7 @@ module _ (program : Program) (Has : Signature → QName → Type 0) (unit : List
 
     pub StructureOk : Expr → Form → Type 0
     StructureOk (ValueOf d) t = DesigOk d × Sub (form_of d) t
-    StructureOk (Constant (literal.Str text)) t = (n : ℕ) × (t ≡ ArrayForm n char) × (length text < n)
+    StructureOk (Constant (literal.Str text)) t = (n : ℕ) × (t ≡ ArrayForm n char) × (length text < n) × AreCharacters text
     StructureOk e t = ⊥
 
     pub ArrayOk : Expr → Form → Type 0
@@ -276,7 +281,7 @@ module _ (program : Program) (Has : Signature → QName → Type 0) (unit : List
   abbrev pub AssignedOk : Assigned → Desig → Expr → Type 0
   AssignedOk assigned.Scalar d e = ExprOk e (form_of d) × Scalar (form_of d)
   AssignedOk assigned.Text d e = (n : ℕ) × (form_of d ≡ ArrayForm n char) × StructureOk e (form_of d)
-  AssignedOk assigned.Array d e = StructureOk e (form_of d)
+  AssignedOk assigned.Array d e = ((n : ℕ) × (u : Form) × (form_of d ≡ ArrayForm n u)) × StructureOk e (form_of d)
   AssignedOk (assigned.Record q) d e = (form_of d ≡ record_in program q) × StructureOk e (form_of d)
 
   abbrev pub UpdateOk : Update → Desig → Expr → Type 0
@@ -287,7 +292,7 @@ module _ (program : Program) (Has : Signature → QName → Type 0) (unit : List
 
   abbrev pub MadeOk : Made → Form → Type 0
   MadeOk (made.Record q) t = IsPointerTo t (record_in program q) × ((line : List QName) × (record_in program q ≡ RecordForm (q ∷ line) (fields_of (record_in program q))))
-  MadeOk (made.Array u) t = IsPointerTo t (form_in program u)
+  MadeOk (made.Array u) t = IsPointerTo t (form_in program u) × ((n : ℕ) × (v : Form) × (form_in program u ≡ ArrayForm n v) × FormOk (ArrayForm n v))
 
   abbrev pub ReturnOk : Option Expr → Option TypeRef → Type 0
   ReturnOk None None = Unit {0}
@@ -319,7 +324,7 @@ module _ (program : Program) (Has : Signature → QName → Type 0) (unit : List
     StmtOk (Updated o d e at) l = DesigOk d × UpdateOk o d e
     StmtOk (Copy e d at) l = TextOk e × (DesigOk d × IsText (form_of d))
     StmtOk (New d what at) l = DesigOk d × MadeOk what (form_of d)
-    StmtOk (NewOpenArray d t n at) l = DesigOk d × (IsPointerTo (form_of d) (OpenForm (form_in program t)) × ExprOk n longint)
+    StmtOk (NewOpenArray d t n at) l = DesigOk d × (IsPointerTo (form_of d) (OpenForm (form_in program t)) × (FormOk (form_in program t) × ExprOk n longint))
     StmtOk (Assert e number at) l = ExprOk e boolean
     StmtOk (Halt number at) l = Unit {0}
     StmtOk (If branches otherwise) l = BranchesOk branches l × StmtsOk otherwise l
