@@ -3,16 +3,16 @@ use Rattle.std.specs.Prelude.{◌≡◌, Option, Some, None}
 use Rattle.ob_tree.specs.declared.names.QName.{QName}
 use Rattle.ob_types.specs.declared.types.Basic.TheVariants as basic
 use Rattle.ob_types.specs.declared.types.TypeRef.TheVariants as ref
+use Rattle.ob_types.specs.declared.value.Value.TheVariants as literal
 use Rattle.ob_types.specs.declared.typed.OutProcedure.TheVariants as out
 use Rattle.ob_types.specs.declared.typed.Made.TheVariants as made
 use Rattle.ob_types.specs.declared.typed.Update.TheVariants as update
 use Rattle.ob_types.specs.declared.typed.Passing.TheVariants as passing
 use Rattle.ob_types.specs.declared.typed.Callee.TheVariants as callee
 use Rattle.ob_types.specs.declared.typed.Assigned.TheVariants as assigned
-use Rattle.ob_types.specs.TypedSyntax.{Desig, OfVariable, Field, Index, Deref, Expr, Constant, ValueOf, Monadic, Dyadic, Logical, Call, Actuals, NoActual, AnActual, Stmt, Assign, CallProper, Updated, Assert, Halt, If, While, Repeat, Loop, Exit, Return, Stmts, Nothing, Then, Branches, NoBranch, Branch, New, Procedure}
+use Rattle.ob_types.specs.TypedSyntax.{Desig, OfVariable, Field, Index, Deref, Expr, Constant, ValueOf, Monadic, Dyadic, Logical, CompareTexts, Length, Call, Actuals, NoActual, AnActual, Stmt, Assign, CallProper, Updated, Assert, Halt, If, While, Repeat, Loop, Exit, Return, Stmts, Nothing, Then, Branches, NoBranch, Branch, Copy, New, NewOpenArray, Procedure}
 use Rattle.ob_meaning.specs.Values as values
 use Rattle.ob_relation.specs.Setting.{Setting}
-
 use Rattle.ob_relation.specs.Plain.{Plain, PlainBinary, PlainUnary, PlainLiteral}
 
 abbrev mutual
@@ -21,6 +21,7 @@ abbrev mutual
   InDesig (Field d o x t) = InDesig d
   InDesig (Deref d at t) = InDesig d
   InDesig (Index d (Some l) i at t) = InDesig d × InExpr i
+  InDesig (Index d None i at t) = InDesig d × InExpr i
   InDesig d = ⊥
 
   pub InExpr : Expr → Type 0
@@ -29,8 +30,16 @@ abbrev mutual
   InExpr (Monadic o e at) = PlainUnary o × InExpr e
   InExpr (Dyadic o x y at) = PlainBinary o × (InExpr x × InExpr y)
   InExpr (Logical o x y) = InExpr x × InExpr y
+  InExpr (CompareTexts r x y at) = InText x × InText y
+  InExpr (Length (Deref d at t)) = InDesig d
   InExpr (Call (callee.Declared q) es at r) = InActuals es
   InExpr e = ⊥
+
+  -- an array of characters, or a string
+  pub InText : Expr → Type 0
+  InText (Constant (literal.Str text)) = Unit {0}
+  InText (ValueOf d) = InDesig d
+  InText e = ⊥
 
   pub InActuals : Actuals → Type 0
   InActuals NoActual = Unit {0}
@@ -45,11 +54,17 @@ InOptional (Some e) = InExpr e
 abbrev mutual
   pub InStmt : Stmt → Type 0
   InStmt (Assign d assigned.Scalar e at) = InDesig d × InExpr e
+  InStmt (Assign d assigned.Text (Constant (literal.Str text)) at) = InDesig d
+  InStmt (Assign d assigned.Array (ValueOf e) at) = InDesig d × InDesig e
   InStmt (CallProper (Call (callee.Declared q) es at r)) = InActuals es
   InStmt (CallProper (Call (callee.Out out.Ln) NoActual at r)) = Unit {0}
   InStmt (CallProper (Call (callee.Out out.Char) (AnActual passing.Scalar (ref.Basic basic.Char) e NoActual) at r)) = InExpr e
   InStmt (CallProper (Call (callee.Out out.Int) (AnActual passing.Scalar (ref.Basic basic.LongInt) e (AnActual passing.Scalar (ref.Basic basic.LongInt) f NoActual)) at r)) = InExpr e × InExpr f
+  InStmt (CallProper (Call (callee.Out out.Str) (AnActual passing.OpenArray t e NoActual) at r)) = InText e
   InStmt (New d (made.Record q) at) = InDesig d
+  InStmt (New d (made.Array t) at) = InDesig d
+  InStmt (NewOpenArray d t e at) = InDesig d × InExpr e
+  InStmt (Copy e d at) = InText e × InDesig d
   InStmt (Updated (update.Inc w) d e at) = InDesig d × InExpr e
   InStmt (Updated (update.Dec w) d e at) = InDesig d × InExpr e
   InStmt (Assert e number at) = InExpr e
