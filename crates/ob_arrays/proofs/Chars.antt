@@ -1,19 +1,17 @@
 -- Characters as words, up to their first 0X.
 use Rattle.std.proofs.lemmas.Bool.Decides.{nat_tests}
-use Rattle.std.proofs.lemmas.List.{map-append, drop-map, take-map, length-map, length-drop, length-take}
-use Rattle.std.proofs.Common.{◌≡◌, ℕ, zero, suc, ◌+◌, ◌-◌, ◌<◌, ◌≤◌, List, [], ◌∷◌, ◌++◌, length, Option, Some, None, ℤ, refl, sym, ap, ◌∙◌, subst, arith, append-nil, append_assoc, length-append}
-use Rattle.std.specs.Prelude.{pos, ◌+ℤ◌, Bool, true, false, not, ◌||◌, ◌&&◌, map, take, drop, nat_le, nat_lt, nat_eq, int_lt, if◌then◌else◌}
-use Rattle.std.specs.Ordering.{int_eq}
+use Rattle.std.proofs.Common.{◌≡◌, ℕ, zero, suc, ◌+◌, ◌-◌, ◌<◌, List, [], ◌∷◌, ◌++◌, length, Option, Some, None, ℤ, refl, sym, ap, ◌∙◌, subst, arith, append-nil, append_assoc, length-append}
+use Rattle.std.specs.Prelude.{pos, ◌+ℤ◌, Bool, true, false, not, ◌||◌, ◌&&◌, map, take, drop, nat_le, nat_lt, nat_eq, if◌then◌else◌}
 use Rattle.ob_types.specs.declared.typed.Comparison.{Comparison}
 use Rattle.ob_types.specs.declared.typed.Comparison.TheVariants as comparison
 use Rattle.ob_mem.specs.Words.{word_at}
 use Rattle.ob_instr.specs.Rows as rows_of
-use Rattle.ob_instr.specs.Rows.{Chars, Missing, Endless, Ends, char_or_end, chars_from, chars_lt, chars_eq, related, low_bytes}
+use Rattle.ob_instr.specs.Rows.{Chars, Endless, Ends, char_or_end, chars_from, chars_lt, chars_eq, related}
 use Rattle.ob_meaning.specs.Values.{Value, Character, character_of, AnObject}
 use Rattle.ob_meaning.specs.Operators.{before_all, up_to_end, characters, character_at, text_equal, text_less, holds}
 use Rattle.ob_relation.specs.Stands.{comparison_number}
 use Rattle.ob_relation.specs.Typed.{char, AreCharacters}
-use Rattle.ob_relation.proofs.Slots.{WordAt, word_got}
+use Rattle.ob_relation.proofs.Slots.{word_got}
 use Rattle.ob_relation.proofs.Parts.{F, W, We}
 use Rattle.ob_relation.proofs.Values.{nat_equal}
 use Rattle.ob_relation.specs.Setting.{Setting}

@@ -1,8 +1,8 @@
 -- Words that are copied, and assignments of arrays.
 use Rattle.std.proofs.lemmas.Bool.Decides.{nat_tests}
 use Rattle.std.proofs.Math.Seq.{take-append_seam, drop-append_seam}
-use Rattle.std.proofs.Common.{◌≡◌, ℕ, zero, suc, ◌+◌, ◌-◌, ◌*◌, ◌≤◌, List, [], ◌∷◌, ◌++◌, length, Some, None, ℤ, refl, sym, ap, ◌∙◌, subst, arith, length-append}
-use Rattle.std.specs.Prelude.{pos, Bool, true, take, drop, nat_le, ◌&&◌, if◌then◌else◌}
+use Rattle.std.proofs.Common.{◌≡◌, ℕ, zero, suc, ◌+◌, ◌-◌, List, [], ◌∷◌, ◌++◌, length, Some, None, ℤ, refl, sym, ap, ◌∙◌, subst, arith, length-append}
+use Rattle.std.specs.Prelude.{pos, true, take, drop, nat_le, ◌&&◌, if◌then◌else◌}
 use Rattle.ob_tree.specs.declared.pos.Pos.{Pos}
 use Rattle.ob_types.specs.declared.typed.Assigned.TheVariants as assigned
 use Rattle.ob_types.specs.TypedSyntax.{Desig, ValueOf, Assign}
@@ -12,16 +12,15 @@ use Rattle.ob_instr.specs.Image.{World}
 use Rattle.ob_instr.specs.Rows.{with_memory}
 use Rattle.ob_instr.proofs.Goes as rows
 use Rattle.ob_meaning.specs.Values.{Form, ArrayForm, words, Place, value_at, with_value_at, AnObject, State}
-use Rattle.ob_meaning.specs.Results.{Res, Gives, Stops, M, bind, assign, Caller}
-use Rattle.ob_meaning.specs.Meaning.{Source, Stands, place, assign_array, Flow, Done}
+use Rattle.ob_meaning.specs.Results.{Res, Gives, Stops, M, bind, Caller}
+use Rattle.ob_meaning.specs.Meaning.{Source, Stands, place, assign_array}
 use Rattle.ob_relation.specs.Layout.{address, place_form}
-use Rattle.ob_relation.specs.Relation.{Fine, PlaceIn, PlaceOf}
-use Rattle.ob_relation.specs.Need.{need_place}
+use Rattle.ob_relation.specs.Relation.{Fine, PlaceIn}
 use Rattle.ob_relation.specs.Ends.{end_place}
 use Rattle.ob_relation.specs.Stands as code
 use Rattle.ob_relation.proofs.Steps.{here, Follows, follows_bind, follows_value}
-use Rattle.ob_relation.proofs.Statements.{Activation, scope, go, fb, K, here_in, Keeps, PlaceFollows, StmtFollows, FlowTo, FlowKept}
-use Rattle.ob_relation.proofs.Grow.{address_same, place_of_more, form_same}
+use Rattle.ob_relation.proofs.Statements.{Activation, scope, go, fb, K, here_in, Keeps, PlaceFollows, StmtFollows}
+use Rattle.ob_relation.proofs.Grow.{address_same, place_of_more}
 use Rattle.ob_relation.proofs.Parts.{W, flat-length}
 use Rattle.ob_relation.proofs.Located.{Located, located}
 use Rattle.ob_relation.proofs.Moves.{goes}

@@ -6,4 +6,5 @@ pub mod Chars
 pub mod Strings
 pub mod Texts
 pub mod Writing
+pub mod Slots
 pub mod Passed

@@ -1,7 +1,7 @@
 -- NEW of open arrays.
 use Rattle.std.proofs.lemmas.Bool.Decides.{nat_tests}
-use Rattle.std.proofs.Common.{◌≡◌, ℕ, zero, suc, ◌*◌, ◌≤◌, ◌<◌, List, [], ◌∷◌, length, ℤ, refl, sym, ap, ◌∙◌, subst, arith}
-use Rattle.std.specs.Prelude.{pos, negsuc, Bool, true, int_lt}
+use Rattle.std.proofs.Common.{◌≡◌, ℕ, zero, suc, ◌*◌, ◌<◌, List, [], ◌∷◌, length, ℤ, refl, sym, subst, arith}
+use Rattle.std.specs.Prelude.{pos, negsuc, true}
 use Rattle.ob_tree.specs.declared.pos.Pos.{Pos}
 use Rattle.ob_types.specs.declared.types.TypeRef.{TypeRef}
 use Rattle.ob_types.specs.declared.typed.Width.TheVariants as width
@@ -11,7 +11,7 @@ use Rattle.ob_instr.specs.declared.opcode.Opcode.TheVariants as op
 use Rattle.ob_instr.specs.Image.{World}
 use Rattle.ob_instr.specs.Rows.{Traps, made}
 use Rattle.ob_instr.proofs.Goes as rows
-use Rattle.ob_meaning.specs.Values.{Form, PointerForm, ArrayForm, OpenForm, form_in, words, Value, integer_of, Place, AnObject, Opened, State}
+use Rattle.ob_meaning.specs.Values.{Form, PointerForm, ArrayForm, OpenForm, form_in, words, integer_of, Place, AnObject, Opened, State}
 use Rattle.ob_meaning.specs.Results.{Caller}
 use Rattle.ob_meaning.specs.Operators.{is_in, is_positive}
 use Rattle.ob_meaning.specs.Meaning.{make_open}
@@ -23,7 +23,6 @@ use Rattle.ob_relation.specs.Typed.{longint}
 use Rattle.ob_relation.proofs.Steps.{here, Follows, follows_bind, follows_value, follows_stop, stands_any}
 use Rattle.ob_relation.proofs.Statements.{Activation, scope, go, fb, K, here_in, Keeps, PlaceFollows, ExprFollows, StmtFollows}
 use Rattle.ob_relation.proofs.Grow.{address_same, place_of_more}
-use Rattle.ob_relation.proofs.Places.{Ex}
 use Rattle.ob_relation.proofs.Located.{spot}
 use Rattle.ob_relation.proofs.Moves.{traps, effect}
 use Rattle.ob_relation.proofs.Values.{sub_scalar}

@@ -1,5 +1,5 @@
 -- Open arrays on the heap: their elements, and LEN.
-use Rattle.std.proofs.lemmas.Bool.{ltb-true, eqb-true}
+use Rattle.std.proofs.lemmas.Bool.{ltb-true}
 use Rattle.std.proofs.lemmas.Bool.Decides.{nat_tests}
 use Rattle.std.proofs.Common.{◌≡◌, ◌⊎◌, ℕ, suc, ◌+◌, ◌*◌, ◌-◌, ◌≤◌, ◌<◌, List, [], ◌∷◌, ◌++◌, length, Some, None, ℤ, refl, sym, ap, ◌∙◌, subst, arith, inl, inr, ⊎_elim, append_assoc, length-append}
 use Rattle.std.specs.Prelude.{pos, negsuc, ◌+ℤ◌, ◌-ℤ◌, Bool, true, false, nat_lt, nat_eq, if◌then◌else◌}
@@ -12,25 +12,25 @@ use Rattle.ob_instr.specs.declared.opcode.Opcode.TheVariants as op
 use Rattle.ob_instr.specs.Image.{World}
 use Rattle.ob_instr.specs.Rows.{Next, is_zero, in_width}
 use Rattle.ob_instr.proofs.Goes as rows
-use Rattle.ob_meaning.specs.Values.{Form, PointerForm, ArrayForm, OpenForm, form_in, words, Value, Integer, Nil, Object, length_of, integer_of, OfModule, OfCall, OfObject, Step, ElementStep, Place, At, inside, value_at, Active, AnObject, Whole, Opened, State}
-use Rattle.ob_meaning.specs.Results.{Trapped, Gives, Stops, Caller, read, give, ◌>>=◌}
+use Rattle.ob_meaning.specs.Values.{Form, PointerForm, ArrayForm, OpenForm, form_in, words, Value, Integer, Nil, Object, length_of, integer_of, OfModule, OfCall, OfObject, ElementStep, Place, At, inside, value_at, Active, AnObject, Whole, Opened, State}
+use Rattle.ob_meaning.specs.Results.{Trapped, Gives, Stops, Caller}
 use Rattle.ob_meaning.specs.Operators.{is_in}
 use Rattle.ob_meaning.specs.Meaning.{place, pointee, element_place, choose, costs_of}
 use Rattle.ob_meaning.specs.Calls.{element_form}
-use Rattle.ob_relation.specs.Layout.{object_form, object_at, object_offset, extra_words, has_length, has_length_at, element_of_form, path_offset, root_form, place_form, address, heap_start}
+use Rattle.ob_relation.specs.Layout.{object_form, object_at, object_offset, extra_words, has_length, has_length_at, element_of_form, path_offset, place_form, address, heap_start}
 use Rattle.ob_relation.specs.Relation.{Fine, FormOk, IsLength, LengthFits, word_of, second_word, PathIn, PlaceIn, PlaceOf, Sub, itself, extended, opened}
 use Rattle.ob_relation.specs.Need.{need_open}
 use Rattle.ob_relation.specs.Ends.{end_place, end_open, end_expr}
 use Rattle.ob_relation.specs.Stands as code
 use Rattle.ob_relation.specs.Typed.{longint}
-use Rattle.ob_relation.proofs.Steps.{Reach, then_reach, here, Follows, follows_bind, follows_value, follows_stop, follows_map, stands_any}
+use Rattle.ob_relation.proofs.Steps.{then_reach, here, Follows, follows_bind, follows_value, follows_stop, follows_map, stands_any}
 use Rattle.ob_relation.proofs.Statements.{Activation, scope, go, fb, K, here_in, Keeps, PlaceTo, LongTo, PlaceKept, ValueTo, ValueKept, DesigOk, PlaceFollows, ExprFollows}
 use Rattle.ob_relation.proofs.Grow.{form_same, address_same, place_of_more}
 use Rattle.ob_relation.proofs.Places.{Os, Ex, Cs, objects-length, calls-length}
-use Rattle.ob_relation.proofs.Parts.{W, field_ok}
+use Rattle.ob_relation.proofs.Parts.{W}
 use Rattle.ob_relation.proofs.Modules.{Ms}
 use Rattle.ob_relation.proofs.Slots.{WordAt, word_before, word_behind, word_same, word_got}
-use Rattle.ob_relation.proofs.Located.{Located, located, object_form_ok}
+use Rattle.ob_relation.proofs.Located.{located, object_form_ok}
 use Rattle.ob_relation.proofs.Needs.{need_one, need_one_e}
 use Rattle.ob_relation.proofs.Moves.{goes, traps, address_small, small_word}
 use Rattle.ob_relation.proofs.Exprs.{from_here, since, load_follows, widen_kept}
@@ -50,7 +50,7 @@ before_one y = grind (arith, nat_tests)
 back_one : (y : ℕ) → pos (suc y) +ℤ negsuc 0 ≡ pos y
 back_one y = grind (arith, nat_tests)
 
-long_length : (m : ℕ) → IsLength m → is_in width.LongInt (pos m) ≡ true
+pub long_length : (m : ℕ) → IsLength m → is_in width.LongInt (pos m) ≡ true
 long_length m h = let lt = h.1 in grind (arith, nat_tests)
 
 -- the number of an object

@@ -1,10 +1,7 @@
 -- The type that stands at a place is in order.
-use Rattle.std.proofs.Common.{◌≡◌, ℕ, List, [], ◌∷◌}
-use Rattle.std.specs.Prelude.{Bool, true, false, bytes_eq, if◌then◌else◌}
-use Rattle.ob_tree.specs.declared.names.QName.{QName}
-use Rattle.ob_types.specs.TypedSyntax.{Module}
+use Rattle.std.proofs.Common.{List, [], ◌∷◌}
 use Rattle.ob_instr.specs.Image.{World}
-use Rattle.ob_meaning.specs.Values.{Form, BasicForm, PointerForm, ProcedureForm, ArrayForm, OpenForm, RecordForm, Value, Step, FieldStep, ElementStep, OfModule, OfCall, OfObject, Place, At, Active, State}
+use Rattle.ob_meaning.specs.Values.{Form, BasicForm, PointerForm, ProcedureForm, ArrayForm, OpenForm, RecordForm, Step, FieldStep, ElementStep, OfModule, OfCall, OfObject, Place, At, Active, State}
 use Rattle.ob_relation.specs.Layout.{field_form, path_form, place_form, form_named, variables_in}
 use Rattle.ob_relation.specs.Relation.{FormOk, PathIn, PlaceIn}
 use Rattle.ob_relation.proofs.Parts.{field_ok}

@@ -1,14 +1,13 @@
 -- Open arrays that are variables: a parameter has its address and its length in its two slots, and no other variable is one.
-use Rattle.std.proofs.Common.{◌≡◌, ℕ, suc, ◌+◌, ◌≤◌, List, [], ◌∷◌, ◌++◌, length, Some, ℤ, refl, sym, ap, ◌∙◌, subst, arith}
-use Rattle.std.specs.Prelude.{pos, map, Bool, true, false, bytes_eq, if◌then◌else◌}
+use Rattle.std.proofs.Common.{◌≡◌, ℕ, List, [], ◌∷◌, length, ◌∙◌, subst, arith}
+use Rattle.std.specs.Prelude.{Bool, true, false, bytes_eq, if◌then◌else◌}
 use Rattle.ob_types.specs.declared.types.TypeRef.{TypeRef}
-use Rattle.ob_types.specs.declared.typed.Passing.{Passing}
 use Rattle.ob_types.specs.declared.typed.Passing.TheVariants as passing
 use Rattle.ob_types.specs.declared.typed.Variable.{Variable}
 use Rattle.ob_types.specs.declared.typed.Variable.TheVariants as variable
 use Rattle.ob_types.specs.TypedSyntax.{OfVariable}
 use Rattle.ob_instr.specs.Image.{World}
-use Rattle.ob_meaning.specs.Values.{Form, OpenForm, form_in, Value, OfModule, OfCall, Place, At, Held, Own, Referred, Copied, AnObject, Active, State}
+use Rattle.ob_meaning.specs.Values.{Form, OpenForm, Value, OfModule, OfCall, Place, At, Held, Own, Referred, Copied, AnObject, Active, State}
 use Rattle.ob_meaning.specs.Results.{Caller}
 use Rattle.ob_relation.specs.Layout.{form_named, static_held, place_form}
 use Rattle.ob_relation.specs.Relation.{OrElse, FormOk, HeldFine, PlaceIn, SlotsFit}

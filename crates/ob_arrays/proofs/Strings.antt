@@ -1,23 +1,22 @@
 -- Where the words of a text stand: of a string among those of its module, of an array at its place.
-use Rattle.std.proofs.lemmas.Bool.Decides.{nat_tests}
 use Rattle.std.proofs.lemmas.List.{map-append, drop-map, take-append-drop, length-map, length-take-le}
-use Rattle.std.proofs.Common.{◌≡◌, ℕ, zero, suc, ◌+◌, ◌-◌, ◌*◌, ◌≤◌, ◌<◌, List, [], ◌∷◌, ◌++◌, length, Option, Some, None, ℤ, refl, sym, ap, ◌∙◌, subst, arith, append_assoc, append-nil, length-append}
+use Rattle.std.proofs.Common.{◌≡◌, ℕ, suc, ◌+◌, ◌-◌, ◌<◌, List, [], ◌∷◌, ◌++◌, length, ℤ, refl, sym, ap, ◌∙◌, subst, arith, append_assoc, length-append}
 use Rattle.std.specs.Prelude.{pos, map, take, drop, Bool, true, false, nat_le, bytes_eq, if◌then◌else◌}
 use Rattle.ob_types.specs.TypedSyntax.{Module}
 use Rattle.ob_instr.specs.Image.{World}
 use Rattle.ob_instr.specs.Rows.{chars_at}
-use Rattle.ob_meaning.specs.Values.{Form, ArrayForm, Value, Character, Elements, length_of, element_of, Place, value_at, with_value_at, AnObject, State}
+use Rattle.ob_meaning.specs.Values.{Form, ArrayForm, Value, Character, length_of, element_of, Place, value_at, with_value_at, AnObject, State}
 use Rattle.ob_meaning.specs.Globals.{globals_words}
 use Rattle.ob_meaning.specs.Operators.{characters, up_to_end, character_at, with_text}
 use Rattle.ob_meaning.specs.Meaning.{Source, Stands, Text, text_in}
 use Rattle.ob_relation.specs.Layout.{slots_words, module_held, module_offset, variables_in, address, place_form}
 use Rattle.ob_relation.specs.Texts.{module_texts, texts_in}
-use Rattle.ob_relation.specs.Relation.{Fine, PlaceIn, no_places, second_word}
+use Rattle.ob_relation.specs.Relation.{PlaceIn, no_places, second_word}
 use Rattle.ob_relation.specs.Stands as code
 use Rattle.ob_relation.specs.Typed.{char, AreCharacters}
 use Rattle.ob_relation.proofs.Statements.{Activation, scope, K}
-use Rattle.ob_relation.proofs.Grow.{G, form_same, address_same, place_more}
-use Rattle.ob_relation.proofs.Parts.{F, W, We}
+use Rattle.ob_relation.proofs.Grow.{G, form_same, place_more}
+use Rattle.ob_relation.proofs.Parts.{F, W}
 use Rattle.ob_relation.proofs.Places.{slots-length}
 use Rattle.ob_relation.proofs.Modules.{Sm, M, Ms, one-length}
 use Rattle.ob_relation.proofs.Located.{Located, located}

@@ -1,49 +1,38 @@
 -- The code of texts follows their meaning: their addresses and lengths, and their relations.
-use Rattle.std.proofs.lemmas.Bool.Decides.{nat_tests}
-use Rattle.std.proofs.lemmas.List.{take-map, length-take}
-use Rattle.std.proofs.Math.Nat.{mod-eq_of_lt}
-use Rattle.std.proofs.Common.{◌≡◌, ℕ, zero, suc, ◌+◌, ◌-◌, ◌≤◌, ◌<◌, List, [], ◌∷◌, ◌++◌, length, Option, Some, None, ℤ, refl, sym, ap, ◌∙◌, subst, arith, length-append}
-use Rattle.std.specs.Prelude.{pos, map, take, min, Bool, true, false, nat_lt, if◌then◌else◌}
+use Rattle.std.proofs.Common.{◌≡◌, ℕ, suc, ◌+◌, ◌-◌, ◌≤◌, List, [], ◌∷◌, ◌++◌, length, Option, Some, None, ℤ, refl, sym, ap, ◌∙◌, subst, arith, length-append}
+use Rattle.std.specs.Prelude.{pos, map, true, nat_lt}
 use Rattle.ob_tree.specs.declared.pos.Pos.{Pos}
-use Rattle.ob_types.specs.declared.types.TypeRef.{TypeRef}
 use Rattle.ob_types.specs.declared.value.Value.TheVariants as literal
 use Rattle.ob_types.specs.declared.typed.Comparison.{Comparison}
 use Rattle.ob_types.specs.declared.typed.Comparison.TheVariants as comparison
-use Rattle.ob_types.specs.declared.typed.Passing.TheVariants as passing
-use Rattle.ob_types.specs.declared.typed.OutProcedure.TheVariants as out
-use Rattle.ob_types.specs.declared.typed.Callee.TheVariants as callee
-use Rattle.ob_types.specs.declared.typed.Assigned.TheVariants as assigned
-use Rattle.ob_types.specs.TypedSyntax.{Desig, Expr, Constant, ValueOf, CompareTexts, Call, NoActual, AnActual, Assign, CallProper, Copy}
-use Rattle.ob_mem.specs.Words.{are_there, with_words, copied}
+use Rattle.ob_types.specs.TypedSyntax.{Desig, Expr, Constant, ValueOf, CompareTexts}
 use Rattle.ob_instr.specs.declared.opcode.Opcode.TheVariants as op
 use Rattle.ob_instr.specs.Image.{World, Point}
 use Rattle.ob_instr.specs.Rows as rows_of
-use Rattle.ob_instr.specs.Rows.{Effect, Next, Traps, truth, related, chars_at, with_memory, printed, turn_or, low_bytes, placed}
+use Rattle.ob_instr.specs.Rows.{Next, Traps, truth, related}
 use Rattle.ob_instr.proofs.Goes as rows
-use Rattle.ob_meaning.specs.Values.{Form, BasicForm, PointerForm, ProcedureForm, ArrayForm, OpenForm, RecordForm, Value, Truth, Place, value_at, with_value_at, length_of, element_of, AnObject, State}
-use Rattle.ob_meaning.specs.Results.{Trapped, Res, Gives, Stops, M, bind, assign, write, spend_of, Passed, Caller}
-use Rattle.ob_meaning.specs.Operators.{up_to_end, with_text, text_equal, text_less, holds}
-use Rattle.ob_meaning.specs.Meaning.{Source, Stands, Text, text_in, text_of, give_or, passed_from, source_from, place, source, assign_text, copy_text, shortened, call_out, result_of, Done}
+use Rattle.ob_meaning.specs.Values.{Form, BasicForm, PointerForm, ProcedureForm, ArrayForm, OpenForm, RecordForm, Value, Truth, Place, AnObject, State}
+use Rattle.ob_meaning.specs.Results.{Trapped, Res, Gives, Stops, bind, Caller}
+use Rattle.ob_meaning.specs.Operators.{text_equal, text_less, holds}
+use Rattle.ob_meaning.specs.Meaning.{Source, Stands, Text, text_in, text_of, give_or, place, source}
 use Rattle.ob_relation.specs.Layout.{address, place_form}
-use Rattle.ob_relation.specs.Relation.{FormOk, PlaceIn, second_word}
+use Rattle.ob_relation.specs.Relation.{PlaceIn, second_word}
 use Rattle.ob_relation.specs.Need.{need_array}
 use Rattle.ob_relation.specs.Ends.{is_open, end_place, end_open, end_array}
 use Rattle.ob_relation.specs.Stands as code
 use Rattle.ob_relation.specs.Stands.{comparison_number}
 use Rattle.ob_relation.specs.Typed as typed
-use Rattle.ob_relation.specs.Typed.{boolean, char, IsText, AreCharacters}
+use Rattle.ob_relation.specs.Typed.{boolean, char, IsText}
 use Rattle.ob_relation.specs.Layout.{static_held}
 use Rattle.ob_relation.proofs.Steps.{Reach, then_reach, here, Follows, follows_bind, follows_value, follows_stop, follows_map, stands_any}
-use Rattle.ob_relation.proofs.Statements.{onto, Activation, scope, go, fb, K, here_in, Keeps, PlaceTo, LongTo, PlaceKept, ValueTo, ValueKept, PlaceFollows, ExprFollows, StmtFollows, FlowTo, FlowKept}
-use Rattle.ob_relation.proofs.Grow.{address_same, form_same, place_more}
-use Rattle.ob_relation.proofs.Moves.{goes, traps, spends, effect, all_length, small_word}
+use Rattle.ob_relation.proofs.Statements.{onto, Activation, scope, go, fb, K, here_in, Keeps, LongTo, ValueTo, ValueKept, PlaceFollows, ExprFollows}
+use Rattle.ob_relation.proofs.Grow.{address_same, form_same}
+use Rattle.ob_relation.proofs.Moves.{goes, traps, effect, all_length, small_word}
 use Rattle.ob_relation.proofs.Exprs.{from_here, since, widen_kept}
 use Rattle.ob_relation.proofs.Paths.{sub_array}
-use Rattle.ob_arrays.proofs.Orders.{place_ok}
 use Rattle.ob_arrays.proofs.Opens.{OpenArrayFollows, open_form}
-use Rattle.ob_arrays.proofs.Copies.{Between, are_between, put_between, copied_between}
-use Rattle.ob_arrays.proofs.Chars.{found, text_chars, take_chars, related_same}
-use Rattle.ob_arrays.proofs.Strings.{SourceFine, Aw, source_more, Found, source_found, text_found, text_between, Put, put_text}
+use Rattle.ob_arrays.proofs.Chars.{found, related_same}
+use Rattle.ob_arrays.proofs.Strings.{SourceFine, Aw, source_more, Found, source_found, text_found, text_between}
 use Rattle.ob_relation.specs.Setting.{Setting, StandIn, has_of}
 
 module _ (c : Setting) (a : Activation c) (n : ℕ) (call : Caller) (b : ℕ) where

@@ -1,51 +1,43 @@
 -- Out.String, strings in arrays, and COPY.
-use Rattle.std.proofs.lemmas.Bool.Decides.{nat_tests}
 use Rattle.std.proofs.lemmas.List.{map-append, take-map, length-map, length-take}
 use Rattle.std.proofs.Math.Nat.{mod-eq_of_lt}
 use Rattle.std.proofs.Common.{◌≡◌, ℕ, zero, suc, ◌+◌, ◌-◌, ◌≤◌, ◌<◌, List, [], ◌∷◌, ◌++◌, length, Option, Some, None, ℤ, refl, sym, ap, ◌∙◌, subst, arith, length-append}
-use Rattle.std.specs.Prelude.{pos, map, take, min, Bool, true, false, nat_lt, if◌then◌else◌}
+use Rattle.std.specs.Prelude.{pos, map, take, true, if◌then◌else◌}
 use Rattle.ob_tree.specs.declared.pos.Pos.{Pos}
 use Rattle.ob_types.specs.declared.types.TypeRef.{TypeRef}
 use Rattle.ob_types.specs.declared.value.Value.TheVariants as literal
-use Rattle.ob_types.specs.declared.typed.Comparison.{Comparison}
-use Rattle.ob_types.specs.declared.typed.Comparison.TheVariants as comparison
 use Rattle.ob_types.specs.declared.typed.Passing.TheVariants as passing
 use Rattle.ob_types.specs.declared.typed.OutProcedure.TheVariants as out
 use Rattle.ob_types.specs.declared.typed.Callee.TheVariants as callee
 use Rattle.ob_types.specs.declared.typed.Assigned.TheVariants as assigned
-use Rattle.ob_types.specs.TypedSyntax.{Desig, Expr, Constant, ValueOf, CompareTexts, Call, NoActual, AnActual, Assign, CallProper, Copy}
+use Rattle.ob_types.specs.TypedSyntax.{Desig, Expr, Constant, ValueOf, Call, NoActual, AnActual, Assign, CallProper, Copy}
 use Rattle.ob_mem.specs.Words.{are_there, with_words, copied}
 use Rattle.ob_instr.specs.declared.opcode.Opcode.TheVariants as op
-use Rattle.ob_instr.specs.Image.{World, Point}
+use Rattle.ob_instr.specs.Image.{World}
 use Rattle.ob_instr.specs.Rows as rows_of
-use Rattle.ob_instr.specs.Rows.{Effect, Next, Traps, truth, related, chars_at, with_memory, printed, turn_or, low_bytes, placed}
+use Rattle.ob_instr.specs.Rows.{Next, Traps, with_memory, printed, turn_or, low_bytes, placed}
 use Rattle.ob_instr.proofs.Goes as rows
-use Rattle.ob_meaning.specs.Values.{Form, BasicForm, PointerForm, ProcedureForm, ArrayForm, OpenForm, RecordForm, Value, Truth, Place, value_at, with_value_at, length_of, element_of, AnObject, State}
+use Rattle.ob_meaning.specs.Values.{Form, ArrayForm, Value, Place, value_at, length_of, element_of, AnObject, State}
 use Rattle.ob_meaning.specs.Results.{Trapped, Res, Gives, Stops, M, bind, assign, write, spend_of, Passed, Caller}
-use Rattle.ob_meaning.specs.Operators.{up_to_end, with_text, text_equal, text_less, holds}
-use Rattle.ob_meaning.specs.Meaning.{Source, Stands, Text, text_in, text_of, give_or, passed_from, source_from, place, source, assign_text, copy_text, shortened, call_out, result_of, Done}
+use Rattle.ob_meaning.specs.Operators.{with_text}
+use Rattle.ob_meaning.specs.Meaning.{Source, Stands, Text, text_in, text_of, give_or, passed_from, source_from, source, assign_text, copy_text, shortened, call_out, result_of, Done}
 use Rattle.ob_relation.specs.Layout.{address, place_form}
 use Rattle.ob_relation.specs.Relation.{FormOk, PlaceIn, second_word}
 use Rattle.ob_relation.specs.Need.{need_array, need_passed}
-use Rattle.ob_relation.specs.Ends.{is_open, end_place, end_open, end_array}
+use Rattle.ob_relation.specs.Ends.{end_place, end_array}
 use Rattle.ob_relation.specs.Stands as code
-use Rattle.ob_relation.specs.Stands.{comparison_number}
-use Rattle.ob_relation.specs.Typed as typed
-use Rattle.ob_relation.specs.Typed.{boolean, char, IsText, AreCharacters}
-use Rattle.ob_relation.specs.Layout.{static_held}
-use Rattle.ob_relation.proofs.Steps.{Reach, then_reach, here, Follows, follows_bind, follows_value, follows_stop, follows_map, stands_any}
-use Rattle.ob_relation.proofs.Statements.{onto, Activation, scope, go, fb, K, here_in, Keeps, PlaceTo, LongTo, PlaceKept, ValueTo, ValueKept, PlaceFollows, ExprFollows, StmtFollows, FlowTo, FlowKept}
-use Rattle.ob_relation.proofs.Grow.{address_same, form_same, place_more}
-use Rattle.ob_relation.proofs.Moves.{goes, traps, spends, effect, all_length, small_word}
-use Rattle.ob_relation.proofs.Exprs.{from_here, since, widen_kept}
+use Rattle.ob_relation.specs.Typed.{char, AreCharacters}
+use Rattle.ob_relation.proofs.Steps.{then_reach, here, Follows, follows_bind, follows_value, follows_stop, stands_any}
+use Rattle.ob_relation.proofs.Statements.{onto, Activation, scope, go, fb, K, here_in, Keeps, PlaceFollows, StmtFollows, FlowTo, FlowKept}
+use Rattle.ob_relation.proofs.Moves.{goes, traps, spends, effect}
+use Rattle.ob_relation.proofs.Exprs.{from_here, since}
 use Rattle.ob_relation.proofs.Paths.{sub_array}
 use Rattle.ob_arrays.proofs.Orders.{place_ok}
-use Rattle.ob_arrays.proofs.Opens.{OpenArrayFollows, open_form}
-use Rattle.ob_arrays.proofs.Copies.{Between, are_between, put_between, copied_between}
-use Rattle.ob_arrays.proofs.Chars.{found, text_chars, take_chars, related_same}
-use Rattle.ob_arrays.proofs.Strings.{SourceFine, Aw, source_more, Found, source_found, text_found, text_between, Put, put_text, array_at}
+use Rattle.ob_arrays.proofs.Copies.{are_between, put_between, copied_between}
+use Rattle.ob_arrays.proofs.Chars.{found, text_chars, take_chars}
+use Rattle.ob_arrays.proofs.Strings.{SourceFine, Aw, source_more, Found, source_found, text_found, text_between, put_text, array_at}
 use Rattle.ob_arrays.proofs.Texts.{TextFollows, CharsFollow, IsChars, string_goes, onto_two, words_later}
-use Rattle.ob_relation.specs.Setting.{Setting, StandIn, has_of}
+use Rattle.ob_relation.specs.Setting.{Setting, has_of}
 
 module _ (c : Setting) (a : Activation c) (n : ℕ) (call : Caller) (b : ℕ) where
   abbrev Kp : List AnObject → State → World → Type 0
