@@ -8,6 +8,7 @@ use Rattle.ob_types.specs.declared.typed.OutProcedure.TheVariants as out
 use Rattle.ob_types.specs.declared.typed.Made.TheVariants as made
 use Rattle.ob_types.specs.declared.typed.Update.TheVariants as update
 use Rattle.ob_types.specs.declared.typed.Passing.TheVariants as passing
+use Rattle.ob_types.specs.declared.typed.Variable.TheVariants as variable
 use Rattle.ob_types.specs.declared.typed.Callee.TheVariants as callee
 use Rattle.ob_types.specs.declared.typed.Assigned.TheVariants as assigned
 use Rattle.ob_types.specs.TypedSyntax.{Desig, OfVariable, Field, Index, Deref, Expr, Constant, ValueOf, Monadic, Dyadic, Logical, CompareTexts, Length, Call, Actuals, NoActual, AnActual, Stmt, Assign, CallProper, Updated, Assert, Halt, If, While, Repeat, Loop, Exit, Return, Stmts, Nothing, Then, Branches, NoBranch, Branch, Copy, New, NewOpenArray, Procedure}
@@ -17,12 +18,20 @@ use Rattle.ob_relation.specs.Plain.{Plain, PlainBinary, PlainUnary, PlainLiteral
 
 abbrev mutual
   pub InDesig : Desig → Type 0
+  InDesig (OfVariable (variable.Parameter passing.VariableOpenArray x) t) = Unit {0}
   InDesig (OfVariable v t) = Plain v
   InDesig (Field d o x t) = InDesig d
   InDesig (Deref d at t) = InDesig d
   InDesig (Index d (Some l) i at t) = InDesig d × InExpr i
-  InDesig (Index d None i at t) = InDesig d × InExpr i
+  InDesig (Index d None i at t) = InOpen d × InExpr i
   InDesig d = ⊥
+
+  -- an open array with its length
+  pub InOpen : Desig → Type 0
+  InOpen (OfVariable (variable.Parameter passing.OpenArray x) t) = Unit {0}
+  InOpen (OfVariable (variable.Parameter passing.VariableOpenArray x) t) = Unit {0}
+  InOpen (Deref d at t) = InDesig d
+  InOpen d = ⊥
 
   pub InExpr : Expr → Type 0
   InExpr (Constant l) = PlainLiteral l
@@ -31,6 +40,8 @@ abbrev mutual
   InExpr (Dyadic o x y at) = PlainBinary o × (InExpr x × InExpr y)
   InExpr (Logical o x y) = InExpr x × InExpr y
   InExpr (CompareTexts r x y at) = InText x × InText y
+  InExpr (Length (OfVariable (variable.Parameter passing.OpenArray x) t)) = Unit {0}
+  InExpr (Length (OfVariable (variable.Parameter passing.VariableOpenArray x) t)) = Unit {0}
   InExpr (Length (Deref d at t)) = InDesig d
   InExpr (Call (callee.Declared q) es at r) = InActuals es
   InExpr e = ⊥
