@@ -22,7 +22,7 @@ use Rattle.ob_relation.proofs.Firsts.{zeros, zeros_both, first_words, first_fine
 use Rattle.ob_relation.proofs.Frames.{Alike, own, referred as referred_alike, copied, AllAlike}
 use Rattle.ob_meaning.specs.Operators.{text_value}
 use Rattle.ob_relation.proofs.Copies.{Becomes, becomes_same, none_becomes, scalar_becomes, var_becomes, var_record_becomes, var_array_becomes, value_becomes, value_array_becomes}
-use Rattle.ob_relation.proofs.Sources.{front, back, room, CopyOf, structure_copy, open_copy, text_copy}
+use Rattle.ob_relation.proofs.Sources.{front, back, room, CopyOf, structure_copy, open_copy, text_copy, text_small}
 use Rattle.ob_relation.specs.Linked.{KindIs, KindsAre, OneSlot, IsRecord, IsOpen, OwnFormsOk}
 use Rattle.ob_relation.specs.Setting.{Setting, StandIn, has_of}
 
@@ -361,7 +361,7 @@ module _ (c : Setting) (cs : List Active) (s : State) (w : World) (st : StandIn 
               let same : char ≡ u = ap element_form (sym e2 ∙ e) in
               subst (λ t. Goal passing.OpenArray t (ByText text) (pos a ∷ pos (suc (length text)) ∷ []) (param.ValueArray (words u))) (sym e2)
               (subst (λ u. Goal passing.OpenArray (OpenForm char) (ByText text) (pos a ∷ pos (suc (length text)) ∷ []) (param.ValueArray (words u))) same
-              (copied_open_passes p.name char (suc (length text)) (text_value (suc (length text)) text) _ hs places g ks us fr r a (omega arith, tt) (text_copy c cs s w st text (suc (length text)) a chars h)))
+              (copied_open_passes p.name char (suc (length text)) (text_value (suc (length text)) text) _ hs places g ks us fr r a ((omega arith, text_small c cs s w st text (suc (length text)) a h), tt) (text_copy c cs s w st text (suc (length text)) a chars h)))
 
   pub passes : (g0 : List ℕ → Value) (ps : List TypedParameter) (ks : List Param) (xs : List Passed) (ws : List ℤ) → KindsAre c.program ps ks → ArgumentsFit c os cs ps xs ws → AreDifferent (held_parameters c.program ps s.store xs) → Passes (held_parameters c.program ps s.store xs) (places_for ps xs) (with_parameters c.program ps s.store xs g0) ks ws
   passes g0 [] [] [] ws k f d = record { becomes = subst (λ ws. Becomes (front c cs s w st) (back c cs s w st) (room c cs s w st) [] ws (λ base. []) []) (sym f) (none_becomes (front c cs s w st) (back c cs s w st) (room c cs s w st)); fine = tt }

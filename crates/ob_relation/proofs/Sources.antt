@@ -1,5 +1,5 @@
 -- What is copied for a structured parameter by value stands at the address that is passed.
-use Rattle.std.proofs.Common.{◌≡◌, ℕ, zero, suc, ◌≤◌, ◌<◌, List, [], ◌∷◌, ◌++◌, length, refl, sym, ap, ◌∙◌, subst, arith, append_assoc}
+use Rattle.std.proofs.Common.{◌≡◌, ℕ, zero, suc, ◌≤◌, ◌<◌, List, [], ◌∷◌, ◌++◌, length, refl, sym, ap, ◌∙◌, subst, arith, append_assoc, length-append}
 use Rattle.std.specs.Prelude.{ℤ, pos, Bool, true, false, map, take, replicate, ◌||◌, if◌then◌else◌}
 use Rattle.ob_tree.specs.declared.names.QName.{QName}
 use Rattle.ob_instr.specs.Image.{World}
@@ -13,7 +13,7 @@ use Rattle.ob_relation.specs.Texts.{text_words}
 use Rattle.ob_relation.specs.Typed.{AreCharacters, char}
 use Rattle.ob_relation.proofs.Names.{same_field, field_same}
 use Rattle.ob_relation.proofs.Statements.{AlwaysAt}
-use Rattle.ob_relation.proofs.Parts.{F, Fs, W, Ws, We, field_ok}
+use Rattle.ob_relation.proofs.Parts.{F, Fs, W, Ws, We, field_ok, flat-length}
 use Rattle.ob_relation.proofs.Places.{Cs, Os}
 use Rattle.ob_relation.proofs.Modules.{Ms, module_known}
 use Rattle.ob_relation.proofs.Located.{call_form_ok, object_form_ok, located}
@@ -236,3 +236,12 @@ module _ (c : Setting) (cs : List Active) (s : State) (w : World) (st : StandIn 
 
   pub text_copy : (text : List ℕ) (n a : ℕ) → AreCharacters text → AlwaysAt c a (text_words text n) → CopyOf (ArrayForm n char) a (text_value n text)
   text_copy text n a chars h = record { source = subst (λ l. Src a l) (sym (text_is c s.made text n)) (always_source a (text_words text n) h); fine = text_fine c s.made text n chars }
+
+  -- and is as short as the globals are
+  pub text_small : (text : List ℕ) (n a : ℕ) → AlwaysAt c a (text_words text n) → n < 2147483648
+  text_small text n a h =
+      let k = h s.made s.store.globals in
+      let len = ap length k.is ∙ length-append k.before _ in
+      let inner = length-append (text_words text n) k.behind in
+      let size = ap length (sym (text_is c s.made text n)) ∙ flat-length c s.made (ArrayForm n char) (text_value n text) in
+      omega (arith, len, inner, size, st.globals_size, c.globals)
