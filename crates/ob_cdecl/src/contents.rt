@@ -1,3 +1,5 @@
+//! What a part of a module adds to it.
+
 ghost use Rattle.std.specs.Prelude.{◌≡◌, OnOk};
 ghost use Rattle.ob_rules.specs.Declarations as spec;
 ghost use Rattle.ob_cdecl.specs.Seen.{contents_of, holds_body, holds_constant, holds_variable, holds_types};

@@ -2,6 +2,7 @@ pub mod Arguments
 pub mod Chains
 pub mod ConstantLaws
 pub mod ExprViews
+pub mod Further
 pub mod Rounds
 pub mod Rows
 pub mod Selectors

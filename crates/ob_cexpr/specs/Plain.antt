@@ -2,15 +2,18 @@
 use Rattle.std.specs.Prelude.{Bool, true, false, List, [], ◌∷◌, map, Option, Some, None}
 use Rattle.ob_tree.specs.declared.pos.Pos.{Pos}
 use Rattle.ob_tree.specs.declared.expr.Element.{Element}
+use Rattle.ob_types.specs.declared.types.TypeRef.{TypeRef}
 use Rattle.ob_rules.specs.declared.values.Valued.{Valued}
 use Rattle.ob_rules.specs.declared.meant.ElementOf.{ElementOf}
 use Rattle.ob_rules.specs.declared.meant.Meant.{Meant}
 use Rattle.ob_rules.specs.declared.meant.Where.{Where}
 use Rattle.ob_rules.specs.Operators.{set_of}
 use Rattle.ob_rules.specs.Expressions.{element_value, ranged_of}
-use Rattle.ob_rules.specs.Judged.{Judged, Notes, no_notes, noted, silent, made, each_sound}
+use Rattle.ob_rules.specs.Judged.{Judged, Notes, no_notes, noted, silent, breaks, if_sound, also, made, each_sound, ◌▷◌}
 use Rattle.ob_rules.specs.Names.{Around}
 use Rattle.ob_rules.specs.Phrases.{Phrase, Behind, Dot, Index, Up, Round}
+use Rattle.ob_rules.specs.Calls.{misplaced}
+use Rattle.ob_rules.specs.Predeclared.{values}
 use Rattle.ob_rules.specs.Designators.{all_visited, visited, go_on_with, step, through, where_of, behind}
 use Rattle.ob_cplace.specs.declared.front.Front.{Front}
 use Rattle.ob_coperand.specs.Plain.{plain}
@@ -47,3 +50,7 @@ step_if u w start b false last m = step_or u w start b last m
 abbrev pub behind_front : Around → Where → Pos → List Behind → Option Front → Judged Meant
 behind_front u w start bs None = noted (all_visited u bs) silent
 behind_front u w start bs (Some f) = through u w start (behind f.with_name bs) f.meant
+
+-- MAX or MIN with further parameters, behind what the first comes to
+abbrev pub further_of : Around → Where → Pos → List Phrase → Option (Option TypeRef) → Judged Meant
+further_of u w at ps first = if_sound first (λ t. each_sound (values u ps) ▷ λ xs. also (misplaced w true) 27 at (breaks 28 at))

@@ -7,12 +7,13 @@ ghost use Rattle.ob_rules.specs.Judged as judged;
 ghost use Rattle.ob_rules.specs.Predeclared as predeclared;
 ghost use Rattle.ob_rules.specs.Expressions as spec;
 ghost use Rattle.ob_cround.specs.Arguments.{parameters_asked};
+ghost use Rattle.ob_cexpr.specs.Plain.{further_of};
 
 use crate::actuals::check_argument;
 use crate::walk::check_expr;
 use ob_coperand::{name_in, no_type, row_with, start_of, type_parameter};
-use ob_cpre::{extreme, no_extreme};
-use ob_cround::parameter;
+use ob_cpre::extreme;
+use ob_cround::{further, parameter};
 use ob_rules::{Asked, Meant, Notebook, Surroundings, Valued, Where};
 use ob_tree::{Expr, Pos};
 use ob_types::TypeRef;
@@ -60,30 +61,45 @@ pub fn check_extreme<S: Surroundings>(
     ensures noted { OnOk result (book.new ≡ book_after book.old (predeclared.extreme_call max (S.around here.now) place at (map spec.phrase_of arguments.now)).notes) }
 {
     match arguments {
-        [] => Ok(no_extreme(book, place, at)),
+        // No type is named, and none stands behind it. Passed whole, the list shows that this function
+        // is above the other, so the call with a part of it goes down too.
+        [] => {
+            let unnamed = Some(None);
+            check_further(alloc, here, book, place, at, &unnamed, arguments)
+        }
         [only] => {
             let t = check_type_parameter(alloc, here, book, only)?;
             extreme(here, book, max, place, at, t)
         }
-        _ => check_further(alloc, here, book, place, at, max, arguments),
+        [first, behind @ ..] => {
+            let t = check_type_parameter(alloc, here, book, first)?;
+            check_further(alloc, here, book, place, at, &t, behind)
+        }
     }
 }
 
-// The same with more than one parameter, which breaks rule 28. Answers want of memory: not written
-// yet.
+// The same where there is not one parameter alone, which breaks rule 28: what the first comes to is
+// there already, and those behind it are judged too, where it is sound.
+#[cycle(walk)]
 fn check_further<S: Surroundings>(
     alloc: Global,
     here: &S,
     book: &mut Notebook,
     place: Where,
     at: Pos,
-    max: bool,
-    arguments: &[Expr],
+    first: &Option<Option<TypeRef>>,
+    behind: &[Expr],
 ) -> Result<Option<Meant>, AllocError>
-    ensures made { IfOk result (λ r. r ≡ (predeclared.extreme_call max (S.around here.now) place at (map spec.phrase_of arguments.now)).node) }
-    ensures noted { OnOk result (book.new ≡ book_after book.old (predeclared.extreme_call max (S.around here.now) place at (map spec.phrase_of arguments.now)).notes) }
+    ensures made { IfOk result (λ r. r ≡ (further_of (S.around here.now) place at (map spec.phrase_of behind.now) first.now).node) }
+    ensures noted { OnOk result (book.new ≡ book_after book.old (further_of (S.around here.now) place at (map spec.phrase_of behind.now) first.now).notes) }
 {
-    Err(AllocError)
+    match first {
+        None => Ok(None),
+        Some(_) => {
+            let row = check_parameters(alloc, here, book, Asked::Value, Asked::Value, behind)?;
+            Ok(further(book, place, at, row))
+        }
+    }
 }
 
 #[cycle(walk)]

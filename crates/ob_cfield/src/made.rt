@@ -1,3 +1,5 @@
+//! Types as they are made: a type with the types that it makes, parameters with theirs.
+
 ghost use Rattle.std.specs.Prelude.{◌≡◌, ◌++◌, ◌∷◌, IfOk, OnOk};
 ghost use Rattle.ob_known.specs.Scopes.{around_of};
 ghost use Rattle.ob_rules.specs.Types as spec;

@@ -1,3 +1,5 @@
+//! Marks of declared names, and where they may stand.
+
 #![tactic(auto, using(ob_rules::proofs::BookLaws::after_none, ob_rules::proofs::BookLaws::after_joined))]
 
 ghost use Rattle.std.specs.Prelude.{◌≡◌};

@@ -1,3 +1,5 @@
+//! A compile from the file to its answer.
+
 ghost use Rattle.std.specs.Prelude.{◌≡◌, true, IfOk};
 ghost use Rattle.ob_sym.specs.Grammar.{face as face_form};
 ghost use Rattle.ob_io.specs.Io.{SameFiles};

@@ -1,3 +1,5 @@
+//! Why a compile ends without files.
+
 use ob_rules::Broken;
 use ob_tree::{Name, Pos, Print, QName, Which};
 use ob_types::Aspect;

@@ -1,3 +1,5 @@
+//! The prints that uses keep, found in an environment.
+
 ghost use Rattle.ob_env.specs.Faces.{faces_of, print_in};
 
 use ob_env::Env;

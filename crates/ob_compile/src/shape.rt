@@ -1,3 +1,5 @@
+//! What a compile gives.
+
 use ob_tree::Text;
 use ob_types::Interface;
 

@@ -1,3 +1,5 @@
+//! Types and formal parameters as they are written, and what they make.
+
 #![tactic(auto, using(ob_rules::proofs::BookLaws::after_none, ob_rules::proofs::BookLaws::after_joined))]
 
 ghost use Rattle.std.specs.Prelude.{◌≡◌, [], ◌∷◌, IfOk, OnOk, map, is_none, Some, None, true};

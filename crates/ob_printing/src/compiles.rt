@@ -1,3 +1,5 @@
+//! What a compile and a demo print.
+
 ghost use Rattle.std.specs.Prelude.{◌≡◌, ◌++◌, true, false, codes};
 ghost use Rattle.ob_printing.specs.Texts.{refused, of_object, place, rule_text, which_text, reason_answered, compiled_line, demo_text};
 ghost use Rattle.ob_printing.specs.Prints.{PrintDoes, SinkCause};

@@ -1,3 +1,5 @@
+//! How many objects of an interface are new, changed and gone.
+
 /// The objects of an interface beside one that stood there.
 #[derive(Clone, Copy, Debug, PartialEq, Eq, Drop)]
 pub struct Counts {

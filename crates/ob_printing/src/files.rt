@@ -1,3 +1,5 @@
+//! What compare and check print, and the refusals of files.
+
 ghost use Rattle.std.specs.Prelude.{◌≡◌, ◌++◌, ◌<◌, true, false, length, codes};
 ghost use Rattle.std.specs.List.{flat_map};
 ghost use Rattle.ob_io.specs.Io.{HasCause, WritesAll};

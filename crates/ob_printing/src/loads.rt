@@ -1,3 +1,5 @@
+//! Why a load is refused, as it is printed.
+
 ghost use Rattle.std.specs.Prelude.{◌≡◌, true};
 ghost use Rattle.ob_printing.specs.Texts.{refused, of_object, load_answered};
 ghost use Rattle.ob_printing.specs.Prints.{PrintDoes, SinkCause};

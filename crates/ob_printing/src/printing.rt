@@ -1,3 +1,5 @@
+//! Texts into a sink.
+
 ghost use Rattle.std.specs.Prelude.{◌≡◌, true};
 ghost use Rattle.ob_io.specs.Io.{HasCause, WritesAll};
 ghost use Rattle.ob_printing.specs.Prints.{all_of, PrintDoes, SinkCause};

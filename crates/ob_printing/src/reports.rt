@@ -1,3 +1,5 @@
+//! How a run ended, as it is printed.
+
 ghost use Rattle.std.specs.Prelude.{◌≡◌, ◌++◌, true, codes, decimal};
 ghost use Rattle.ob_printing.specs.Texts.{report, stops, at_place};
 ghost use Rattle.ob_printing.specs.Prints.{PrintDoes, SinkCause};

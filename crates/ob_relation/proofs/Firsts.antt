@@ -42,7 +42,7 @@ module _ (c : Setting) (os : List AnObject) where
     first_words (BasicForm b) ok = basic_words b
     first_words (PointerForm t) ok = refl
     first_words (ProcedureForm s) ok = refl
-    first_words (ArrayForm n t) ok = elements_words n (words t) (W c os t (first t)) (first_words t ok)
+    first_words (ArrayForm n t) ok = elements_words n (words t) (W c os t (first t)) (first_words t ok.1)
     first_words (OpenForm t) ok = absurd ok
     first_words (RecordForm [] fs) ok = absurd ok
     first_words (RecordForm (q ∷ line) fs) ok = firsts_words fs ok.1
@@ -59,7 +59,7 @@ module _ (c : Setting) (os : List AnObject) where
     first_fine (BasicForm b) ok = basic_fine b
     first_fine (PointerForm t) ok = inl refl
     first_fine (ProcedureForm s) ok = inl refl
-    first_fine (ArrayForm n t) ok = (refl, λ i lt. first_fine t ok)
+    first_fine (ArrayForm n t) ok = (refl, λ i lt. first_fine t ok.1)
     first_fine (OpenForm t) ok = absurd ok
     first_fine (RecordForm [] fs) ok = absurd ok
     first_fine (RecordForm (q ∷ line) fs) ok = (refl, firsts_fine fs ok.1)

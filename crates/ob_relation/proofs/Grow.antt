@@ -9,7 +9,7 @@ use Rattle.ob_types.specs.declared.types.TypeRef.{TypeRef}
 use Rattle.ob_types.specs.declared.types.Signature.{Signature}
 use Rattle.ob_meaning.specs.Values.{Form, BasicForm, PointerForm, ProcedureForm, ArrayForm, OpenForm, RecordForm, Fields, NoField, AField, form_in, words, Value, field_of, element_of, Root, OfModule, OfCall, OfObject, Place, At, Held, Own, Referred, Copied, Active, AnObject}
 use Rattle.ob_relation.specs.Layout.{object_form, path_offset, path_form, root_form, root_address, place_form, address, heap_start, slots_words, module_held}
-use Rattle.ob_relation.specs.Relation.{Sub, Scalar, IsBasic, IsPointer, IsProcedure, Fine, FieldsFine, PathIn, RootIn, PlaceIn, PlaceOf, HeldFine, CallsFine, ObjectsFine, ModulesFine, word_of, flat, flat_fields, flat_elements, flat_slots, flat_copies, flat_calls, flat_objects, pointing, extra, Grows, call_start, flat_modules, no_places}
+use Rattle.ob_relation.specs.Relation.{LengthFits, Sub, Scalar, IsBasic, IsPointer, IsProcedure, Fine, FieldsFine, PathIn, RootIn, PlaceIn, PlaceOf, HeldFine, CallsFine, ObjectsFine, ModulesFine, word_of, flat, flat_fields, flat_elements, flat_slots, flat_copies, flat_calls, flat_objects, pointing, extra, Grows, call_start, flat_modules, no_places}
 use Rattle.ob_types.specs.TypedSyntax.{Module}
 use Rattle.ob_relation.specs.Texts.{module_texts}
 use Rattle.ob_relation.specs.Setting.{Setting, has_of}
@@ -19,13 +19,14 @@ module _ (c : Setting) where
   G os all = Grows c.program (has_of c) c.img os all
 
   pub grows_same : (os : List AnObject) → G os os
-  grows_same os = record { len = omega arith; offset = λ n lt. refl; at = λ n lt. refl }
+  grows_same os = record { len = omega arith; offset = λ n lt. refl; at = λ n lt. refl; has_length = λ n lt. refl }
 
   pub grows_on : (os mid all : List AnObject) → G os mid → G mid all → G os all
   grows_on os mid all g h = record {
     len = omega (arith, g.len, h.len);
     offset = λ n lt. h.offset n (omega (arith, g.len, lt)) ∙ g.offset n lt;
     at = λ n lt. h.at n (omega (arith, g.len, lt)) ∙ g.at n lt;
+    has_length = λ n lt. h.has_length n (omega (arith, g.len, lt)) ∙ g.has_length n lt;
   }
 
   module _ (os all : List AnObject) (gr : G os all) where
@@ -53,7 +54,7 @@ module _ (c : Setting) where
     scalar_word (RecordForm line fs) v sc fine = absurd sc
 
     pointer_more : (t : TypeRef) (v : Value) → IsPointer c.program os t v → IsPointer c.program all t v
-    pointer_more t v h = ⊎_elim (λ e. inl e) (λ k. inr (k.0, k.1, omega (arith, gr.len, k.2), subst (λ u. Sub u (form_in c.program t)) (sym (gr.at k.0 k.2)) k.3)) h
+    pointer_more t v h = ⊎_elim (λ e. inl e) (λ k. inr (k.0, k.1, omega (arith, gr.len, k.2), subst (λ u. Sub u (form_in c.program t)) (sym (gr.at k.0 k.2)) k.3, subst (λ b. LengthFits (form_in c.program t) b) (sym (gr.has_length k.0 k.2)) k.4)) h
 
     mutual
       pub fine_more : (t : Form) (v : Value) → Fine c.program (has_of c) os t v → Fine c.program (has_of c) all t v

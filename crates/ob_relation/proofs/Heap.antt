@@ -7,7 +7,7 @@ use Rattle.ob_mem.specs.Words.{with_words}
 use Rattle.ob_instr.specs.Image.{World}
 use Rattle.ob_meaning.specs.Values.{changed_at, first, words, Active, AnObject, Whole, Opened, State}
 use Rattle.ob_meaning.specs.Meaning.{cost_of, costs_of, first_object}
-use Rattle.ob_relation.specs.Layout.{object_form, extra_words, object_at, object_offset}
+use Rattle.ob_relation.specs.Layout.{object_form, extra_words, object_at, object_offset, has_length, has_length_at}
 use Rattle.ob_relation.specs.Relation.{FormOk}
 use Rattle.ob_relation.proofs.Names.{nat_same}
 use Rattle.ob_relation.proofs.Parts.{F, W}
@@ -15,7 +15,7 @@ use Rattle.ob_relation.proofs.Places.{Cs, Os, Ex, extra-length, cost_is, calls-l
 use Rattle.ob_relation.proofs.Modules.{Ms}
 use Rattle.ob_relation.proofs.Firsts.{zeros, zeros_both, first_words, first_fine}
 use Rattle.ob_relation.proofs.Grow.{G, calls_same, calls_more, objects_same, objects_more, modules_same, modules_more}
-use Rattle.ob_relation.proofs.Rooms.{put_seam}
+use Rattle.ob_relation.proofs.Copies.{put_seam}
 use Rattle.ob_relation.specs.Setting.{Setting, StandIn}
 
 pub first_is : (x : AnObject) → first_object x ≡ first (object_form x)
@@ -28,6 +28,7 @@ module _ (c : Setting) where
     len = omega arith;
     offset = λ n lt. let e : nat_eq n (length os) ≡ false = grind (arith, nat_tests) in ap (λ b. if b then costs_of os + extra_words x else object_offset os n) e;
     at = λ n lt. let e : nat_eq n (length os) ≡ false = grind (arith, nat_tests) in ap (λ b. if b then object_form x else object_at os n) e;
+    has_length = λ n lt. let e : nat_eq n (length os) ≡ false = grind (arith, nat_tests) in ap (λ b. if b then has_length x else has_length_at os n) e;
   }
 
   -- the state with the object, and the words

@@ -254,4 +254,4 @@ module _ (c : Setting) (os : List AnObject) where
   path_known (ElementStep i ∷ path) (ArrayForm n t) v ok here fine =
       known_inside t (path_form t path) (element_of v i) (part (element_of v i) path) (W (ArrayForm n t) v) (λ w. W (ArrayForm n t) (with_element v i w)) (λ w. with_part (element_of v i) path w) (i * words t) (path_offset t path) (λ w. F (ArrayForm n t) (with_element v i w))
       (element_known n i t v here.0 fine)
-      (path_known path t (element_of v i) ok here.1 (fine.1 i here.0))
+      (path_known path t (element_of v i) ok.1 here.1 (fine.1 i here.0))

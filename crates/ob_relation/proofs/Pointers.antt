@@ -17,8 +17,8 @@ use Rattle.ob_instr.proofs.Goes as rows
 use Rattle.ob_meaning.specs.Values.{Form, PointerForm, form_in, record_in, words, Value, Nil, Object, OfObject, Place, At, AnObject, Whole, State}
 use Rattle.ob_meaning.specs.Results.{Trapped, Stops, Caller}
 use Rattle.ob_meaning.specs.Meaning.{pointee, choose, cost_of, costs_of, make, with_object}
-use Rattle.ob_relation.specs.Layout.{type_number, object_form, extra_words, object_at, object_offset, address, place_form, heap_start}
-use Rattle.ob_relation.specs.Relation.{Fine, FormOk, word_of, Scalar, PlaceOf, Sub, itself}
+use Rattle.ob_relation.specs.Layout.{type_number, object_form, extra_words, object_at, object_offset, has_length, has_length_at, address, place_form, heap_start}
+use Rattle.ob_relation.specs.Relation.{Fine, FormOk, LengthFits, word_of, Scalar, PlaceOf, Sub, itself}
 use Rattle.ob_relation.specs.Ends.{end_place}
 use Rattle.ob_relation.specs.Stands as code
 use Rattle.ob_relation.proofs.Names.{nat_same}
@@ -72,9 +72,9 @@ module _ (c : Setting) (a : Activation c) (n : ℕ) (call : Caller) (b : ℕ) wh
 
   -- NEW
 
-  pub made_follows : (x : AnObject) (r : TypeRef) (p : Place) (size : ℕ) (i : Instr) (at : Pos) (pc : ℕ) (ops : List ℤ) (os : List AnObject) (s : State) (w : World) → length ops ≤ 256 → code.HasAt (scope c a) pc i at → FormOk c.program (object_form x) → Sub (object_form x) (form_in c.program r) → size ≡ words (object_form x) → PlaceOf c.program (has_of c) c.img s.made (K c a) (PointerForm r) p → (are_there (length w.words) (pos (address c.program c.img s.made (K c a) p)) 1 ≡ true → effect c a pc (pos (address c.program c.img s.made (K c a) p) ∷ ops) w i ≡ made (pos (address c.program c.img s.made (K c a) p)) (Ex c [] x) size ops w) → Kp os s w →
-      Follows c (go c a pc (pos (address c.program c.img s.made (K c a) p) ∷ ops) w) (λ u s w. go c a (suc pc) ops w) (λ u s w. Kp os s w) (make x p (here_in c a n call b) at s)
-  made_follows x r p size i at pc ops os s w le has ok is words_are here_p row st = by (nat_le (costs_of (x ∷ s.made)) c.heap) refl
+  pub made_follows : (x : AnObject) (r : TypeRef) (p : Place) (size : ℕ) (i : Instr) (at : Pos) (pc : ℕ) (before ops : List ℤ) (os : List AnObject) (s : State) (w : World) → length ops ≤ 256 → code.HasAt (scope c a) pc i at → FormOk c.program (object_form x) → Sub (object_form x) (form_in c.program r) → LengthFits (form_in c.program r) (has_length x) → size ≡ words (object_form x) → PlaceOf c.program (has_of c) c.img s.made (K c a) (PointerForm r) p → (are_there (length w.words) (pos (address c.program c.img s.made (K c a) p)) 1 ≡ true → effect c a pc before w i ≡ made (pos (address c.program c.img s.made (K c a) p)) (Ex c [] x) size ops w) → Kp os s w →
+      Follows c (go c a pc before w) (λ u s w. go c a (suc pc) ops w) (λ u s w. Kp os s w) (make x p (here_in c a n call b) at s)
+  made_follows x r p size i at pc before ops os s w le has ok is fits words_are here_p row st = by (nat_le (costs_of (x ∷ s.made)) c.heap) refl
     where
       rows_words : ℕ → List ℤ
       rows_words m = with_words w.words (pos w.heap) (replicate m (pos 0))
@@ -88,7 +88,7 @@ module _ (c : Setting) (a : Activation c) (n : ℕ) (call : Caller) (b : ℕ) wh
       many : length (Ex c [] x) + size ≡ cost_of x
       many = let h = extra-length c [] x in let k = cost_is c [] x in omega (arith, h, k, words_are)
 
-      by : (z : Bool) → nat_le (costs_of (x ∷ s.made)) c.heap ≡ z → Follows c (go c a pc (pos (address c.program c.img s.made (K c a) p) ∷ ops) w) (λ u s w. go c a (suc pc) ops w) (λ u s w. Kp os s w) (choose z (with_object x p) (λ s. Stops (Trapped 12 (pos 0) a.unit at) s) s)
+      by : (z : Bool) → nat_le (costs_of (x ∷ s.made)) c.heap ≡ z → Follows c (go c a pc before w) (λ u s w. go c a (suc pc) ops w) (λ u s w. Kp os s w) (choose z (with_object x p) (λ s. Stops (Trapped 12 (pos 0) a.unit at) s) s)
       by false e =
           let long = whole_length c (K c a) s w st.all in
           let more : nat_lt (length w.words + 1) (w.heap + (length (Ex c [] x) + size)) ≡ true = let h = st.all.heap_next in grind (arith, nat_tests) in
@@ -107,7 +107,8 @@ module _ (c : Setting) (a : Activation c) (n : ℕ) (call : Caller) (b : ℕ) wh
           let k = spot c (K c a) s2 w2 st2 p (subst (λ u. Scalar u) (sym form) tt) here_2.0 in
           let own = nat_same (length s.made) in
           let at_it : object_at (x ∷ s.made) (length s.made) ≡ object_form x = ap (λ t. if t then object_form x else object_at s.made (length s.made)) own in
-          let fine : Fine c.program (has_of c) (x ∷ s.made) (PointerForm r) (Object (length s.made)) = inr (length s.made, refl, omega arith, subst (λ u. Sub u (form_in c.program r)) (sym at_it) is) in
+          let has_it : has_length_at (x ∷ s.made) (length s.made) ≡ has_length x = ap (λ t. if t then has_length x else has_length_at s.made (length s.made)) own in
+          let fine : Fine c.program (has_of c) (x ∷ s.made) (PointerForm r) (Object (length s.made)) = inr (length s.made, refl, omega arith, subst (λ u. Sub u (form_in c.program r)) (sym at_it) is, subst (λ z. LengthFits (form_in c.program r) z) (sym has_it) fits) in
           let new = k.store (Object (length s.made)) (subst (λ u. Fine c.program (has_of c) (x ∷ s.made) u (Object (length s.made))) (sym form) fine) in
           let off : object_offset (x ∷ s.made) (length s.made) ≡ costs_of s.made + extra_words x = ap (λ t. if t then costs_of s.made + extra_words x else object_offset s.made (length s.made)) own in
           let there_at : heap_start c.program c.img + object_offset (x ∷ s.made) (length s.made) ≡ w.heap + length (Ex c [] x) = let h = extra-length c [] x in omega (arith, off, h, st.all.heap_next) in
@@ -120,13 +121,17 @@ module _ (c : Setting) (a : Activation c) (n : ℕ) (call : Caller) (b : ℕ) wh
           follows_value c (with_memory w2 new.0) (goes c a ops (with_memory w2 new.0) has.has effect_is le)
           (record { all = new.2; calls = st.calls; bound = st.bound; objects = grows_on c os s.made (x ∷ s.made) st.objects gr })
 
-  pub new_array_case : (d : Desig) (t : TypeRef) (at : Pos) → FormOk c.program (form_in c.program t) → Ex c [] (Whole (form_in c.program t)) ≡ pos 0 ∷ [] → PlaceFollows c a n call b d → StmtFollows c a n call b (New d (made_of.Array t) at)
-  new_array_case d t at ok_form no_tag ih l exit pc k os s w le inside lies has ok st =
+  pub new_array_case : (d : Desig) (t : TypeRef) (at : Pos) → PlaceFollows c a n call b d → StmtFollows c a n call b (New d (made_of.Array t) at)
+  new_array_case d t at ih l exit pc k os s w le inside lies has ok st =
       let p1 = end_place c.program d pc in
-      let r = ok.1.0 in
+      let r = ok.1.0.0 in
+      let u = form_in c.program t in
+      let no_tag : Ex c [] (Whole u) ≡ pos 0 ∷ [] = ap (λ u. Ex c [] (Whole u)) ok.1.1.2 in
+      let no_length : LengthFits (form_in c.program r) false = subst (λ u. LengthFits u false) (sym (ok.1.0.2 ∙ ok.1.1.2)) tt in
       follows_bind c (ih pc k [] os s w (omega (arith, le)) has.0 ok.0 st) λ p s1 w1 k1.
-      follows_bind c (made_follows (Whole (form_in c.program t)) r p (words (form_in c.program t)) (code.with_a op.NewA (words (form_in c.program t))) at p1 [] os s1 w1 (omega arith) has.1 ok_form (subst (λ u. Sub u (form_in c.program r)) ok.1.2 itself) refl (subst (λ u. PlaceOf c.program (has_of c) c.img s1.made (K c a) u p) ok.1.1 k1.0)
-      (λ there. rows.new_a_is c.img a.u a.m a.p (fb c a) p1 w1 (pos (address c.program c.img s1.made (K c a) p)) (words (form_in c.program t)) [] there ∙ ap (λ e. made (pos (address c.program c.img s1.made (K c a) p)) e (words (form_in c.program t)) [] w1) (sym no_tag)) k1.1)
+      let x = pos (address c.program c.img s1.made (K c a) p) in
+      follows_bind c (made_follows (Whole u) r p (words u) (code.with_a op.NewA (words u)) at p1 (x ∷ []) [] os s1 w1 (omega arith) has.1 (subst (λ u. FormOk c.program u) (sym ok.1.1.2) ok.1.1.3) (subst (λ v. Sub u v) (sym ok.1.0.2) itself) no_length refl (subst (λ u. PlaceOf c.program (has_of c) c.img s1.made (K c a) u p) ok.1.0.1 k1.0)
+      (λ there. rows.new_a_is c.img a.u a.m a.p (fb c a) p1 w1 x (words u) [] there ∙ ap (λ e. made x e (words u) [] w1) (sym no_tag)) k1.1)
       λ u s2 w2 k2. follows_value c w2 (here c _) (tt, k2)
 
   pub new_record_case : (d : Desig) (q : QName) (at : Pos) → TypesStand c → PlaceFollows c a n call b d → StmtFollows c a n call b (New d (made_of.Record q) at)
@@ -136,7 +141,8 @@ module _ (c : Setting) (a : Activation c) (n : ℕ) (call : Caller) (b : ℕ) wh
       let ts = types q ok.1.1.0 ok.1.1.1 in
       let x = Whole (record_in c.program q) in
       let ex : Ex c [] x ≡ tag (type_number c.img.types q) ∷ [] = ap (λ t. Ex c [] (Whole t)) ok.1.1.1 in
+      let no_length : LengthFits (form_in c.program r) false = subst (λ u. LengthFits u false) (sym (ok.1.0.2 ∙ ok.1.1.1)) tt in
       follows_bind c (ih pc k [] os s w (omega (arith, le)) has.0 ok.0 st) λ p s1 w1 k1.
-      follows_bind c (made_follows x r p ts.descriptor.words (code.with_a op.NewR has.1.type.number) at p1 [] os s1 w1 (omega arith) (record { has = has.1.type.has; place = has.1.place }) ts.ok (subst (λ u. Sub u (form_in c.program r)) ok.1.0.2 itself) ts.size (subst (λ u. PlaceOf c.program (has_of c) c.img s1.made (K c a) u p) ok.1.0.1 k1.0)
+      follows_bind c (made_follows x r p ts.descriptor.words (code.with_a op.NewR has.1.type.number) at p1 (pos (address c.program c.img s1.made (K c a) p) ∷ []) [] os s1 w1 (omega arith) (record { has = has.1.type.has; place = has.1.place }) ts.ok (subst (λ v. Sub (record_in c.program q) v) (sym ok.1.0.2) itself) no_length ts.size (subst (λ u. PlaceOf c.program (has_of c) c.img s1.made (K c a) u p) ok.1.0.1 k1.0)
       (λ there. rows.new_r_is c.img a.u a.m a.p (fb c a) p1 w1 (pos (address c.program c.img s1.made (K c a) p)) has.1.type.number (type_number c.img.types q) ts.descriptor [] has.1.type.is ts.found there ∙ ap (λ e. made (pos (address c.program c.img s1.made (K c a) p)) e ts.descriptor.words [] w1) (sym ex)) k1.1)
       λ u s2 w2 k2. follows_value c w2 (here c _) (tt, k2)

@@ -16,7 +16,7 @@ use Rattle.ob_meaning.specs.Values.{same_name, Program, Form, BasicForm, Pointer
 use Rattle.ob_meaning.specs.Operators.{is_in}
 use Rattle.ob_meaning.specs.Meaning.{costs_of}
 use Rattle.ob_meaning.specs.Calls.{cost_of_calls}
-use Rattle.ob_relation.specs.Layout.{module_number, procedure_index, procedures_in, type_number, held_name, slots_words, held_at, object_at, object_form, object_offset, module_held, stack_start, heap_start, root_form, place_form, address, variables_in, field_form}
+use Rattle.ob_relation.specs.Layout.{module_number, procedure_index, procedures_in, type_number, held_name, slots_words, held_at, object_at, object_form, object_offset, has_length_at, module_held, stack_start, heap_start, root_form, place_form, address, variables_in, field_form}
 use Rattle.ob_relation.specs.Texts.{module_texts}
 
 abbrev pub OrElse : Bool → Type 0 → Type 0 → Type 0
@@ -119,14 +119,19 @@ IsBasic basic.Integer v = IsInteger width.Integer v
 IsBasic basic.LongInt v = IsInteger width.LongInt v
 IsBasic basic.Set v = IsSet v
 
+-- a pointer to open arrays points to what was made with a length
+abbrev pub LengthFits : Form → Bool → Type 0
+LengthFits (OpenForm t) has = has ≡ true
+LengthFits t has = Unit {0}
+
 module _ (program : Program) where
-  -- types as they are built: the fields differ, a record is the one that its name stands for, no open array stands inside
+  -- types as they are built: an array has an element, the fields differ, a record is the one that its name stands for, no open array stands inside
   abbrev mutual
     pub FormOk : Form → Type 0
     FormOk (BasicForm b) = Unit {0}
     FormOk (PointerForm t) = Unit {0}
     FormOk (ProcedureForm sig) = Unit {0}
-    FormOk (ArrayForm n t) = FormOk t
+    FormOk (ArrayForm n t) = (1 ≤ n) × FormOk t
     FormOk (OpenForm t) = ⊥
     FormOk (RecordForm [] fs) = ⊥
     FormOk (RecordForm (q ∷ line) fs) = (record_in program q ≡ RecordForm (q ∷ line) fs) × FieldsOk fs
@@ -140,7 +145,7 @@ module _ (program : Program) where
   IsProcedure Has sig v = (v ≡ Nil) ⊎ ((q : QName) × (v ≡ ProcedureAt q) × Has sig q)
 
   abbrev pub IsPointer : List AnObject → TypeRef → Value → Type 0
-  IsPointer os t v = (v ≡ Nil) ⊎ ((n : ℕ) × (v ≡ Object n) × (n < length os) × Sub (object_at os n) (form_in program t))
+  IsPointer os t v = (v ≡ Nil) ⊎ ((n : ℕ) × (v ≡ Object n) × (n < length os) × Sub (object_at os n) (form_in program t) × LengthFits (form_in program t) (has_length_at os n))
 
   -- a procedure that can be called by a signature
   module _ (Has : Signature → QName → Type 0) where
@@ -317,6 +322,7 @@ module _ (program : Program) where
         pub len : length os ≤ length all
         pub offset : (n : ℕ) → n < length os → object_offset all n ≡ object_offset os n
         pub at : (n : ℕ) → n < length os → object_at all n ≡ object_at os n
+        pub has_length : (n : ℕ) → n < length os → has_length_at all n ≡ has_length_at os n
 
       -- with at most b turns left and at least the objects os
       pub record StandsAt (heap : ℕ) (behind : List ℤ) (cs : List Active) (b : ℕ) (os : List AnObject) (s : State) (w : World) : Type 0 where

@@ -1,5 +1,5 @@
 -- Where code stands in a module's instructions: the scheme, as what each tree's code is and where.
-use Rattle.std.specs.Prelude.{◌≡◌, ◌<◌, ℕ, suc, ◌+◌, List, [], ◌∷◌, length, ℤ, pos, negsuc, Option, Some, None, Bool, true, false, bytes_eq, if◌then◌else◌, slice_get}
+use Rattle.std.specs.Prelude.{◌≡◌, ◌<◌, ℕ, suc, ◌+◌, List, [], ◌∷◌, ◌++◌, map, length, ℤ, pos, negsuc, Option, Some, None, Bool, true, false, bytes_eq, if◌then◌else◌, slice_get}
 use Rattle.std.specs.Int.{w32, cast_signed}
 use Rattle.ob_tree.specs.declared.pos.Pos.{Pos}
 use Rattle.ob_tree.specs.declared.names.QName.{QName}
@@ -45,7 +45,8 @@ use Rattle.ob_meaning.specs.Values.{Program, Form, ArrayForm, OpenForm, RecordFo
 use Rattle.ob_meaning.specs.Operators.{is_positive}
 use Rattle.ob_meaning.specs.Meaning.{hidden}
 use Rattle.ob_meaning.specs.Globals.{texts_of_designator, texts_of_expr, texts_of, texts_of_all, texts_of_branches, texts_of_cases, passed_words}
-use Rattle.ob_relation.specs.Layout.{type_number, field_offset, slot, variables_in, module_offset}
+use Rattle.ob_relation.specs.Layout.{type_number, field_offset, slot, slots_words, variables_in, module_offset}
+use Rattle.ob_relation.specs.Texts.{text_words, texts_in}
 use Rattle.ob_relation.specs.Relation.{OrElse, number_of}
 use Rattle.ob_relation.specs.Ends.{end_variable, end_test, end_step, end_place, end_tagged, end_open, end_expr, end_tag, end_address, end_record, end_array, end_actuals, end_labels, end_stmt, end_stmts, end_branches, end_cases, end_else}
 
@@ -228,6 +229,28 @@ module _ (sc : Scope) where
   Form2 (OpenForm t) A B = A
   Form2 t A B = B
 
+  -- a string's characters and 0X stand at an offset of the module's first word
+  pub record TextStands (text : List ℕ) (at : ℕ) : Type 0 where
+    pub before : List ℤ
+    pub behind : List ℤ
+    pub is : texts_in sc.program sc.program sc.unit ≡ before ++ (map pos text ++ (pos 0 ∷ behind))
+    pub offset : slots_words (variables_in sc.program sc.program sc.unit) + length before ≡ at
+
+  -- a string filled with 0X to so many words stands there
+  pub record FilledStands (text : List ℕ) (n at : ℕ) : Type 0 where
+    pub before : List ℤ
+    pub behind : List ℤ
+    pub is : texts_in sc.program sc.program sc.unit ≡ before ++ (text_words text n ++ behind)
+    pub offset : slots_words (variables_in sc.program sc.program sc.unit) + length before ≡ at
+
+  abbrev pub LiteralFilled : Literal → ℕ → ℕ → Type 0
+  LiteralFilled (literal.Str text) n at = FilledStands text n at
+  LiteralFilled c n at = Unit {0}
+
+  abbrev pub LiteralStands : Literal → ℕ → Type 0
+  LiteralStands (literal.Str text) at = TextStands text at
+  LiteralStands c at = Unit {0}
+
   abbrev pub string_at : ℕ → ℕ → Type 0
   string_at pc at = Has pc (with_a op.Global at)
 
@@ -320,8 +343,14 @@ module _ (sc : Scope) where
     -- a(e), g(e) and l(e) of a variable or a string
     pub AddressCode : Expr → ℕ → ℕ → Type 0
     AddressCode (ValueOf d) pc at = PlaceCode d pc at
-    AddressCode (Constant c) pc at = string_at pc at
+    AddressCode (Constant c) pc at = string_at pc at × LiteralStands c at
     AddressCode e pc at = ⊥
+
+    -- a record or an array by value, a string being filled to its words
+    pub StructureCode : Expr → ℕ → ℕ → ℕ → Type 0
+    StructureCode (ValueOf d) n pc at = PlaceCode d pc at
+    StructureCode (Constant c) n pc at = string_at pc at × LiteralFilled c n at
+    StructureCode e n pc at = ⊥
 
     pub RecordCode : Expr → ℕ → ℕ → Type 0
     RecordCode (ValueOf d) pc at = TaggedCode d pc at
@@ -329,13 +358,13 @@ module _ (sc : Scope) where
 
     pub ArrayCode : Expr → ℕ → ℕ → Type 0
     ArrayCode (ValueOf d) pc at = Form2 (form_of d) (OpenCode d pc at) (PlaceCode d pc at × Has (end_place sc.program d pc) (with_a op.Int (fixed_length (form_of d))))
-    ArrayCode (Constant c) pc at = string_at pc at × Has (suc pc) (with_a op.Int (suc (text_length c)))
+    ArrayCode (Constant c) pc at = string_at pc at × (LiteralStands c at × Has (suc pc) (with_a op.Int (suc (text_length c))))
     ArrayCode e pc at = ⊥
 
     pub ActualsCode : Actuals → ℕ → ℕ → Type 0
     ActualsCode NoActual pc at = Unit {0}
     ActualsCode (AnActual passing.Scalar t e rest) pc at = ExprCode e pc at × ActualsCode rest (end_expr sc.program e pc) (at + et e)
-    ActualsCode (AnActual passing.Structure t e rest) pc at = AddressCode e pc at × ActualsCode rest (end_address sc.program e pc) (at + passed_before passing.Structure t e)
+    ActualsCode (AnActual passing.Structure t e rest) pc at = StructureCode e (words (form_in sc.program t)) pc at × ActualsCode rest (end_address sc.program e pc) (at + passed_before passing.Structure t e)
     ActualsCode (AnActual passing.Variable t e rest) pc at = AddressCode e pc at × ActualsCode rest (end_address sc.program e pc) (at + et e)
     ActualsCode (AnActual passing.VariableRecord t e rest) pc at = RecordCode e pc at × ActualsCode rest (end_record sc.program e pc) (at + et e)
     ActualsCode (AnActual passing.OpenArray t e rest) pc at = ArrayCode e pc at × ActualsCode rest (end_array sc.program e pc) (at + et e)

@@ -39,7 +39,7 @@ use Rattle.ob_meaning.specs.Values.{Program, procedure_of, Form, BasicForm, Poin
 use Rattle.ob_meaning.specs.Operators.{is_in}
 use Rattle.ob_meaning.specs.Meaning.{nearest, hidden}
 use Rattle.ob_relation.specs.Layout.{field_offset, field_form, held_name, form_named, variables_in}
-use Rattle.ob_relation.specs.Relation.{OrElse, Sub, Scalar, FieldIn, ValueIn}
+use Rattle.ob_relation.specs.Relation.{OrElse, FormOk, LengthFits, Sub, Scalar, FieldIn, ValueIn}
 
 abbrev pub basic_of : Width → Basic
 basic_of width.ShortInt = basic.ShortInt
@@ -68,6 +68,11 @@ pub data Within : Width → Width → Type 0 where
   shorter : Within width.ShortInt width.LongInt
   middle : Within width.Integer width.LongInt
 
+-- the characters of a string
+abbrev pub AreCharacters : List ℕ → Type 0
+AreCharacters [] = Unit {0}
+AreCharacters (c ∷ cs) = (c < 256) × AreCharacters cs
+
 abbrev pub IsEquality : Comparison → Type 0
 IsEquality comparison.Equal = Unit {0}
 IsEquality comparison.NotEqual = Unit {0}
@@ -82,13 +87,13 @@ passing_for mode.Var (OpenForm t) = passing.VariableOpenArray
 passing_for mode.Var (RecordForm line fs) = passing.VariableRecord
 passing_for mode.Var t = passing.Variable
 
-abbrev pub ByPassing : Passing → (scalar structure array referred : Type 0) → Type 0
-ByPassing passing.Scalar A B C D = A
-ByPassing passing.Structure A B C D = B
-ByPassing passing.OpenArray A B C D = C
-ByPassing passing.Variable A B C D = D
-ByPassing passing.VariableRecord A B C D = D
-ByPassing passing.VariableOpenArray A B C D = D
+abbrev pub ByPassing : Passing → (scalar structure array referred referred_record referred_array : Type 0) → Type 0
+ByPassing passing.Scalar A B C D E F = A
+ByPassing passing.Structure A B C D E F = B
+ByPassing passing.OpenArray A B C D E F = C
+ByPassing passing.Variable A B C D E F = D
+ByPassing passing.VariableRecord A B C D E F = E
+ByPassing passing.VariableOpenArray A B C D E F = F
 
 abbrev pub As : (Held → Type 0) → List Held → List ℕ → Type 0
 As Kind [] x = ⊥
@@ -120,12 +125,19 @@ IsVariableRecord (OfVariable (variable.Parameter passing.VariableRecord x) t) = 
 IsVariableRecord (Guard d guarded.Record q at t) = IsVariableRecord d
 IsVariableRecord d = ⊥
 
+abbrev pub IsRecordForm : Form → Type 0
+IsRecordForm t = (line : List QName) × (t ≡ RecordForm line (fields_of t))
+
+-- an array of such elements, open or of a length
+abbrev pub IsArrayOf : Form → Form → Type 0
+IsArrayOf t u = (t ≡ OpenForm u) ⊎ ((n : ℕ) × (t ≡ ArrayForm n u))
+
 module _ (program : Program) (Has : Signature → QName → Type 0) (unit : List ℕ) (held : List Held) (result : Option TypeRef) where
   -- what may stand for a scalar type: itself; a smaller integer type; a pointer to an extension
   pub data Widens : Form → Form → Type 0 where
     itself : {t : Form} → Widens t t
     integers : (v w : Width) → Within v w → Widens (integer v) (integer w)
-    pointers : (t u : TypeRef) → ((a : Form) → Sub a (form_in program t) → Sub a (form_in program u)) → Widens (PointerForm t) (PointerForm u)
+    pointers : (t u : TypeRef) → ((a : Form) → Sub a (form_in program t) → Sub a (form_in program u)) → ((has : Bool) → LengthFits (form_in program t) has → LengthFits (form_in program u) has) → Widens (PointerForm t) (PointerForm u)
     procedures : (s t : Signature) → ((q : QName) → Has s q → Has t q) → Widens (ProcedureForm s) (ProcedureForm t)
 
   abbrev pub ParameterOk : Passing → List ℕ → Type 0
@@ -251,7 +263,7 @@ module _ (program : Program) (Has : Signature → QName → Type 0) (unit : List
 
     pub TextOk : Expr → Type 0
     TextOk (ValueOf d) = DesigOk d × IsText (form_of d)
-    TextOk (Constant (literal.Str text)) = Unit {0}
+    TextOk (Constant (literal.Str text)) = AreCharacters text
     TextOk e = ⊥
 
     pub OutOk : Actuals → Type 0
@@ -264,33 +276,41 @@ module _ (program : Program) (Has : Signature → QName → Type 0) (unit : List
     ActualsOk NoActual [] = Unit {0}
     ActualsOk NoActual (p ∷ ps) = ⊥
     ActualsOk (AnActual how t e rest) [] = ⊥
-    ActualsOk (AnActual how t e rest) (p ∷ ps) = (how ≡ p.passing) × ((t ≡ p.of) × (ByPassing how (ExprOk e (form_in program t) × Scalar (form_in program t)) (StructureOk e (form_in program t)) (ArrayOk e (form_in program t)) (ReferredOk e (form_in program t)) × ActualsOk rest ps))
+    ActualsOk (AnActual how t e rest) (p ∷ ps) = (how ≡ p.passing) × ((t ≡ p.of) × (ByPassing how (ExprOk e (form_in program t) × Scalar (form_in program t)) (StructureOk e (form_in program t)) (ArrayOk e (form_in program t)) (ReferredOk e (form_in program t)) (RecordOk e (form_in program t)) (VariableArrayOk e (form_in program t)) × ActualsOk rest ps))
 
     -- by a signature alone, as procedure variables are called
     pub SignatureOk : Actuals → List (Mode × TypeRef) → Type 0
     SignatureOk NoActual [] = Unit {0}
     SignatureOk NoActual (p ∷ ps) = ⊥
     SignatureOk (AnActual how t e rest) [] = ⊥
-    SignatureOk (AnActual how t e rest) (p ∷ ps) = (how ≡ passing_for p.0 (form_in program p.1)) × ((t ≡ p.1) × (ByPassing how (ExprOk e (form_in program t) × Scalar (form_in program t)) (StructureOk e (form_in program t)) (ArrayOk e (form_in program t)) (ReferredOk e (form_in program t)) × SignatureOk rest ps))
+    SignatureOk (AnActual how t e rest) (p ∷ ps) = (how ≡ passing_for p.0 (form_in program p.1)) × ((t ≡ p.1) × (ByPassing how (ExprOk e (form_in program t) × Scalar (form_in program t)) (StructureOk e (form_in program t)) (ArrayOk e (form_in program t)) (ReferredOk e (form_in program t)) (RecordOk e (form_in program t)) (VariableArrayOk e (form_in program t)) × SignatureOk rest ps))
 
     pub StructureOk : Expr → Form → Type 0
     StructureOk (ValueOf d) t = DesigOk d × Sub (form_of d) t
-    StructureOk (Constant (literal.Str text)) t = (n : ℕ) × (t ≡ ArrayForm n char) × (length text < n)
+    StructureOk (Constant (literal.Str text)) t = (n : ℕ) × (t ≡ ArrayForm n char) × (length text < n) × AreCharacters text
     StructureOk e t = ⊥
 
     pub ArrayOk : Expr → Form → Type 0
-    ArrayOk (ValueOf d) t = DesigOk d × ((u : Form) × (t ≡ OpenForm u) × ((form_of d ≡ t) ⊎ ((n : ℕ) × (form_of d ≡ ArrayForm n u))))
-    ArrayOk (Constant (literal.Str text)) t = t ≡ OpenForm char
+    ArrayOk (ValueOf d) t = DesigOk d × ((u : Form) × (t ≡ OpenForm u) × IsArrayOf (form_of d) u)
+    ArrayOk (Constant (literal.Str text)) t = (t ≡ OpenForm char) × AreCharacters text
     ArrayOk e t = ⊥
 
     pub ReferredOk : Expr → Form → Type 0
     ReferredOk (ValueOf d) t = DesigOk d × ((a : Form) → Sub a (form_of d) → Sub a t)
     ReferredOk e t = ⊥
 
+    pub RecordOk : Expr → Form → Type 0
+    RecordOk (ValueOf d) t = DesigOk d × (IsRecordForm (form_of d) × ((a : Form) → Sub a (form_of d) → Sub a t))
+    RecordOk e t = ⊥
+
+    pub VariableArrayOk : Expr → Form → Type 0
+    VariableArrayOk (ValueOf d) t = DesigOk d × ((u : Form) × (t ≡ OpenForm u) × IsArrayOf (form_of d) u)
+    VariableArrayOk e t = ⊥
+
   abbrev pub AssignedOk : Assigned → Desig → Expr → Type 0
   AssignedOk assigned.Scalar d e = ExprOk e (form_of d) × Scalar (form_of d)
   AssignedOk assigned.Text d e = (n : ℕ) × (form_of d ≡ ArrayForm n char) × StructureOk e (form_of d)
-  AssignedOk assigned.Array d e = StructureOk e (form_of d)
+  AssignedOk assigned.Array d e = ((n : ℕ) × (u : Form) × (form_of d ≡ ArrayForm n u)) × StructureOk e (form_of d)
   AssignedOk (assigned.Record q) d e = (form_of d ≡ record_in program q) × (IsRecordType program q × StructureOk e (form_of d))
 
   abbrev pub UpdateOk : Update → Desig → Expr → Type 0
@@ -301,7 +321,7 @@ module _ (program : Program) (Has : Signature → QName → Type 0) (unit : List
 
   abbrev pub MadeOk : Made → Form → Type 0
   MadeOk (made.Record q) t = IsPointerTo t (record_in program q) × ((line : List QName) × (record_in program q ≡ RecordForm (q ∷ line) (fields_of (record_in program q))))
-  MadeOk (made.Array u) t = IsPointerTo t (form_in program u)
+  MadeOk (made.Array u) t = IsPointerTo t (form_in program u) × ((n : ℕ) × (v : Form) × (form_in program u ≡ ArrayForm n v) × FormOk program (ArrayForm n v))
 
   abbrev pub ReturnOk : Option Expr → Option TypeRef → Type 0
   ReturnOk None None = Unit {0}
@@ -333,7 +353,7 @@ module _ (program : Program) (Has : Signature → QName → Type 0) (unit : List
     StmtOk (Updated o d e at) l = DesigOk d × UpdateOk o d e
     StmtOk (Copy e d at) l = TextOk e × (DesigOk d × IsText (form_of d))
     StmtOk (New d what at) l = DesigOk d × MadeOk what (form_of d)
-    StmtOk (NewOpenArray d t n at) l = DesigOk d × (IsPointerTo (form_of d) (OpenForm (form_in program t)) × ExprOk n longint)
+    StmtOk (NewOpenArray d t n at) l = DesigOk d × (IsPointerTo (form_of d) (OpenForm (form_in program t)) × (FormOk program (form_in program t) × ExprOk n longint))
     StmtOk (Assert e number at) l = ExprOk e boolean
     StmtOk (Halt number at) l = Unit {0}
     StmtOk (If branches otherwise) l = BranchesOk branches l × StmtsOk otherwise l

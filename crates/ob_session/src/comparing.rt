@@ -1,3 +1,5 @@
+//! The lines `compare`, `check` and `show`.
+
 ghost use Rattle.std.specs.Prelude.{◌≡◌, ◌≤◌, true, Err};
 ghost use Rattle.ob_io.specs.Io.{Rose};
 ghost use Rattle.ob_sym.specs.Grammar.{face as face_form};

@@ -1,3 +1,5 @@
+//! The line `compile`.
+
 ghost use Rattle.std.specs.Prelude.{◌≡◌, ◌∷◌, [], true, false};
 ghost use Rattle.ob_io.specs.Io.{HasCause};
 ghost use Rattle.ob_sym.specs.Grammar.{face as face_form};

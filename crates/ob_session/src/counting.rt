@@ -1,3 +1,5 @@
+//! Objects counted against the symbol file that stood there.
+
 ghost use Rattle.std.specs.Prelude.{◌≡◌, ◌+◌, ◌<◌, ◌^◌, [], None, IfOk, option_map};
 ghost use Rattle.ob_sym.specs.Grammar.{face as face_form};
 ghost use Rattle.ob_env.specs.Faces.{face_of};

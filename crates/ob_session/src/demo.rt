@@ -1,3 +1,5 @@
+//! The line `demo`.
+
 ghost use Rattle.std.specs.Prelude.{◌≡◌, ◌≤◌, ◌∷◌, [], true, Some, IfOk, OnOk, codes};
 ghost use Rattle.ob_io.specs.Io.{SameFiles, put};
 ghost use Rattle.ob_io.specs.Kept.{file_in};

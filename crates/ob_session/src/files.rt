@@ -1,3 +1,5 @@
+//! The files of a module, and symbol files as they are read.
+
 ghost use Rattle.std.specs.Prelude.{◌≡◌, true, IfOk};
 ghost use Rattle.ob_format.specs.Format.{whole};
 ghost use Rattle.ob_sym.specs.Grammar.{face as face_form};

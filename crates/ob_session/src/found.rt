@@ -1,3 +1,5 @@
+//! What a symbol file is found to be.
+
 use ob_types::Interface;
 
 /// What a symbol file is, of whatever module.

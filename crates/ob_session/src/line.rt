@@ -1,3 +1,5 @@
+//! A line of the script, by its kind.
+
 ghost use Rattle.std.specs.Prelude.{◌≡◌, ◌≤◌, true};
 ghost use Rattle.ob_lines.specs.Lines.{line_of};
 ghost use Rattle.ob_session.specs.Bytes.{World, answer};

@@ -1,3 +1,5 @@
+//! The answer to a line of no kind.
+
 ghost use Rattle.std.specs.Prelude.{◌≡◌, true};
 ghost use Rattle.ob_printing.specs.Prints.{PrintDoes, SinkCause};
 ghost use Rattle.ob_printing.specs.Texts.{unknown_text};

@@ -1,3 +1,5 @@
+//! The session: all lines of a script.
+
 ghost use Rattle.std.specs.Prelude.{◌⊎◌, ◌||◌, ◌≡◌, ◌≤◌, ◌<◌, true, [], cond, map, Some, None};
 ghost use Rattle.ob_link.specs.Files.{Files};
 ghost use Rattle.ob_lines.specs.Lines.{line_of};

@@ -12,11 +12,10 @@ use Rattle.ob_types.specs.declared.typed.Variable.TheVariants as variable
 use Rattle.ob_types.specs.declared.typed.Guarded.TheVariants as guarded
 use Rattle.ob_types.specs.declared.typed.Callee.TheVariants as callee
 use Rattle.ob_types.specs.declared.typed.Assigned.TheVariants as assigned
-use Rattle.ob_types.specs.TypedSyntax.{Desig, OfVariable, Field, Index, Deref, Guard, Expr, Constant, ValueOf, Monadic, Dyadic, Logical, IsPointer, IsRecord, Call, Actuals, NoActual, AnActual, Stmt, Assign, CallProper, Updated, Assert, Halt, If, While, Repeat, Loop, Exit, Return, With, Stmts, Nothing, Then, Branches, NoBranch, Branch, NoElse, Else, New, Procedure}
+use Rattle.ob_types.specs.TypedSyntax.{Desig, OfVariable, Field, Index, Deref, Guard, Expr, Constant, ValueOf, Monadic, Dyadic, Logical, IsPointer, IsRecord, Call, Actuals, NoActual, AnActual, Stmt, Assign, CallProper, Updated, Assert, Halt, If, While, Repeat, Loop, Exit, Return, With, Stmts, Nothing, Then, Branches, NoBranch, Branch, NoElse, Else, New, Procedure, ProcedureValue, Case, For, Cases, NoCase, OneCase, Otherwise}
 use Rattle.ob_meaning.specs.Values as values
 use Rattle.ob_relation.specs.Setting.{Setting}
-
-use Rattle.ob_relation.specs.Plain.{Plain, PlainBinary, PlainUnary, PlainLiteral}
+use Rattle.ob_relation.specs.Plain.{Plain}
 
 abbrev pub InVariable : Variable → Type 0
 InVariable (variable.Parameter passing.VariableRecord x) = Unit {0}
@@ -50,10 +49,11 @@ abbrev mutual
   InTagged d = ⊥
 
   pub InExpr : Expr → Type 0
-  InExpr (Constant l) = PlainLiteral l
+  InExpr (Constant l) = Unit {0}
   InExpr (ValueOf d) = InHolder d
-  InExpr (Monadic o e at) = PlainUnary o × InExpr e
-  InExpr (Dyadic o x y at) = PlainBinary o × (InExpr x × InExpr y)
+  InExpr (ProcedureValue q s) = Unit {0}
+  InExpr (Monadic o e at) = InExpr e
+  InExpr (Dyadic o x y at) = InExpr x × InExpr y
   InExpr (Logical o x y) = InExpr x × InExpr y
   InExpr (IsPointer e q) = InExpr e
   InExpr (IsRecord d q) = Unit {0}
@@ -81,11 +81,15 @@ abbrev mutual
   InStmt (New d (made.Record q) at) = InHolder d
   InStmt (Updated (update.Inc w) d e at) = InDesig d × InExpr e
   InStmt (Updated (update.Dec w) d e at) = InDesig d × InExpr e
+  InStmt (Updated update.Incl d e at) = InDesig d × InExpr e
+  InStmt (Updated update.Excl d e at) = InDesig d × InExpr e
   InStmt (Assert e number at) = InExpr e
   InStmt (Halt number at) = Unit {0}
   InStmt (If branches otherwise) = InBranches branches × InStmts otherwise
+  InStmt (Case e cases otherwise at) = InExpr e × (InCases cases × InElse otherwise)
   InStmt (While e body at) = InExpr e × InStmts body
   InStmt (Repeat body e at) = InStmts body × InExpr e
+  InStmt (For v w start end step body at) = Plain v × (InExpr start × (InExpr end × InStmts body))
   InStmt (Loop body at) = InStmts body
   InStmt Exit = Unit {0}
   InStmt (Return e) = InOptional e
@@ -100,6 +104,14 @@ abbrev mutual
   pub InBranches : Branches → Type 0
   InBranches NoBranch = Unit {0}
   InBranches (Branch test body rest) = InExpr test × (InStmts body × InBranches rest)
+
+  pub InCases : Cases → Type 0
+  InCases NoCase = Unit {0}
+  InCases (OneCase labels body rest) = InStmts body × InCases rest
+
+  pub InElse : Otherwise → Type 0
+  InElse NoElse = Unit {0}
+  InElse (Else body) = InStmts body
 
 -- the bodies of all procedures are of the forms that are proved
 abbrev pub AllIn : Setting → Type 0

@@ -1,3 +1,5 @@
+//! The checks of an object file, one by one, each as its grammar says it.
+
 ghost use Rattle.std.specs.Prelude.{◌≡◌, ◌+◌, ◌≤◌, length, nat_lt, nat_le, IfOk};
 ghost use Rattle.std.specs.List.{list_all};
 ghost use Rattle.ob_format.specs.Order.{differ};

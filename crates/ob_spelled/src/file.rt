@@ -1,3 +1,5 @@
+//! Whether an object file has a spelling.
+
 ghost use Rattle.std.specs.Prelude.{◌≡◌, ◌≤◌, true, length, nat_lt, IfOk};
 ghost use Rattle.std.specs.List.{list_all};
 ghost use Rattle.ob_obj.specs.Grammar.{file as file_form, bases_stand, has_procedures, begins_with_body, are_placed, IsSound};

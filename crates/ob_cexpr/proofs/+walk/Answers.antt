@@ -1,6 +1,8 @@
-use Rattle.std.proofs.Common.{◌≡◌, refl, sym, ap, ◌∙◌, map, drop, ◌+◌, ◌∷◌, [], Some, arith, length}
+use Rattle.std.proofs.Common.{◌≡◌, refl, sym, ap, ◌∙◌, map, drop, ◌+◌, ◌∷◌, [], Some, arith, rules, length}
+use Rattle.std.proofs.lemmas.List.{take_rest}
 use Rattle.std.proofs.lemmas.Result.{IfOk-weaker, on_ok_weaker}
 use Rattle.ob_tree.specs.declared.expr.Expr.TheVariants as expr
+use Rattle.ob_tree.proofs.expr.Expr.TheLaws.{the_size}
 use Rattle.ob_rules.specs.Judged.{sound, ◌▷◌}
 use Rattle.ob_rules.specs.Values.{constant}
 use Rattle.ob_rules.specs.Constants.{text_value}
@@ -15,6 +17,7 @@ use Rattle.ob_rules.proofs.BookLaws.{after_none}
 use Rattle.ob_coperand.specs.Plain.{plain}
 use Rattle.ob_cround.specs.declared.opening.Opened.TheVariants as opens
 use Rattle.ob_cexpr.specs.Plain.{set_judged, goes_on, visited_one}
+use Rattle.ob_cexpr.proofs.Further.{further_node, further_noted, too_many_node, too_many_noted, no_parameter_node, no_parameter_noted, most_rest}
 use Rattle.ob_cexpr.proofs.Rounds.{actuals_step, actuals_end_noted, parameters_step, parameters_end_noted, extreme_node, extreme_noted, call_noted, left_noted}
 use Rattle.ob_cexpr.proofs.Rows.{on_ok_from}
 use Rattle.ob_cexpr.proofs.Sets.{set_node, set_noted, elements_step, elements_end, elements_end_noted, element_noted, as_set_node, as_set_noted}
@@ -251,3 +254,32 @@ predeclared::check_extreme-returns-in_ok-t-in-len1-clause-made g t c =
 pub predeclared::check_extreme-returns-in_ok-t-in-len1-clause-noted : goal.predeclared::check_extreme-returns-in_ok-t-in-len1-clause-noted
 predeclared::check_extreme-returns-in_ok-t-in-len1-clause-noted g t c =
     on_ok_weaker c.extreme.result (λ h. extreme_noted c.args.max (g.S.Surroundings.around c.args.here.now) c.args.place c.args.at c.args.arguments.now c.only-item.result c.in_ok-t-in-len1.t c.args.book.now c.check_type_parameter.new.book c.extreme.new.book (omega arith) c.only-item.is c.in_ok-t-in-len1.ensures.made c.in_ok-t-in-len1.ensures.noted h) c.extreme.ensures.noted
+
+pub predeclared::check_extreme-check_further-requires-in-len1-up : goal.predeclared::check_extreme-check_further-requires-in-len1-up
+predeclared::check_extreme-check_further-requires-in-len1-up g t c =
+    let shallower = most_rest (λ x. the_size x) c.args.arguments.now in
+    search rules
+
+pub predeclared::check_extreme-returns-in_ok-t-in-len1-up-clause-made : goal.predeclared::check_extreme-returns-in_ok-t-in-len1-up-clause-made
+predeclared::check_extreme-returns-in_ok-t-in-len1-up-clause-made g t c =
+    IfOk-weaker c.check_further-in-len1-up.result _ _ (λ r h. too_many_node c.args.max (g.S.Surroundings.around c.args.here.now) c.args.place c.args.at c.args.arguments.now c.first-item.result _ c.in_ok-t-in-len1-up.t r (omega arith) c.first-item.is (take_rest c.args.arguments.now 1) c.in_ok-t-in-len1-up.ensures.made h) c.check_further-in-len1-up.ensures.made
+
+pub predeclared::check_extreme-returns-in_ok-t-in-len1-up-clause-noted : goal.predeclared::check_extreme-returns-in_ok-t-in-len1-up-clause-noted
+predeclared::check_extreme-returns-in_ok-t-in-len1-up-clause-noted g t c =
+    on_ok_weaker c.check_further-in-len1-up.result (λ h. too_many_noted c.args.max (g.S.Surroundings.around c.args.here.now) c.args.place c.args.at c.args.arguments.now c.first-item.result _ c.in_ok-t-in-len1-up.t c.args.book.now c.check_type_parameter-in-len1-up.new.book c.check_further-in-len1-up.new.book (omega arith) c.first-item.is (take_rest c.args.arguments.now 1) c.in_ok-t-in-len1-up.ensures.made c.in_ok-t-in-len1-up.ensures.noted h) c.check_further-in-len1-up.ensures.noted
+
+pub predeclared::check_extreme-returns-in-empty-clause-made : goal.predeclared::check_extreme-returns-in-empty-clause-made
+predeclared::check_extreme-returns-in-empty-clause-made g t c =
+    IfOk-weaker c.check_further.result _ _ (λ r h. no_parameter_node c.args.max (g.S.Surroundings.around c.args.here.now) c.args.place c.args.at c.args.arguments.now r (omega arith) h) c.check_further.ensures.made
+
+pub predeclared::check_extreme-returns-in-empty-clause-noted : goal.predeclared::check_extreme-returns-in-empty-clause-noted
+predeclared::check_extreme-returns-in-empty-clause-noted g t c =
+    on_ok_weaker c.check_further.result (λ h. no_parameter_noted c.args.max (g.S.Surroundings.around c.args.here.now) c.args.place c.args.at c.args.arguments.now c.args.book.now c.check_further.new.book (omega arith) h) c.check_further.ensures.noted
+
+pub predeclared::check_further-returns-in_ok-row-in-Some-clause-made : goal.predeclared::check_further-returns-in_ok-row-in-Some-clause-made
+predeclared::check_further-returns-in_ok-row-in-Some-clause-made g t c =
+    further_node (g.S.Surroundings.around c.args.here.now) c.args.place c.args.at (map spec.phrase_of c.args.behind.now) c.args.first.now _ _ c.further.result c.in-Some.is c.in_ok-row-in-Some.ensures.made c.further.ensures.made
+
+pub predeclared::check_further-returns-in_ok-row-in-Some-clause-noted : goal.predeclared::check_further-returns-in_ok-row-in-Some-clause-noted
+predeclared::check_further-returns-in_ok-row-in-Some-clause-noted g t c =
+    further_noted (g.S.Surroundings.around c.args.here.now) c.args.place c.args.at (map spec.phrase_of c.args.behind.now) c.args.first.now _ _ c.args.book.now c.check_parameters.new.book c.further.new.book c.in-Some.is c.in_ok-row-in-Some.ensures.made c.in_ok-row-in-Some.ensures.noted c.further.ensures.noted
