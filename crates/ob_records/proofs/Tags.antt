@@ -48,6 +48,10 @@ sub_sub x _ z itself h = h
 sub_sub _ _ z (extended more gs {line = line} {fs = fs}) h = sub_more more gs line fs _ z refl h
 sub_sub _ _ z (opened n {t = t}) h = sub_open n t _ z refl h
 
+abbrev element_of_open : Form → Form → Form
+element_of_open u (OpenForm t) = t
+element_of_open u t = u
+
 -- RECORDS AT PLACES
 
 -- the form of a record, which is the one of its name
@@ -74,6 +78,12 @@ module _ (c : Setting) where
   record_above t _ line fs itself e = (line, e ∙ ap (λ g. RecordForm line g) (sym (ap fields_of e)))
   record_above _ _ line fs (extended more gs {line = line2} {fs = fs2}) e = (line2, refl)
   record_above _ _ line fs (opened n) e = absurd (cc)
+
+  -- what stands where an open array is expected has a length
+  pub array_below : (t v u : Form) → Sub t v → v ≡ OpenForm u → FormOk c.program t → (n : ℕ) × (t ≡ ArrayForm n u)
+  array_below t _ u itself e ok = absurd (subst (λ z. FormOk c.program z) e ok)
+  array_below _ _ u (extended more gs) e ok = absurd (cc)
+  array_below _ _ u (opened n) e ok = (n, ap (λ z. ArrayForm n (element_of_open u z)) e)
 
   path_ok : (os : List AnObject) (path : List Step) (t : Form) → FormOk c.program t → PathIn t path → FormOk c.program (path_form t path)
   path_ok os [] t ok h = ok
