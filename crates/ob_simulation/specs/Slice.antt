@@ -8,20 +8,32 @@ use Rattle.ob_types.specs.declared.typed.Made.TheVariants as made
 use Rattle.ob_types.specs.declared.typed.Update.TheVariants as update
 use Rattle.ob_types.specs.declared.typed.Passing.TheVariants as passing
 use Rattle.ob_types.specs.declared.typed.Callee.TheVariants as callee
+use Rattle.ob_types.specs.declared.typed.Variable.TheVariants as variable
+use Rattle.ob_types.specs.declared.value.Value.TheVariants as literal
 use Rattle.ob_types.specs.declared.typed.Assigned.TheVariants as assigned
 use Rattle.ob_types.specs.TypedSyntax.{Desig, OfVariable, Field, Index, Deref, Expr, Constant, ValueOf, Monadic, Dyadic, Logical, Call, Actuals, NoActual, AnActual, Stmt, Assign, CallProper, Updated, Assert, Halt, If, While, Repeat, Loop, Exit, Return, Stmts, Nothing, Then, Branches, NoBranch, Branch, New, Procedure}
 use Rattle.ob_meaning.specs.Values as values
 use Rattle.ob_relation.specs.Setting.{Setting}
-
 use Rattle.ob_relation.specs.Plain.{Plain, PlainBinary, PlainUnary, PlainLiteral}
 
 abbrev mutual
   pub InDesig : Desig → Type 0
+  InDesig (OfVariable (variable.Parameter passing.Structure x) t) = Unit {0}
   InDesig (OfVariable v t) = Plain v
   InDesig (Field d o x t) = InDesig d
   InDesig (Deref d at t) = InDesig d
   InDesig (Index d (Some l) i at t) = InDesig d × InExpr i
   InDesig d = ⊥
+
+  -- an array by its address and its length, which its parameter has or the code knows
+  pub InArray : Desig → Type 0
+  InArray (OfVariable (variable.Parameter passing.OpenArray x) t) = Unit {0}
+  InArray (OfVariable (variable.Parameter passing.VariableOpenArray x) t) = Unit {0}
+  InArray (OfVariable (variable.Parameter passing.Structure x) t) = Unit {0}
+  InArray (OfVariable v t) = Plain v
+  InArray (Field d o x t) = InDesig d
+  InArray (Index d (Some l) i at t) = InDesig d × InExpr i
+  InArray d = ⊥
 
   pub InExpr : Expr → Type 0
   InExpr (Constant l) = PlainLiteral l
@@ -36,6 +48,11 @@ abbrev mutual
   InActuals NoActual = Unit {0}
   InActuals (AnActual passing.Scalar t e rest) = InExpr e × InActuals rest
   InActuals (AnActual passing.Variable t (ValueOf d) rest) = InDesig d × InActuals rest
+  InActuals (AnActual passing.Structure t (ValueOf d) rest) = InDesig d × InActuals rest
+  InActuals (AnActual passing.Structure t (Constant (literal.Str text)) rest) = InActuals rest
+  InActuals (AnActual passing.OpenArray t (ValueOf d) rest) = InArray d × InActuals rest
+  InActuals (AnActual passing.OpenArray t (Constant (literal.Str text)) rest) = InActuals rest
+  InActuals (AnActual passing.VariableOpenArray t (ValueOf d) rest) = InArray d × InActuals rest
   InActuals es = ⊥
 
 abbrev pub InOptional : Option Expr → Type 0
