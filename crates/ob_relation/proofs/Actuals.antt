@@ -33,7 +33,7 @@ use Rattle.ob_relation.specs.Need.{need_place, need_open, need_expr, need_passed
 use Rattle.ob_relation.specs.Ends.{is_open, end_place, end_tagged, end_open, end_array, end_expr, end_actuals}
 use Rattle.ob_relation.specs.Stands as code
 use Rattle.ob_relation.specs.Typed as typed
-use Rattle.ob_relation.specs.Typed.{char}
+use Rattle.ob_relation.specs.Typed.{IsOpen, char}
 use Rattle.ob_relation.specs.Texts.{text_words}
 use Rattle.ob_types.specs.declared.value.Value.TheVariants as literal
 use Rattle.ob_relation.proofs.Names.{bytes_true}
@@ -45,7 +45,7 @@ use Rattle.ob_relation.proofs.Modules.{texts_at}
 use Rattle.ob_relation.proofs.Paths.{sub_array}
 use Rattle.ob_relation.proofs.Exprs.{from_here, since}
 use Rattle.ob_relation.proofs.Values.{widen}
-use Rattle.ob_relation.specs.Linked.{KindIs, KindsAre, Linked, OneSlot, IsRecord, IsOpen, ProcedureStands}
+use Rattle.ob_relation.specs.Linked.{KindIs, KindsAre, Linked, OneSlot, IsRecord, ProcedureStands}
 use Rattle.ob_relation.specs.Setting.{Setting, StandIn, has_of}
 
 -- BINDS

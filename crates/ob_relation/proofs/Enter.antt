@@ -13,7 +13,7 @@ use Rattle.ob_meaning.specs.Calls.{element_form, held_parameter, held_parameters
 use Rattle.ob_relation.specs.Layout.{held_name, slots_words, copies_words, address, place_form}
 use Rattle.ob_relation.specs.Relation.{Fresh, AreDifferent, FormOk, Scalar, PlaceOf, SlotsFit, CopySlots, word_of, second_word, pointing}
 use Rattle.ob_relation.specs.Texts.{text_words}
-use Rattle.ob_relation.specs.Typed.{AreCharacters, char}
+use Rattle.ob_relation.specs.Typed.{AreCharacters, IsOpen, char}
 use Rattle.ob_relation.proofs.Names.{bytes_same, bytes_sym}
 use Rattle.ob_relation.proofs.Statements.{ParameterHeld, ParametersHeld, PlaceFits, LongPlaceFits, AlwaysAt, TextFits, LongTextFits, ArgumentFits, ArgumentsFit}
 use Rattle.ob_relation.proofs.Parts.{F, W, flat-length}
@@ -23,7 +23,7 @@ use Rattle.ob_relation.proofs.Frames.{Alike, own, referred as referred_alike, co
 use Rattle.ob_meaning.specs.Operators.{text_value}
 use Rattle.ob_relation.proofs.Copies.{Becomes, becomes_same, none_becomes, scalar_becomes, var_becomes, var_record_becomes, var_array_becomes, value_becomes, value_array_becomes}
 use Rattle.ob_relation.proofs.Sources.{front, back, room, CopyOf, structure_copy, open_copy, text_copy, text_small}
-use Rattle.ob_relation.specs.Linked.{KindIs, KindsAre, OneSlot, IsRecord, IsOpen, OwnFormsOk}
+use Rattle.ob_relation.specs.Linked.{KindIs, KindsAre, OneSlot, IsRecord, OwnFormsOk}
 use Rattle.ob_relation.specs.Setting.{Setting, StandIn, has_of}
 
 place_other : (places : List ℕ → Place) (y x : List ℕ) (q : Place) → bytes_eq y x ≡ false → changed places y q x ≡ places x

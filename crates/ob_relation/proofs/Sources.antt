@@ -149,7 +149,7 @@ module _ (c : Setting) (cs : List Active) (s : State) (w : World) (st : StandIn 
   path_ok (ElementStep i ∷ path) (RecordForm line fs) ok here = absurd here
   path_ok (ElementStep i ∷ path) (ArrayForm n t) ok here = path_ok path t ok.1 here.1
 
-  place_ok : (q : Place) → PlaceIn c.program (has_of c) c.img s.made cs q → FormOk c.program (place_form c.program c.img s.made cs q)
+  pub place_ok : (q : Place) → PlaceIn c.program (has_of c) c.img s.made cs q → FormOk c.program (place_form c.program c.img s.made cs q)
   place_ok (At (OfModule m x) path) here = path_ok path _ (module_known c s.made c.program s.store.globals m x c.ok here.0 st.modules_fine).ok here.1
   place_ok (At (OfCall k x) path) here = path_ok path _ (call_form_ok c s.made cs s.store.locals k x here.0.1 st.calls_fine) here.1
   place_ok (At (OfObject n) path) here = path_ok path _ (object_form_ok c s.made s.made s.store.objects n here.0 st.objects_fine) here.1

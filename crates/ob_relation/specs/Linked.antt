@@ -25,6 +25,7 @@ use Rattle.ob_relation.specs.Stands as code
 use Rattle.ob_relation.specs.Stands.{Scope}
 use Rattle.ob_relation.specs.Need.{need_stmts}
 use Rattle.ob_relation.specs.Typed as typed
+use Rattle.ob_relation.specs.Typed.{IsOpen}
 use Rattle.ob_relation.specs.Setting.{Setting, has_of}
 
 abbrev pub has_one : {A : Type 0} → Option A → Bool
@@ -42,10 +43,6 @@ OneSlot (RecordForm line fs) = ⊥
 abbrev pub IsRecord : Form → Type 0
 IsRecord (RecordForm line fs) = Unit {0}
 IsRecord t = ⊥
-
-abbrev pub IsOpen : Form → Type 0
-IsOpen (OpenForm t) = Unit {0}
-IsOpen t = ⊥
 
 -- how the machine takes a parameter: a record or an array by value as so many words, an open one as elements of so many words
 abbrev pub KindIs : Program → Passing → Form → Param → Type 0

@@ -128,6 +128,10 @@ IsVariableRecord d = ⊥
 abbrev pub IsRecordForm : Form → Type 0
 IsRecordForm t = (line : List QName) × (t ≡ RecordForm line (fields_of t))
 
+abbrev pub IsOpen : Form → Type 0
+IsOpen (OpenForm t) = Unit {0}
+IsOpen t = ⊥
+
 -- an array of such elements, open or of a length
 abbrev pub IsArrayOf : Form → Form → Type 0
 IsArrayOf t u = (t ≡ OpenForm u) ⊎ ((n : ℕ) × (t ≡ ArrayForm n u))
@@ -143,7 +147,7 @@ module _ (program : Program) (Has : Signature → QName → Type 0) (unit : List
   abbrev pub ParameterOk : Passing → List ℕ → Type 0
   ParameterOk passing.Scalar x = As IsOwn held x
   ParameterOk passing.Structure x = As (IsCopied 1) held x
-  ParameterOk passing.OpenArray x = As (IsCopied 2) held x
+  ParameterOk passing.OpenArray x = As (IsCopied 2) held x × IsOpen (form_named held x)
   ParameterOk passing.Variable x = As (IsReferred 1) held x
   ParameterOk passing.VariableRecord x = As (IsReferred 2) held x
   ParameterOk passing.VariableOpenArray x = As (IsReferred 2) held x
