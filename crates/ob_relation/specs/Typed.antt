@@ -119,18 +119,19 @@ module _ (program : Program) (Has : Signature → QName → Type 0) (unit : List
     pointers : (t u : TypeRef) → ((a : Form) → Sub a (form_in program t) → Sub a (form_in program u)) → ((has : Bool) → LengthFits (form_in program t) has → LengthFits (form_in program u) has) → Widens (PointerForm t) (PointerForm u)
     procedures : (s t : Signature) → ((q : QName) → Has s q → Has t q) → Widens (ProcedureForm s) (ProcedureForm t)
 
-  abbrev pub ParameterOk : Passing → List ℕ → Type 0
-  ParameterOk passing.Scalar x = As IsOwn held x
-  ParameterOk passing.Structure x = As (IsCopied 1) held x
-  ParameterOk passing.OpenArray x = As (IsCopied 2) held x
-  ParameterOk passing.Variable x = As (IsReferred 1) held x
-  ParameterOk passing.VariableRecord x = As (IsReferred 2) held x
-  ParameterOk passing.VariableOpenArray x = As (IsReferred 2) held x
+  -- a parameter has its kind, and an open array by value the type of one
+  abbrev pub ParameterOk : Passing → List ℕ → Form → Type 0
+  ParameterOk passing.Scalar x t = As IsOwn held x
+  ParameterOk passing.Structure x t = As (IsCopied 1) held x
+  ParameterOk passing.OpenArray x t = As (IsCopied 2) held x × ((u : Form) × (t ≡ OpenForm u))
+  ParameterOk passing.Variable x t = As (IsReferred 1) held x
+  ParameterOk passing.VariableRecord x t = As (IsReferred 2) held x
+  ParameterOk passing.VariableOpenArray x t = As (IsReferred 2) held x
 
   abbrev pub VariableOk : Variable → Form → Type 0
   VariableOk (variable.Module m x) t = ValueIn (variables_in program program m) x × (form_named (variables_in program program m) x ≡ t)
   VariableOk (variable.Local x) t = As IsOwn held x × (form_named held x ≡ t)
-  VariableOk (variable.Parameter how x) t = ParameterOk how x × (form_named held x ≡ t)
+  VariableOk (variable.Parameter how x) t = ParameterOk how x t × (form_named held x ≡ t)
 
   abbrev pub ConstantOk : Literal → Form → Type 0
   ConstantOk (literal.Bool b) t = t ≡ boolean
