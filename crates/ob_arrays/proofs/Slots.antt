@@ -234,7 +234,7 @@ module _ (c : Setting) where
     pub open_by_value_case : (x : List ℕ) (t : TypeRef) → OpenArrayFollows c a n call b (OfVariable (variable.Parameter passing.OpenArray x) t)
     open_by_value_case x t u pc at ops os s w le has ok form st =
         let p = At (OfCall (length a.cs) x) [] in
-        let k = call_copy c.program a.procedure a.active x u a.call ok.0 (ok.1 ∙ form) in
+        let k = call_copy c.program a.procedure a.active x u a.call ok.0.0 (ok.1 ∙ form) in
         let there = copy_there a.active.held x 2 k.as_it in
         let two = two_copied s.made a.cs a.active.places a.active.held (fb c a + slots_words a.active.held) x (s.store.locals (length a.cs)) k.as_it in
         let at_it = copy_address s.made a.cs a.active x there.1 in
@@ -284,6 +284,21 @@ module _ (c : Setting) where
         (subst (λ m. Reach c (go c a pc ops w) (go c a (suc (suc pc)) (pos m ∷ ops) w)) (sym at_it) (one_go x _ _ pc ops s w st.all le has.0 has.1 two))
         (up, st))
 
+    pub place_by_value_case : (x : List ℕ) (t : TypeRef) → PlaceFollows c a n call b (OfVariable (variable.Parameter passing.OpenArray x) t)
+    place_by_value_case x t pc at ops os s w le has ok st =
+        let p = At (OfCall (length a.cs) x) [] in
+        let u = ok.0.1.0 in
+        let k = call_copy c.program a.procedure a.active x u a.call ok.0.0 (ok.1 ∙ ok.0.1.1) in
+        let there = copy_there a.active.held x 2 k.as_it in
+        let two = two_copied s.made a.cs a.active.places a.active.held (fb c a + slots_words a.active.held) x (s.store.locals (length a.cs)) k.as_it in
+        let at_it = copy_address s.made a.cs a.active x there.1 in
+        let form_it = own_form c s.made a.cs a.active x in
+        let here_p : PlaceOf c.program (has_of c) c.img s.made (K c a) (form_in c.program t) p = (own_place c s.made a.cs a.active x there.0, subst (λ v. Sub v (form_in c.program t)) (sym (form_it ∙ k.form)) (subst (λ v. Sub (ArrayForm k.m u) v) (sym ok.0.1.1) (opened k.m))) in
+        subst (λ k. Follows c (go c a pc ops w) (PlaceTo c a n call b (suc (suc pc)) ops) (PlaceKept c a n call b (form_in c.program t) os) (Gives (place_of (variable.Parameter passing.OpenArray x) k) s)) (sym st.calls)
+        (follows_value c w
+        (subst (λ m. Reach c (go c a pc ops w) (go c a (suc (suc pc)) (pos m ∷ ops) w)) at_it (one_go x _ _ pc ops s w st.all le has.0 has.1 two))
+        (here_p, st))
+
     -- LEN
     length_is : (p : Place) (u : Form) (pc : ℕ) (ops : List ℤ) (os : List AnObject) (s : State) (w : World) (x : Point) → PlaceOf c.program (has_of c) c.img s.made (K c a) (OpenForm u) p → Reach c x (go c a pc (second_word c.program (has_of c) c.img (place_form c.program c.img s.made (K c a) p) ∷ ops) w) → Keeps c a n call b os s w → Follows c x (ValueTo c a n call b pc ops) (ValueKept c a n call b longint os) (Gives (Integer (pos (length_of (value_at s.store p)))) s)
     length_is p u pc ops os s w x here_p l st =
@@ -311,7 +326,7 @@ module _ (c : Setting) where
     length_by_value_case x t goal pc at ops os s w le has ok st =
         let p = At (OfCall (length a.cs) x) [] in
         let u = ok.1.0.0 in
-        let k = call_copy c.program a.procedure a.active x u a.call ok.0.0 (ok.0.1 ∙ ok.1.0.1) in
+        let k = call_copy c.program a.procedure a.active x u a.call ok.0.0.0 (ok.0.1 ∙ ok.1.0.1) in
         let there = copy_there a.active.held x 2 k.as_it in
         let two = two_copied s.made a.cs a.active.places a.active.held (fb c a + slots_words a.active.held) x (s.store.locals (length a.cs)) k.as_it in
         let form_it = own_form c s.made a.cs a.active x in
