@@ -97,8 +97,8 @@ module _ (c : Setting) where
     abbrev Kp : List AnObject → State → World → Type 0
     Kp os s w = Keeps c a n call b os s w
 
-    abbrev P2 : Form → ℤ
-    P2 t = second_word c.program (has_of c) c.img t
+    abbrev Second : Form → ℤ
+    Second t = second_word c.program (has_of c) c.img t
 
     -- the address and the length of an open array
     abbrev pub OpenArrayFollows : Desig → Type 0
@@ -126,7 +126,7 @@ module _ (c : Setting) where
             let f = sub_open c.program _ _ u sub refl ok in
             let l = length_at (K c a) s w k st lt has in
             let size = subst (λ t. FormOk c.program t) f.1 ok in
-            record { k = k; is = refl; lt = lt; m = f.0; form = f.1; size = size.0; before = l.0; at = l.1; word = l.2 ∙ ap (λ t. Some (P2 t)) f.1 }
+            record { k = k; is = refl; lt = lt; m = f.0; form = f.1; size = size.0; before = l.0; at = l.1; word = l.2 ∙ ap (λ t. Some (Second t)) f.1 }
 
     abbrev pub OpensKept : Form → List AnObject → Place → State → World → Type 0
     OpensKept u os p s w = Opens u p s w × Kp os s w
@@ -167,7 +167,7 @@ module _ (c : Setting) where
             let same : suc o.before ≡ x = o.at ∙ ap (λ k. heap_start c.program c.img + object_offset s.made k) (object_number k o.k o.is) in
             let not_nil : is_zero (pos x) ≡ false = ap (λ m. is_zero (pos m)) (sym same) in
             let word : word_at w.words (pos x -ℤ pos 1) ≡ Some (pos o.m) = ap (λ m. word_at w.words (pos m -ℤ pos 1)) (sym same) ∙ ap (word_at w.words) (before_one o.before) ∙ o.word in
-            let form : P2 (place_form c.program c.img s.made (K c a) (At (OfObject k) [])) ≡ pos o.m = ap (λ k. P2 (object_at s.made k)) (sym (object_number k o.k o.is)) ∙ ap P2 o.form in
+            let form : Second (place_form c.program c.img s.made (K c a) (At (OfObject k) [])) ≡ pos o.m = ap (λ k. Second (object_at s.made k)) (sym (object_number k o.k o.is)) ∙ ap Second o.form in
             subst Goal (sym f) (follows_value c w (goes c a _ w has.has (rows.lenned_next c.img a.u a.m a.p (fb c a) pc w (pos x) (pos o.m) ops not_nil word ∙ ap (λ m. Next (pos o.m ∷ pos m ∷ ops) w) far ∙ ap (λ z. Next (z ∷ pos (address c.program c.img s.made (K c a) (At (OfObject k) [])) ∷ ops) w) (sym form)) (omega (arith, le))) (o, st))
 
     opens_place : (u : Form) (p : Place) (s : State) (w : World) → Opens u p s w → PlaceOf c.program (has_of c) c.img s.made (K c a) (OpenForm u) p
@@ -247,8 +247,8 @@ module _ (c : Setting) where
         let u = form_in c.program t in
         follows_bind c (ih_d u pc k ops os s w (omega (arith, le)) has.0 ok.0 ok.1.1 st) λ p s1 w1 k1.
         let f = open_form s1 w1 u (code.form_of (scope c a) d) p k1.1.all k1.0 ok.1.1 in
-        let second = P2 (place_form c.program c.img s1.made (K c a) p) in
-        let long : second ≡ pos f.0 = ap P2 f.1 in
+        let second = Second (place_form c.program c.img s1.made (K c a) p) in
+        let long : second ≡ pos f.0 = ap Second f.1 in
         follows_bind c (ih_i longint p1 _ (second ∷ pos (address c.program c.img s1.made (K c a) p) ∷ ops) s1.made s1 w1 (omega (arith, le)) has.1.0 ok.1.0 (from_here c a n call b k1.1)) λ v s2 w2 k2.
         let z = k2.0 in
         let p2 = end_expr c.program i p1 in

@@ -234,7 +234,7 @@ module _ (c : Setting) where
     pub open_by_value_case : (x : List ℕ) (t : TypeRef) → OpenArrayFollows c a n call b (OfVariable (variable.Parameter passing.OpenArray x) t)
     open_by_value_case x t u pc at ops os s w le has ok form st =
         let p = At (OfCall (length a.cs) x) [] in
-        let k = call_copy c.program a.procedure a.active x u a.call ok.0 (ok.1 ∙ form) in
+        let k = call_copy c.program a.procedure a.active x u a.call ok.0.0 (ok.1 ∙ form) in
         let there = copy_there a.active.held x 2 k.as_it in
         let two = two_copied s.made a.cs a.active.places a.active.held (fb c a + slots_words a.active.held) x (s.store.locals (length a.cs)) k.as_it in
         let at_it = copy_address s.made a.cs a.active x there.1 in
@@ -311,7 +311,7 @@ module _ (c : Setting) where
     length_by_value_case x t goal pc at ops os s w le has ok st =
         let p = At (OfCall (length a.cs) x) [] in
         let u = ok.1.0.0 in
-        let k = call_copy c.program a.procedure a.active x u a.call ok.0.0 (ok.0.1 ∙ ok.1.0.1) in
+        let k = call_copy c.program a.procedure a.active x u a.call ok.0.0.0 (ok.0.1 ∙ ok.1.0.1) in
         let there = copy_there a.active.held x 2 k.as_it in
         let two = two_copied s.made a.cs a.active.places a.active.held (fb c a + slots_words a.active.held) x (s.store.locals (length a.cs)) k.as_it in
         let form_it = own_form c s.made a.cs a.active x in

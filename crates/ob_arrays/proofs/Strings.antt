@@ -81,9 +81,9 @@ module _ (c : Setting) where
     SourceFine at os (Text text) = code.TextStands (scope c a) text at × AreCharacters text
 
     -- the address and the length of a source
-    abbrev pub Aw : ℕ → Source → State → List ℤ
-    Aw at (Stands p) s = pos (address c.program c.img s.made (K c a) p) ∷ second_word c.program (has_of c) c.img (place_form c.program c.img s.made (K c a) p) ∷ []
-    Aw at (Text text) s = pos (a.u.first + at) ∷ pos (suc (length text)) ∷ []
+    abbrev pub SourceWords : ℕ → Source → State → List ℤ
+    SourceWords at (Stands p) s = pos (address c.program c.img s.made (K c a) p) ∷ second_word c.program (has_of c) c.img (place_form c.program c.img s.made (K c a) p) ∷ []
+    SourceWords at (Text text) s = pos (a.u.first + at) ∷ pos (suc (length text)) ∷ []
 
     pub source_more : (at : ℕ) (os all : List AnObject) (x : Source) → G c os all → SourceFine at os x → SourceFine at all x
     source_more at os all (Stands p) g h = (place_more c os all g (K c a) p h.0, (h.1.0, form_same c os all g (K c a) p h.0 ∙ h.1.1))
@@ -94,7 +94,7 @@ module _ (c : Setting) where
       pub cs : List ℕ
       pub small : AreCharacters cs
       pub start : ℕ
-      pub words : Aw at x s ≡ pos start ∷ pos (length cs) ∷ []
+      pub words : SourceWords at x s ≡ pos start ∷ pos (length cs) ∷ []
       pub between : Between w.words (map pos cs) start
       pub text : text_in x s.store ≡ up_to_end cs
 

@@ -32,22 +32,22 @@ use Rattle.ob_relation.proofs.Exprs.{from_here, since, widen_kept}
 use Rattle.ob_relation.proofs.Paths.{sub_array}
 use Rattle.ob_arrays.proofs.Opens.{OpenArrayFollows, open_form}
 use Rattle.ob_arrays.proofs.Chars.{found, related_same}
-use Rattle.ob_arrays.proofs.Strings.{SourceFine, Aw, source_more, Found, source_found, text_found, text_between}
+use Rattle.ob_arrays.proofs.Strings.{SourceFine, SourceWords, source_more, Found, source_found, text_found, text_between}
 use Rattle.ob_relation.specs.Setting.{Setting, StandIn, has_of}
 
 module _ (c : Setting) (a : Activation c) (n : ℕ) (call : Caller) (b : ℕ) where
   abbrev Kp : List AnObject → State → World → Type 0
   Kp os s w = Keeps c a n call b os s w
 
-  abbrev P2 : Form → ℤ
-  P2 t = second_word c.program (has_of c) c.img t
+  abbrev Second : Form → ℤ
+  Second t = second_word c.program (has_of c) c.img t
 
   abbrev TextOk : Expr → Type 0
   TextOk e = typed.TextOk c.program (has_of c) a.unit (static_held c.program a.procedure) a.procedure.result e
 
   -- the address and the length of a text
   abbrev pub TextTo : ℕ → ℕ → List ℤ → Source → State → World → Point
-  TextTo pc at ops x s w = go c a pc (onto (Aw c a at x s) ops) w
+  TextTo pc at ops x s w = go c a pc (onto (SourceWords c a at x s) ops) w
 
   abbrev pub TextKept : ℕ → List AnObject → Source → State → World → Type 0
   TextKept at os x s w = SourceFine c a at s.made x × Kp os s w
@@ -83,7 +83,7 @@ module _ (c : Setting) (a : Activation c) (n : ℕ) (call : Caller) (b : ℕ) wh
           (λ p s w k.
           let form = sub_array _ (code.form_of (scope c a) d) m u k.0.1 e in
           let x = pos (address c.program c.img s.made (K c a) p) in
-          subst (λ t. Reach c (go c a p1 (x ∷ ops) w) (go c a (suc p1) (P2 t ∷ x ∷ ops) w)) (sym form) (goes c a _ w h.1 (rows.int_next c.img a.u a.m a.p (fb c a) p1 w (pos m) (x ∷ ops)) (omega (arith, le))))
+          subst (λ t. Reach c (go c a p1 (x ∷ ops) w) (go c a (suc p1) (Second t ∷ x ∷ ops) w)) (sym form) (goes c a _ w h.1 (rows.int_next c.img a.u a.m a.p (fb c a) p1 w (pos m) (x ∷ ops)) (omega (arith, le))))
           (λ p s w k. ((k.0.0, (m, sub_array _ (code.form_of (scope c a) d) m u k.0.1 e ∙ ap (ArrayForm m) i)), k.1))
 
   pub text_value_case : (d : Desig) → CharsFollow d → TextFollows (ValueOf d)
@@ -116,20 +116,20 @@ module _ (c : Setting) (a : Activation c) (n : ℕ) (call : Caller) (b : ℕ) wh
   number_below comparison.Greater = refl
   number_below comparison.GreaterEqual = refl
 
-  pub onto_two : (at : ℕ) (x : Source) (s : State) (ops : List ℤ) → length (onto (Aw c a at x s) ops) ≡ suc (suc (length ops))
+  pub onto_two : (at : ℕ) (x : Source) (s : State) (ops : List ℤ) → length (onto (SourceWords c a at x s) ops) ≡ suc (suc (length ops))
   onto_two at (Stands p) s ops = refl
   onto_two at (Text text) s ops = refl
 
-  pub words_later : (at : ℕ) (x : Source) (os : List AnObject) (s1 s2 : State) (w2 : World) → SourceFine c a at s1.made x → Kp s1.made s2 w2 → Aw c a at x s2 ≡ Aw c a at x s1
+  pub words_later : (at : ℕ) (x : Source) (os : List AnObject) (s1 s2 : State) (w2 : World) → SourceFine c a at s1.made x → Kp s1.made s2 w2 → SourceWords c a at x s2 ≡ SourceWords c a at x s1
   words_later at (Stands p) os s1 s2 w2 h st =
-      ap (λ n. pos n ∷ P2 (place_form c.program c.img s2.made (K c a) p) ∷ []) (address_same c s1.made s2.made st.objects (K c a) p h.0)
-      ∙ ap (λ t. pos (address c.program c.img s1.made (K c a) p) ∷ P2 t ∷ []) (form_same c s1.made s2.made st.objects (K c a) p h.0)
+      ap (λ n. pos n ∷ Second (place_form c.program c.img s2.made (K c a) p) ∷ []) (address_same c s1.made s2.made st.objects (K c a) p h.0)
+      ∙ ap (λ t. pos (address c.program c.img s1.made (K c a) p) ∷ Second t ∷ []) (form_same c s1.made s2.made st.objects (K c a) p h.0)
   words_later at (Text text) os s1 s2 w2 h st = refl
 
   compare_follows : (r : Comparison) (x y : Source) (kx ky : ℕ) (at : Pos) (pc : ℕ) (ops : List ℤ) (os : List AnObject) (s : State) (w : World) → length ops + 1 ≤ 256 → code.HasAt (scope c a) pc (code.with_a op.StrRel (comparison_number r)) at → SourceFine c a kx s.made x → SourceFine c a ky s.made y → Kp os s w →
-      Follows c (go c a pc (onto (Aw c a ky y s) (onto (Aw c a kx x s) ops)) w) (ValueTo c a n call b (suc pc) ops) (ValueKept c a n call b boolean os) (bind (text_of x (here_in c a n call b) at s) (λ v s. bind (text_of y (here_in c a n call b) at s) (λ u s. Gives (Truth (holds r (text_equal v u) (text_less v u))) s)))
+      Follows c (go c a pc (onto (SourceWords c a ky y s) (onto (SourceWords c a kx x s) ops)) w) (ValueTo c a n call b (suc pc) ops) (ValueKept c a n call b boolean os) (bind (text_of x (here_in c a n call b) at s) (λ v s. bind (text_of y (here_in c a n call b) at s) (λ u s. Gives (Truth (holds r (text_equal v u) (text_less v u))) s)))
   compare_follows r x y kx ky at pc ops os s w le has hx hy st =
-      subst (λ l. Follows c (go c a pc (onto (Aw c a ky y s) (onto l ops)) w) (ValueTo c a n call b (suc pc) ops) (ValueKept c a n call b boolean os) result) (sym fx.words)
+      subst (λ l. Follows c (go c a pc (onto (SourceWords c a ky y s) (onto l ops)) w) (ValueTo c a n call b (suc pc) ops) (ValueKept c a n call b boolean os) result) (sym fx.words)
       (subst (λ l. Follows c (go c a pc (onto l (pos (length fx.cs) ∷ pos fx.start ∷ ops)) w) (ValueTo c a n call b (suc pc) ops) (ValueKept c a n call b boolean os) result) (sym fy.words)
       (by (text_in x s.store) (text_in y s.store) refl refl))
     where
@@ -173,7 +173,7 @@ module _ (c : Setting) (a : Activation c) (n : ℕ) (call : Caller) (b : ℕ) wh
       follows_map c
       (follows_bind c (ih_x pc k ops os s w (omega (arith, le)) has.0 ok.0 st) λ v s1 w1 k1.
       let two = onto_two k v s1 ops in
-      follows_bind c (ih_y p1 _ (onto (Aw c a k v s1) ops) s1.made s1 w1 (omega (arith, le, two)) has.1.0 ok.1.0 (from_here c a n call b k1.1)) λ u s2 w2 k2.
-      subst (λ l. Follows c (go c a p2 (onto (Aw c a (k + code.et (scope c a) x) u s2) (onto l ops)) w2) (ValueTo c a n call b (suc p2) ops) (ValueKept c a n call b boolean os) (bind (text_of v (here_in c a n call b) at s2) (λ v s. bind (text_of u (here_in c a n call b) at s) (λ u s. Gives (Truth (holds r (text_equal v u) (text_less v u))) s)))) (words_later k v os s1 s2 w2 k1.0 k2.1)
+      follows_bind c (ih_y p1 _ (onto (SourceWords c a k v s1) ops) s1.made s1 w1 (omega (arith, le, two)) has.1.0 ok.1.0 (from_here c a n call b k1.1)) λ u s2 w2 k2.
+      subst (λ l. Follows c (go c a p2 (onto (SourceWords c a (k + code.et (scope c a) x) u s2) (onto l ops)) w2) (ValueTo c a n call b (suc p2) ops) (ValueKept c a n call b boolean os) (bind (text_of v (here_in c a n call b) at s2) (λ v s. bind (text_of u (here_in c a n call b) at s) (λ u s. Gives (Truth (holds r (text_equal v u) (text_less v u))) s)))) (words_later k v os s1 s2 w2 k1.0 k2.1)
       (compare_follows r v u k (k + code.et (scope c a) x) at p2 ops os s2 w2 (omega (arith, le)) has.1.1 (source_more c a k s1.made s2.made v k2.1.objects k1.0) k2.0 (since c a n call b k1.1.objects k2.1)))
       (λ v s w k. here c _) (λ v s w k. widen_kept c a n call b boolean goal os v s w ok.1.1 k)

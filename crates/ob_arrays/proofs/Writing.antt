@@ -35,7 +35,7 @@ use Rattle.ob_relation.proofs.Paths.{sub_array}
 use Rattle.ob_arrays.proofs.Orders.{place_ok}
 use Rattle.ob_arrays.proofs.Copies.{are_between, put_between, copied_between}
 use Rattle.ob_arrays.proofs.Chars.{found, text_chars, take_chars}
-use Rattle.ob_arrays.proofs.Strings.{SourceFine, Aw, source_more, Found, source_found, text_found, text_between, put_text, array_at}
+use Rattle.ob_arrays.proofs.Strings.{SourceFine, SourceWords, source_more, Found, source_found, text_found, text_between, put_text, array_at}
 use Rattle.ob_arrays.proofs.Texts.{TextFollows, CharsFollow, IsChars, string_goes, onto_two, words_later}
 use Rattle.ob_relation.specs.Setting.{Setting, has_of}
 
@@ -43,8 +43,8 @@ module _ (c : Setting) (a : Activation c) (n : ℕ) (call : Caller) (b : ℕ) wh
   abbrev Kp : List AnObject → State → World → Type 0
   Kp os s w = Keeps c a n call b os s w
 
-  abbrev P2 : Form → ℤ
-  P2 t = second_word c.program (has_of c) c.img t
+  abbrev Second : Form → ℤ
+  Second t = second_word c.program (has_of c) c.img t
 
   -- OUTPUT
 
@@ -73,7 +73,7 @@ module _ (c : Setting) (a : Activation c) (n : ℕ) (call : Caller) (b : ℕ) wh
 
   -- the turn is spent before a text without end traps
   write_follows : (x : Source) (k : ℕ) (at : Pos) (pc : ℕ) (os : List AnObject) (s : State) (w : World) → code.HasAt (scope c a) pc (code.with_a op.Out 2) at → SourceFine c a k s.made x → Kp os s w →
-      Follows c (go c a pc (onto (Aw c a k x s) []) w) (λ u s w. go c a (suc pc) [] w) (λ u s w. Kp os s w) (spend_of s.turns a.unit at (λ s. bind (text_of x (here_in c a n call b) at s) (λ text s. write text s)) s)
+      Follows c (go c a pc (onto (SourceWords c a k x s) []) w) (λ u s w. go c a (suc pc) [] w) (λ u s w. Kp os s w) (spend_of s.turns a.unit at (λ s. bind (text_of x (here_in c a n call b) at s) (λ text s. write text s)) s)
   write_follows x k at pc os s w has h st =
       subst (λ l. Follows c (go c a pc (onto l []) w) (λ u s w. go c a (suc pc) [] w) (λ u s w. Kp os s w) (spend_of s.turns a.unit at written s)) (sym f.words) (by s.turns (text_in x s.store) refl refl)
     where
@@ -122,7 +122,7 @@ module _ (c : Setting) (a : Activation c) (n : ℕ) (call : Caller) (b : ℕ) wh
       (follows_bind c (ih pc k [] os s w (omega (arith, le, needs)) has.0.0 ok.0.1.0 st) λ x s1 w1 k1.
       follows_bind c {to = λ v s m. go c a (suc p1) [] m} {Keep = λ v s m. Kp os s m}
       (follows_bind c {to = λ v s m. go c a (suc p1) [] m} {Keep = λ v s m. Kp os s m}
-      (subst (λ y. Follows c (go c a p1 (onto (Aw c a k x s1) []) w1) (λ u s w. go c a (suc p1) [] w) (λ u s w. Kp os s w) (spend_of s1.turns a.unit at (λ s. bind (text_of y (here_in c a n call b) at s) (λ text s. write text s)) s1)) (sym (source_same x))
+      (subst (λ y. Follows c (go c a p1 (onto (SourceWords c a k x s1) []) w1) (λ u s w. go c a (suc p1) [] w) (λ u s w. Kp os s w) (spend_of s1.turns a.unit at (λ s. bind (text_of y (here_in c a n call b) at s) (λ text s. write text s)) s1)) (sym (source_same x))
       (write_follows x k at p1 os s1 w1 has.1 k1.0 k1.1))
       λ u s2 w2 k2. follows_value c w2 (here c _) k2)
       λ v s2 w2 k2. follows_value c w2 (here c _) k2)
@@ -159,7 +159,7 @@ module _ (c : Setting) (a : Activation c) (n : ℕ) (call : Caller) (b : ℕ) wh
   -- COPY
 
   copy_follows : (x : Source) (p : Place) (k : ℕ) (at : Pos) (pc : ℕ) (os : List AnObject) (s : State) (w : World) → code.HasAt (scope c a) pc (code.plain op.StrCopy) at → SourceFine c a k s.made x → IsChars c a n call b p s → Kp os s w →
-      Follows c (go c a pc (P2 (place_form c.program c.img s.made (K c a) p) ∷ pos (address c.program c.img s.made (K c a) p) ∷ onto (Aw c a k x s) []) w) (λ u s w. go c a (suc pc) [] w) (λ u s w. Kp os s w) (copy_text x p (here_in c a n call b) at s)
+      Follows c (go c a pc (Second (place_form c.program c.img s.made (K c a) p) ∷ pos (address c.program c.img s.made (K c a) p) ∷ onto (SourceWords c a k x s) []) w) (λ u s w. go c a (suc pc) [] w) (λ u s w. Kp os s w) (copy_text x p (here_in c a n call b) at s)
   copy_follows x p k at pc os s w has h hp st = by_length hp.1.0 hp.1.1 (subst (λ t. FormOk c.program t) hp.1.1 (place_ok c (K c a) s w st.all p hp.0))
     where
       f : Found c a k x s w
@@ -174,10 +174,10 @@ module _ (c : Setting) (a : Activation c) (n : ℕ) (call : Caller) (b : ℕ) wh
       given : Option (List ℕ) → Res (Unit {0})
       given o = bind (give_or o (λ s. Stops (Trapped 15 (pos 0) a.unit at) s) s) (λ text s. assign p (with_text (shortened (length_of (value_at s.store p)) text) (length_of (value_at s.store p)) (element_of (value_at s.store p))) s)
 
-      by_length : (m : ℕ) → place_form c.program c.img s.made (K c a) p ≡ ArrayForm m char → FormOk c.program (ArrayForm m char) → Follows c (go c a pc (P2 (place_form c.program c.img s.made (K c a) p) ∷ q ∷ onto (Aw c a k x s) []) w) (λ u s w. go c a (suc pc) [] w) (λ u s w. Kp os s w) (copy_text x p (here_in c a n call b) at s)
+      by_length : (m : ℕ) → place_form c.program c.img s.made (K c a) p ≡ ArrayForm m char → FormOk c.program (ArrayForm m char) → Follows c (go c a pc (Second (place_form c.program c.img s.made (K c a) p) ∷ q ∷ onto (SourceWords c a k x s) []) w) (λ u s w. go c a (suc pc) [] w) (λ u s w. Kp os s w) (copy_text x p (here_in c a n call b) at s)
       by_length zero form okf = absurd (let h = okf.0.0 in omega (arith, h))
       by_length (suc m) form okf =
-          subst (λ t. Follows c (go c a pc (P2 t ∷ q ∷ onto (Aw c a k x s) []) w) (λ u s w. go c a (suc pc) [] w) (λ u s w. Kp os s w) (copy_text x p (here_in c a n call b) at s)) (sym form)
+          subst (λ t. Follows c (go c a pc (Second t ∷ q ∷ onto (SourceWords c a k x s) []) w) (λ u s w. go c a (suc pc) [] w) (λ u s w. Kp os s w) (copy_text x p (here_in c a n call b) at s)) (sym form)
           (subst (λ l. Follows c (go c a pc (pos (suc m) ∷ q ∷ onto l []) w) (λ u s w. go c a (suc pc) [] w) (λ u s w. Kp os s w) (copy_text x p (here_in c a n call b) at s)) (sym f.words)
           (by (text_in x s.store) refl))
         where
@@ -213,8 +213,8 @@ module _ (c : Setting) (a : Activation c) (n : ℕ) (call : Caller) (b : ℕ) wh
       let p2 = end_array c.program (ValueOf d) p1 in
       follows_bind c (ih_e pc k [] os s w (omega (arith, le)) has.0 ok.0 st) λ x s1 w1 k1.
       let two = onto_two c a n call b k x s1 [] in
-      follows_bind c (ih_d p1 _ (onto (Aw c a k x s1) []) s1.made s1 w1 (omega (arith, le, two)) has.1.0 ok.1 (from_here c a n call b k1.1)) λ p s2 w2 k2.
+      follows_bind c (ih_d p1 _ (onto (SourceWords c a k x s1) []) s1.made s1 w1 (omega (arith, le, two)) has.1.0 ok.1 (from_here c a n call b k1.1)) λ p s2 w2 k2.
       follows_bind c
-      (subst (λ l. Follows c (go c a p2 (P2 (place_form c.program c.img s2.made (K c a) p) ∷ pos (address c.program c.img s2.made (K c a) p) ∷ onto l []) w2) (λ u s w. go c a (suc p2) [] w) (λ u s w. Kp os s w) (copy_text x p (here_in c a n call b) at s2)) (words_later c a n call b k x os s1 s2 w2 k1.0 k2.1)
+      (subst (λ l. Follows c (go c a p2 (Second (place_form c.program c.img s2.made (K c a) p) ∷ pos (address c.program c.img s2.made (K c a) p) ∷ onto l []) w2) (λ u s w. go c a (suc p2) [] w) (λ u s w. Kp os s w) (copy_text x p (here_in c a n call b) at s2)) (words_later c a n call b k x os s1 s2 w2 k1.0 k2.1)
       (copy_follows x p k at p2 os s2 w2 has.1.1 (source_more c a k s1.made s2.made x k2.1.objects k1.0) k2.0 (since c a n call b k1.1.objects k2.1)))
       λ u s3 w3 k3. follows_value c w3 (here c _) (tt, k3)

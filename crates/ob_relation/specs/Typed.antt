@@ -144,6 +144,7 @@ module _ (program : Program) (Has : Signature → QName → Type 0) (unit : List
     pointers : (t u : TypeRef) → ((a : Form) → Sub a (form_in program t) → Sub a (form_in program u)) → ((has : Bool) → LengthFits (form_in program t) has → LengthFits (form_in program u) has) → Widens (PointerForm t) (PointerForm u)
     procedures : (s t : Signature) → ((q : QName) → Has s q → Has t q) → Widens (ProcedureForm s) (ProcedureForm t)
 
+  -- a parameter has its kind, and an open array by value the type of one
   abbrev pub ParameterOk : Passing → List ℕ → Type 0
   ParameterOk passing.Scalar x = As IsOwn held x
   ParameterOk passing.Structure x = As (IsCopied 1) held x
