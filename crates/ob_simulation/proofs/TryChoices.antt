@@ -1,5 +1,5 @@
 -- The premises can be met for further forms: a module with a set, and a procedure with FOR downward, CASE without ELSE, INCL, operators on sets and ASSERT.
-use Rattle.std.proofs.Common.{◌≡◌, ℕ, List, [], ◌∷◌, ◌++◌, length, Option, Some, None, ℤ, refl, sym, ap, ◌∙◌, subst, arith, inl}
+use Rattle.std.proofs.Common.{◌≡◌, ℕ, List, [], ◌∷◌, ◌++◌, Option, Some, None, ℤ, refl, sym, ap, ◌∙◌, subst, arith, inl}
 use Rattle.std.specs.Prelude.{pos, negsuc, Bool, true, false, bytes_eq, if◌then◌else◌}
 use Rattle.ob_tree.specs.declared.pos.Pos.{Pos}
 use Rattle.ob_tree.specs.declared.names.QName.{QName}
@@ -93,13 +93,13 @@ run_it = record {
   locals = [];
   body =
       Then (For (variable.Module m x) width.LongInt (number 3) (number 1) (negsuc 0)
-          (Then (Case (ValueOf counter)
-              (OneCase (record { low = pos 1; high = pos 1 } ∷ []) (Then (Updated update.Incl the_set (number 31) (at 7)) Nothing)
-              (OneCase (record { low = pos 2; high = pos 3 } ∷ []) (Then (Assign the_set assigned.Scalar (Dyadic binary.Union (ValueOf the_set) (Monadic unary.Element (ValueOf counter) (at 8)) (at 9)) (at 10)) Nothing)
-              NoCase))
-              NoElse (at 6))
-          Nothing)
-          (at 5))
+      (Then (Case (ValueOf counter)
+      (OneCase (record { low = pos 1; high = pos 1 } ∷ []) (Then (Updated update.Incl the_set (number 31) (at 7)) Nothing)
+      (OneCase (record { low = pos 2; high = pos 3 } ∷ []) (Then (Assign the_set assigned.Scalar (Dyadic binary.Union (ValueOf the_set) (Monadic unary.Element (ValueOf counter) (at 8)) (at 9)) (at 10)) Nothing)
+      NoCase))
+      NoElse (at 6))
+      Nothing)
+      (at 5))
       (Then (Assert (Dyadic (binary.Compare comparison.Equal compared.Set) (ValueOf the_set) all_three (at 11)) (pos 1) (at 12))
       (Then (CallProper (Call (callee.Out out.Int) (AnActual passing.Scalar long (ValueOf counter) (AnActual passing.Scalar long (number 0) NoActual)) (at 13) None))
       Nothing));
@@ -204,19 +204,34 @@ go_stands = record {
   ok = (
     (
       (tt, refl),
-      ((width.LongInt, refl, refl), ((width.LongInt, refl, refl), ((tt, refl), (refl, (
+      (
+        (width.LongInt, refl, refl),
         (
-          inl ((tt, refl), (tt, typed.itself)),
-          ((tt, refl), (
+          (width.LongInt, refl, refl),
+          (
+            (tt, refl),
             (
-              (((tt, refl), ((width.LongInt, refl, refl), refl)), tt),
-              ((((tt, refl), ((set, set, set, typed.union, ((tt, refl), (tt, typed.itself)), (((tt, refl), (tt, typed.itself)), typed.itself), typed.itself), tt)), tt), tt),
+              refl,
+              (
+                (
+                  inl ((tt, refl), (tt, typed.itself)),
+                  (
+                    (tt, refl),
+                    (
+                      (
+                        (((tt, refl), ((width.LongInt, refl, refl), refl)), tt),
+                        ((((tt, refl), ((set, set, set, typed.union, ((tt, refl), (tt, typed.itself)), (((tt, refl), (tt, typed.itself)), typed.itself), typed.itself), tt)), tt), tt),
+                      ),
+                      tt,
+                    ),
+                  ),
+                ),
+                tt,
+              ),
             ),
-            tt,
-          )),
+          ),
         ),
-        tt,
-      ))))),
+      ),
     ),
     (
       (set, set, boolean, typed.sets comparison.Equal tt, ((tt, refl), (tt, typed.itself)), (omega arith, refl), typed.itself),
