@@ -18,13 +18,6 @@ use Rattle.ob_meaning.specs.Values as values
 use Rattle.ob_relation.specs.Setting.{Setting}
 use Rattle.ob_relation.specs.Plain.{Plain}
 
--- a variable, by its address
-abbrev pub InVariable : Variable → Type 0
-InVariable (variable.Parameter passing.VariableRecord x) = Unit {0}
-InVariable (variable.Parameter passing.Structure x) = Unit {0}
-InVariable (variable.Parameter passing.VariableOpenArray x) = Unit {0}
-InVariable v = Plain v
-
 -- a record variable, by its address and tag
 abbrev pub InTaggedVariable : Variable → Type 0
 InTaggedVariable (variable.Parameter passing.VariableRecord x) = Unit {0}
@@ -32,12 +25,14 @@ InTaggedVariable v = Plain v
 
 -- an array variable whose length, where its slots have it, is taken with its address
 abbrev pub InArrayVariable : Variable → Type 0
+InArrayVariable (variable.Parameter passing.Structure x) = Unit {0}
+InArrayVariable (variable.Parameter passing.OpenArray x) = Unit {0}
 InArrayVariable (variable.Parameter passing.VariableOpenArray x) = Unit {0}
 InArrayVariable v = Plain v
 
 abbrev mutual
   pub InDesig : Desig → Type 0
-  InDesig (OfVariable v t) = InVariable v
+  InDesig (OfVariable v t) = Unit {0}
   InDesig (Field d o x t) = InDesig d
   InDesig (Deref d at t) = InHolder d
   InDesig (Index d (Some l) i at t) = InDesig d × InExpr i
@@ -47,7 +42,7 @@ abbrev mutual
 
   -- what holds a scalar of a type for now: also a guarded pointer
   pub InHolder : Desig → Type 0
-  InHolder (OfVariable v t) = InVariable v
+  InHolder (OfVariable v t) = Unit {0}
   InHolder (Field d o x t) = InDesig d
   InHolder (Deref d at t) = InHolder d
   InHolder (Index d (Some l) i at t) = InDesig d × InExpr i
@@ -61,6 +56,7 @@ abbrev mutual
   InTagged (Field d o x t) = InDesig d
   InTagged (Deref d at t) = InHolder d
   InTagged (Index d (Some l) i at t) = InDesig d × InExpr i
+  InTagged (Index d None i at t) = InOpen d × InExpr i
   InTagged (Guard d guarded.Record q at t) = InTagged d
   InTagged d = ⊥
 
