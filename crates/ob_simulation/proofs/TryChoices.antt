@@ -197,7 +197,7 @@ go_stands = record {
   small = omega arith;
   gives = refl;
   at = 0;
-  code = ((record { is = refl }, (record { is = refl }, (record { is = refl }, (record { is = refl }, (record { is = refl }, (record { is = refl }, ((record { is = refl }, (record { is = refl }, (record { is = refl }, (record { is = refl }, (record { is = refl }, record { is = refl }))))), (((record { is = refl }, ((record { is = refl }, record { is = refl }), (record { is = refl }, ((((record { is = refl }, (record { is = refl }, (record { is = refl }, (record { is = refl }, record { is = refl })))), ((record { is = refl }, (record { is = refl }, (record { is = refl }, (record { is = refl }, (record { is = refl }, record { is = refl }))))), (omega arith, (omega arith, (record { is = refl }, omega arith))))), (((record { is = refl }, (record { is = refl }, record { has = record { is = refl }; place = refl })), tt), (record { is = refl }, (omega arith, (((record { is = refl }, (record { is = refl }, (record { is = refl }, (record { is = refl }, record { is = refl })))), ((record { is = refl }, (record { is = refl }, (record { is = refl }, (record { is = refl }, (record { is = refl }, record { is = refl }))))), (omega arith, (omega arith, (record { is = refl }, omega arith))))), (((record { is = refl }, (((record { is = refl }, record { is = refl }), (((record { is = refl }, record { is = refl }), record { has = record { is = refl }; place = refl }), record { has = record { is = refl }; place = refl })), record { is = refl })), tt), (record { is = refl }, (omega arith, tt)))))))), record { has = record { is = refl }; place = refl })))), tt), (record { is = refl }, (record { is = refl }, (record { has = record { is = refl }; place = refl }, (record { has = record { is = refl }; place = refl }, omega arith)))))))))))), ((((record { is = refl }, record { is = refl }), (record { is = refl }, record { has = record { is = refl }; place = refl })), record { has = record { is = refl }; place = refl }), ((((record { is = refl }, record { is = refl }), (record { is = refl }, tt)), record { has = record { is = refl }; place = refl }), tt)));
+  code = ((record { is = refl }, (record { is = refl }, (record { is = refl }, (record { is = refl }, (record { is = refl }, (record { is = refl }, ((record { is = refl }, (record { is = refl }, (record { is = refl }, (record { is = refl }, (record { is = refl }, record { is = refl }))))), (((record { is = refl }, ((record { is = refl }, record { is = refl }), (record { is = refl }, ((((record { is = refl }, (record { is = refl }, (record { is = refl }, (record { is = refl }, record { is = refl })))), ((record { is = refl }, (record { is = refl }, (record { is = refl }, (record { is = refl }, (record { is = refl }, record { is = refl }))))), (omega arith, (omega arith, (record { is = refl }, omega arith))))), (((record { is = refl }, (record { is = refl }, record { has = record { is = refl }; place = refl })), tt), (record { is = refl }, (omega arith, (((record { is = refl }, (record { is = refl }, (record { is = refl }, (record { is = refl }, record { is = refl })))), ((record { is = refl }, (record { is = refl }, (record { is = refl }, (record { is = refl }, (record { is = refl }, record { is = refl }))))), (omega arith, (omega arith, (record { is = refl }, omega arith))))), (((record { is = refl }, (((record { is = refl }, record { is = refl }), (((record { is = refl }, record { is = refl }), record { has = record { is = refl }; place = refl }), record { has = record { is = refl }; place = tt })), record { is = refl })), tt), (record { is = refl }, (omega arith, tt)))))))), record { has = record { is = refl }; place = refl })))), tt), (record { is = refl }, (record { is = refl }, (record { has = record { is = refl }; place = refl }, (record { has = record { is = refl }; place = refl }, omega arith)))))))))))), ((((record { is = refl }, record { is = refl }), (record { is = refl }, record { has = record { is = refl }; place = tt })), record { has = record { is = refl }; place = refl }), ((((record { is = refl }, record { is = refl }), (record { is = refl }, tt)), record { has = record { is = refl }; place = refl }), tt)));
   last = record { is = refl };
   inside = omega arith;
   need = omega arith;
