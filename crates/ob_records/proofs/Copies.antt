@@ -13,7 +13,7 @@ use Rattle.ob_relation.specs.Relation.{PlaceIn, PlaceOf, Sub, itself, extended, 
 use Rattle.ob_relation.proofs.Names.{bytes_same, name_same}
 use Rattle.ob_relation.proofs.Parts.{F, Fs, W, Ws, fields-length}
 use Rattle.ob_relation.proofs.Located.{located}
-use Rattle.ob_relation.proofs.Rooms.{put_seam}
+use Rattle.ob_relation.proofs.Copies.{put_seam}
 use Rattle.ob_relation.specs.Setting.{Setting, StandIn, has_of}
 
 -- WORDS COPIED

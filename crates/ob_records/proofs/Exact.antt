@@ -29,6 +29,8 @@ use Rattle.ob_relation.proofs.Statements.{Activation, scope, go, fb, K, here_in,
 use Rattle.ob_relation.proofs.Grow.{address_same, form_same, place_of_more}
 use Rattle.ob_relation.proofs.Needs.{need_one, need_one_e}
 use Rattle.ob_relation.proofs.Located.{located}
+use Rattle.ob_relation.proofs.Copied.{copy_held}
+use Rattle.ob_relation.proofs.Parameters.{structure_parameter_case}
 use Rattle.ob_relation.proofs.Frames.{own_fixed, referred_fixed, call_alike, same_alike, own_form}
 use Rattle.ob_relation.proofs.Moves.{goes, traps, address_small, small_word}
 use Rattle.ob_relation.proofs.Variables.{variable_of, variable_goes}
@@ -113,6 +115,12 @@ module _ (c : Setting) (a : Activation c) (n : ℕ) (call : Caller) (b : ℕ) wh
   exact_at_case v t ih exact pc at ops os s w le has ok is st =
       let r = ih pc at ops os s w le has ok st in
       follows_value c r.by.0 r.by.1 ((r.by.2.0.0, ap (λ k. form_at s (place_of v k)) st.calls ∙ exact s ok), r.by.2.1)
+
+  -- of a parameter by value, which is a copy
+  pub exact_structure_case : (x : List ℕ) (t : TypeRef) → ExactFollows (OfVariable (variable.Parameter passing.Structure x) t)
+  exact_structure_case x t =
+      exact_at_case (variable.Parameter passing.Structure x) t (structure_parameter_case c a n call b x t)
+      (λ s ok. let k = copy_held c.program a.procedure a.active 1 x a.call ok.0 in own_form c s.made a.cs a.active x ∙ k.form ∙ ok.1)
 
   -- FIELDS AND ELEMENTS
 
@@ -244,6 +252,9 @@ module _ (c : Setting) (a : Activation c) (n : ℕ) (call : Caller) (b : ℕ) wh
   tagged_variable_case stand (variable.Parameter passing.OpenArray x) t pl pc at ops os s w le has ok is st = absurd pl
   tagged_variable_case stand (variable.Parameter passing.VariableRecord x) t pl pc at ops os s w le has ok is st = absurd pl
   tagged_variable_case stand (variable.Parameter passing.VariableOpenArray x) t pl pc at ops os s w le has ok is st = absurd pl
+
+  pub tagged_structure_case : (stand : BasesStand c) (x : List ℕ) (t : TypeRef) → RecordFollows c a n call b (OfVariable (variable.Parameter passing.Structure x) t)
+  tagged_structure_case stand x t pc at ops os s w le has ok is st = tagged_exact stand (variable.Parameter passing.Structure x) t (exact_structure_case x t) pc at ops os s w le has.0 has.1 ok is st
 
   pub tagged_field_case : (stand : BasesStand c) (d : Desig) (o : QName) (x : List ℕ) (t : TypeRef) → PlaceFollows c a n call b d → RecordFollows c a n call b (Field d o x t)
   tagged_field_case stand d o x t ih pc k ops os s w le has ok is st =

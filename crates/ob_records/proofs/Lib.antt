@@ -2,7 +2,6 @@ pub mod Bases
 pub mod Tags
 pub mod Pointers
 pub mod With
-pub mod Slots
 pub mod Records
 pub mod Exact
 pub mod Copies

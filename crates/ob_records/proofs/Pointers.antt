@@ -16,8 +16,8 @@ use Rattle.ob_mem.specs.Words.{word_at}
 use Rattle.ob_meaning.specs.Values.{Form, PointerForm, form_in, record_in, is_among, line_of, Value, Nil, Object, OfObject, Place, At, value_at, AnObject, Whole, Active, State}
 use Rattle.ob_meaning.specs.Results.{Trapped, Gives, Stops, read, assign, Caller}
 use Rattle.ob_meaning.specs.Meaning.{choose, place, pointee_type, guarded_place, is_extension}
-use Rattle.ob_relation.specs.Layout.{static_held, type_number, object_at, address, place_form}
-use Rattle.ob_relation.specs.Relation.{Fine, IsPointer as PointsTo, word_of, Scalar, PlaceIn, PlaceOf, Sub, itself}
+use Rattle.ob_relation.specs.Layout.{static_held, type_number, has_length_at, object_at, address, place_form}
+use Rattle.ob_relation.specs.Relation.{LengthFits, Fine, IsPointer as PointsTo, word_of, Scalar, PlaceIn, PlaceOf, Sub, itself}
 use Rattle.ob_relation.specs.Need.{need_place, need_tagged}
 use Rattle.ob_relation.specs.Ends.{end_place, end_expr}
 use Rattle.ob_relation.specs.Stands as code
@@ -90,7 +90,7 @@ module _ (c : Setting) (stand : BasesStand c) (cs : List Active) (s : State) (w 
           let type_is = type_at c cs s w st (At (OfObject n) []) (lt, tt) k in
           let among : is_among (k.name ∷ k.line) q ≡ true = ap (λ l. is_among l q) (sym (ap line_of k.built)) ∙ ap (λ o. is_extension c.program o q) (sym type_is) ∙ subst (λ v. test v q ≡ true) f holds in
           let up = extends_it c stand k.name q k.line k.fields k.built among in
-          inr (n, f, lt, subst (λ u. Sub (object_at s.made n) u) (sym is) (subst (λ u. Sub u (record_in c.program q)) (sym k.is) up))
+          inr (n, f, lt, subst (λ u. Sub (object_at s.made n) u) (sym is) (subst (λ u. Sub u (record_in c.program q)) (sym k.is) up), subst (λ u. LengthFits u (has_length_at s.made n)) (sym (is ∙ ok.0.1)) tt)
 
 module _ (c : Setting) (a : Activation c) (n : ℕ) (call : Caller) (b : ℕ) where
   abbrev Kp : List AnObject → State → World → Type 0
@@ -149,7 +149,7 @@ module _ (c : Setting) (a : Activation c) (n : ℕ) (call : Caller) (b : ℕ) wh
   wide_scalar : (t u : Form) → Wide t u → Scalar t → Scalar u
   wide_scalar t _ typed.itself sc = sc
   wide_scalar _ _ (typed.integers v w h) sc = tt
-  wide_scalar _ _ (typed.pointers t u f) sc = tt
+  wide_scalar _ _ (typed.pointers t u f g) sc = tt
   wide_scalar _ _ (typed.procedures s t f) sc = tt
 
   -- VALUES AND DEREFERENCES
@@ -201,11 +201,12 @@ module _ (c : Setting) (a : Activation c) (n : ℕ) (call : Caller) (b : ℕ) wh
     own : TypeRef
     is : u ≡ PointerForm own
     takes : (x : Form) → Sub x (form_in c.program r) → Sub x (form_in c.program own)
+    fits : (has : Bool) → LengthFits (form_in c.program r) has → LengthFits (form_in c.program own) has
 
   pointer_of : (t u : Form) (r : TypeRef) → Wide t u → t ≡ PointerForm r → Pointer r u
-  pointer_of t _ r typed.itself e = record { own = r; is = e; takes = λ x h. h }
+  pointer_of t _ r typed.itself e = record { own = r; is = e; takes = λ x h. h; fits = λ has h. h }
   pointer_of _ _ r (typed.integers v w h) e = absurd (cc)
-  pointer_of _ _ r (typed.pointers t u f) e = record { own = u; is = refl; takes = λ x h. f x (subst (λ z. Sub x (form_in c.program (pointed_by r z))) (sym e) h) }
+  pointer_of _ _ r (typed.pointers t u f g) e = record { own = u; is = refl; takes = λ x h. f x (subst (λ z. Sub x (form_in c.program (pointed_by r z))) (sym e) h); fits = λ has h. g has (subst (λ z. LengthFits (form_in c.program (pointed_by r z)) has) (sym e) h) }
   pointer_of _ _ r (typed.procedures x y f) e = absurd (cc)
 
   pub new_holder_case : (d : Desig) (q : QName) (at : Pos) → TypesStand c → HolderFollows d → StmtFollows c a n call b (New d (made_of.Record q) at)
@@ -217,7 +218,7 @@ module _ (c : Setting) (a : Activation c) (n : ℕ) (call : Caller) (b : ℕ) wh
       let ex : Ex c [] x ≡ tag (type_number c.img.types q) ∷ [] = ap (λ t. Ex c [] (Whole t)) ok.1.1.1 in
       follows_bind c (ih pc k [] os s w (omega (arith, le)) has.0 ok.0 (subst (λ u. Scalar u) (sym ok.1.0.1) tt) st) λ p s1 w1 k1.
       let own = pointer_of (T d) (form_at s1 p) r k1.0.0.1.1 ok.1.0.1 in
-      follows_bind c (made_follows c a n call b x own.own p ts.descriptor.words (code.with_a op.NewR has.1.type.number) at p1 [] os s1 w1 (omega arith) (record { has = has.1.type.has; place = has.1.place }) ts.ok (own.takes (record_in c.program q) (subst (λ u. Sub u (form_in c.program r)) ok.1.0.2 itself)) ts.size (k1.0.0.0, subst (λ u. Sub (form_at s1 p) u) own.is itself)
+      follows_bind c (made_follows c a n call b x own.own p ts.descriptor.words (code.with_a op.NewR has.1.type.number) at p1 (pos (address_at s1 p) ∷ []) [] os s1 w1 (omega arith) (record { has = has.1.type.has; place = has.1.place }) ts.ok (own.takes (record_in c.program q) (subst (λ u. Sub u (form_in c.program r)) ok.1.0.2 itself)) (own.fits false (subst (λ u. LengthFits u false) (sym (ok.1.0.2 ∙ ok.1.1.1)) tt)) ts.size (k1.0.0.0, subst (λ u. Sub (form_at s1 p) u) own.is itself)
       (λ there. rows.new_r_is c.img a.u a.m a.p (fb c a) p1 w1 (pos (address_at s1 p)) has.1.type.number (type_number c.img.types q) ts.descriptor [] has.1.type.is ts.found there ∙ ap (λ e. made (pos (address_at s1 p)) e ts.descriptor.words [] w1) (sym ex)) k1.1)
       λ u s2 w2 k2. follows_value c w2 (here c _) (tt, k2)
 
@@ -239,8 +240,14 @@ module _ (c : Setting) (a : Activation c) (n : ℕ) (call : Caller) (b : ℕ) wh
       tested : (z : Bool) → is_extension c.program (pointee_type s.store v) q ≡ z → pointer_passes c.img.types w.words (W s.made v) (type_number c.img.types q) ≡ Some z
       tested z f = pointer_test c stand (K c a) s w k.1.all v r q k.0.1 ok ∙ ap Some f
 
+      above : (x : Form) → Sub x (form_in c.program target) → Sub x (form_in c.program r)
+      above x h = sub_sub x (record_in c.program q) (form_in c.program r) (subst (λ u. Sub x u) is h) ok.1
+
+      no_length : (has : Bool) → LengthFits (form_in c.program r) has
+      no_length has = let up = record_above c (record_in c.program q) (form_in c.program r) _ _ ok.1 ok.0.1 in subst (λ u. LengthFits u has) (sym up.1) tt
+
       wide : Wide (PointerForm target) (form_at s p)
-      wide = subst (λ u. Wide (PointerForm target) u) (sym own.is) (typed.pointers target own.own (λ x h. own.takes x (sub_sub x (record_in c.program q) (form_in c.program r) (subst (λ u. Sub x u) is h) ok.1)))
+      wide = subst (λ u. Wide (PointerForm target) u) (sym own.is) (typed.pointers target own.own (λ x h. own.takes x (above x h)) (λ has h. own.fits has (no_length has)))
 
       by : (z : Bool) → is_extension c.program (pointee_type s.store v) q ≡ z → Follows c (PlaceTo c a n call b pc ops p s w) (PlaceTo c a n call b (suc pc) ops) (HolderKept t os) (choose z (Gives p) (λ s. Stops (Trapped 3 (pos 0) a.unit at) s) s)
       by true f =

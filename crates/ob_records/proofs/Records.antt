@@ -25,6 +25,7 @@ use Rattle.ob_relation.specs.Typed.{As, IsReferred, boolean, TestOk, IsVariableR
 use Rattle.ob_relation.proofs.Steps.{Reach, here, then_reach, Follows, follows_bind, follows_value, follows_stop, follows_map, stands_any}
 use Rattle.ob_relation.proofs.Statements.{Activation, scope, go, fb, K, here_in, Keeps, PlaceTo, PlaceKept, LongTo, PlaceFollows, TagFollows, ExprFollows, DesigOk}
 use Rattle.ob_relation.proofs.Slots.{ref_load}
+use Rattle.ob_relation.proofs.Copied.{referred_second_load}
 use Rattle.ob_relation.proofs.Frames.{referred_fixed, call_alike, same_alike, address_up, form_up, ref_place}
 use Rattle.ob_relation.proofs.Moves.{goes, traps, small_word, all_length}
 use Rattle.ob_relation.proofs.Variables.{got_within, static_slot, ref_of}
@@ -33,7 +34,6 @@ use Rattle.ob_relation.specs.Setting.{Setting, StandIn, has_of}
 use Rattle.ob_records.specs.Bases.{BasesStand}
 use Rattle.ob_records.proofs.Bases.{passes}
 use Rattle.ob_records.proofs.Tags.{IsRecord, record_below, record_above, place_form_ok, type_at, extends_it}
-use Rattle.ob_records.proofs.Slots.{second_load}
 
 pub two_tagged : (d : Desig) → 2 ≤ need_tagged d
 two_tagged (OfVariable v t) = omega arith
@@ -96,7 +96,7 @@ module _ (c : Setting) (a : Activation c) where
         let k = same_alike (IsReferred 2) (referred_fixed 2) _ _ x (call_alike c.program a.procedure a.active a.call) h in
         let r = ref_place c s.made a.cs a.active.places a.active.held 2 x (s.store.locals (length a.cs)) k.as_it st.calls_fine.1.1 in
         let n = fb c a + suc (slot (static_held c.program a.procedure) x) in
-        let load = ap (λ k. word_at w.words (pos (fb c a + suc k))) (static_slot c a s w st x) ∙ second_load c a.active a.cs s w 0 x st k.as_it ∙ ap (λ u. Some (second_word c.program (has_of c) c.img u)) (sym (form_up c s.made a.cs a.active (a.active.places x) r.0)) in
+        let load = ap (λ k. word_at w.words (pos (fb c a + suc k))) (static_slot c a s w st x) ∙ referred_second_load c a.active a.cs s w 0 x st k.as_it ∙ ap (λ u. Some (second_word c.program (has_of c) c.img u)) (sym (form_up c s.made a.cs a.active (a.active.places x) r.0)) in
         let within = got_within w.words n _ load in
         let all = all_length c (K c a) s w st in
         let small = small_word c n (omega (arith, within, all)) in

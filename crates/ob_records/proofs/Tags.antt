@@ -99,7 +99,7 @@ module _ (c : Setting) where
   path_ok os (ElementStep i ∷ path) (ProcedureForm b) ok h = absurd h
   path_ok os (ElementStep i ∷ path) (OpenForm t) ok h = absurd h
   path_ok os (ElementStep i ∷ path) (RecordForm line fs) ok h = absurd h
-  path_ok os (ElementStep i ∷ path) (ArrayForm n t) ok h = path_ok os path t ok h.1
+  path_ok os (ElementStep i ∷ path) (ArrayForm n t) ok h = path_ok os path t ok.1 h.1
 
   -- an object's tag, one word before its first
   pub record TagBefore (all os : List AnObject) (g : ℕ → Value) (n : ℕ) (q : QName) : Type 0 where
