@@ -18,20 +18,14 @@ use Rattle.ob_relation.specs.Plain.{Plain, PlainBinary, PlainUnary, PlainLiteral
 
 abbrev mutual
   pub InDesig : Desig → Type 0
+  InDesig (OfVariable (variable.Parameter passing.OpenArray x) t) = Unit {0}
   InDesig (OfVariable (variable.Parameter passing.VariableOpenArray x) t) = Unit {0}
   InDesig (OfVariable v t) = Plain v
   InDesig (Field d o x t) = InDesig d
   InDesig (Deref d at t) = InDesig d
   InDesig (Index d (Some l) i at t) = InDesig d × InExpr i
-  InDesig (Index d None i at t) = InOpen d × InExpr i
+  InDesig (Index d None i at t) = InDesig d × InExpr i
   InDesig d = ⊥
-
-  -- an open array with its length
-  pub InOpen : Desig → Type 0
-  InOpen (OfVariable (variable.Parameter passing.OpenArray x) t) = Unit {0}
-  InOpen (OfVariable (variable.Parameter passing.VariableOpenArray x) t) = Unit {0}
-  InOpen (Deref d at t) = InDesig d
-  InOpen d = ⊥
 
   pub InExpr : Expr → Type 0
   InExpr (Constant l) = PlainLiteral l
