@@ -20,6 +20,7 @@ use Rattle.ob_relation.specs.Plain.{Plain}
 
 -- a record variable, by its address and tag
 abbrev pub InTaggedVariable : Variable → Type 0
+InTaggedVariable (variable.Parameter passing.Structure x) = Unit {0}
 InTaggedVariable (variable.Parameter passing.VariableRecord x) = Unit {0}
 InTaggedVariable v = Plain v
 
