@@ -20,7 +20,8 @@ use Rattle.ob_meaning.specs.Meaning.{hidden}
 use Rattle.ob_meaning.specs.Calls.{hidden_of_all, hidden_held, held_variable}
 use Rattle.ob_code.specs.Lines.{Line, behind}
 use Rattle.ob_code.specs.Descriptions.{method_number}
-use Rattle.ob_code.specs.Context.{Context, all_slots, local_words, first_hidden}
+use Rattle.ob_layout.specs.Words.{words_of}
+use Rattle.ob_code.specs.Context.{Context, before, all_slots, local_words, first_hidden}
 use Rattle.ob_code.specs.Numbers.{nothing_named, instrs_in, positions_at}
 use Rattle.ob_code.specs.Statements as scheme_of
 use Rattle.ob_code.specs.Procedures.{body_of, within, all_procedures, closing, end_procedure, procedure_code, procedures_code, module_code, module_rows, rows_of, row_of, param_for, has_result, all_local_words}
@@ -130,7 +131,7 @@ module _ (types : QName → Option Desc) (md : Module) where
           methods = λ f. refl;
           variables = λ n x e. globals_before types c.program k.described md.variables x ∙ ap (λ l. slot l x) (sym (ap (variables_in c.program c.program) (bytes_true n md.name e) ∙ k.variables_there));
           parameters = λ x i. parameters_before c.program p.parameters _ x fit i;
-          locals = λ x i. ap (λ n. n + _) (parameter_sum c.program p.parameters fit) ∙ ap (λ n. slots_words front + n) (variables_before types c.program k.described p.locals back x i) ∙ sym (local_past c.program front p.locals back x d i);
+          locals = λ x i. ap (λ n. n + before (λ v. v.name) (λ v. words_of types v.of) p.locals x) (parameter_sum c.program p.parameters fit) ∙ ap (λ n. slots_words front + n) (variables_before types c.program k.described p.locals back x i) ∙ sym (local_past c.program front p.locals back x d i);
           procedures = λ q e n. ap suc (procedures_before md.procedures q.object) ∙ index_named md.procedures q.object n ∙ ap (λ l. procedure_index l q.object) (sym (ap (procedures_in c.program) (bytes_true q.module md.name e) ∙ k.procedures_there));
           types = λ q e i. k.types_there q.object i ∙ ap (λ n. Some (type_number c.img.types (record { «module» = n; object = q.object }))) (sym (bytes_true q.module md.name e));
         }

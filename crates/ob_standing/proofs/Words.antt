@@ -42,7 +42,7 @@ slot_past : (hs ks : List Held) (x : List ℕ) → IsNone x hs → slot (hs ++ k
 slot_past [] ks x n = omega arith
 slot_past (h ∷ hs) ks x n = let r = slot_past hs ks x n.1 in let e : slot_words h + slot (hs ++ ks) x ≡ slot_words h + slots_words hs + slot ks x = omega (arith, r) in ap (λ b. if b then 0 else slot_words h + slot (hs ++ ks) x) n.0 ∙ e
 
-words_two : (hs ks : List Held) → slots_words (hs ++ ks) ≡ slots_words hs + slots_words ks
+pub words_two : (hs ks : List Held) → slots_words (hs ++ ks) ≡ slots_words hs + slots_words ks
 words_two [] ks = omega arith
 words_two (h ∷ hs) ks = let r = words_two hs ks in omega (arith, r)
 
