@@ -6,3 +6,6 @@ pub mod Counters
 pub mod Assignments
 pub mod Statements
 pub mod Numbered
+pub mod Words
+pub mod Procedures
+pub mod Types

@@ -4,3 +4,5 @@ pub mod Fits
 pub mod Agrees
 pub mod Wanted
 pub mod Resolved
+pub mod Compiled
+pub mod Descriptors
