@@ -15,7 +15,7 @@ use Rattle.ob_types.specs.TypedSyntax.{Desig, OfVariable, Field, Index, Deref, G
 use Rattle.ob_meaning.specs.Values.{Program, Form, BasicForm, PointerForm, ProcedureForm, ArrayForm, OpenForm, RecordForm}
 use Rattle.ob_relation.specs.Ends.{end_variable, end_tagged_variable, end_unary, is_open, type_form, end_place, end_tagged, end_open, end_expr, end_tag, end_length, end_address, end_record, end_array, end_actuals, end_target, end_assigned, end_labels, end_optional, end_stmt, end_stmts, end_branches, end_cases, end_else}
 
-variable_ends : (v : Variable) (pc : ℕ) → suc pc ≤ end_variable v pc
+pub variable_ends : (v : Variable) (pc : ℕ) → suc pc ≤ end_variable v pc
 variable_ends (variable.Module m x) pc = omega arith
 variable_ends (variable.Local x) pc = omega arith
 variable_ends (variable.Parameter passing.Scalar x) pc = omega arith
@@ -183,7 +183,7 @@ module _ (program : Program) where
   assigned_ends assigned.Array d e pc = let h = place_ends d pc in let k = address_ends e (end_place program d pc) in omega (arith, h, k)
   assigned_ends (assigned.Record q) d e pc = let h = target_ends d pc in let k = address_ends e (end_target program d pc) in omega (arith, h, k)
 
-  labels_end : (ls : List Label) (pc : ℕ) → suc pc ≤ end_labels program ls pc
+  pub labels_end : (ls : List Label) (pc : ℕ) → suc pc ≤ end_labels program ls pc
   labels_end [] pc = omega arith
   labels_end (l ∷ ls) pc = let h = labels_end ls (suc (suc (suc (suc (suc (suc (suc (suc (suc (suc (suc pc))))))))))) in omega (arith, h)
 

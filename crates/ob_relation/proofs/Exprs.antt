@@ -100,7 +100,7 @@ module _ (c : Setting) (a : Activation c) (n : ℕ) (call : Caller) (b : ℕ) wh
 
   -- CONSTANTS
 
-  int_goes : (z : ℤ) (pc : ℕ) (ops : List ℤ) (w : World) → length ops + 1 ≤ 256 → code.Has (scope c a) pc (code.instr op.Int z (pos 0)) → Reach c (go c a pc ops w) (go c a (suc pc) (z ∷ ops) w)
+  pub int_goes : (z : ℤ) (pc : ℕ) (ops : List ℤ) (w : World) → length ops + 1 ≤ 256 → code.Has (scope c a) pc (code.instr op.Int z (pos 0)) → Reach c (go c a pc ops w) (go c a (suc pc) (z ∷ ops) w)
   int_goes z pc ops w le has = goes c a _ w has (rows.int_next c.img a.u a.m a.p (fb c a) pc w z ops) (omega (arith, le))
 
   literal_is : (l : Literal) (t : Form) (os : List AnObject) → PlainLiteral l → typed.ConstantOk c.program (has_of c) a.unit (static_held c.program a.procedure) a.procedure.result l t → (W os (constant_value l) ≡ literal_word l) × F os t (constant_value l)
@@ -118,29 +118,29 @@ module _ (c : Setting) (a : Activation c) (n : ℕ) (call : Caller) (b : ℕ) wh
 
   -- OPERATORS
 
-  row_follows : (o : Computed) (i : Instr) (at : Pos) (pc : ℕ) (ops0 ops : List ℤ) (t : Form) (os : List AnObject) (s : State) (w : World) → length ops + 1 ≤ 256 → code.HasAt (scope c a) pc i at → RowIs c s.made a pc w ops (effect c a pc ops0 w i) o t → Kp os s w → Follows c (go c a pc ops0 w) (VTo (suc pc) ops) (VKept t os) (computed o (here_in c a n call b) at s)
+  pub row_follows : (o : Computed) (i : Instr) (at : Pos) (pc : ℕ) (ops0 ops : List ℤ) (t : Form) (os : List AnObject) (s : State) (w : World) → length ops + 1 ≤ 256 → code.HasAt (scope c a) pc i at → RowIs c s.made a pc w ops (effect c a pc ops0 w i) o t → Kp os s w → Follows c (go c a pc ops0 w) (VTo (suc pc) ops) (VKept t os) (computed o (here_in c a n call b) at s)
   row_follows (Is v) i at pc ops0 ops t os s w le has r st = follows_value c w (goes c a _ w has.has r.0 (omega (arith, le))) (r.1, st)
   row_follows (Traps k) i at pc ops0 ops t os s w le has r st = follows_stop c w (traps c a k (pos 0) w has r) (stands_any c st)
 
-  binary_scalar : (o : Binary) (t u r : Form) → typed.BinaryOk c.program (has_of c) a.unit (static_held c.program a.procedure) a.procedure.result o t u r → PlainBinary o → Scalar t
-  binary_scalar _ _ _ _ (typed.sum v) pl = tt
-  binary_scalar _ _ _ _ (typed.difference v) pl = tt
-  binary_scalar _ _ _ _ (typed.product v) pl = tt
-  binary_scalar _ _ _ _ (typed.quotient v) pl = tt
-  binary_scalar _ _ _ _ (typed.remainder v) pl = tt
-  binary_scalar _ _ _ _ typed.union pl = tt
-  binary_scalar _ _ _ _ typed.without pl = tt
-  binary_scalar _ _ _ _ typed.meet pl = tt
-  binary_scalar _ _ _ _ typed.either pl = tt
-  binary_scalar _ _ _ _ typed.range pl = tt
-  binary_scalar _ _ _ _ typed.inside pl = tt
-  binary_scalar _ _ _ _ typed.ash pl = tt
-  binary_scalar _ _ _ _ (typed.integers r) pl = tt
-  binary_scalar _ _ _ _ (typed.chars r) pl = tt
-  binary_scalar _ _ _ _ (typed.booleans r q) pl = tt
-  binary_scalar _ _ _ _ (typed.sets r q) pl = tt
-  binary_scalar _ _ _ _ (typed.pointers r t u q) pl = tt
-  binary_scalar _ _ _ _ (typed.procedures r t u q) pl = tt
+  pub binary_scalar : (o : Binary) (t u r : Form) → typed.BinaryOk c.program (has_of c) a.unit (static_held c.program a.procedure) a.procedure.result o t u r → Scalar t
+  binary_scalar _ _ _ _ (typed.sum v) = tt
+  binary_scalar _ _ _ _ (typed.difference v) = tt
+  binary_scalar _ _ _ _ (typed.product v) = tt
+  binary_scalar _ _ _ _ (typed.quotient v) = tt
+  binary_scalar _ _ _ _ (typed.remainder v) = tt
+  binary_scalar _ _ _ _ typed.union = tt
+  binary_scalar _ _ _ _ typed.without = tt
+  binary_scalar _ _ _ _ typed.meet = tt
+  binary_scalar _ _ _ _ typed.either = tt
+  binary_scalar _ _ _ _ typed.range = tt
+  binary_scalar _ _ _ _ typed.inside = tt
+  binary_scalar _ _ _ _ typed.ash = tt
+  binary_scalar _ _ _ _ (typed.integers r) = tt
+  binary_scalar _ _ _ _ (typed.chars r) = tt
+  binary_scalar _ _ _ _ (typed.booleans r q) = tt
+  binary_scalar _ _ _ _ (typed.sets r q) = tt
+  binary_scalar _ _ _ _ (typed.pointers r t u q) = tt
+  binary_scalar _ _ _ _ (typed.procedures r t u q) = tt
 
   pub dyadic_case : (o : Binary) (x y : Expr) (at : Pos) → PlainBinary o → E x → E y → E (Dyadic o x y at)
   dyadic_case o x y at pl ih_x ih_y t pc k ops os s w le has ok st =
@@ -148,7 +148,7 @@ module _ (c : Setting) (a : Activation c) (n : ℕ) (call : Caller) (b : ℕ) wh
       follows_map c
       (follows_bind c (ih_x ok.0 pc k ops os s w (omega (arith, le)) has.0 ok.4 st) λ v s1 w1 k1.
       follows_bind c (ih_y ok.1 p1 _ (W s1.made v ∷ ops) s1.made s1 w1 (omega (arith, le)) has.1.0 ok.5 (from_here k1.1)) λ u s2 w2 k2.
-      let sc = binary_scalar o ok.0 ok.1 ok.2 ok.3 pl in
+      let sc = binary_scalar o ok.0 ok.1 ok.2 ok.3 in
       let same = scalar_word c s1.made s2.made k2.1.objects ok.0 v sc k1.0 in
       subst (λ z. Follows c (go c a (end_expr c.program y p1) (W s2.made u ∷ z ∷ ops) w2) (VTo (suc (end_expr c.program y p1)) ops) (VKept ok.2 os) (computed (compute_both o v u) (here_in c a n call b) at s2)) same
       (row_follows (compute_both o v u) (binary_code o) at (end_expr c.program y p1) (W s2.made u ∷ W s2.made v ∷ ops) ops ok.2 os s2 w2 (omega (arith, le, need_one_e y)) has.1.1
@@ -156,13 +156,13 @@ module _ (c : Setting) (a : Activation c) (n : ℕ) (call : Caller) (b : ℕ) wh
       (since k1.1.objects k2.1)))
       (λ v s w k. here c _) (λ v s w k. widen_kept _ t os v s w ok.6 k)
 
-  unary_follows : (i : Option Instr) (o : Unary) (at : Pos) (pc : ℕ) (ops : List ℤ) (u : Form) (os : List AnObject) (v : Value) (s : State) (w : World) → length ops + 1 ≤ 256 → code.UnaryCode (scope c a) i pc at → UnaryIs c s.made a pc w ops i o u v → Kp os s w → Follows c (go c a pc (W s.made v ∷ ops) w) (VTo (after i pc) ops) (VKept u os) (computed (compute o v) (here_in c a n call b) at s)
+  pub unary_follows : (i : Option Instr) (o : Unary) (at : Pos) (pc : ℕ) (ops : List ℤ) (u : Form) (os : List AnObject) (v : Value) (s : State) (w : World) → length ops + 1 ≤ 256 → code.UnaryCode (scope c a) i pc at → UnaryIs c s.made a pc w ops i o u v → Kp os s w → Follows c (go c a pc (W s.made v ∷ ops) w) (VTo (after i pc) ops) (VKept u os) (computed (compute o v) (here_in c a n call b) at s)
   unary_follows None o at pc ops u os v s w le has r st =
       subst (λ q. Follows c (go c a pc (W s.made v ∷ ops) w) (VTo pc ops) (VKept u os) (computed q (here_in c a n call b) at s)) (sym r.1)
       (follows_value c w (subst (λ z. Reach c (go c a pc (z ∷ ops) w) (go c a pc (W s.made r.0 ∷ ops) w)) r.2 (here c _)) (r.3, st))
   unary_follows (Some i) o at pc ops u os v s w le has r st = row_follows (compute o v) i at pc (W s.made v ∷ ops) ops u os s w le has r st
 
-  after_is : (o : Unary) (pc : ℕ) → after (unary_code o) pc ≡ end_unary o pc
+  pub after_is : (o : Unary) (pc : ℕ) → after (unary_code o) pc ≡ end_unary o pc
   after_is (unary.Negate v) pc = refl
   after_is unary.Not pc = refl
   after_is unary.Complement pc = refl

@@ -15,7 +15,7 @@ use Rattle.ob_relation.proofs.Places.{Cs, Os, Ex, extra-length, cost_is, calls-l
 use Rattle.ob_relation.proofs.Modules.{Ms}
 use Rattle.ob_relation.proofs.Firsts.{zeros, zeros_both, first_words, first_fine}
 use Rattle.ob_relation.proofs.Grow.{G, calls_same, calls_more, objects_same, objects_more, modules_same, modules_more}
-use Rattle.ob_relation.proofs.Rooms.{put_seam}
+use Rattle.ob_relation.proofs.Copies.{put_seam}
 use Rattle.ob_relation.specs.Setting.{Setting, StandIn}
 
 pub first_is : (x : AnObject) → first_object x ≡ first (object_form x)

@@ -9,6 +9,8 @@ pub mod Located
 pub mod Grow
 pub mod Slots
 pub mod Frames
+pub mod Copies
+pub mod Stopping
 pub mod Moves
 pub mod Variables
 pub mod Values
@@ -20,7 +22,10 @@ pub mod Stmts
 pub mod Out
 pub mod Actuals
 pub mod Firsts
+pub mod Sources
 pub mod Enter
 pub mod Rooms
 pub mod Heap
 pub mod Pointers
+pub mod Copied
+pub mod Parameters

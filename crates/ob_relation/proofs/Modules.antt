@@ -1,5 +1,5 @@
 -- The words of the modules' variables.
-use Rattle.std.proofs.Common.{◌≡◌, ℕ, ◌+◌, List, [], ◌∷◌, ◌++◌, length, refl, sym, ap, ◌∙◌, subst, arith, length-append}
+use Rattle.std.proofs.Common.{◌≡◌, ℕ, suc, ◌+◌, List, [], ◌∷◌, ◌++◌, length, refl, sym, ap, ◌∙◌, subst, arith, append_assoc, length-append}
 use Rattle.std.specs.Prelude.{ℤ, map, Bool, true, false, bytes_eq, if◌then◌else◌}
 use Rattle.ob_types.specs.declared.typed.TypedVariable.{TypedVariable}
 use Rattle.ob_types.specs.TypedSyntax.{Module}
@@ -8,9 +8,10 @@ use Rattle.ob_meaning.specs.Globals.{words_of_variables, globals_words, all_glob
 use Rattle.ob_meaning.specs.Calls.{held_variable}
 use Rattle.ob_relation.specs.Layout.{slot, slots_words, form_named, has_copy, module_held, module_offset, variables_in}
 use Rattle.ob_relation.specs.Relation.{ValueIn, FormOk, FreshModule, ModulesOk, no_places, flat_module, flat_modules, ModulesFine}
-use Rattle.ob_relation.specs.Texts.{module_texts}
+use Rattle.ob_relation.specs.Texts.{module_texts, texts_in}
 use Rattle.ob_relation.proofs.Names.{bytes_true, bytes_sym}
 use Rattle.ob_relation.proofs.Lengths.{module_length}
+use Rattle.ob_relation.proofs.Copies.{WordsAt}
 use Rattle.ob_relation.proofs.Parts.{part_same, part_before, part_behind, Known, F}
 use Rattle.ob_relation.proofs.Places.{S, Hs, in_frame, slots-length}
 use Rattle.ob_relation.specs.Setting.{Setting, has_of}
@@ -109,4 +110,27 @@ module _ (c : Setting) (os : List AnObject) where
               keeps = λ w f. (subst (λ h. Hs c os [] (no_places c.program (has_of c) c.img) hs h) (sym (top w)) fine.0, r.known.keeps w f);
             };
             ok = r.ok;
+          }
+
+  -- a part of a module's strings, among the words of all modules
+  pub texts_at : (ms : List Module) (g : List ℕ → List ℕ → Value) (x : List ℕ) (before ws behind : List ℤ) → texts_in c.program ms x ≡ before ++ (ws ++ behind) → WordsAt (Ms ms g) (suc (module_offset c.program ms x + (slots_words (variables_in c.program ms x) + length before))) ws
+  texts_at [] g x before ws behind e = record { before = before; behind = behind; at = omega arith; is = e }
+  texts_at (m ∷ ms) g x before ws behind e = go (bytes_eq x m.name) e (λ e. texts_at ms g x before ws behind e)
+    where
+      go : (b : Bool) → (if b then module_texts c.program m else texts_in c.program ms x) ≡ before ++ (ws ++ behind) → (texts_in c.program ms x ≡ before ++ (ws ++ behind) → WordsAt (Ms ms g) (suc (module_offset c.program ms x + (slots_words (variables_in c.program ms x) + length before))) ws) → WordsAt (M m (g m.name) ++ Ms ms g) (suc ((if b then 0 else globals_words c.program m + module_offset c.program ms x) + (slots_words (if b then module_held c.program m else variables_in c.program ms x) + length before))) ws
+      go true e rest =
+          let len = slots-length c os [] (no_places c.program (has_of c) c.img) (module_held c.program m) 0 (g m.name) in
+          record {
+            before = Sm m (g m.name) ++ before;
+            behind = behind ++ Ms ms g;
+            at = omega (arith, length-append (Sm m (g m.name)) before, len);
+            is = ap (λ l. (Sm m (g m.name) ++ l) ++ Ms ms g) e ∙ simp append_assoc;
+          }
+      go false e rest =
+          let r = rest e in
+          record {
+            before = M m (g m.name) ++ r.before;
+            behind = r.behind;
+            at = omega (arith, length-append (M m (g m.name)) r.before, one-length m (g m.name), r.at);
+            is = ap (λ l. M m (g m.name) ++ l) r.is ∙ simp append_assoc;
           }

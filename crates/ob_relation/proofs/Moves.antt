@@ -7,14 +7,15 @@ use Rattle.ob_instr.specs.declared.instr.Instr.{Instr}
 use Rattle.ob_instr.specs.Image as image
 use Rattle.ob_instr.specs.Image.{World, Point, Go, Over}
 use Rattle.ob_instr.specs.Rows.{Effect, Next, Goto, Traps, Spends, in_width}
-use Rattle.ob_instr.specs.Table.{row}
+use Rattle.ob_instr.specs.Table.{row, position_at}
 use Rattle.ob_instr.proofs.Steps as machine
 use Rattle.ob_meaning.specs.Values.{Place, Active, State}
 use Rattle.ob_meaning.specs.Results.{Trapped, Spent}
 use Rattle.ob_relation.specs.Layout.{address}
-use Rattle.ob_relation.specs.Relation.{PlaceIn}
+use Rattle.ob_relation.specs.Relation.{PlaceIn, OrElse}
 use Rattle.ob_relation.specs.Stands as code
 use Rattle.ob_relation.proofs.Steps.{Reach, here}
+use Rattle.ob_relation.proofs.Stopping.{Stopped, stops_only}
 use Rattle.ob_relation.proofs.Statements.{Activation, scope, go, fb}
 use Rattle.ob_relation.proofs.Places.{Cs, Os, calls-length, objects-length}
 use Rattle.ob_relation.proofs.Modules.{Ms}
@@ -63,6 +64,10 @@ module _ (c : Setting) where
     pub has_it : {pc : ℕ} {i : Instr} → code.Has (scope c a) pc i → machine.Has a.u pc i
     has_it h = record { is = h.is }
 
+    -- where it stops, it has its position
+    place_of : {pc : ℕ} {i : Instr} {at : Pos} (ops : List ℤ) (w : World) → code.HasAt (scope c a) pc i at → Stopped (effect pc ops w i) → position_at a.u.positions pc ≡ at
+    place_of {pc} {i} {at} ops w h s = subst (λ b. OrElse b (Unit {0}) (position_at a.u.positions pc ≡ at)) (stops_only c.img a.u a.m a.p (fb c a) pc i.op i.a i.b ops w s) h.place
+
     pub goes : {pc : ℕ} {ops : List ℤ} {w : World} {i : Instr} (ops2 : List ℤ) (w2 : World) → code.Has (scope c a) pc i → effect pc ops w i ≡ Next ops2 w2 → length ops2 ≤ 256 → Reach c (go c a pc ops w) (go c a (suc pc) ops2 w2)
     goes {pc} {ops} {w} {i} ops2 w2 h e le = machine.goes c.img a.m a.p (fb c a) a.acts a.u a.is ops2 w2 (has_it h) e (omega (arith, le, c.operands))
 
@@ -72,9 +77,9 @@ module _ (c : Setting) where
     pub traps : {pc : ℕ} {ops : List ℤ} {w : World} {i : Instr} {at : Pos} (kind : ℕ) (number : ℤ) (w2 : World) → code.HasAt (scope c a) pc i at → effect pc ops w i ≡ Traps kind number w2 → Reach c (go c a pc ops w) (Over (stopped c (Trapped kind number a.unit at)) w2)
     traps {pc} {ops} {w} {i} {at} kind number w2 h e =
         subst (λ m. Reach c (go c a pc ops w) (Over (image.Trapped kind number m at) w2)) (sym a.named)
-        (subst (λ p. Reach c (go c a pc ops w) (Over (image.Trapped kind number a.m p) w2)) h.place (machine.traps c.img a.m a.p (fb c a) a.acts a.u a.is kind number w2 (has_it h.has) e))
+        (subst (λ p. Reach c (go c a pc ops w) (Over (image.Trapped kind number a.m p) w2)) (place_of ops w h (subst Stopped (sym e) tt)) (machine.traps c.img a.m a.p (fb c a) a.acts a.u a.is kind number w2 (has_it h.has) e))
 
     pub spends : {pc : ℕ} {ops : List ℤ} {w : World} {i : Instr} {at : Pos} (w2 : World) → code.HasAt (scope c a) pc i at → effect pc ops w i ≡ Spends w2 → Reach c (go c a pc ops w) (Over (stopped c (Spent a.unit at)) w2)
     spends {pc} {ops} {w} {i} {at} w2 h e =
         subst (λ m. Reach c (go c a pc ops w) (Over (image.Spent m at) w2)) (sym a.named)
-        (subst (λ p. Reach c (go c a pc ops w) (Over (image.Spent a.m p) w2)) h.place (machine.spends c.img a.m a.p (fb c a) a.acts a.u a.is w2 (has_it h.has) e))
+        (subst (λ p. Reach c (go c a pc ops w) (Over (image.Spent a.m p) w2)) (place_of ops w h (subst Stopped (sym e) tt)) (machine.spends c.img a.m a.p (fb c a) a.acts a.u a.is w2 (has_it h.has) e))

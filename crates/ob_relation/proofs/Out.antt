@@ -78,7 +78,7 @@ module _ (c : Setting) (a : Activation c) (n : ℕ) (call : Caller) (b : ℕ) wh
   abbrev Kp : List AnObject → State → World → Type 0
   Kp os s w = Keeps c a n call b os s w
 
-  inc_follows : (w : Width) (p : Place) (z d : ℤ) (at : Pos) (pc : ℕ) (ops : List ℤ) (os : List AnObject) (s : State) (m : World) → length ops ≤ 256 → code.HasAt (scope c a) pc (code.update_code (update.Inc w)) at → PlaceOf c.program (has_of c) c.img s.made (K c a) (integer w) p → value_at s.store p ≡ Integer z → Kp os s m →
+  pub inc_follows : (w : Width) (p : Place) (z d : ℤ) (at : Pos) (pc : ℕ) (ops : List ℤ) (os : List AnObject) (s : State) (m : World) → length ops ≤ 256 → code.HasAt (scope c a) pc (code.update_code (update.Inc w)) at → PlaceOf c.program (has_of c) c.img s.made (K c a) (integer w) p → value_at s.store p ≡ Integer z → Kp os s m →
       Follows c (go c a pc (d ∷ pos (address c.program c.img s.made (K c a) p) ∷ ops) m) (λ u s m. go c a (suc pc) ops m) (λ u s m. Kp os s m) (bind (computed (updated (update.Inc w) (Integer z) (Integer d)) (here_in c a n call b) at s) (λ v s. assign p v s))
   inc_follows w p z d at pc ops os s m le has k is st = by (is_in w (z +ℤ d)) refl
     where

@@ -42,7 +42,7 @@ module _ (c : Setting) (a : Activation c) (n : ℕ) (call : Caller) (b : ℕ) wh
   abbrev W : List AnObject → Value → ℤ
   W os v = word_of c.program (has_of c) c.img os v
 
-  pointee_follows : (v : Value) (r : TypeRef) (t : Form) (at : Pos) (pc : ℕ) (ops : List ℤ) (os : List AnObject) (s : State) (w : World) → length ops + 1 ≤ 256 → code.HasAt (scope c a) pc (code.plain op.Deref) at → Fine c.program (has_of c) s.made (PointerForm r) v → form_in c.program r ≡ t → Kp os s w →
+  pub pointee_follows : (v : Value) (r : TypeRef) (t : Form) (at : Pos) (pc : ℕ) (ops : List ℤ) (os : List AnObject) (s : State) (w : World) → length ops + 1 ≤ 256 → code.HasAt (scope c a) pc (code.plain op.Deref) at → Fine c.program (has_of c) s.made (PointerForm r) v → form_in c.program r ≡ t → Kp os s w →
       Follows c (go c a pc (W s.made v ∷ ops) w) (PlaceTo c a n call b (suc pc) ops) (PlaceKept c a n call b t os) (pointee v (here_in c a n call b) at s)
   pointee_follows v r t at pc ops os s w le has fine e st = ⊎_elim (λ f. nil f) (λ k. object k.0 k.1 k.2 k.3) fine
     where

@@ -1,5 +1,5 @@
 -- What is to be proved of each kind of tree: its code follows its meaning.
-use Rattle.std.proofs.Common.{◌≡◌, ℕ, suc, ◌+◌, ◌≤◌, ◌<◌, List, [], ◌∷◌, ◌++◌, length, Option, Some, None, ℤ}
+use Rattle.std.proofs.Common.{◌≡◌, ◌⊎◌, ℕ, suc, ◌+◌, ◌≤◌, ◌<◌, List, [], ◌∷◌, ◌++◌, length, Option, Some, None, ℤ}
 use Rattle.std.specs.Prelude.{pos, Bool, true, false, map, slice_get}
 use Rattle.ob_tree.specs.declared.pos.Pos.{Pos}
 use Rattle.ob_tree.specs.declared.names.QName.{QName}
@@ -15,17 +15,20 @@ use Rattle.ob_instr.specs.Image.{ModuleImage, World, Act, Point, Go, Over}
 use Rattle.ob_instr.specs.Rows.{calls}
 use Rattle.ob_instr.specs.Table.{row, position_at, left}
 use Rattle.ob_instr.proofs.Steps as machine
-use Rattle.ob_meaning.specs.Values.{Program, procedure_of, Form, ArrayForm, form_in, Value, Place, Held, Own, Referred, Copied, Active, AnObject, State}
+use Rattle.ob_meaning.specs.Values.{Program, procedure_of, Form, ArrayForm, OpenForm, form_in, Value, Place, Held, Own, Referred, Copied, Active, AnObject, State}
 use Rattle.ob_meaning.specs.Results.{Spent, M, Passed, ByValue, ByPlace, ByText, Caller, Around}
 use Rattle.ob_meaning.specs.Meaning.{Flow, Done, Leaves, Back, Source, Stands, Text, Round, Again, Leave, place, value, source, actuals, exec, execs, exec_branches, exec_cases, exec_else}
 use Rattle.ob_meaning.specs.Calls.{hidden_of_all, hidden_held, held_variable, element_form, around}
 use Rattle.ob_relation.specs.Layout.{static_held, address, place_form, module_number, module_offset}
-use Rattle.ob_relation.specs.Relation.{Fine, word_of, second_word, number_of, PlaceOf, call_start, Scalar}
+use Rattle.ob_relation.specs.Relation.{Fine, word_of, second_word, number_of, PlaceOf, call_start, Scalar, flat_modules}
+use Rattle.ob_relation.specs.Texts.{text_words}
 use Rattle.ob_relation.specs.Ends as ends
 use Rattle.ob_relation.specs.Stands as code
 use Rattle.ob_relation.specs.Stands.{Scope, Has, slots_passed}
 use Rattle.ob_relation.specs.Need.{need_place, need_tagged, need_open, need_expr, need_array, need_passed, need_actuals, need_stmt, need_stmts, need_branches, need_cases, need_else}
 use Rattle.ob_relation.specs.Typed as typed
+use Rattle.ob_relation.specs.Typed.{AreCharacters, char}
+use Rattle.ob_relation.proofs.Copies.{WordsAt}
 use Rattle.ob_relation.proofs.Steps.{Follows, FollowsBy}
 use Rattle.ob_relation.specs.Linked.{has_one}
 use Rattle.ob_relation.specs.Setting.{Kept, Setting, stopped, has_of}
@@ -87,15 +90,23 @@ pub record Activation (c : Setting) : Type 0 where
   pub call : IsCallOf c.program procedure active
 
 module _ (c : Setting) where
-  -- the words that are passed: a string stands at an offset of the module's first word
-  abbrev pub passed_words : ℕ → ℕ → Passing → Passed → List AnObject → List Active → List ℤ
-  passed_words first at passing.Scalar (ByValue v) os cs = word_of c.program (has_of c) c.img os v ∷ []
-  passed_words first at passing.Structure (ByPlace p) os cs = pos (address c.program c.img os cs p) ∷ []
-  passed_words first at passing.Structure (ByText text) os cs = pos (first + at) ∷ []
-  passed_words first at passing.Variable (ByPlace p) os cs = pos (address c.program c.img os cs p) ∷ []
-  passed_words first at passing.OpenArray (ByText text) os cs = pos (first + at) ∷ pos (suc (length text)) ∷ []
-  passed_words first at how (ByPlace p) os cs = pos (address c.program c.img os cs p) ∷ second_word c.program (has_of c) c.img (place_form c.program c.img os cs p) ∷ []
-  passed_words first at how x os cs = []
+  -- the place of a variable is passed: its address, or its tag or length with it
+  abbrev pub PlaceFits : List AnObject → List Active → Form → Passed → List ℤ → Type 0
+  PlaceFits os cs t x ws = (q : Place) × (x ≡ ByPlace q) × (ws ≡ pos (address c.program c.img os cs q) ∷ []) × PlaceOf c.program (has_of c) c.img os cs t q
+
+  abbrev pub LongPlaceFits : List AnObject → List Active → Form → Passed → List ℤ → Type 0
+  LongPlaceFits os cs t x ws = (q : Place) × (x ≡ ByPlace q) × (ws ≡ pos (address c.program c.img os cs q) ∷ second_word c.program (has_of c) c.img (place_form c.program c.img os cs q) ∷ []) × PlaceOf c.program (has_of c) c.img os cs t q
+
+  -- words that stand among those of the modules, whatever the values of their variables
+  abbrev pub AlwaysAt : ℕ → List ℤ → Type 0
+  AlwaysAt a ws = (os : List AnObject) (g : List ℕ → List ℕ → Value) → WordsAt (flat_modules c.program (has_of c) c.img os c.program g) a ws
+
+  -- a string is passed: where it stands, filled with 0X to an array's length, or its length with it
+  abbrev pub TextFits : Form → Passed → List ℤ → Type 0
+  TextFits t x ws = (text : List ℕ) × (a : ℕ) × (n : ℕ) × (x ≡ ByText text) × (ws ≡ pos a ∷ []) × (t ≡ ArrayForm n char) × AreCharacters text × AlwaysAt a (text_words text n)
+
+  abbrev pub LongTextFits : Form → Passed → List ℤ → Type 0
+  LongTextFits t x ws = (text : List ℕ) × (a : ℕ) × (x ≡ ByText text) × (ws ≡ pos a ∷ pos (suc (length text)) ∷ []) × (t ≡ OpenForm char) × AreCharacters text × AlwaysAt a (text_words text (suc (length text)))
 
   -- what is passed fits a parameter, and these are its words
   abbrev pub ArgumentFits : List AnObject → List Active → TypedParameter → Passed → List ℤ → Type 0
@@ -103,8 +114,11 @@ module _ (c : Setting) where
     where
       by : Passing → Type 0
       by passing.Scalar = (v : Value) × (x ≡ ByValue v) × (ws ≡ word_of c.program (has_of c) c.img os v ∷ []) × Scalar (form_in c.program p.of) × Fine c.program (has_of c) os (form_in c.program p.of) v
-      by passing.Variable = (q : Place) × (x ≡ ByPlace q) × (ws ≡ pos (address c.program c.img os cs q) ∷ []) × PlaceOf c.program (has_of c) c.img os cs (form_in c.program p.of) q
-      by how = (q : Place) × (x ≡ ByPlace q) × (ws ≡ pos (address c.program c.img os cs q) ∷ second_word c.program (has_of c) c.img (place_form c.program c.img os cs q) ∷ []) × PlaceOf c.program (has_of c) c.img os cs (form_in c.program p.of) q
+      by passing.Variable = PlaceFits os cs (form_in c.program p.of) x ws
+      by passing.Structure = PlaceFits os cs (form_in c.program p.of) x ws ⊎ TextFits (form_in c.program p.of) x ws
+      by passing.OpenArray = LongPlaceFits os cs (form_in c.program p.of) x ws ⊎ LongTextFits (form_in c.program p.of) x ws
+      by passing.VariableRecord = LongPlaceFits os cs (form_in c.program p.of) x ws
+      by passing.VariableOpenArray = LongPlaceFits os cs (form_in c.program p.of) x ws
 
   abbrev pub ArgumentsFit : List AnObject → List Active → List TypedParameter → List Passed → List ℤ → Type 0
   ArgumentsFit os cs [] [] ws = ws ≡ []
@@ -184,6 +198,15 @@ module _ (c : Setting) where
       abbrev pub TaggedFollows : Desig → Type 0
       TaggedFollows d = (pc at : ℕ) (ops : List ℤ) (os : List AnObject) (s : State) (w : World) → length ops + need_tagged d ≤ 256 → code.TaggedCode scope d pc at → DesigOk d → Keeps os s w →
           Follows c (go pc ops w) (LongTo (ends.end_tagged c.program d pc) ops) (PlaceKept (code.form_of scope d) os) (place d here_in s)
+
+      -- the same of a record, and of an open array
+      abbrev pub RecordFollows : Desig → Type 0
+      RecordFollows d = (pc at : ℕ) (ops : List ℤ) (os : List AnObject) (s : State) (w : World) → length ops + need_tagged d ≤ 256 → code.TaggedCode scope d pc at → DesigOk d → typed.IsRecordForm (code.form_of scope d) → Keeps os s w →
+          Follows c (go pc ops w) (LongTo (ends.end_tagged c.program d pc) ops) (PlaceKept (code.form_of scope d) os) (place d here_in s)
+
+      abbrev pub OpenArrayFollows : Desig → Type 0
+      OpenArrayFollows d = (u : Form) (pc at : ℕ) (ops : List ℤ) (os : List AnObject) (s : State) (w : World) → length ops + need_open d ≤ 256 → code.OpenCode scope d pc at → DesigOk d → code.form_of scope d ≡ OpenForm u → Keeps os s w →
+          Follows c (go pc ops w) (LongTo (ends.end_open c.program d pc) ops) (PlaceKept (code.form_of scope d) os) (place d here_in s)
 
       abbrev pub OpenFollows : Desig → Type 0
       OpenFollows d = (pc at : ℕ) (ops : List ℤ) (os : List AnObject) (s : State) (w : World) → length ops + need_open d ≤ 256 → code.OpenCode scope d pc at → DesigOk d → Keeps os s w →

@@ -67,6 +67,13 @@ module _ (c : Setting) where
   pub by_value : {A : Type 0} {x : Point} {to : List ℤ → A → State → World → Point} {Keep : List ℤ → A → State → World → Type 0} {a : A} {s : State} (ws : List ℤ) (w : World) → Reach x (to ws a s w) → Keep ws a s w → FollowsBy x to Keep (Gives a s)
   by_value ws w l h = record { by = (w, ws, l, h) }
 
+  pub by_after : {A : Type 0} {x y : Point} {to : List ℤ → A → State → World → Point} {Keep : List ℤ → A → State → World → Type 0} {r : Res A} → Reach x y → FollowsBy y to Keep r → FollowsBy x to Keep r
+  by_after {A} {x} {y} {to} {Keep} {r} l f = record { by = join r f.by }
+    where
+      join : (r : Res A) → FollowsBy' y to Keep r → FollowsBy' x to Keep r
+      join (Gives b s) h = (h.0, h.1, then_reach l h.2, h.3)
+      join (Stops z s) h = (h.0, then_reach l h.1, h.2)
+
   -- a value first, and then what depends on words
   pub bind_by : {A B : Type 0} {x : Point} {to : A → State → World → Point} {to2 : List ℤ → B → State → World → Point} {Keep : A → State → World → Type 0} {Keep2 : List ℤ → B → State → World → Type 0} {r : Res A} {k : A → M B} → Follows x to Keep r → ((a : A) (s : State) (w : World) → Keep a s w → FollowsBy (to a s w) to2 Keep2 (k a s)) → FollowsBy x to2 Keep2 (bind r k)
   bind_by {A} {B} {x} {to} {to2} {Keep} {Keep2} {r} {k} f g = record { by = join r f.by }

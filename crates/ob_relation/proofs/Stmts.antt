@@ -55,10 +55,10 @@ module _ (c : Setting) (a : Activation c) (n : ℕ) (call : Caller) where
 
     -- ASSIGNMENT
 
-    abbrev plain_to : ℕ → List ℤ → Unit {0} → State → World → Point
+    abbrev pub plain_to : ℕ → List ℤ → Unit {0} → State → World → Point
     plain_to pc ops u s w = go c a pc ops w
 
-    abbrev plain_kept : List AnObject → Unit {0} → State → World → Type 0
+    abbrev pub plain_kept : List AnObject → Unit {0} → State → World → Type 0
     plain_kept os u s w = Kp os s w
 
     pub store_follows : (p : Place) (t : Form) (v : Value) (pc : ℕ) (ops : List ℤ) (os : List AnObject) (s : State) (w : World) → length ops ≤ 256 → code.Has (scope c a) pc (code.plain op.Store) → Scalar t → PlaceOf c.program (has_of c) c.img s.made (K c a) t p → F s.made t v → Kp os s w → Follows c (go c a pc (W s.made v ∷ pos (address c.program c.img s.made (K c a) p) ∷ ops) w) (plain_to (suc pc) ops) (plain_kept os) (assign p v s)
@@ -217,7 +217,7 @@ module _ (c : Setting) (a : Activation c) (n : ℕ) (call : Caller) where
 
   -- LOOPS
 
-  loop_ends : (m b : ℕ) (again : World → Point) (start next exit : ℕ) (at : Pos) (l : Bool) (os : List AnObject) (round : M Round) → b ≤ m → m ≤ n → BackAt c a n call b again start at →
+  pub loop_ends : (m b : ℕ) (again : World → Point) (start next exit : ℕ) (at : Pos) (l : Bool) (os : List AnObject) (round : M Round) → b ≤ m → m ≤ n → BackAt c a n call b again start at →
       ((b : ℕ) (s : State) (w : World) → b ≤ n → Keeps c a n call b os s w → Follows c (go c a start [] w) (RoundTo c a n call b again next exit) (RoundKept c a n call b l os) (round s)) →
       (s : State) (w : World) → Keeps c a n call b os s w → Follows c (go c a start [] w) (FlowTo c a n call b next exit) (FlowKept c a n call b l os) (loop m a.unit at round s)
   loop_ends zero b again start next exit at l os round le le2 back rounds s w st =
@@ -264,7 +264,7 @@ module _ (c : Setting) (a : Activation c) (n : ℕ) (call : Caller) where
       by (Leaving f) s1 w1 k more = follows_value c w1 (here c _) k
 
   -- the jump at the end of a loop, and the one of REPEAT with its value
-  back_jump : (b pc back : ℕ) (at : Pos) → pc ≤ back → back < length a.u.code → code.HasAt (scope c a) back (code.with_a op.Jump pc) at → BackAt c a n call b (λ w. go c a back [] w) pc at
+  pub back_jump : (b pc back : ℕ) (at : Pos) → pc ≤ back → back < length a.u.code → code.HasAt (scope c a) back (code.with_a op.Jump pc) at → BackAt c a n call b (λ w. go c a back [] w) pc at
   back_jump b pc back at up inside has =
       let t : nat_le pc back ≡ true = grind (arith, nat_tests) in
       let i : nat_lt pc (length a.u.code) ≡ true = target_is c a n call b pc (omega (arith, up, inside)) in
@@ -292,7 +292,7 @@ module _ (c : Setting) (a : Activation c) (n : ℕ) (call : Caller) where
   AllStmt t = (b : ℕ) → b ≤ n → StmtFollows c a n call b t
 
   -- the target of EXIT asks nothing of the turns
-  lies_same : (b b2 : ℕ) (l : Bool) (end exit : ℕ) → ExitLies c a n call b l end exit → ExitLies c a n call b2 l end exit
+  pub lies_same : (b b2 : ℕ) (l : Bool) (end exit : ℕ) → ExitLies c a n call b l end exit → ExitLies c a n call b2 l end exit
   lies_same b b2 true end exit h = h
   lies_same b b2 false end exit h = h
 

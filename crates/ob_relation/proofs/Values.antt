@@ -144,7 +144,7 @@ module _ (c : Setting) (os : List AnObject) where
       abbrev pub Row2 : Binary → Form → Value → Value → Type 0
       Row2 o t x y = RowIs (R (binary_code o) (N y ∷ N x ∷ ops)) (compute_both o x y) t
 
-      at_values : (o : Binary) (t : Form) (x y x2 y2 : Value) → x ≡ x2 → y ≡ y2 → Row2 o t x2 y2 → Row2 o t x y
+      pub at_values : (o : Binary) (t : Form) (x y x2 y2 : Value) → x ≡ x2 → y ≡ y2 → Row2 o t x2 y2 → Row2 o t x y
       at_values o t x y x2 y2 e f h = subst (λ x. Row2 o t x y) (sym e) (subst (λ y. Row2 o t x2 y) (sym f) h)
 
       sum_row : (v : Width) (x y : ℤ) → Row2 (binary.Add v) (integer v) (Integer x) (Integer y)
@@ -253,7 +253,7 @@ module _ (c : Setting) (os : List AnObject) where
       ord_row : (n : ℕ) → n < 256 → UnaryIs None unary.Ord (BasicForm basic.Integer) (Character n)
       ord_row n lt = (Integer (pos n), refl, refl, (pos n, below_256 n lt, refl))
 
-      one_value : (o : Unary) (t : Form) (x x2 : Value) → x ≡ x2 → UnaryIs (unary_code o) o t x2 → UnaryIs (unary_code o) o t x
+      pub one_value : (o : Unary) (t : Form) (x x2 : Value) → x ≡ x2 → UnaryIs (unary_code o) o t x2 → UnaryIs (unary_code o) o t x
       one_value o t x x2 e h = subst (λ x. UnaryIs (unary_code o) o t x) (sym e) h
 
       abbrev BinaryOk : Binary → Form → Form → Form → Type 0

@@ -32,7 +32,7 @@ got_within l zero x e = omega arith
 got_within l (suc n) x e = let h = slice_get_within l n x e in omega (arith, h)
 
 module _ (c : Setting) (a : Activation c) where
-  abbrev VariableOk : Variable → Form → Type 0
+  abbrev pub VariableOk : Variable → Form → Type 0
   VariableOk v t = typed.VariableOk c.program (has_of c) a.unit (static_held c.program a.procedure) a.procedure.result v t
 
   module _ (s : State) (w : World) (st : StandIn c (K c a) s w) where

@@ -1,4 +1,4 @@
--- What an image has of each procedure of a program, as far as calls of scalars and by VAR go.
+-- What an image has of each procedure of a program.
 use Rattle.std.specs.Prelude.{◌≡◌, ℕ, suc, ◌+◌, ◌≤◌, ◌<◌, List, [], ◌∷◌, ◌++◌, length, Option, Some, None, Bool, true}
 use Rattle.std.specs.Prelude.{map, false, slice_get}
 use Rattle.ob_tree.specs.declared.names.QName.{QName}
@@ -25,6 +25,7 @@ use Rattle.ob_relation.specs.Stands as code
 use Rattle.ob_relation.specs.Stands.{Scope}
 use Rattle.ob_relation.specs.Need.{need_stmts}
 use Rattle.ob_relation.specs.Typed as typed
+use Rattle.ob_relation.specs.Typed.{IsOpen}
 use Rattle.ob_relation.specs.Setting.{Setting, has_of}
 
 abbrev pub has_one : {A : Type 0} → Option A → Bool
@@ -39,17 +40,24 @@ OneSlot (ArrayForm n t) = Unit {0}
 OneSlot (OpenForm t) = ⊥
 OneSlot (RecordForm line fs) = ⊥
 
--- a scalar by value, or a variable by VAR that is neither a record nor an open array
-abbrev pub KindIs : Passing → Form → Param → Type 0
-KindIs passing.Scalar t k = (k ≡ param.Scalar) × Scalar t
-KindIs passing.Variable t k = (k ≡ param.Var) × OneSlot t
-KindIs how t k = ⊥
+abbrev pub IsRecord : Form → Type 0
+IsRecord (RecordForm line fs) = Unit {0}
+IsRecord t = ⊥
+
+-- how the machine takes a parameter: a record or an array by value as so many words, an open one as elements of so many words
+abbrev pub KindIs : Program → Passing → Form → Param → Type 0
+KindIs program passing.Scalar t k = (k ≡ param.Scalar) × Scalar t
+KindIs program passing.Structure t k = (k ≡ param.Value (words t)) × FormOk program t
+KindIs program passing.OpenArray t k = (u : Form) × (t ≡ OpenForm u) × (k ≡ param.ValueArray (words u))
+KindIs program passing.Variable t k = (k ≡ param.Var) × OneSlot t
+KindIs program passing.VariableRecord t k = (k ≡ param.VarRecord) × IsRecord t
+KindIs program passing.VariableOpenArray t k = (k ≡ param.VarArray) × IsOpen t
 
 abbrev pub KindsAre : Program → List TypedParameter → List Param → Type 0
 KindsAre program [] [] = Unit {0}
 KindsAre program [] (k ∷ ks) = ⊥
 KindsAre program (p ∷ ps) [] = ⊥
-KindsAre program (p ∷ ps) (k ∷ ks) = KindIs p.passing (form_in program p.of) k × KindsAre program ps ks
+KindsAre program (p ∷ ps) (k ∷ ks) = KindIs program p.passing (form_in program p.of) k × KindsAre program ps ks
 
 -- locals and hidden variables
 abbrev pub own_variables : Program → Procedure → List Held

@@ -124,14 +124,18 @@ abbrev pub LengthFits : Form → Bool → Type 0
 LengthFits (OpenForm t) has = has ≡ true
 LengthFits t has = Unit {0}
 
+-- an array's length: from 1 up to the last of LONGINT
+abbrev pub IsLength : ℕ → Type 0
+IsLength n = (1 ≤ n) × (n < 2147483648)
+
 module _ (program : Program) where
-  -- types as they are built: an array has an element, the fields differ, a record is the one that its name stands for, no open array stands inside
+  -- types as they are built: an array has such a length, the fields differ, a record is the one that its name stands for, no open array stands inside
   abbrev mutual
     pub FormOk : Form → Type 0
     FormOk (BasicForm b) = Unit {0}
     FormOk (PointerForm t) = Unit {0}
     FormOk (ProcedureForm sig) = Unit {0}
-    FormOk (ArrayForm n t) = (1 ≤ n) × FormOk t
+    FormOk (ArrayForm n t) = IsLength n × FormOk t
     FormOk (OpenForm t) = ⊥
     FormOk (RecordForm [] fs) = ⊥
     FormOk (RecordForm (q ∷ line) fs) = (record_in program q ≡ RecordForm (q ∷ line) fs) × FieldsOk fs

@@ -46,7 +46,7 @@ use Rattle.ob_meaning.specs.Operators.{is_positive}
 use Rattle.ob_meaning.specs.Meaning.{hidden}
 use Rattle.ob_meaning.specs.Globals.{texts_of_designator, texts_of_expr, texts_of, texts_of_all, texts_of_branches, texts_of_cases, passed_words}
 use Rattle.ob_relation.specs.Layout.{type_number, field_offset, slot, slots_words, variables_in, module_offset}
-use Rattle.ob_relation.specs.Texts.{texts_in}
+use Rattle.ob_relation.specs.Texts.{text_words, texts_in}
 use Rattle.ob_relation.specs.Relation.{OrElse, number_of}
 use Rattle.ob_relation.specs.Ends.{end_variable, end_test, end_step, end_place, end_tagged, end_open, end_expr, end_tag, end_address, end_record, end_array, end_actuals, end_labels, end_stmt, end_stmts, end_branches, end_cases, end_else}
 
@@ -108,6 +108,24 @@ binary_code binary.In = plain op.In
 binary_code binary.Ash = plain op.Ash
 binary_code (binary.Compare r c) = plain (comparison_code r)
 
+-- the operators that have a result for all operands: they neither trap nor spend a turn, and files have no position for them
+abbrev pub never_stops : Opcode → Bool
+never_stops op.Not = true
+never_stops op.Compl = true
+never_stops op.Cap = true
+never_stops op.Odd = true
+never_stops op.Union = true
+never_stops op.Minus = true
+never_stops op.Meet = true
+never_stops op.Xor = true
+never_stops op.Eq = true
+never_stops op.Ne = true
+never_stops op.Lt = true
+never_stops op.Le = true
+never_stops op.Gt = true
+never_stops op.Ge = true
+never_stops o = false
+
 abbrev pub update_code : Update → Instr
 update_code (update.Inc w) = with_a op.Inc (bytes w)
 update_code (update.Dec w) = with_a op.Dec (bytes w)
@@ -164,9 +182,10 @@ module _ (sc : Scope) where
   pub record Has (pc : ℕ) (i : Instr) : Type 0 where
     pub is : slice_get sc.u.code pc ≡ Some i
 
+  -- with its position, unless it never stops
   pub record HasAt (pc : ℕ) (i : Instr) (at : Pos) : Type 0 where
     pub has : Has pc i
-    pub place : position_at sc.u.positions pc ≡ at
+    pub place : OrElse (never_stops i.op) (Unit {0}) (position_at sc.u.positions pc ≡ at)
 
   -- an instruction with a number of this module's that stands for a type
   pub record HasType (pc : ℕ) (o : Opcode) (q : QName) : Type 0 where
@@ -235,6 +254,17 @@ module _ (sc : Scope) where
     pub behind : List ℤ
     pub is : texts_in sc.program sc.program sc.unit ≡ before ++ (map pos text ++ (pos 0 ∷ behind))
     pub offset : slots_words (variables_in sc.program sc.program sc.unit) + length before ≡ at
+
+  -- a string filled with 0X to so many words stands there
+  pub record FilledStands (text : List ℕ) (n at : ℕ) : Type 0 where
+    pub before : List ℤ
+    pub behind : List ℤ
+    pub is : texts_in sc.program sc.program sc.unit ≡ before ++ (text_words text n ++ behind)
+    pub offset : slots_words (variables_in sc.program sc.program sc.unit) + length before ≡ at
+
+  abbrev pub LiteralFilled : Literal → ℕ → ℕ → Type 0
+  LiteralFilled (literal.Str text) n at = FilledStands text n at
+  LiteralFilled c n at = Unit {0}
 
   abbrev pub LiteralStands : Literal → ℕ → Type 0
   LiteralStands (literal.Str text) at = TextStands text at
@@ -335,6 +365,12 @@ module _ (sc : Scope) where
     AddressCode (Constant c) pc at = string_at pc at × LiteralStands c at
     AddressCode e pc at = ⊥
 
+    -- a record or an array by value, a string being filled to its words
+    pub StructureCode : Expr → ℕ → ℕ → ℕ → Type 0
+    StructureCode (ValueOf d) n pc at = PlaceCode d pc at
+    StructureCode (Constant c) n pc at = string_at pc at × LiteralFilled c n at
+    StructureCode e n pc at = ⊥
+
     pub RecordCode : Expr → ℕ → ℕ → Type 0
     RecordCode (ValueOf d) pc at = TaggedCode d pc at
     RecordCode e pc at = ⊥
@@ -347,7 +383,7 @@ module _ (sc : Scope) where
     pub ActualsCode : Actuals → ℕ → ℕ → Type 0
     ActualsCode NoActual pc at = Unit {0}
     ActualsCode (AnActual passing.Scalar t e rest) pc at = ExprCode e pc at × ActualsCode rest (end_expr sc.program e pc) (at + et e)
-    ActualsCode (AnActual passing.Structure t e rest) pc at = AddressCode e pc at × ActualsCode rest (end_address sc.program e pc) (at + passed_before passing.Structure t e)
+    ActualsCode (AnActual passing.Structure t e rest) pc at = StructureCode e (words (form_in sc.program t)) pc at × ActualsCode rest (end_address sc.program e pc) (at + passed_before passing.Structure t e)
     ActualsCode (AnActual passing.Variable t e rest) pc at = AddressCode e pc at × ActualsCode rest (end_address sc.program e pc) (at + et e)
     ActualsCode (AnActual passing.VariableRecord t e rest) pc at = RecordCode e pc at × ActualsCode rest (end_record sc.program e pc) (at + et e)
     ActualsCode (AnActual passing.OpenArray t e rest) pc at = ArrayCode e pc at × ActualsCode rest (end_array sc.program e pc) (at + et e)

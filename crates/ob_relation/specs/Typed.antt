@@ -87,13 +87,13 @@ passing_for mode.Var (OpenForm t) = passing.VariableOpenArray
 passing_for mode.Var (RecordForm line fs) = passing.VariableRecord
 passing_for mode.Var t = passing.Variable
 
-abbrev pub ByPassing : Passing → (scalar structure array referred : Type 0) → Type 0
-ByPassing passing.Scalar A B C D = A
-ByPassing passing.Structure A B C D = B
-ByPassing passing.OpenArray A B C D = C
-ByPassing passing.Variable A B C D = D
-ByPassing passing.VariableRecord A B C D = D
-ByPassing passing.VariableOpenArray A B C D = D
+abbrev pub ByPassing : Passing → (scalar structure array referred referred_record referred_array : Type 0) → Type 0
+ByPassing passing.Scalar A B C D E F = A
+ByPassing passing.Structure A B C D E F = B
+ByPassing passing.OpenArray A B C D E F = C
+ByPassing passing.Variable A B C D E F = D
+ByPassing passing.VariableRecord A B C D E F = E
+ByPassing passing.VariableOpenArray A B C D E F = F
 
 abbrev pub As : (Held → Type 0) → List Held → List ℕ → Type 0
 As Kind [] x = ⊥
@@ -125,6 +125,17 @@ IsVariableRecord (OfVariable (variable.Parameter passing.VariableRecord x) t) = 
 IsVariableRecord (Guard d guarded.Record q at t) = IsVariableRecord d
 IsVariableRecord d = ⊥
 
+abbrev pub IsRecordForm : Form → Type 0
+IsRecordForm t = (line : List QName) × (t ≡ RecordForm line (fields_of t))
+
+abbrev pub IsOpen : Form → Type 0
+IsOpen (OpenForm t) = Unit {0}
+IsOpen t = ⊥
+
+-- an array of such elements, open or of a length
+abbrev pub IsArrayOf : Form → Form → Type 0
+IsArrayOf t u = (t ≡ OpenForm u) ⊎ ((n : ℕ) × (t ≡ ArrayForm n u))
+
 module _ (program : Program) (Has : Signature → QName → Type 0) (unit : List ℕ) (held : List Held) (result : Option TypeRef) where
   -- what may stand for a scalar type: itself; a smaller integer type; a pointer to an extension
   pub data Widens : Form → Form → Type 0 where
@@ -133,10 +144,11 @@ module _ (program : Program) (Has : Signature → QName → Type 0) (unit : List
     pointers : (t u : TypeRef) → ((a : Form) → Sub a (form_in program t) → Sub a (form_in program u)) → ((has : Bool) → LengthFits (form_in program t) has → LengthFits (form_in program u) has) → Widens (PointerForm t) (PointerForm u)
     procedures : (s t : Signature) → ((q : QName) → Has s q → Has t q) → Widens (ProcedureForm s) (ProcedureForm t)
 
+  -- a parameter has its kind, and an open array by value the type of one
   abbrev pub ParameterOk : Passing → List ℕ → Type 0
   ParameterOk passing.Scalar x = As IsOwn held x
   ParameterOk passing.Structure x = As (IsCopied 1) held x
-  ParameterOk passing.OpenArray x = As (IsCopied 2) held x
+  ParameterOk passing.OpenArray x = As (IsCopied 2) held x × IsOpen (form_named held x)
   ParameterOk passing.Variable x = As (IsReferred 1) held x
   ParameterOk passing.VariableRecord x = As (IsReferred 2) held x
   ParameterOk passing.VariableOpenArray x = As (IsReferred 2) held x
@@ -269,14 +281,14 @@ module _ (program : Program) (Has : Signature → QName → Type 0) (unit : List
     ActualsOk NoActual [] = Unit {0}
     ActualsOk NoActual (p ∷ ps) = ⊥
     ActualsOk (AnActual how t e rest) [] = ⊥
-    ActualsOk (AnActual how t e rest) (p ∷ ps) = (how ≡ p.passing) × ((t ≡ p.of) × (ByPassing how (ExprOk e (form_in program t) × Scalar (form_in program t)) (StructureOk e (form_in program t)) (ArrayOk e (form_in program t)) (ReferredOk e (form_in program t)) × ActualsOk rest ps))
+    ActualsOk (AnActual how t e rest) (p ∷ ps) = (how ≡ p.passing) × ((t ≡ p.of) × (ByPassing how (ExprOk e (form_in program t) × Scalar (form_in program t)) (StructureOk e (form_in program t)) (ArrayOk e (form_in program t)) (ReferredOk e (form_in program t)) (RecordOk e (form_in program t)) (VariableArrayOk e (form_in program t)) × ActualsOk rest ps))
 
     -- by a signature alone, as procedure variables are called
     pub SignatureOk : Actuals → List (Mode × TypeRef) → Type 0
     SignatureOk NoActual [] = Unit {0}
     SignatureOk NoActual (p ∷ ps) = ⊥
     SignatureOk (AnActual how t e rest) [] = ⊥
-    SignatureOk (AnActual how t e rest) (p ∷ ps) = (how ≡ passing_for p.0 (form_in program p.1)) × ((t ≡ p.1) × (ByPassing how (ExprOk e (form_in program t) × Scalar (form_in program t)) (StructureOk e (form_in program t)) (ArrayOk e (form_in program t)) (ReferredOk e (form_in program t)) × SignatureOk rest ps))
+    SignatureOk (AnActual how t e rest) (p ∷ ps) = (how ≡ passing_for p.0 (form_in program p.1)) × ((t ≡ p.1) × (ByPassing how (ExprOk e (form_in program t) × Scalar (form_in program t)) (StructureOk e (form_in program t)) (ArrayOk e (form_in program t)) (ReferredOk e (form_in program t)) (RecordOk e (form_in program t)) (VariableArrayOk e (form_in program t)) × SignatureOk rest ps))
 
     pub StructureOk : Expr → Form → Type 0
     StructureOk (ValueOf d) t = DesigOk d × Sub (form_of d) t
@@ -284,13 +296,21 @@ module _ (program : Program) (Has : Signature → QName → Type 0) (unit : List
     StructureOk e t = ⊥
 
     pub ArrayOk : Expr → Form → Type 0
-    ArrayOk (ValueOf d) t = DesigOk d × ((u : Form) × (t ≡ OpenForm u) × ((form_of d ≡ t) ⊎ ((n : ℕ) × (form_of d ≡ ArrayForm n u))))
-    ArrayOk (Constant (literal.Str text)) t = t ≡ OpenForm char
+    ArrayOk (ValueOf d) t = DesigOk d × ((u : Form) × (t ≡ OpenForm u) × IsArrayOf (form_of d) u)
+    ArrayOk (Constant (literal.Str text)) t = (t ≡ OpenForm char) × AreCharacters text
     ArrayOk e t = ⊥
 
     pub ReferredOk : Expr → Form → Type 0
     ReferredOk (ValueOf d) t = DesigOk d × ((a : Form) → Sub a (form_of d) → Sub a t)
     ReferredOk e t = ⊥
+
+    pub RecordOk : Expr → Form → Type 0
+    RecordOk (ValueOf d) t = DesigOk d × (IsRecordForm (form_of d) × ((a : Form) → Sub a (form_of d) → Sub a t))
+    RecordOk e t = ⊥
+
+    pub VariableArrayOk : Expr → Form → Type 0
+    VariableArrayOk (ValueOf d) t = DesigOk d × ((u : Form) × (t ≡ OpenForm u) × IsArrayOf (form_of d) u)
+    VariableArrayOk e t = ⊥
 
   abbrev pub AssignedOk : Assigned → Desig → Expr → Type 0
   AssignedOk assigned.Scalar d e = ExprOk e (form_of d) × Scalar (form_of d)

@@ -16,7 +16,16 @@ use Rattle.ob_relation.specs.Layout.{module_number}
 use Rattle.ob_relation.specs.Relation.{number_of, call_start}
 use Rattle.ob_relation.specs.Setting.{Setting, StandIn, stopped, has_of}
 use Rattle.ob_relation.specs.Linked.{Linked, ProcedureStands, TypesStand}
+use Rattle.ob_records.specs.Bases.{BasesStand}
+use Rattle.ob_operators.specs.Procedures.{ValuesNumbered}
 use Rattle.ob_simulation.specs.Slice.{InStmts, AllIn}
+
+-- what the law asks of an image: it has each procedure and each record type with its bases, and tells the procedures that variables may have as values
+pub record ImageStands (c : Setting) : Type 0 where
+  pub linked : Linked c
+  pub types : TypesStand c
+  pub bases : BasesStand c
+  pub numbered : ValuesNumbered c
 
 module _ (c : Setting) where
   -- the words with no activation
@@ -36,8 +45,8 @@ module _ (c : Setting) where
 
 -- of a proper command without parameters, over any state without active calls and any words that stand for it
 abbrev pub CommandsSimulate : Type 0
-CommandsSimulate = (c : Setting) → Linked c → TypesStand c → AllIn c → (q : QName) (p : Procedure) → values.procedure_of c.program q ≡ Some p → p.parameters ≡ [] → p.result ≡ None → (s : State) (w : World) → s.calls ≡ [] → StandIn c s.calls s w → Simulates c (number_of c.program (has_of c) c.img q) w (run_first c.program c.heap q p s)
+CommandsSimulate = (c : Setting) → ImageStands c → AllIn c → (q : QName) (p : Procedure) → values.procedure_of c.program q ≡ Some p → p.parameters ≡ [] → p.result ≡ None → (s : State) (w : World) → s.calls ≡ [] → StandIn c s.calls s w → Simulates c (number_of c.program (has_of c) c.img q) w (run_first c.program c.heap q p s)
 
 -- of a module's body, which is its procedure 0
 abbrev pub BodiesSimulate : Type 0
-BodiesSimulate = (c : Setting) → Linked c → TypesStand c → AllIn c → (m : Module) → ProcedureStands c (body_name m) (body_procedure m) → InStmts m.body → (s : State) (w : World) → s.calls ≡ [] → StandIn c s.calls s w → Simulates c (record { «module» = module_number c.program m.name; proc = 0 }) w (run_first c.program c.heap (body_name m) (body_procedure m) s)
+BodiesSimulate = (c : Setting) → ImageStands c → AllIn c → (m : Module) → ProcedureStands c (body_name m) (body_procedure m) → InStmts m.body → (s : State) (w : World) → s.calls ≡ [] → StandIn c s.calls s w → Simulates c (record { «module» = module_number c.program m.name; proc = 0 }) w (run_first c.program c.heap (body_name m) (body_procedure m) s)
