@@ -1,5 +1,3 @@
-//! The type test on all pairs of types of a chain.
-
 ghost use Rattle.std.specs.Prelude.{◌≡◌, ◌≤◌, ◌<◌, [], length, IfOk, IfSome};
 
 use ob_tdesc::{Descriptor, Descriptors, Steps};
@@ -7,6 +5,7 @@ use ob_tree::{List, Name, ObjName};
 use std::alloc::{AllocError, Global};
 use std::marker::Brand;
 use std::sync::ledger::{Blank, Ledger};
+use std::test::*;
 
 // A type whose base has the number before its own; that of number 0 has none.
 fn link(alloc: Global, number: u32) -> Result<Descriptor, AllocError>
@@ -70,11 +69,12 @@ fn chain_goes_by_place(alloc: Global, count: u32) -> Result<bool, AllocError> {
     Ok(answers::<Brand>(&types, count, Blank::new(1)))
 }
 
-/// Whether the type test goes by the places of a chain of so many types, on all its pairs.
-pub fn chain_answer(alloc: Global, count: u32) -> Result<&'static str, AllocError> {
-    if chain_goes_by_place(alloc, count)? {
-        Ok("by place")
-    } else {
-        Ok("not by place")
-    }
+// All pairs of chains that end at the first type, among the levels of the table, and behind them.
+#[test]
+fn pairs_of_a_chain(rt: HostRuntime) -> Result<(), Fail> {
+    assert!(rt; chain_goes_by_place(rt.alloc(), 1)?);
+    assert!(rt; chain_goes_by_place(rt.alloc(), 16)?);
+    assert!(rt; chain_goes_by_place(rt.alloc(), 20)?);
+    assert!(rt; chain_goes_by_place(rt.alloc(), 41)?);
+    Ok(())
 }

@@ -1,21 +1,23 @@
-//! Small codes of the machine, run, with how they end and what they write.
+//! Runs codes, and compares how they end.
 
 ghost use Rattle.std.specs.Prelude.{◌≡◌};
 ghost use Rattle.ob_machine.specs.Machine.{IsEntry};
 
+use crate::alone::{machine_of, stands_alone};
 use crate::object::object_file;
-use ob_codes::{machine_of, stands_alone};
 use ob_io::MemSink;
 use ob_machine::{Machine, Outcome};
 use ob_obj::read_obj;
 use ob_tree::{Pos, ProcRef};
 use std::alloc::{AllocError, Global};
+use std::process::Abort;
+use std::test::Fail;
 
-/// How codes are run: with so many turns a run, and whether once or twice on the same machine.
-#[derive(Clone, Copy)]
-pub struct Runs {
-    pub turns: u32,
-    pub twice: bool,
+/// How often a code is run, one run after the other on the same machine.
+#[derive(Clone, Copy, PartialEq, Eq)]
+pub enum Times {
+    Once,
+    Twice,
 }
 
 // The index of the instruction at a position: its column is one above.
@@ -54,27 +56,54 @@ fn run_body(machine: &mut Machine, turns: u32, out: &mut MemSink) -> Outcome
 }
 
 // How the last run of a code ends.
-fn end_of(alloc: Global, code: &str, runs: Runs, out: &mut MemSink) -> anyhow::Result<Outcome> {
+fn end_of(
+    alloc: Global,
+    code: &str,
+    turns: u32,
+    times: Times,
+    out: &mut MemSink,
+) -> Result<Outcome, Fail> {
     let bytes = object_file(alloc, code)?;
     let Ok(file) = read_obj(alloc, &bytes) else {
-        anyhow::bail!("no object file");
+        return Err("no object file".into());
     };
     if !stands_alone(&file) {
-        anyhow::bail!("a file with links");
+        return Err("a file with links".into());
     }
     let mut machine = machine_of(alloc, 12, file)?;
-    if runs.twice {
-        let _ = run_body(&mut machine, runs.turns, out);
+    if times == Times::Twice {
+        let _ = run_body(&mut machine, turns, out);
     }
-    Ok(run_body(&mut machine, runs.turns, out))
+    Ok(run_body(&mut machine, turns, out))
 }
 
-/// How the last run of a code ends, and what all its runs write.
-pub fn code_answer(alloc: Global, code: &str, runs: Runs) -> anyhow::Result<String> {
+// A code with its end and what all its runs wrote, as a row of a table says it.
+fn found(alloc: Global, code: &str, turns: u32, times: Times) -> Result<String, Fail> {
     let mut out = MemSink::new(alloc, 1 << 12, Vec::new(alloc))?;
-    let outcome = end_of(alloc, code, runs, &mut out)?;
+    let outcome = end_of(alloc, code, turns, times, &mut out)?;
     let end = text_of(alloc, outcome)?;
-    let written = str::from_utf8(out.bytes())?;
+    let Ok(written) = str::from_utf8(out.bytes()) else {
+        return Err("no text".into());
+    };
     let written = written.replace(alloc, "\n", "\\n")?;
-    Ok(format!(in alloc; "{end} | {written}")?)
+    Ok(format!(in alloc; "{code} | {end} | {written}")?)
+}
+
+/// Runs the code of each row, with so many turns for a run, and compares. A row is a code, how the last run
+/// ends, and what all runs wrote.
+pub fn expect_all(
+    rt: &impl Abort,
+    alloc: Global,
+    turns: u32,
+    times: Times,
+    rows: &str,
+) -> Result<(), Fail> {
+    for row in rows.trim().lines() {
+        let Some((code, _)) = row.split_once(" | ") else {
+            return Err("no row".into());
+        };
+        let is = found(alloc, code, turns, times)?;
+        assert_eq!(rt; is.trim_end(), row);
+    }
+    Ok(())
 }

@@ -1,0 +1,5 @@
+//! The type test along a chain of record types.
+#![tactic(auto)]
+
+#[cfg(test)]
+mod chain;
