@@ -1,0 +1,4 @@
+pub mod Fits
+pub mod Variables
+pub mod Named
+pub mod Supers
