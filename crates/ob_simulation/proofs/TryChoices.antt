@@ -39,6 +39,7 @@ use Rattle.ob_simulation.proofs.Try.{none, none_length}
 use Rattle.ob_relation.specs.Linked.{Linked, ProcedureStands, TypesStand}
 use Rattle.ob_relation.specs.Setting.{Setting, StandIn}
 use Rattle.ob_operators.specs.Procedures.{ValuesNumbered}
+use Rattle.ob_methods.specs.Signatures.{ValuesMatch}
 use Rattle.ob_records.specs.Bases.{BasesStand}
 use Rattle.ob_simulation.specs.Simulates.{ImageStands, Simulates}
 use Rattle.ob_simulation.specs.Slice.{AllIn, InStmts}
@@ -300,8 +301,11 @@ no_bases = record { lines = λ q line e. absurd (cc); extends = λ q line e b h.
 no_values : ValuesNumbered setting
 no_values s q e = absurd (cc)
 
+no_match : ValuesMatch setting
+no_match s q p e found = absurd (cc)
+
 stands_so : ImageStands setting
-stands_so = record { linked = linked; types = no_types; bases = no_bases; numbered = no_values }
+stands_so = record { linked = linked; types = no_types; bases = no_bases; numbered = no_values; match = no_match }
 
 -- the machine's run ends as the command's meaning
 pub tried : Simulates setting (record { «module» = 0; proc = 1 }) words (run_first program 1000 go run_it begins)

@@ -31,6 +31,7 @@ use Rattle.ob_relation.specs.Linked.{Linked, ProcedureStands, TypesStand}
 use Rattle.ob_relation.specs.Setting.{Setting, StandIn}
 use Rattle.ob_records.specs.Bases.{BasesStand}
 use Rattle.ob_operators.specs.Procedures.{ValuesNumbered}
+use Rattle.ob_methods.specs.Signatures.{ValuesMatch}
 use Rattle.ob_simulation.proofs.Whole.{command_simulates}
 use Rattle.ob_simulation.specs.Simulates.{ImageStands, Simulates}
 use Rattle.ob_simulation.specs.Slice.{AllIn, InStmts}
@@ -257,8 +258,11 @@ no_bases = record { lines = λ q line e. absurd (never q line _ (bytes_eq q.modu
 no_values : ValuesNumbered setting
 no_values s q e = absurd (cc)
 
+no_match : ValuesMatch setting
+no_match s q p e found = absurd (cc)
+
 stands_so : ImageStands setting
-stands_so = record { linked = linked; types = no_types; bases = no_bases; numbered = no_values }
+stands_so = record { linked = linked; types = no_types; bases = no_bases; numbered = no_values; match = no_match }
 
 -- and the machine's run ends as the command's meaning
 pub tried : Simulates setting (record { «module» = 0; proc = 1 }) words (run_first program 1000 (named go_name) run_it begins)

@@ -18,14 +18,16 @@ use Rattle.ob_relation.specs.Setting.{Setting, StandIn, stopped, has_of}
 use Rattle.ob_relation.specs.Linked.{Linked, ProcedureStands, TypesStand}
 use Rattle.ob_records.specs.Bases.{BasesStand}
 use Rattle.ob_operators.specs.Procedures.{ValuesNumbered}
+use Rattle.ob_methods.specs.Signatures.{ValuesMatch}
 use Rattle.ob_simulation.specs.Slice.{InStmts, AllIn}
 
--- what the law asks of an image: it has each procedure and each record type with its bases, and tells the procedures that variables may have as values
+-- what the law asks of an image: it has each procedure and each record type with its bases, and tells the procedures that variables may have as values, which match the signatures of these variables
 pub record ImageStands (c : Setting) : Type 0 where
   pub linked : Linked c
   pub types : TypesStand c
   pub bases : BasesStand c
   pub numbered : ValuesNumbered c
+  pub match : ValuesMatch c
 
 module _ (c : Setting) where
   -- the words with no activation
