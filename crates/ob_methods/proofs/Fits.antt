@@ -17,6 +17,7 @@ use Rattle.ob_relation.specs.Stands.{slots_passed, operands_of}
 use Rattle.ob_relation.specs.Typed as typed
 use Rattle.ob_relation.proofs.Statements.{onto, Activation, PlaceFits, LongPlaceFits, TextFits, LongTextFits, ArgumentFits, ArgumentsFit}
 use Rattle.ob_relation.specs.Setting.{Setting, has_of}
+use Rattle.ob_methods.specs.Signatures.{Alike}
 
 -- THE OPERANDS OF A CALL
 
@@ -36,7 +37,7 @@ args_are n ws ops k len =
     ∙ ap (λ l. k (reverse l) (drop n (onto ws ops))) front ∙ ap (λ l. k l (drop n (onto ws ops))) (reverse-reverse ws) ∙ ap (λ l. k ws l) back
 
 module _ (c : Setting) (os : List AnObject) (cs : List Active) where
-  abbrev ValueFits : Form → Passed → List ℤ → Type 0
+  abbrev pub ValueFits : Form → Passed → List ℤ → Type 0
   ValueFits t x ws = (v : Value) × (x ≡ ByValue v) × (ws ≡ word_of c.program (has_of c) c.img os v ∷ []) × Scalar t × Fine c.program (has_of c) os t v
 
   -- arguments fit by the passing and the form of the parameter alone
@@ -69,14 +70,7 @@ module _ (c : Setting) (os : List AnObject) (cs : List Active) where
           let h : LongPlaceFits c os cs (form_in c.program q.of) x vs = subst (λ t. LongPlaceFits c os cs t x vs) form g in
           rw e h
 
-  -- parameters that differ in nothing but their names and the names of their types
-  abbrev pub Alike : List TypedParameter → List TypedParameter → Type 0
-  Alike [] [] = Unit {0}
-  Alike [] (q ∷ qs) = ⊥
-  Alike (p ∷ ps) [] = ⊥
-  Alike (p ∷ ps) (q ∷ qs) = ((p.passing ≡ q.passing) × (form_in c.program p.of ≡ form_in c.program q.of)) × Alike ps qs
-
-  pub all_alike : (ps qs : List TypedParameter) (xs : List Passed) (ws : List ℤ) → Alike ps qs → ArgumentsFit c os cs ps xs ws → ArgumentsFit c os cs qs xs ws
+  pub all_alike : (ps qs : List TypedParameter) (xs : List Passed) (ws : List ℤ) → Alike c.program ps qs → ArgumentsFit c os cs ps xs ws → ArgumentsFit c os cs qs xs ws
   all_alike [] [] xs ws k f = f
   all_alike [] (q ∷ qs) xs ws k f = absurd k
   all_alike (p ∷ ps) [] xs ws k f = absurd k

@@ -38,8 +38,8 @@ use Rattle.ob_relation.specs.Linked.{Linked}
 use Rattle.ob_relation.specs.Setting.{Setting, has_of}
 use Rattle.ob_records.proofs.Pointers.{HolderFollows, holder_load}
 use Rattle.ob_operators.specs.Procedures.{ValuesNumbered}
-use Rattle.ob_methods.specs.Signatures.{ParametersMatch, ValuesMatch}
-use Rattle.ob_methods.proofs.Fits.{args_are, Alike, all_alike, counted}
+use Rattle.ob_methods.specs.Signatures.{Alike, ParametersMatch, ValuesMatch}
+use Rattle.ob_methods.proofs.Fits.{args_are, all_alike, counted}
 
 -- a procedure by its value
 abbrev procedure_by : ℕ → ℕ → ProcRef
@@ -78,7 +78,7 @@ module _ (c : Setting) (a : Activation c) (n : ℕ) (call : Caller) (b : ℕ) wh
   actuals_ok (AnActual how t e rest) [] ok = ok
   actuals_ok (AnActual how t e rest) (u ∷ ts) ok = (ok.0, (ok.1.0, (ok.1.1.0, actuals_ok rest ts ok.1.1.1)))
 
-  match_alike : (os : List AnObject) (ps : List TypedParameter) (ts : List (Mode × TypeRef)) → ParametersMatch c.program ps ts → Alike c os (K c a) (parameters_of ts) ps
+  match_alike : (os : List AnObject) (ps : List TypedParameter) (ts : List (Mode × TypeRef)) → ParametersMatch c.program ps ts → Alike c.program (parameters_of ts) ps
   match_alike os [] [] k = k
   match_alike os [] (t ∷ ts) k = k
   match_alike os (p ∷ ps) [] k = k

@@ -20,3 +20,10 @@ ParametersMatch program (p ∷ ps) (t ∷ ts) = ((p.passing ≡ passing_for t.0 
 -- a procedure that a variable may have as its value has the result and the parameters of the variable's signature
 abbrev pub ValuesMatch : Setting → Type 0
 ValuesMatch c = (s : Signature) (q : QName) (p : Procedure) → has_of c s q → procedure_of c.program q ≡ Some p → (p.result ≡ s.result) × ParametersMatch c.program p.parameters s.params
+
+-- parameters that differ in nothing but their names and the names of their types
+abbrev pub Alike : Program → List TypedParameter → List TypedParameter → Type 0
+Alike program [] [] = Unit {0}
+Alike program [] (q ∷ qs) = ⊥
+Alike program (p ∷ ps) [] = ⊥
+Alike program (p ∷ ps) (q ∷ qs) = ((p.passing ≡ q.passing) × (form_in program p.of ≡ form_in program q.of)) × Alike program ps qs
