@@ -89,6 +89,8 @@ abbrev mutual
   InExpr (IsPointer e q) = InExpr e
   InExpr (IsRecord d q) = Unit {0}
   InExpr (Call (callee.Declared q) es at r) = InActuals es
+  InExpr (Call (callee.Bound f k) es at r) = InActuals es
+  InExpr (Call (callee.Super base f k) es at r) = InActuals es
   InExpr (CallVariable d es at r) = InHolder d × InActuals es
   InExpr e = ⊥
 
@@ -121,6 +123,8 @@ abbrev mutual
   InStmt (Assign d assigned.Array (ValueOf e) at) = InDesig d × InDesig e
   InStmt (Assign d (assigned.Record q) (ValueOf e) at) = InTagged d × InDesig e
   InStmt (CallProper (Call (callee.Declared q) es at r)) = InActuals es
+  InStmt (CallProper (Call (callee.Bound f k) es at r)) = InActuals es
+  InStmt (CallProper (Call (callee.Super base f k) es at r)) = InActuals es
   InStmt (CallProper (CallVariable d es at r)) = InHolder d × InActuals es
   InStmt (CallProper (Call (callee.Out out.Ln) NoActual at r)) = Unit {0}
   InStmt (CallProper (Call (callee.Out out.Char) (AnActual passing.Scalar (ref.Basic basic.Char) e NoActual) at r)) = InExpr e
