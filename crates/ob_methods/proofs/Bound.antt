@@ -1,5 +1,5 @@
 -- Calls of bound procedures follow their meaning.
-use Rattle.std.proofs.Common.{◌≡◌, ◌⊎◌, ⊎_elim, inr, ℕ, suc, ◌+◌, ◌≤◌, ◌<◌, List, [], ◌∷◌, ◌++◌, length, Option, Some, None, ℤ, refl, sym, ap, ◌∙◌, subst, arith, length-append}
+use Rattle.std.proofs.Common.{◌≡◌, ⊎_elim, inr, ℕ, suc, ◌+◌, ◌≤◌, ◌<◌, List, [], ◌∷◌, ◌++◌, length, Option, Some, ℤ, refl, sym, ap, ◌∙◌, subst, arith}
 use Rattle.std.specs.Prelude.{pos, slice_get, if◌then◌else◌}
 use Rattle.ob_tree.specs.declared.pos.Pos.{Pos}
 use Rattle.ob_tree.specs.declared.names.QName.{QName}
@@ -8,13 +8,12 @@ use Rattle.ob_types.specs.declared.desc.Receiver.TheVariants as receiver
 use Rattle.ob_types.specs.declared.types.TypeRef.{TypeRef}
 use Rattle.ob_types.specs.declared.typed.Callee.TheVariants as callee
 use Rattle.ob_types.specs.declared.typed.Family.{Family}
-use Rattle.ob_types.specs.declared.typed.Passing.TheVariants as passing
 use Rattle.ob_types.specs.declared.typed.TypedParameter.{TypedParameter}
 use Rattle.ob_types.specs.TypedSyntax.{Call, Actuals, NoActual, AnActual, CallProper, Procedure}
 use Rattle.ob_instr.specs.declared.opcode.Opcode.{Opcode}
 use Rattle.ob_instr.specs.declared.opcode.Opcode.TheVariants as op
 use Rattle.ob_instr.specs.Image.{World}
-use Rattle.ob_instr.specs.Rows.{Effect, Traps, is_zero, on_found, on_receiver, on_tag, calls, tag_method, pointer_method, method_at, tag}
+use Rattle.ob_instr.specs.Rows.{Traps, is_zero, on_found, on_receiver, on_tag, calls, tag_method, pointer_method, method_at}
 use Rattle.ob_instr.specs.Table.{position_at}
 use Rattle.ob_mem.specs.Words.{word_at}
 use Rattle.ob_meaning.specs.Values as values
@@ -22,20 +21,19 @@ use Rattle.ob_meaning.specs.Values.{Form, PointerForm, RecordForm, fields_of, fo
 use Rattle.ob_meaning.specs.Results.{Passed, ByValue, ByPlace, Caller}
 use Rattle.ob_meaning.specs.Meaning.{nearest, bases_of, call_found, call_bound}
 use Rattle.ob_relation.specs.Layout.{static_held, type_number, object_at, has_length_at, heap_start, object_offset, address, place_form}
-use Rattle.ob_relation.specs.Relation.{LengthFits, Fine, PlaceIn, word_of, second_word, tag_of, number_of, Scalar, Sub, PlaceOf}
-use Rattle.ob_relation.specs.Need.{need_actuals}
+use Rattle.ob_relation.specs.Relation.{LengthFits, Fine, word_of, second_word, tag_of, Scalar, Sub, PlaceOf}
 use Rattle.ob_relation.specs.Ends.{end_actuals}
 use Rattle.ob_relation.specs.Stands as code
 use Rattle.ob_relation.specs.Stands.{instr, operands_of, behind_receiver, slots_passed}
 use Rattle.ob_relation.specs.Typed as typed
 use Rattle.ob_relation.specs.Typed.{IsRecordType, ReceiverOk}
 use Rattle.ob_relation.proofs.Steps.{here, Follows, follows_bind, follows_value, follows_stop, stands_any}
-use Rattle.ob_relation.proofs.Statements.{Activation, scope, go, fb, K, here_in, Keeps, onto, ExprFollows, ActualsFollow, StmtFollows, LongPlaceFits, ArgumentFits, ArgumentsFit, CallsFollow, ResultFine, result_words}
+use Rattle.ob_relation.proofs.Statements.{Activation, scope, go, K, here_in, Keeps, onto, ExprFollows, ActualsFollow, StmtFollows, LongPlaceFits, ArgumentFits, ArgumentsFit, CallsFollow, ResultFine, result_words}
 use Rattle.ob_relation.proofs.Moves.{traps, effect}
 use Rattle.ob_relation.specs.Setting.{Setting, StandIn, has_of}
 use Rattle.ob_records.proofs.Tags.{IsRecord, one_less, record_below, record_above, place_form_ok, type_at, object_tag}
 use Rattle.ob_methods.specs.Tables.{TablesStand, FamiliesStand, Redefinition, Redefined, ReceiverTakes}
-use Rattle.ob_methods.proofs.Fits.{args_are, all_alike, counted, one_counted, ValueFits}
+use Rattle.ob_methods.proofs.Fits.{args_are, all_alike, counted, ValueFits}
 use Rattle.ob_methods.proofs.Named.{NamedGoes, named_value, named_proper}
 use Rattle.ob_methods.proofs.Supers.{known_goes}
 

@@ -1,5 +1,5 @@
 -- Calls that name what is called, from what the call's own instruction does.
-use Rattle.std.proofs.Common.{◌≡◌, ℕ, suc, ◌+◌, ◌≤◌, List, [], ◌∷◌, ◌++◌, length, Option, Some, None, ℤ, refl, sym, subst, arith}
+use Rattle.std.proofs.Common.{◌≡◌, ℕ, suc, ◌+◌, ◌≤◌, List, [], ◌∷◌, ◌++◌, length, Option, Some, None, ℤ, sym, subst, arith}
 use Rattle.ob_tree.specs.declared.pos.Pos.{Pos}
 use Rattle.ob_types.specs.declared.types.TypeRef.{TypeRef}
 use Rattle.ob_types.specs.declared.typed.Callee.{Callee}
@@ -7,7 +7,7 @@ use Rattle.ob_types.specs.declared.typed.TypedParameter.{TypedParameter}
 use Rattle.ob_types.specs.TypedSyntax.{Call, Actuals}
 use Rattle.ob_instr.specs.Image.{World}
 use Rattle.ob_meaning.specs.Values.{Form, form_in, AnObject, State}
-use Rattle.ob_meaning.specs.Results.{bind, give, Passed, Caller}
+use Rattle.ob_meaning.specs.Results.{give, Passed, Caller}
 use Rattle.ob_meaning.specs.Meaning.{call_named, value, result_of}
 use Rattle.ob_relation.specs.Layout.{static_held}
 use Rattle.ob_relation.specs.Relation.{Fine, word_of}

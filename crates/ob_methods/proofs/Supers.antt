@@ -1,5 +1,5 @@
 -- Super calls follow their meaning.
-use Rattle.std.proofs.Common.{◌≡◌, ℕ, suc, ◌+◌, ◌≤◌, List, [], ◌∷◌, ◌++◌, length, Option, Some, None, ℤ, refl, sym, ap, ◌∙◌, subst, arith}
+use Rattle.std.proofs.Common.{◌≡◌, ℕ, suc, ◌+◌, ◌≤◌, List, [], ◌++◌, length, Option, Some, None, ℤ, sym, ap, ◌∙◌, subst, arith}
 use Rattle.ob_tree.specs.declared.pos.Pos.{Pos}
 use Rattle.ob_tree.specs.declared.names.QName.{QName}
 use Rattle.ob_types.specs.declared.types.TypeRef.{TypeRef}
@@ -11,10 +11,9 @@ use Rattle.ob_instr.specs.declared.instr.Instr.{Instr}
 use Rattle.ob_instr.specs.declared.opcode.Opcode.TheVariants as op
 use Rattle.ob_instr.specs.Parts.{slots}
 use Rattle.ob_instr.specs.Image.{World}
-use Rattle.ob_instr.specs.Rows.{on_found, on_args, calls, calls_with}
+use Rattle.ob_instr.specs.Rows.{on_found, on_args, calls}
 use Rattle.ob_instr.specs.Table.{position_at}
 use Rattle.ob_instr.proofs.Goes as rows
-use Rattle.ob_instr.proofs.Steps as machine
 use Rattle.std.specs.Prelude.{pos}
 use Rattle.ob_meaning.specs.Values as values
 use Rattle.ob_meaning.specs.Values.{bases_in, AnObject, State}
@@ -22,7 +21,6 @@ use Rattle.ob_meaning.specs.Results.{Passed, Caller}
 use Rattle.ob_meaning.specs.Meaning.{nearest, call_found}
 use Rattle.ob_relation.specs.Layout.{type_number}
 use Rattle.ob_relation.specs.Relation.{number_of}
-use Rattle.ob_relation.specs.Need.{need_actuals}
 use Rattle.ob_relation.specs.Ends.{end_actuals}
 use Rattle.ob_relation.specs.Stands as code
 use Rattle.ob_relation.specs.Stands.{instr}
@@ -30,7 +28,7 @@ use Rattle.ob_relation.proofs.Steps.{here, Follows, follows_bind, follows_value}
 use Rattle.ob_relation.proofs.Statements.{Activation, scope, go, fb, K, here_in, Keeps, onto, ExprFollows, ActualsFollow, StmtFollows, ArgumentsFit, CallsFollow, ResultFine, result_words, result_slots}
 use Rattle.ob_relation.proofs.Moves.{has_it, effect}
 use Rattle.ob_relation.proofs.Actuals.{procedure_found, slots_fit}
-use Rattle.ob_relation.specs.Linked.{Linked, ProcedureStands}
+use Rattle.ob_relation.specs.Linked.{Linked}
 use Rattle.ob_relation.specs.Setting.{Setting, has_of}
 use Rattle.ob_methods.specs.Tables.{TablesStand}
 use Rattle.ob_methods.proofs.Fits.{args_are}

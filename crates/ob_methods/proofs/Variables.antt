@@ -1,7 +1,6 @@
 -- Calls of procedure variables follow their meaning.
-use Rattle.std.proofs.Common.{◌≡◌, ◌⊎◌, ⊎_elim, ℕ, suc, ◌+◌, ◌≤◌, ◌<◌, List, [], ◌∷◌, ◌++◌, length, Option, Some, None, ℤ, refl, sym, ap, ◌∙◌, subst, arith}
-use Rattle.std.proofs.lemmas.Bool.Decides.{nat_tests}
-use Rattle.std.specs.Prelude.{pos, Bool, true, false, if◌then◌else◌, ◌*◌, ◌/◌, ◌%◌}
+use Rattle.std.proofs.Common.{◌≡◌, ⊎_elim, ℕ, suc, ◌+◌, ◌≤◌, ◌<◌, List, [], ◌∷◌, ◌++◌, length, Option, Some, None, ℤ, refl, sym, ap, ◌∙◌, subst, arith}
+use Rattle.std.specs.Prelude.{pos, if◌then◌else◌, ◌*◌, ◌/◌, ◌%◌}
 use Rattle.std.proofs.lemmas.Nat.{div-mul-add, div-add-mod'}
 use Rattle.ob_tree.specs.declared.pos.Pos.{Pos}
 use Rattle.ob_tree.specs.declared.names.QName.{QName}
@@ -10,19 +9,15 @@ use Rattle.ob_types.specs.declared.types.Mode.{Mode}
 use Rattle.ob_types.specs.declared.types.TypeRef.{TypeRef}
 use Rattle.ob_types.specs.declared.types.Signature.{Signature}
 use Rattle.ob_types.specs.declared.typed.TypedParameter.{TypedParameter}
-use Rattle.ob_types.specs.TypedSyntax.{Desig, Expr, CallVariable, Actuals, NoActual, AnActual, CallProper, Procedure}
-use Rattle.ob_instr.specs.declared.instr.Instr.{Instr}
+use Rattle.ob_types.specs.TypedSyntax.{Desig, CallVariable, Actuals, NoActual, AnActual, CallProper}
 use Rattle.ob_instr.specs.declared.opcode.Opcode.TheVariants as op
-use Rattle.ob_instr.specs.Image.{World, Point}
-use Rattle.ob_instr.specs.Rows.{Effect, Traps, Unable, calls, is_zero, on_one, on_found, proc_value, proc_of_value}
-use Rattle.ob_instr.specs.Table.{row, position_at}
-use Rattle.ob_meaning.specs.Values as values
+use Rattle.ob_instr.specs.Image.{World}
+use Rattle.ob_instr.specs.Rows.{Traps, calls, is_zero, on_one, on_found, proc_value, proc_of_value}
 use Rattle.ob_meaning.specs.Values.{Form, ProcedureForm, form_in, Value, Nil, ProcedureAt, AnObject, State}
-use Rattle.ob_meaning.specs.Results.{Trapped, bind, give, Passed, Caller}
-use Rattle.ob_meaning.specs.Meaning.{call_held, place, value, actuals, result_of}
+use Rattle.ob_meaning.specs.Results.{give, Passed, Caller}
+use Rattle.ob_meaning.specs.Meaning.{call_held, value, result_of}
 use Rattle.ob_relation.specs.Layout.{static_held}
 use Rattle.ob_relation.specs.Relation.{Fine, word_of, number_of, Scalar}
-use Rattle.ob_relation.specs.Need.{need_place, need_actuals}
 use Rattle.ob_relation.specs.Ends.{end_place, end_actuals}
 use Rattle.ob_relation.specs.Stands as code
 use Rattle.ob_relation.specs.Stands.{operands_of}
@@ -32,9 +27,7 @@ use Rattle.ob_relation.proofs.Steps.{here, Follows, follows_bind, follows_value,
 use Rattle.ob_relation.proofs.Statements.{Activation, scope, go, fb, K, here_in, Keeps, onto, ExprFollows, ActualsFollow, StmtFollows, ArgumentsFit, CallsFollow, ResultFine, result_words, result_slots, DesigOk}
 use Rattle.ob_relation.proofs.Needs.{need_one}
 use Rattle.ob_relation.proofs.Moves.{has_it, traps, effect}
-use Rattle.ob_relation.proofs.Exprs.{from_here, since}
 use Rattle.ob_relation.proofs.Values.{widen}
-use Rattle.ob_relation.specs.Linked.{Linked}
 use Rattle.ob_relation.specs.Setting.{Setting, has_of}
 use Rattle.ob_records.proofs.Pointers.{HolderFollows, holder_load}
 use Rattle.ob_operators.specs.Procedures.{ValuesNumbered}
