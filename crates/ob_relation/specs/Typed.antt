@@ -26,6 +26,8 @@ use Rattle.ob_types.specs.declared.typed.Binary.{Binary}
 use Rattle.ob_types.specs.declared.typed.Binary.TheVariants as binary
 use Rattle.ob_types.specs.declared.typed.Callee.{Callee}
 use Rattle.ob_types.specs.declared.typed.Callee.TheVariants as callee
+use Rattle.ob_types.specs.declared.desc.Receiver.{Receiver}
+use Rattle.ob_types.specs.declared.desc.Receiver.TheVariants as receiver
 use Rattle.ob_types.specs.declared.typed.Assigned.{Assigned}
 use Rattle.ob_types.specs.declared.typed.Assigned.TheVariants as assigned
 use Rattle.ob_types.specs.declared.typed.Update.{Update}
@@ -118,6 +120,12 @@ IsRecordType program q = (line : List QName) × (record_in program q ≡ RecordF
 -- a test or a guard is for a record type that extends the static one
 abbrev pub TestOk : Program → QName → Form → Type 0
 TestOk program q t = IsRecordType program q × Sub (record_in program q) t
+
+-- the first parameter is a receiver of a record type: the record by VAR, or a pointer to it
+abbrev pub ReceiverOk : Program → Receiver → QName → List TypedParameter → Type 0
+ReceiverOk program k t [] = ⊥
+ReceiverOk program receiver.Record t (p ∷ ps) = (p.passing ≡ passing.VariableRecord) × (form_in program p.of ≡ record_in program t)
+ReceiverOk program receiver.Pointer t (p ∷ ps) = (p.passing ≡ passing.Scalar) × ((u : TypeRef) × (form_in program p.of ≡ PointerForm u) × (form_in program u ≡ record_in program t))
 
 -- a record parameter by VAR, with its guards
 abbrev pub IsVariableRecord : Desig → Type 0
@@ -236,7 +244,7 @@ module _ (program : Program) (Has : Signature → QName → Type 0) (unit : List
   -- what is called, with what is asked of its parameters
   abbrev pub CallOk : Callee → Option TypeRef → (List TypedParameter → Type 0) → Type 0 → Type 0
   CallOk (callee.Declared q) r Fits Out = (p : Procedure) × (procedure_of program q ≡ Some p) × (p.result ≡ r) × Fits p.parameters
-  CallOk (callee.Bound f k) r Fits Out = (p : Procedure) × (p.result ≡ r) × Fits p.parameters
+  CallOk (callee.Bound f k) r Fits Out = (t : QName) × (q : QName) × (p : Procedure) × IsRecordType program t × (nearest program (bases_in program t) f ≡ Some q) × (procedure_of program q ≡ Some p) × ReceiverOk program k t p.parameters × (p.result ≡ r) × Fits p.parameters
   CallOk (callee.Super base f k) r Fits Out = (q : QName) × (p : Procedure) × (nearest program (bases_in program base) f ≡ Some q) × (procedure_of program q ≡ Some p) × (p.result ≡ r) × Fits p.parameters
   CallOk (callee.Out o) r Fits Out = (r ≡ None) × Out
 

@@ -21,7 +21,7 @@ use Rattle.ob_instr.specs.declared.instr.Instr.{Instr}
 use Rattle.ob_instr.specs.declared.procedure.Position.{Position}
 use Rattle.ob_instr.specs.declared.procedure.Procedure as machine_procedure
 use Rattle.ob_instr.specs.Image.{ModuleImage, Image, World}
-use Rattle.ob_meaning.specs.Values.{Program, description, described, Fields, form_within, RecordForm, procedure_of, State}
+use Rattle.ob_meaning.specs.Values.{Program, bases_in, description, described, Fields, form_within, RecordForm, procedure_of, State}
 use Rattle.ob_meaning.specs.Commands.{run_first, no_store, first_globals}
 use Rattle.ob_meaning.specs.Results.{Res, Gives, Stops}
 use Rattle.ob_meaning.specs.Meaning.{Flow}
@@ -31,6 +31,10 @@ use Rattle.ob_relation.specs.Linked.{Linked, ProcedureStands, TypesStand}
 use Rattle.ob_relation.specs.Setting.{Setting, StandIn}
 use Rattle.ob_records.specs.Bases.{BasesStand}
 use Rattle.ob_operators.specs.Procedures.{ValuesNumbered}
+use Rattle.ob_types.specs.declared.typed.Family.{Family}
+use Rattle.ob_methods.specs.Signatures.{ValuesMatch}
+use Rattle.ob_methods.specs.Tables.{TablesStand, FamiliesStand}
+use Rattle.ob_methods.proofs.Unbound.{unbound}
 use Rattle.ob_simulation.proofs.Whole.{command_simulates}
 use Rattle.ob_simulation.specs.Simulates.{ImageStands, Simulates}
 use Rattle.ob_simulation.specs.Slice.{AllIn, InStmts}
@@ -257,8 +261,18 @@ no_bases = record { lines = λ q line e. absurd (never q line _ (bytes_eq q.modu
 no_values : ValuesNumbered setting
 no_values s q e = absurd (cc)
 
+no_match : ValuesMatch setting
+no_match s q p e found = absurd (cc)
+
+-- and no bound procedure
+no_tables : (methods : Family → ℕ) → TablesStand setting methods
+no_tables methods t f q e = absurd (unbound unit (λ t f. refl) (bases_in program t) f q e)
+
+no_families : FamiliesStand setting
+no_families t f k q p built near found rk d own sub = absurd (unbound unit (λ t f. refl) (bases_in program t) f q near)
+
 stands_so : ImageStands setting
-stands_so = record { linked = linked; types = no_types; bases = no_bases; numbered = no_values }
+stands_so = record { linked = linked; types = no_types; bases = no_bases; numbered = no_values; match = no_match; tables = λ q p found. no_tables ((linked q p found).methods); families = no_families }
 
 -- and the machine's run ends as the command's meaning
 pub tried : Simulates setting (record { «module» = 0; proc = 1 }) words (run_first program 1000 (named go_name) run_it begins)

@@ -18,14 +18,19 @@ use Rattle.ob_relation.specs.Setting.{Setting, StandIn, stopped, has_of}
 use Rattle.ob_relation.specs.Linked.{Linked, ProcedureStands, TypesStand}
 use Rattle.ob_records.specs.Bases.{BasesStand}
 use Rattle.ob_operators.specs.Procedures.{ValuesNumbered}
+use Rattle.ob_methods.specs.Signatures.{ValuesMatch}
+use Rattle.ob_methods.specs.Tables.{TablesStand, FamiliesStand}
 use Rattle.ob_simulation.specs.Slice.{InStmts, AllIn}
 
--- what the law asks of an image: it has each procedure and each record type with its bases, and tells the procedures that variables may have as values
+-- what the law asks of an image: it has each procedure and each record type with its bases, and tells the procedures that variables may have as values, which match the signatures of these variables; the tables of its record types have the bound procedures, which are alike where they redefine one another
 pub record ImageStands (c : Setting) : Type 0 where
   pub linked : Linked c
   pub types : TypesStand c
   pub bases : BasesStand c
   pub numbered : ValuesNumbered c
+  pub match : ValuesMatch c
+  pub tables : (q : QName) (p : Procedure) (found : values.procedure_of c.program q ≡ Some p) → TablesStand c ((linked q p found).methods)
+  pub families : FamiliesStand c
 
 module _ (c : Setting) where
   -- the words with no activation
@@ -49,4 +54,4 @@ CommandsSimulate = (c : Setting) → ImageStands c → AllIn c → (q : QName) (
 
 -- of a module's body, which is its procedure 0
 abbrev pub BodiesSimulate : Type 0
-BodiesSimulate = (c : Setting) → ImageStands c → AllIn c → (m : Module) → ProcedureStands c (body_name m) (body_procedure m) → InStmts m.body → (s : State) (w : World) → s.calls ≡ [] → StandIn c s.calls s w → Simulates c (record { «module» = module_number c.program m.name; proc = 0 }) w (run_first c.program c.heap (body_name m) (body_procedure m) s)
+BodiesSimulate = (c : Setting) → ImageStands c → AllIn c → (m : Module) (ps : ProcedureStands c (body_name m) (body_procedure m)) → TablesStand c ps.methods → InStmts m.body → (s : State) (w : World) → s.calls ≡ [] → StandIn c s.calls s w → Simulates c (record { «module» = module_number c.program m.name; proc = 0 }) w (run_first c.program c.heap (body_name m) (body_procedure m) s)

@@ -13,7 +13,7 @@ use Rattle.ob_types.specs.declared.typed.Variable.TheVariants as variable
 use Rattle.ob_types.specs.declared.typed.Guarded.TheVariants as guarded
 use Rattle.ob_types.specs.declared.typed.Callee.TheVariants as callee
 use Rattle.ob_types.specs.declared.typed.Assigned.TheVariants as assigned
-use Rattle.ob_types.specs.TypedSyntax.{Desig, OfVariable, Field, Index, Deref, Guard, Expr, Constant, ValueOf, Monadic, Dyadic, Logical, IsPointer, IsRecord, Call, Actuals, NoActual, AnActual, Stmt, Assign, CallProper, Updated, Assert, Halt, If, While, Repeat, Loop, Exit, Return, With, Stmts, Nothing, Then, Branches, NoBranch, Branch, NoElse, Else, Copy, New, NewOpenArray, CompareTexts, Length, Procedure, ProcedureValue, Case, For, Cases, NoCase, OneCase, Otherwise}
+use Rattle.ob_types.specs.TypedSyntax.{Desig, OfVariable, Field, Index, Deref, Guard, Expr, Constant, ValueOf, Monadic, Dyadic, Logical, IsPointer, IsRecord, Call, CallVariable, Actuals, NoActual, AnActual, Stmt, Assign, CallProper, Updated, Assert, Halt, If, While, Repeat, Loop, Exit, Return, With, Stmts, Nothing, Then, Branches, NoBranch, Branch, NoElse, Else, Copy, New, NewOpenArray, CompareTexts, Length, Procedure, ProcedureValue, Case, For, Cases, NoCase, OneCase, Otherwise}
 use Rattle.ob_meaning.specs.Values as values
 use Rattle.ob_relation.specs.Setting.{Setting}
 use Rattle.ob_relation.specs.Plain.{Plain}
@@ -89,6 +89,9 @@ abbrev mutual
   InExpr (IsPointer e q) = InExpr e
   InExpr (IsRecord d q) = Unit {0}
   InExpr (Call (callee.Declared q) es at r) = InActuals es
+  InExpr (Call (callee.Bound f k) es at r) = InActuals es
+  InExpr (Call (callee.Super base f k) es at r) = InActuals es
+  InExpr (CallVariable d es at r) = InHolder d × InActuals es
   InExpr e = ⊥
 
   -- an array of characters, or a string
@@ -120,6 +123,9 @@ abbrev mutual
   InStmt (Assign d assigned.Array (ValueOf e) at) = InDesig d × InDesig e
   InStmt (Assign d (assigned.Record q) (ValueOf e) at) = InTagged d × InDesig e
   InStmt (CallProper (Call (callee.Declared q) es at r)) = InActuals es
+  InStmt (CallProper (Call (callee.Bound f k) es at r)) = InActuals es
+  InStmt (CallProper (Call (callee.Super base f k) es at r)) = InActuals es
+  InStmt (CallProper (CallVariable d es at r)) = InHolder d × InActuals es
   InStmt (CallProper (Call (callee.Out out.Ln) NoActual at r)) = Unit {0}
   InStmt (CallProper (Call (callee.Out out.Char) (AnActual passing.Scalar (ref.Basic basic.Char) e NoActual) at r)) = InExpr e
   InStmt (CallProper (Call (callee.Out out.Int) (AnActual passing.Scalar (ref.Basic basic.LongInt) e (AnActual passing.Scalar (ref.Basic basic.LongInt) f NoActual)) at r)) = InExpr e × InExpr f
