@@ -9,3 +9,5 @@ pub mod Numbered
 pub mod Words
 pub mod Procedures
 pub mod Types
+pub mod Entered
+pub mod Linking

@@ -53,7 +53,7 @@ result_same : (r : Option TypeRef) → has_result r ≡ has_one r
 result_same None = refl
 result_same (Some t) = refl
 
-index_named : (ps : List Procedure) (x : List ℕ) → IsNamed x → suc (procedure_number ps x) ≡ procedure_index ps x
+pub index_named : (ps : List Procedure) (x : List ℕ) → IsNamed x → suc (procedure_number ps x) ≡ procedure_index ps x
 index_named ps [] n = absurd n
 index_named ps (k ∷ x) n = refl
 

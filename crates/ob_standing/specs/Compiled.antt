@@ -24,7 +24,7 @@ use Rattle.ob_relation.specs.Need.{need_stmts}
 use Rattle.ob_standing.specs.Standing.{own_types_in}
 use Rattle.ob_standing.specs.Described.{IsDescribed}
 use Rattle.ob_standing.specs.Resolved.{LinksResolve}
-use Rattle.ob_standing.specs.Fits.{AmongTypes, StmtsFit}
+use Rattle.ob_standing.specs.Fits.{IsNamed, AmongTypes, StmtsFit}
 
 -- a module's code with no procedure at hand
 abbrev pub module_scope : Setting → ModuleImage → List ℕ → Scope
@@ -77,3 +77,12 @@ pub record IsChecked (c : Setting) (types : QName → Option Desc) (md : Module)
   pub forms : OwnFormsOk (own_variables c.program p)
   pub small : slots (map (λ x. param_for types md (within types md p) x.passing x.of) p.parameters) + all_local_words types md p ≤ 1048576
   pub need : need_stmts p.body ≤ 256
+
+abbrev pub ProceduresChecked : Setting → (QName → Option Desc) → Module → List Procedure → Type 0
+ProceduresChecked c types md [] = Unit {0}
+ProceduresChecked c types md (p ∷ ps) = (IsNamed p.name × IsChecked c types md p) × ProceduresChecked c types md ps
+
+-- Each of these modules stands as it was compiled, by the descriptions that it was compiled with, and its procedures are checked.
+abbrev pub AllCompiled : Setting → List Module → Type 0
+AllCompiled c [] = Unit {0}
+AllCompiled c (md ∷ ms) = ((types : QName → Option Desc) × (m : ℕ) × (u : ModuleImage) × IsCompiled c types md m u × ProceduresChecked c types md md.procedures) × AllCompiled c ms

@@ -7,6 +7,7 @@ use Rattle.ob_types.specs.declared.typed.TypedType.{TypedType}
 use Rattle.ob_tdesc.specs.declared.descriptor.Descriptor.{Descriptor}
 use Rattle.ob_meaning.specs.Values.{Program, Form, RecordForm, fields_of, record_in, words}
 use Rattle.ob_obj.specs.declared.parts.RecordType.{RecordType}
+use Rattle.ob_obj.specs.declared.file.ObjFile.{ObjFile}
 use Rattle.ob_relation.specs.Relation.{OrElse, FormOk}
 use Rattle.ob_relation.specs.Setting.{Setting}
 
@@ -27,6 +28,10 @@ IsDescriptor (d ∷ ds) q = OrElse (bytes_eq q.«module» d.«module» && bytes_
 abbrev pub RecordsFit : Program → List ℕ → List RecordType → Type 0
 RecordsFit program m [] = Unit {0}
 RecordsFit program m (t ∷ ts) = (t.words ≡ words (record_in program (named m t.name))) × RecordsFit program m ts
+
+abbrev pub FilesFit : Program → List ObjFile → Type 0
+FilesFit program [] = Unit {0}
+FilesFit program (f ∷ fs) = RecordsFit program f.head.«module» f.body.types × FilesFit program fs
 
 -- a record's description says the words that it has
 abbrev pub DescFits : Program → QName → Desc → Type 0
