@@ -1,5 +1,5 @@
 -- The code of assignments, NEW and labels stands as the law of simulation asks.
-use Rattle.std.proofs.Common.{◌≡◌, ℕ, suc, ◌+◌, ◌<◌, List, [], ◌∷◌, ◌++◌, ℤ, refl, sym, ap, ◌∙◌, subst, arith, Option, Some, None, inl, inr}
+use Rattle.std.proofs.Common.{◌≡◌, ℕ, suc, ◌+◌, ◌<◌, List, [], ◌∷◌, ◌++◌, ℤ, refl, sym, ap, ◌∙◌, subst, arith, Some, None, inl}
 use Rattle.std.proofs.lemmas.Bool.Decides.{nat_tests}
 use Rattle.std.specs.Prelude.{pos, negsuc, zero, length, nat_lt, Bool, true, false, if◌then◌else◌}
 use Rattle.ob_tree.specs.declared.pos.Pos.{Pos}
@@ -17,23 +17,23 @@ use Rattle.ob_types.specs.declared.typed.Label.{Label}
 use Rattle.ob_types.specs.TypedSyntax.{Desig, OfVariable, Field, Index, Deref, Guard, Expr, Constant}
 use Rattle.ob_types.specs.TypedKinds.{variable_type}
 use Rattle.ob_instr.specs.declared.opcode.Opcode.TheVariants as op
-use Rattle.ob_meaning.specs.Values.{form_in, record_in, words as words_in}
+use Rattle.ob_meaning.specs.Values.{record_in, words as words_in}
 use Rattle.ob_meaning.specs.Meaning.{hidden}
-use Rattle.ob_code.specs.Lines.{Line, Number, line_of, count, plain, placed, bare, jump}
-use Rattle.ob_code.specs.Context.{Context, words, type_operand}
+use Rattle.ob_code.specs.Lines.{Line, count, plain, bare, jump}
+use Rattle.ob_code.specs.Context.{Context, words}
 use Rattle.ob_code.specs.declared.want.Want.TheVariants as want
 use Rattle.ob_code.specs.Expressions as scheme
 use Rattle.ob_code.specs.Statements as scheme_of
 use Rattle.ob_code.specs.Statements.{target_want, source_want, record_want, has_tag, copy_record, assign_line, text_words, new_line, within, end_label, labels_code}
 use Rattle.ob_relation.specs.Layout.{slot}
 use Rattle.ob_relation.specs.Relation.{OrElse}
-use Rattle.ob_relation.specs.Ends.{end_place, end_tagged, end_expr, end_address, end_assigned, end_labels}
+use Rattle.ob_relation.specs.Ends.{end_place, end_tagged, end_expr, end_address, end_assigned}
 use Rattle.ob_relation.specs.Stands as code
 use Rattle.ob_relation.specs.Stands.{Scope, Has, HasAt, HasCopyRec, PlaceCode, TaggedCode, AddressCode, AssignedCode, MadeCode, LabelsCode, with_a, instr, form_of, dt, et}
 use Rattle.ob_standing.specs.Standing.{LineStands, Behind}
 use Rattle.ob_standing.specs.Fits.{IsKnown, IsNoPointer, StepFits, DesigFits, ExprFits, AssignedFits, MadeFits}
 use Rattle.ob_standing.specs.Agrees.{Agrees}
-use Rattle.ob_standing.specs.Wanted.{desig_end, expr_end, DesigStands}
+use Rattle.ob_standing.specs.Wanted.{desig_end}
 use Rattle.ob_standing.proofs.Ends.{desig_ends, target_end}
 use Rattle.ob_standing.proofs.Lines.{apart, apart_two, next, moved, inside, has_line, has_at, has_type_at, next_type, type_found, type_past}
 use Rattle.ob_standing.proofs.Expressions.{D, E, value_texts, place_texts, on_expr, desig_stands, expr_stands}
@@ -145,8 +145,7 @@ module _ (sc : Scope) (c : Context) (ag : Agrees sc c) where
       let n = apart sc (scheme_of.label_code c k l pc body) (labels_code c k ls (end_label c pc) body) (jump past_it ∷ rest) pc at h in
       let a = end_label c pc in
       let x = n.lines in
-      let more = next sc (next sc (next sc (next sc (next sc (next sc (next sc (next sc (next sc (next sc (next sc n)))))))))) in
-      (
+      let more = next sc (next sc (next sc (next sc (next sc (next sc (next sc (next sc (next sc (next sc (next sc n)))))))))) in (
         (
           local_at k p _ at e x.0,
           (has_line sc op.Load (pos 0) (pos 0) None _ at x.1.0, (has_line sc op.Int l.low (pos 0) None _ at x.1.1.0, (has_line sc op.Ge (pos 0) (pos 0) None _ at x.1.1.1.0, has_line sc op.JumpF (pos a) (pos 0) None _ at x.1.1.1.1.0))),

@@ -19,7 +19,7 @@ use Rattle.ob_types.specs.declared.typed.Assigned.TheVariants as assigned
 use Rattle.ob_types.specs.declared.typed.Label.{Label}
 use Rattle.ob_types.specs.TypedSyntax.{Desig, OfVariable, Field, Index, Deref, Guard, Expr, Constant, ValueOf, ProcedureValue, Monadic, Dyadic, Logical, CompareTexts, IsPointer, IsRecord, Length, Call, CallVariable, Actuals, NoActual, AnActual, Stmt, Assign, CallProper, Updated, Copy, New, NewOpenArray, Assert, Halt, If, Case, While, Repeat, For, Loop, Exit, Return, With, Stmts, Nothing, Then, Branches, NoBranch, Branch, Cases, NoCase, OneCase, Otherwise, NoElse, Else}
 use Rattle.ob_types.specs.TypedKinds.{variable_type}
-use Rattle.ob_meaning.specs.Values.{Program, Form, ArrayForm, OpenForm, form_in}
+use Rattle.ob_meaning.specs.Values.{Program, form_in}
 use Rattle.ob_code.specs.Lines.{behind}
 use Rattle.ob_code.specs.Descriptions.{elements_of}
 use Rattle.ob_code.specs.Context.{Context, words}
@@ -30,7 +30,7 @@ use Rattle.ob_code.specs.Expressions as scheme
 use Rattle.ob_code.specs.Expressions.{wanted, constant_code, index_want, guard_want, from_guard, from_place, from_pointer, measured_behind, variable_code}
 use Rattle.ob_code.specs.Statements as scheme_of
 use Rattle.ob_code.specs.Statements.{target_want, source_want, record_want, has_tag, for_place, for_value}
-use Rattle.ob_relation.specs.Ends.{is_open, type_form, end_variable, end_place, end_tagged, end_open, end_expr, end_tag, end_address, end_array, end_unary, end_actuals, end_target, end_assigned, end_optional, end_labels, end_stmt, end_stmts, end_branches, end_cases, end_else}
+use Rattle.ob_relation.specs.Ends.{is_open, end_variable, end_place, end_tagged, end_open, end_unary, end_actuals, end_target, end_assigned, end_optional, end_labels, end_stmt, end_stmts, end_branches, end_cases, end_else}
 use Rattle.ob_standing.specs.Described.{IsDescribed}
 use Rattle.ob_standing.specs.Fits.{IsWhole, IsArrayType, IsOpenType, PlaceGives, OpenGives, TaggedGives, VariableGives, PointerGives, GuardGives, ConstantGives, IsNoPointer, DesigFits, ExprFits, ActualsFit, ResultFits, AssignedFits, StmtFits, StmtsFit, BranchesFit, CasesFit, ElseFits}
 use Rattle.ob_standing.specs.Wanted.{place_end, desig_end, expr_end}

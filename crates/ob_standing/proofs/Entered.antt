@@ -1,6 +1,6 @@
 -- A file that is entered has its module in the image, and keeps it when others follow.
-use Rattle.std.proofs.Common.{◌≡◌, ℕ, zero, suc, ◌+◌, List, [], ◌∷◌, ◌++◌, length, refl, sym, ap, ◌∙◌, subst, Some, None, Option}
-use Rattle.std.specs.Prelude.{Bool, true, false, bytes_eq, if◌then◌else◌, slice_get}
+use Rattle.std.proofs.Common.{◌≡◌, ℕ, zero, suc, List, [], ◌∷◌, ◌++◌, length, refl, ap, ◌∙◌, subst, Some, Option}
+use Rattle.std.specs.Prelude.{false, bytes_eq, if◌then◌else◌, slice_get}
 use Rattle.std.proofs.lemmas.Option.{none-some}
 use Rattle.ob_tree.specs.declared.names.QName.{QName}
 use Rattle.ob_types.specs.declared.desc.Desc.{Desc}

@@ -1,11 +1,9 @@
 -- The code of designators, expressions and actual parameters stands as the law of simulation asks.
-use Rattle.std.proofs.Common.{◌≡◌, ℕ, suc, ◌+◌, List, [], ◌∷◌, ◌++◌, ℤ, refl, sym, ap, ◌∙◌, subst, Option, Some, None}
+use Rattle.std.proofs.Common.{◌≡◌, ℕ, suc, ◌+◌, List, [], ◌∷◌, ◌++◌, refl, ap, ◌∙◌, subst, Some, None}
 use Rattle.std.specs.Prelude.{pos}
 use Rattle.ob_tree.specs.declared.pos.Pos.{Pos}
 use Rattle.ob_types.specs.declared.types.TypeRef.{TypeRef}
-use Rattle.ob_types.specs.declared.value.Value.{Value as Literal}
 use Rattle.ob_types.specs.declared.value.Value.TheVariants as literal
-use Rattle.ob_types.specs.declared.typed.Comparison.{Comparison}
 use Rattle.ob_types.specs.declared.typed.Passing.TheVariants as passing
 use Rattle.ob_types.specs.declared.typed.Connective.TheVariants as connective
 use Rattle.ob_types.specs.TypedSyntax.{Desig, OfVariable, Field, Index, Deref, Guard, Expr, Constant, ValueOf, ProcedureValue, Monadic, Dyadic, Logical, CompareTexts, IsPointer, IsRecord, Length, Call, CallVariable, Actuals, NoActual, AnActual}
@@ -14,7 +12,7 @@ use Rattle.ob_instr.specs.declared.opcode.Opcode.{Opcode}
 use Rattle.ob_instr.specs.declared.opcode.Opcode.TheVariants as op
 use Rattle.ob_meaning.specs.Values.{form_in, words as words_in}
 use Rattle.ob_meaning.specs.Globals.{passed_words, texts_of_actuals}
-use Rattle.ob_code.specs.Lines.{Line, Number, line_of, count, plain, placed, bare, jump, jump_if_false}
+use Rattle.ob_code.specs.Lines.{Line, count, plain, placed, jump, jump_if_false}
 use Rattle.ob_code.specs.Context.{Context, words, type_operand}
 use Rattle.ob_code.specs.Operations.{unary_code, binary_line, relation_number}
 use Rattle.ob_code.specs.declared.want.Want.{Want}
@@ -22,13 +20,13 @@ use Rattle.ob_code.specs.declared.want.Want.TheVariants as want
 use Rattle.ob_code.specs.Expressions as scheme
 use Rattle.ob_code.specs.Expressions.{index_line, guard_line, guard_want, from_place, from_pointer, from_guard, call_line, words_of_actuals}
 use Rattle.ob_code.specs.Descriptions.{field_place}
-use Rattle.ob_relation.specs.Ends.{end_place, end_open, end_expr, end_unary, end_actuals}
+use Rattle.ob_relation.specs.Ends.{end_place, end_open, end_expr, end_actuals}
 use Rattle.ob_relation.specs.Stands as code
 use Rattle.ob_relation.specs.Stands.{Scope, Has, HasAt, PlaceCode, OpenCode, ActualsCode, with_a, instr, fixed_length, form_of, dt, et}
 use Rattle.ob_standing.specs.Standing.{Behind}
 use Rattle.ob_standing.specs.Fits.{DesigFits, ExprFits, ActualsFit}
 use Rattle.ob_standing.specs.Agrees.{Agrees}
-use Rattle.ob_standing.specs.Wanted.{desig_end, expr_end, DesigStands, ExprStands, constant_texts, texts_wanted}
+use Rattle.ob_standing.specs.Wanted.{desig_end, expr_end, DesigStands, ExprStands, texts_wanted}
 use Rattle.ob_standing.proofs.Ends.{desig_ends, expr_ends, whole_end, open_end}
 use Rattle.ob_standing.proofs.Lines.{apart, apart_two, next, moved, texts_on, no_texts, inside, has_line, has_at, has_type, next_type, procedure_stands}
 use Rattle.ob_standing.proofs.Pieces.{relation_same, operands_same, unary_stands, binary_stands, constant_stands, variable_stands, from_place_stands, placed_stands, opened_form, pointer_stands, guard_stands, whole_stands, call_stands}
@@ -156,8 +154,7 @@ module _ (sc : Scope) (c : Context) (ag : Agrees sc c) where
         let r = expr_stands want.Value a pc at (jump_if_false (suc q2) ∷ ((E want.Value b (suc q) ++ jump (suc (suc q2)) ∷ plain op.Int (count 0) ∷ []) ++ rest)) f.1.0 (apart sc (E want.Value a pc) _ rest pc at h) in
         let s = expr_stands want.Value b (suc p1) (at + et sc a) (jump (suc (suc q2)) ∷ plain op.Int (count 0) ∷ rest) f.1.1
         (on_expr want.Value b (suc q) (suc p1) _ _ _ (ap suc e1) (ap (λ m. at + m) (value_texts a)) (apart sc (E want.Value b (suc q)) _ rest (suc p1) _ (next sc r.1))) in
-        let last = next sc (next sc s.1) in
-        (
+        let last = next sc (next sc s.1) in (
           (
             r.0,
             (
@@ -181,8 +178,7 @@ module _ (sc : Scope) (c : Context) (ag : Agrees sc c) where
         let e1 = expr_ends c sc.program ag.described want.Value a pc f.1.0 in
         let e2 = ap (λ n. scheme.end_expr c want.Value b (suc (suc (suc n)))) e1 ∙ expr_ends c sc.program ag.described want.Value b p2 f.1.1 in
         let r = expr_stands want.Value a pc at (jump_if_false q2 ∷ plain op.Int (count 1) ∷ jump (scheme.end_expr c want.Value b q2) ∷ (E want.Value b q2 ++ rest)) f.1.0 (apart sc (E want.Value a pc) _ rest pc at h) in
-        let s = expr_stands want.Value b p2 (at + et sc a) rest f.1.1 (on_expr want.Value b q2 p2 _ _ _ (ap (λ n. suc (suc (suc n))) e1) (ap (λ m. at + m) (value_texts a)) (next sc (next sc (next sc r.1)))) in
-        (
+        let s = expr_stands want.Value b p2 (at + et sc a) rest f.1.1 (on_expr want.Value b q2 p2 _ _ _ (ap (λ n. suc (suc (suc n))) e1) (ap (λ m. at + m) (value_texts a)) (next sc (next sc (next sc r.1)))) in (
           (
             r.0,
             (

@@ -1,5 +1,5 @@
 -- Single lines that stand in the code.
-use Rattle.std.proofs.Common.{◌≡◌, ℕ, suc, ◌+◌, ◌<◌, List, [], ◌∷◌, ◌++◌, length, ℤ, refl, sym, ap, ◌∙◌, subst, arith, append_assoc, Option, Some, None, inl, inr}
+use Rattle.std.proofs.Common.{◌≡◌, ℕ, suc, ◌+◌, ◌<◌, List, [], ◌∷◌, ◌++◌, length, ℤ, refl, sym, ap, ◌∙◌, subst, arith, append_assoc, Option, Some, None, inr}
 use Rattle.std.proofs.lemmas.Option.{slice_get_within}
 use Rattle.std.specs.Prelude.{pos, Bool, true, false, bytes_eq, if◌then◌else◌, slice_get}
 use Rattle.ob_tree.specs.declared.pos.Pos.{Pos}
@@ -8,14 +8,14 @@ use Rattle.ob_tree.specs.declared.proc_ref.ProcRef.{ProcRef}
 use Rattle.ob_instr.specs.declared.opcode.Opcode.{Opcode}
 use Rattle.ob_instr.specs.declared.opcode.Opcode.TheVariants as op
 use Rattle.ob_instr.specs.Table.{position_at}
-use Rattle.ob_code.specs.Lines.{Operand, Number, OtherVariable, OtherProcedure, OtherType, Line, line_of, none, count, plain, placed}
+use Rattle.ob_code.specs.Lines.{Number, OtherVariable, OtherProcedure, OtherType, Line, line_of, none, count, plain, placed}
 use Rattle.ob_code.specs.Context.{Context, is_own, variable_place, procedure_index, type_index, own_types, type_operand, records}
 use Rattle.ob_code.specs.Expressions.{module_line, procedure_line, declared_line}
-use Rattle.ob_relation.specs.Layout.{type_number, slot, variables_in, module_offset}
+use Rattle.ob_relation.specs.Layout.{type_number, slot, variables_in}
 use Rattle.ob_relation.specs.Relation.{OrElse, number_of}
 use Rattle.ob_relation.specs.Stands as code
 use Rattle.ob_relation.specs.Stands.{Scope, instr, with_a, never_stops}
-use Rattle.ob_standing.specs.Standing.{past, OperandIs, LineStands, LinesStand, Behind}
+use Rattle.ob_standing.specs.Standing.{past, OperandIs, LineStands, Behind}
 use Rattle.ob_standing.specs.Fits.{IsNamed, IsKnown, AmongTypes}
 use Rattle.ob_standing.specs.Agrees.{Agrees}
 
@@ -98,6 +98,7 @@ module _ (sc : Scope) where
         go : (b : Bool) → is_own c m ≡ b → LineStands sc (if b then plain op.Global (count (variable_place c x)) else plain op.ExtVar (OtherVariable m x)) pc at → OrElse b (code.Has sc pc (with_a op.Global (slot (variables_in sc.program sc.program m) x))) (code.HasLink sc pc m x)
         go true e h = subst (λ n. code.Has sc pc (with_a op.Global n)) (ag.variables m x e) (has_line op.Global (pos (variable_place c x)) (pos 0) None pc at h)
         go false e h = record { number = (h.first (inr tt)).0; has = record { is = h.is ∙ ap (λ k. Some (instr op.ExtVar k h.b)) (h.first (inr tt)).1 ∙ ap (λ k. Some (instr op.ExtVar (pos (h.first (inr tt)).0) k)) (h.second (inr tt)) }; is = (h.first (inr tt)).2 }
+
         none_past : (b : Bool) → past (if b then plain op.Global (count (variable_place c x)) else plain op.ExtVar (OtherVariable m x)).b (past (if b then plain op.Global (count (variable_place c x)) else plain op.ExtVar (OtherVariable m x)).a at) ≡ at
         none_past true = refl
         none_past false = refl
@@ -113,26 +114,28 @@ module _ (sc : Scope) where
         go : (b : Bool) → is_own c q.module ≡ b → LineStands sc (if b then plain op.Proc (count (procedure_index c q.object)) else plain op.ProcX (OtherProcedure q.module q.object)) pc at → OrElse b (code.Has sc pc (with_a op.Proc (number q).proc)) ((k : ℕ) × code.Has sc pc (with_a op.ProcX k) × (slice_get sc.u.procedure_links k ≡ Some (number q)))
         go true e h = subst (λ n. code.Has sc pc (with_a op.Proc n)) (ag.procedures q e named) (has_line op.Proc (pos (procedure_index c q.object)) (pos 0) None pc at h)
         go false e h = ((h.first (inr tt)).0, record { is = h.is ∙ ap (λ k. Some (instr op.ProcX k h.b)) (h.first (inr tt)).1 ∙ ap (λ k. Some (instr op.ProcX (pos (h.first (inr tt)).0) k)) (h.second (inr tt)) }, (h.first (inr tt)).2)
+
         none_past : (b : Bool) → past (if b then plain op.Proc (count (procedure_index c q.object)) else plain op.ProcX (OtherProcedure q.module q.object)).b (past (if b then plain op.Proc (count (procedure_index c q.object)) else plain op.ProcX (OtherProcedure q.module q.object)).a at) ≡ at
         none_past true = refl
         none_past false = refl
 
     pub declared_stands : (q : QName) (p : Pos) (ls : List Line) (pc at : ℕ) → IsNamed q.object → Behind sc (declared_line c q p ∷ ls) pc at → (code.HasProcedure sc pc q op.Call op.CallX × (position_at sc.u.positions pc ≡ p)) × Behind sc ls (suc pc) at
-    declared_stands q p ls pc at named h =
-        (
-          (
-            record { is = subst (λ u. OrElse (bytes_eq q.module u) (code.Has sc pc (with_a op.Call (number q).proc)) ((k : ℕ) × code.Has sc pc (with_a op.CallX k) × (slice_get sc.u.procedure_links k ≡ Some (number q)))) ag.unit (go (is_own c q.module) refl h.lines.0) },
-            place (is_own c q.module) h.lines.0,
-          ),
-          subst (λ k. Behind sc ls (suc pc) k) (none_past (is_own c q.module)) (next h),
-        )
+    declared_stands q p ls pc at named h = (
+      (
+        record { is = subst (λ u. OrElse (bytes_eq q.module u) (code.Has sc pc (with_a op.Call (number q).proc)) ((k : ℕ) × code.Has sc pc (with_a op.CallX k) × (slice_get sc.u.procedure_links k ≡ Some (number q)))) ag.unit (go (is_own c q.module) refl h.lines.0) },
+        place (is_own c q.module) h.lines.0,
+      ),
+      subst (λ k. Behind sc ls (suc pc) k) (none_past (is_own c q.module)) (next h),
+    )
       where
         go : (b : Bool) → is_own c q.module ≡ b → LineStands sc (if b then placed op.Call (count (procedure_index c q.object)) p else placed op.CallX (OtherProcedure q.module q.object) p) pc at → OrElse b (code.Has sc pc (with_a op.Call (number q).proc)) ((k : ℕ) × code.Has sc pc (with_a op.CallX k) × (slice_get sc.u.procedure_links k ≡ Some (number q)))
         go true e h = subst (λ n. code.Has sc pc (with_a op.Call n)) (ag.procedures q e named) (has_line op.Call (pos (procedure_index c q.object)) (pos 0) (Some p) pc at h)
         go false e h = ((h.first (inr tt)).0, record { is = h.is ∙ ap (λ k. Some (instr op.CallX k h.b)) (h.first (inr tt)).1 ∙ ap (λ k. Some (instr op.CallX (pos (h.first (inr tt)).0) k)) (h.second (inr tt)) }, (h.first (inr tt)).2)
+
         place : (b : Bool) → LineStands sc (if b then placed op.Call (count (procedure_index c q.object)) p else placed op.CallX (OtherProcedure q.module q.object) p) pc at → position_at sc.u.positions pc ≡ p
         place true h = h.place
         place false h = h.place
+
         none_past : (b : Bool) → past (if b then placed op.Call (count (procedure_index c q.object)) p else placed op.CallX (OtherProcedure q.module q.object) p).b (past (if b then placed op.Call (count (procedure_index c q.object)) p else placed op.CallX (OtherProcedure q.module q.object) p).a at) ≡ at
         none_past true = refl
         none_past false = refl

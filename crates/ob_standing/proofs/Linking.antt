@@ -1,13 +1,13 @@
 -- Where all modules of a program stand as they were compiled and their procedures are checked, the image is linked as the law of
 -- simulation asks.
-use Rattle.std.proofs.Common.{◌≡◌, ℕ, suc, List, [], ◌∷◌, refl, sym, ap, ◌∙◌, subst, Option, Some, None}
+use Rattle.std.proofs.Common.{◌≡◌, ℕ, suc, List, [], ◌∷◌, refl, sym, ap, ◌∙◌, subst, Option, Some}
 use Rattle.std.specs.Prelude.{unwrap_or, Bool, true, false, bytes_eq, if◌then◌else◌, slice_get}
 use Rattle.std.proofs.lemmas.Option.{none-some}
 use Rattle.ob_tree.specs.declared.names.QName.{QName}
 use Rattle.ob_types.specs.declared.desc.Desc.{Desc}
 use Rattle.ob_types.specs.TypedSyntax.{Procedure, Module}
 use Rattle.ob_instr.specs.Image.{ModuleImage}
-use Rattle.ob_meaning.specs.Values.{Program, procedure_named, procedure_of}
+use Rattle.ob_meaning.specs.Values.{procedure_named, procedure_of}
 use Rattle.ob_meaning.specs.Commands.{body_name, body_procedure}
 use Rattle.ob_code.specs.Procedures.{body_of, all_procedures}
 use Rattle.ob_relation.specs.Layout.{procedure_number}

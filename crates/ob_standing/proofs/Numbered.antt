@@ -1,20 +1,18 @@
 -- Lines as they are numbered stand in the code.
-use Rattle.std.proofs.Common.{◌≡◌, ℕ, suc, ◌+◌, ◌<◌, List, [], ◌∷◌, ◌++◌, length, ℤ, refl, sym, ap, ◌∙◌, subst, arith, length-append, Option, Some, None, ⊎_elim}
-use Rattle.std.specs.Prelude.{unwrap_or, pos, zero, ◌⊎◌, Bool, true, false, ◌&&◌, nat_eq, bytes_eq, if◌then◌else◌, slice_get}
+use Rattle.std.proofs.Common.{◌≡◌, ℕ, suc, ◌+◌, ◌<◌, List, [], ◌∷◌, ◌++◌, length, refl, sym, ap, ◌∙◌, subst, arith, Option, Some, None, ⊎_elim}
+use Rattle.std.specs.Prelude.{unwrap_or, pos, zero, ◌⊎◌, Bool, true, false, nat_eq, bytes_eq, if◌then◌else◌, slice_get}
 use Rattle.std.proofs.lemmas.Bool.Decides.{nat_tests}
 use Rattle.std.proofs.lemmas.Option.{none-some}
 use Rattle.ob_tree.specs.declared.pos.Pos.{Pos}
 use Rattle.ob_tree.specs.declared.names.QName.{QName}
 use Rattle.ob_instr.specs.declared.instr.Instr.{Instr}
-use Rattle.ob_instr.specs.declared.procedure.Position.{Position}
 use Rattle.ob_instr.specs.Table.{position_at}
 use Rattle.ob_obj.specs.declared.parts.Link.{Link}
 use Rattle.ob_code.specs.Lines.{Operand, Number, StringHere, OtherVariable, OtherProcedure, OtherType, Line, behind}
-use Rattle.ob_code.specs.Numbers.{Named, same_link, same_type, link_to, number_among, with_one, number_in, with_operand, instr, instr_in, with_line, instrs_in, with_lines, with_position, positions_at}
-use Rattle.ob_code.proofs.Ends.{behind_is}
+use Rattle.ob_code.specs.Numbers.{Named, same_link, same_type, link_to, number_among, with_one, number_in, with_operand, instr_in, with_line, instrs_in, with_lines, with_position, positions_at}
 use Rattle.ob_relation.specs.Stands.{Scope}
-use Rattle.ob_relation.proofs.Names.{bytes_same, bytes_true, and_both, nat_same}
-use Rattle.ob_standing.specs.Standing.{past, own_types_in, IsNumber, OperandIs, PositionIs, LineStands, LinesStand, Behind}
+use Rattle.ob_relation.proofs.Names.{bytes_true, and_both}
+use Rattle.ob_standing.specs.Standing.{past, IsNumber, OperandIs, PositionIs, LineStands, LinesStand}
 use Rattle.ob_standing.specs.Resolved.{LinksResolve}
 
 -- NUMBERS IN LISTS
@@ -147,8 +145,7 @@ module _ (sc : Scope) where
     all_stand [] n pc at e k code places = tt
     all_stand (l ∷ ls) n pc at e k code places =
         let here = kept_on (with_line n l) (with_lines (with_line n l) ls) m (lines_kept (with_line n l) ls) k in
-        let z : pc + 0 ≡ pc = omega arith in
-        (
+        let z : pc + 0 ≡ pc = omega arith in (
           record {
             a = number_in n l.a;
             b = number_in n l.b;
@@ -158,8 +155,8 @@ module _ (sc : Scope) where
             place = position_is l.at l ls pc refl places;
           },
           all_stand ls (with_line n l) (suc pc) _ (next_past (with_operand n l.a) l.b _ (next_past n l.a at e)) k
-          (λ i x f. let s : pc + suc i ≡ suc pc + i = omega arith in subst (λ j. slice_get sc.u.code j ≡ Some x) s (code (suc i) x f))
-          (λ i x p f g. let s : pc + suc i ≡ suc pc + i = omega arith in subst (λ j. position_at sc.u.positions j ≡ p) s (places (suc i) x p f g)),
+              (λ i x f. let s : pc + suc i ≡ suc pc + i = omega arith in subst (λ j. slice_get sc.u.code j ≡ Some x) s (code (suc i) x f))
+              (λ i x p f g. let s : pc + suc i ≡ suc pc + i = omega arith in subst (λ j. position_at sc.u.positions j ≡ p) s (places (suc i) x p f g)),
         )
 
   -- the strings laid down by lines

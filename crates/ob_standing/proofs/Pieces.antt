@@ -1,8 +1,7 @@
 -- The small pieces of the code of designators and operators.
-use Rattle.std.proofs.Common.{◌≡◌, ℕ, suc, ◌+◌, List, [], ◌∷◌, ◌++◌, length, ℤ, refl, sym, ap, ◌∙◌, subst, arith, inl, inr, Option, Some, None}
-use Rattle.std.specs.Prelude.{pos, negsuc, ◌⊎◌, ◌<◌, ◌^◌, ◌-◌, nat_lt, nat_le, Bool, true, false, if◌then◌else◌}
+use Rattle.std.proofs.Common.{◌≡◌, ℕ, suc, ◌+◌, List, ◌∷◌, ◌++◌, length, ℤ, refl, sym, ap, ◌∙◌, subst, arith, inl, inr, Some, None}
+use Rattle.std.specs.Prelude.{pos, negsuc, ◌<◌, ◌^◌, Bool, true, false}
 use Rattle.std.specs.Int.{w32, cast_signed}
-use Rattle.std.proofs.lemmas.Bool.Decides.{nat_tests}
 use Rattle.ob_tree.specs.declared.pos.Pos.{Pos}
 use Rattle.ob_tree.specs.declared.names.QName.{QName}
 use Rattle.ob_types.specs.declared.types.TypeRef.{TypeRef}
@@ -30,30 +29,29 @@ use Rattle.ob_types.specs.declared.typed.Callee.TheVariants as callee
 use Rattle.ob_types.specs.declared.typed.Family.{Family}
 use Rattle.ob_types.specs.declared.typed.OutProcedure.{OutProcedure}
 use Rattle.ob_types.specs.declared.typed.OutProcedure.TheVariants as out
-use Rattle.ob_types.specs.TypedSyntax.{Desig, OfVariable, Field, Index, Deref, Guard, Expr, Constant, ValueOf, Actuals, NoActual, AnActual}
+use Rattle.ob_types.specs.TypedSyntax.{Desig, OfVariable, Deref, Guard, Constant, ValueOf, Actuals, NoActual, AnActual}
 use Rattle.ob_layout.specs.Room.{slots}
 use Rattle.ob_types.specs.TypedKinds.{variable_type}
 use Rattle.ob_instr.specs.declared.opcode.Opcode.{Opcode}
 use Rattle.ob_instr.specs.declared.opcode.Opcode.TheVariants as op
-use Rattle.ob_instr.specs.declared.instr.Instr.{Instr}
 use Rattle.ob_instr.specs.Rows.{truth}
-use Rattle.ob_meaning.specs.Values.{Program, Form, ArrayForm, OpenForm, RecordForm, Fields, form_in, words}
-use Rattle.ob_code.specs.Lines.{Number, Line, line_of, none, count, plain, placed, placed_two, bare, bare_at}
-use Rattle.ob_code.specs.Descriptions.{elements_of, own_name, method_number}
+use Rattle.ob_meaning.specs.Values.{form_in}
+use Rattle.ob_code.specs.Lines.{Number, Line, count, plain, placed, placed_two, bare}
+use Rattle.ob_code.specs.Descriptions.{elements_of, method_number}
 use Rattle.ob_code.specs.Context.{Context, parameter_slot, local_slot, type_operand, named_operand, record_operand}
-use Rattle.ob_code.specs.Operations.{bytes_of, set_word, truth_word, word_of, unary_code, binary_line, comparison_code, relation_number, out_number, update_line}
+use Rattle.ob_code.specs.Operations.{bytes_of, set_word, truth_word, unary_code, binary_line, comparison_code, relation_number, out_number, update_line}
 use Rattle.ob_code.specs.declared.want.Want.{Want}
 use Rattle.ob_code.specs.declared.want.Want.TheVariants as want
-use Rattle.ob_code.specs.Expressions.{pair_code, from_place, from_pointer, from_guard, measured_behind, length_operand, variable_code, module_line, string_line, constant_code, guard_want, guard_line, call_line, family_number, words_of_actuals, words_behind_receiver}
-use Rattle.ob_relation.specs.Layout.{type_number, slot}
-use Rattle.ob_relation.specs.Ends.{end_unary, end_place, end_tagged, end_open, end_tag, end_length, end_variable}
+use Rattle.ob_code.specs.Expressions.{pair_code, from_place, from_pointer, from_guard, measured_behind, length_operand, variable_code, string_line, constant_code, guard_want, guard_line, call_line, family_number, words_of_actuals, words_behind_receiver}
+use Rattle.ob_relation.specs.Layout.{slot}
+use Rattle.ob_relation.specs.Ends.{end_unary, end_place, end_tagged, end_variable}
 use Rattle.ob_relation.specs.Stands as code
 use Rattle.ob_relation.specs.Stands.{Scope, instr, with_a, bytes, Has, HasAt, HasType, HasTypeAt, PlaceCode, TaggedCode, OpenCode, TagCode, LengthCode, Form2, form_of, fixed_length, record_name, literal_word, dt, et}
-use Rattle.ob_standing.specs.Standing.{past, LineStands, Behind}
-use Rattle.ob_standing.specs.Fits.{IsWhole, CalleeFits, IsThere, IsKnown, IsArrayType, IsOpenType, IsRecordType, IsScalar, PlaceGives, OpenGives, TaggedGives, VariableGives, PointerGives, GuardGives, ConstantGives, AmongParameters, AmongLocals}
+use Rattle.ob_standing.specs.Standing.{LineStands, Behind}
+use Rattle.ob_standing.specs.Fits.{IsWhole, CalleeFits, IsThere, IsKnown, IsArrayType, IsOpenType, IsRecordType, PlaceGives, OpenGives, TaggedGives, VariableGives, PointerGives, GuardGives, ConstantGives}
 use Rattle.ob_standing.specs.Agrees.{Agrees}
 use Rattle.ob_standing.specs.Wanted.{place_end, desig_end, expr_end, DesigStands, ExprStands, constant_texts}
-use Rattle.ob_standing.proofs.Ends.{plain_end, array_end, open_end, measured_array, measured_open}
+use Rattle.ob_standing.proofs.Ends.{array_end, open_end, measured_array, measured_open}
 use Rattle.ob_standing.proofs.Lines.{next, moved, no_texts, has_line, has_at, has_quiet, has_type, has_type_at, next_type, type_found, type_past, module_stands, declared_stands}
 
 -- OPERATIONS
@@ -245,12 +243,11 @@ module _ (sc : Scope) where
     opened_stands (want.Room n) k v x t pc at rest e g ends is name h = (is (local_at k x pc at e h.lines.0, load_at (suc pc) at h.lines.1.0), moved sc _ _ (sym ends) refl (next sc (next sc h)))
     opened_stands want.PlaceAndTag k v x t pc at rest e g ends is name h = absurd g
     opened_stands want.Tag k v x t pc at rest e g ends is name h = absurd g
-    opened_stands want.PlaceAndLength k v x t pc at rest e g ends is name h =
-        (
-          open_form t (OpenCode sc (OfVariable v t) pc at) (PlaceCode sc (OfVariable v t) pc at × Has sc (end_place sc.program (OfVariable v t) pc) (with_a op.Int (fixed_length sc (form_in sc.program t)))) g
+    opened_stands want.PlaceAndLength k v x t pc at rest e g ends is name h = (
+      open_form t (OpenCode sc (OfVariable v t) pc at) (PlaceCode sc (OfVariable v t) pc at × Has sc (end_place sc.program (OfVariable v t) pc) (with_a op.Int (fixed_length sc (form_in sc.program t)))) g
           (is (local_at k x pc at e h.lines.0, load_at (suc pc) at h.lines.1.0), subst (λ y. code.SecondCode sc y (suc (suc pc))) (sym name) (second_at k x (suc (suc pc)) at e h.lines.1.1.0, load_at (suc (suc (suc pc))) at h.lines.1.1.1.0)),
-          moved sc _ _ (sym (open_end c sc.program t _ _ g)) refl (next sc (next sc (next sc (next sc h)))),
-        )
+      moved sc _ _ (sym (open_end c sc.program t _ _ g)) refl (next sc (next sc (next sc (next sc h)))),
+    )
     opened_stands want.Length k v x t pc at rest e g ends is name h = (subst (λ y. code.SecondCode sc y pc) (sym name) (second_at k x pc at e h.lines.0, load_at (suc pc) at h.lines.1.0), next sc (next sc h))
 
     pub variable_stands : (v : Variable) (w : Want) (t : TypeRef) (pc at : ℕ) (rest : List Line) → IsThere c v → VariableGives sc.program c v w t → Behind sc (variable_code c w v t ++ rest) pc at → DesigStands sc w (OfVariable v t) pc at × Behind sc rest (desig_end sc.program w (OfVariable v t) pc) at
@@ -285,17 +282,15 @@ module _ (sc : Scope) where
     pointer_stands want.PlaceAndTag d p t pc at q rest g l h = ((l.0, (l.1, has_at sc op.Tagged (pos 0) (pos 0) p _ q h.lines.0)), next sc h)
     pointer_stands want.Tag d p t pc at q rest g l h = absurd g
     pointer_stands want.PlaceAndLength d p t pc at q rest (inl g) l h =
-        let k : Behind sc (measured_behind (Some g.0) p ++ rest) (suc (end_place sc.program d pc)) q = subst (λ o. Behind sc (measured_behind o p ++ rest) (suc (end_place sc.program d pc)) q) (measured_array c sc.program ag.described t g) h in
-        (
+        let k : Behind sc (measured_behind (Some g.0) p ++ rest) (suc (end_place sc.program d pc)) q = subst (λ o. Behind sc (measured_behind o p ++ rest) (suc (end_place sc.program d pc)) q) (measured_array c sc.program ag.described t g) h in (
           array_form t (OpenCode sc (Deref d p t) pc at) (PlaceCode sc (Deref d p t) pc at × Has sc (end_place sc.program (Deref d p t) pc) (with_a op.Int (fixed_length sc (form_in sc.program t)))) g
-          ((l.0, (l.1, has_at sc op.Deref (pos 0) (pos 0) p _ q k.lines.0)), subst (λ f. Has sc (suc (suc (end_place sc.program d pc))) (with_a op.Int (fixed_length sc f))) (sym g.2) (has_line sc op.Int (pos g.0) (pos 0) None _ q k.lines.1.0)),
+              ((l.0, (l.1, has_at sc op.Deref (pos 0) (pos 0) p _ q k.lines.0)), subst (λ f. Has sc (suc (suc (end_place sc.program d pc))) (with_a op.Int (fixed_length sc f))) (sym g.2) (has_line sc op.Int (pos g.0) (pos 0) None _ q k.lines.1.0)),
           moved sc _ _ (sym (array_end c sc.program t _ _ g)) refl (next sc (next sc k)),
         )
     pointer_stands want.PlaceAndLength d p t pc at q rest (inr g) l h =
-        let k : Behind sc (measured_behind None p ++ rest) (suc (end_place sc.program d pc)) q = subst (λ o. Behind sc (measured_behind o p ++ rest) (suc (end_place sc.program d pc)) q) (measured_open c sc.program ag.described t g) h in
-        (
+        let k : Behind sc (measured_behind None p ++ rest) (suc (end_place sc.program d pc)) q = subst (λ o. Behind sc (measured_behind o p ++ rest) (suc (end_place sc.program d pc)) q) (measured_open c sc.program ag.described t g) h in (
           open_form t (OpenCode sc (Deref d p t) pc at) (PlaceCode sc (Deref d p t) pc at × Has sc (end_place sc.program (Deref d p t) pc) (with_a op.Int (fixed_length sc (form_in sc.program t)))) g
-          (l.0, (l.1, has_at sc op.Lenned (pos 0) (pos 0) p _ q k.lines.0)),
+              (l.0, (l.1, has_at sc op.Lenned (pos 0) (pos 0) p _ q k.lines.0)),
           moved sc _ _ (sym (open_end c sc.program t _ _ g)) refl (next sc k),
         )
     pointer_stands want.Length d p t pc at q rest g l h =

@@ -1,6 +1,6 @@
 -- Each procedure of a compiled module stands in the image as the law of simulation asks.
-use Rattle.std.proofs.Common.{◌≡◌, ℕ, suc, ◌+◌, ◌<◌, List, [], ◌∷◌, ◌++◌, length, map, ℤ, refl, sym, ap, ◌∙◌, subst, arith, append_assoc, append-nil, length-append, Option, Some, None}
-use Rattle.std.specs.Prelude.{pos, zero, unwrap_or, Bool, true, bytes_eq, slice_get}
+use Rattle.std.proofs.Common.{◌≡◌, ℕ, suc, ◌+◌, ◌<◌, List, [], ◌∷◌, ◌++◌, length, map, refl, sym, ap, ◌∙◌, subst, arith, append_assoc, append-nil, length-append, Option, Some, None}
+use Rattle.std.specs.Prelude.{pos, zero, unwrap_or, slice_get}
 use Rattle.std.proofs.lemmas.Option.{none-some, slice_get_within}
 use Rattle.ob_tree.specs.declared.pos.Pos.{Pos}
 use Rattle.ob_tree.specs.declared.names.QName.{QName}
@@ -12,25 +12,22 @@ use Rattle.ob_types.specs.declared.typed.Family.{Family}
 use Rattle.ob_types.specs.declared.typed.TypedParameter.{TypedParameter}
 use Rattle.ob_types.specs.TypedSyntax.{Procedure, Module}
 use Rattle.ob_instr.specs.declared.opcode.Opcode.TheVariants as op
-use Rattle.ob_instr.specs.declared.procedure.Procedure.{Procedure as Row}
 use Rattle.ob_instr.specs.Image.{ModuleImage}
 use Rattle.ob_instr.specs.Table.{position_at}
-use Rattle.ob_meaning.specs.Values.{Program, form_in, Held}
-use Rattle.ob_meaning.specs.Meaning.{hidden}
+use Rattle.ob_meaning.specs.Values.{Program, form_in}
 use Rattle.ob_meaning.specs.Calls.{hidden_of_all, hidden_held, held_variable}
-use Rattle.ob_code.specs.Lines.{Line, behind}
+use Rattle.ob_code.specs.Lines.{behind}
 use Rattle.ob_code.specs.Descriptions.{method_number}
 use Rattle.ob_layout.specs.Words.{words_of}
-use Rattle.ob_code.specs.Context.{Context, before, all_slots, local_words, first_hidden}
-use Rattle.ob_code.specs.Numbers.{nothing_named, instrs_in, positions_at}
+use Rattle.ob_code.specs.Context.{Context, before, local_words, first_hidden}
+use Rattle.ob_code.specs.Numbers.{nothing_named}
 use Rattle.ob_code.specs.Statements as scheme_of
-use Rattle.ob_code.specs.Procedures.{body_of, within, all_procedures, closing, end_procedure, procedure_code, procedures_code, module_code, module_rows, rows_of, row_of, param_for, has_result, all_local_words}
+use Rattle.ob_code.specs.Procedures.{within, all_procedures, closing, end_procedure, procedure_code, procedures_code, module_code, module_rows, rows_of, row_of, param_for, has_result, all_local_words}
 use Rattle.ob_code.specs.Object.{own_words, all_named}
 use Rattle.ob_code.proofs.Ends as scheme_ends
 use Rattle.ob_relation.specs.Layout.{type_number, slot, slots_words, static_parameter, static_held, procedure_number, procedure_index, procedures_in, variables_in}
 use Rattle.ob_relation.specs.Relation.{number_of, AreDifferent}
 use Rattle.ob_relation.specs.Ends.{end_stmts}
-use Rattle.ob_relation.specs.Stands as code
 use Rattle.ob_relation.specs.Stands.{Scope}
 use Rattle.ob_relation.specs.Setting.{Setting, has_of}
 use Rattle.ob_relation.specs.Linked.{has_one, KindIs, KindsAre, own_variables, scope_of, LastCode, ProcedureStands}
@@ -43,7 +40,7 @@ use Rattle.ob_standing.specs.Compiled.{IsCompiled, IsChecked, ParameterFits, Par
 use Rattle.ob_standing.proofs.Ends as ends
 use Rattle.ob_standing.proofs.Lines.{has_line, has_at}
 use Rattle.ob_standing.proofs.Counters.{HiddenAt, stmts_next}
-use Rattle.ob_standing.proofs.Statements.{SS, stmts_stand}
+use Rattle.ob_standing.proofs.Statements.{stmts_stand}
 use Rattle.ob_standing.proofs.Numbered.{AllStand, all_stand, kept_all, position_found, stand_apart, texts_past, with_end}
 use Rattle.ob_standing.proofs.Words.{procedures_before, words_two, HiddenIn, hidden_in, variables_before, globals_before, local_sum, parameters_before, parameter_sum, local_past}
 

@@ -2,18 +2,16 @@
 use Rattle.std.proofs.Common.{◌≡◌, ℕ, suc, ◌+◌, ◌<◌, List, [], ◌∷◌, ◌++◌, length, ℤ, refl, sym, ap, ◌∙◌, subst, arith, Option, Some, None}
 use Rattle.std.specs.Prelude.{pos}
 use Rattle.ob_tree.specs.declared.pos.Pos.{Pos}
-use Rattle.ob_types.specs.declared.types.TypeRef.{TypeRef}
 use Rattle.ob_types.specs.declared.types.TypeRef.TheVariants as ref
 use Rattle.ob_types.specs.declared.types.Basic.TheVariants as basic
 use Rattle.ob_types.specs.declared.typed.Variable.{Variable}
 use Rattle.ob_types.specs.declared.typed.Width.{Width}
-use Rattle.ob_types.specs.declared.typed.Label.{Label}
-use Rattle.ob_types.specs.TypedSyntax.{Desig, OfVariable, Expr, ValueOf, Stmt, Assign, CallProper, Updated, Copy, New, NewOpenArray, Assert, Halt, If, Case, While, Repeat, For, Loop, Exit, Return, With, Stmts, Nothing, Then, Branches, NoBranch, Branch, Cases, NoCase, OneCase, Otherwise, NoElse, Else}
+use Rattle.ob_types.specs.TypedSyntax.{Expr, Stmt, Assign, CallProper, Updated, Copy, New, NewOpenArray, Assert, Halt, If, Case, While, Repeat, For, Loop, Exit, Return, With, Stmts, Nothing, Then, Branches, NoBranch, Branch, Cases, NoCase, OneCase, Otherwise, NoElse, Else}
 use Rattle.ob_instr.specs.declared.opcode.Opcode.{Opcode}
 use Rattle.ob_instr.specs.declared.opcode.Opcode.TheVariants as op
-use Rattle.ob_meaning.specs.Values.{form_in, words as words_in}
+use Rattle.ob_meaning.specs.Values.{form_in}
 use Rattle.ob_meaning.specs.Meaning.{hidden}
-use Rattle.ob_meaning.specs.Globals.{texts_of, texts_of_all, texts_of_optional, texts_of_branches, texts_of_cases, texts_of_else}
+use Rattle.ob_meaning.specs.Globals.{texts_of_all, texts_of_optional, texts_of_branches, texts_of_cases, texts_of_else}
 use Rattle.ob_meaning.specs.Calls.{hidden_of, hidden_of_all, hidden_of_branches, hidden_of_cases, hidden_of_else}
 use Rattle.ob_code.specs.Lines.{Line, Number, count, plain, placed, bare, bare_at, jump, jump_if_false, jump_back, jump_back_if_false, behind}
 use Rattle.ob_code.specs.Context.{Context, words}
@@ -23,14 +21,14 @@ use Rattle.ob_code.specs.Expressions as scheme
 use Rattle.ob_code.specs.Statements as scheme_of
 use Rattle.ob_code.specs.Statements.{target_want, source_want, for_place, for_value, within, new_line, assign_line, labels_code, next_stmt, next_stmts, next_branches, next_cases}
 use Rattle.ob_relation.specs.Layout.{slot}
-use Rattle.ob_relation.specs.Ends.{end_variable, end_test, end_step, end_place, end_expr, end_array, end_optional, end_labels, end_stmt, end_stmts, end_branches, end_cases, end_else}
+use Rattle.ob_relation.specs.Ends.{end_variable, end_test, end_place, end_expr, end_optional, end_labels, end_stmt, end_stmts, end_branches, end_cases, end_else}
 use Rattle.ob_relation.specs.Stands as code
 use Rattle.ob_relation.specs.Stands.{Scope, Has, HasAt, OptionalCode, StmtCode, StmtsCode, BranchesCode, CasesCode, ElseCode, with_a, instr, bytes, hidden_slot, dt, et, st, sst, for_code}
 use Rattle.ob_standing.specs.Standing.{LineStands, Behind}
-use Rattle.ob_standing.specs.Fits.{IsThere, StepFits, VariableGives, DesigFits, ExprFits, ResultFits, StmtFits, StmtsFit, BranchesFit, CasesFit, ElseFits}
+use Rattle.ob_standing.specs.Fits.{IsThere, StepFits, VariableGives, ExprFits, ResultFits, StmtFits, StmtsFit, BranchesFit, CasesFit, ElseFits}
 use Rattle.ob_standing.specs.Agrees.{Agrees}
 use Rattle.ob_standing.specs.Wanted.{desig_end, expr_end}
-use Rattle.ob_standing.proofs.Ends.{desig_ends, expr_ends, value_place, counter_value, counter_place, labels_end, stmt_ends, stmts_end, branches_end, cases_end, else_ends}
+use Rattle.ob_standing.proofs.Ends.{expr_ends, value_place, counter_value, counter_place, labels_end, stmt_ends, stmts_end, branches_end, cases_end, else_ends}
 use Rattle.ob_standing.proofs.Lines.{apart, apart_two, next, moved, texts_on, no_texts, inside, has_line, has_at}
 use Rattle.ob_standing.proofs.Pieces.{bytes_same, update_stands, variable_stands}
 use Rattle.ob_standing.proofs.Expressions.{D, E, value_texts, array_texts, on_expr, jump_stands, desig_stands, expr_stands}
@@ -221,8 +219,7 @@ module _ (sc : Scope) (c : Context) (ag : Agrees sc c) where
         let r6 = counter_stands v p4 k3 (t6 ++ rest) f.0.0 f.0.1 (apart sc (for_place c v) t6 rest p4 k3 r5.1) in
         let x6 = r6.1.lines in
         let last = next sc (next sc (next sc r6.1)) in
-        let sum : k3 ≡ at + (et sc start + et sc stop + sst sc body) = omega arith in
-        (
+        let sum : k3 ≡ at + (et sc start + et sc stop + sst sc body) = omega arith in (
           (
             local_at t p pc at hd.0 h.lines.0,
             (
@@ -296,8 +293,7 @@ module _ (sc : Scope) (c : Context) (ag : Agrees sc c) where
         let k2 = subst (λ m. Behind sc (BS more (suc q2) m x end ++ rest) (suc p2) (at + et sc test + sst sc body)) (stmts_next c body t) (next sc s.1) in
         let k3 = subst (λ m. Behind sc (BS more (suc m) (t + length (hidden_of_all body)) x end ++ rest) (suc p2) (at + et sc test + sst sc body)) e2 k2 in
         let m = branches_stand more (suc p2) _ x end _ rest f.1.1 hid.1 k3 in
-        let sum : at + et sc test + sst sc body + texts_of_branches (form_in sc.program) more ≡ at + (et sc test + sst sc body + texts_of_branches (form_in sc.program) more) = omega arith in
-        (
+        let sum : at + et sc test + sst sc body + texts_of_branches (form_in sc.program) more ≡ at + (et sc test + sst sc body + texts_of_branches (form_in sc.program) more) = omega arith in (
           λ i. (r.0, (jump_at op.JumpF (suc q2) (suc p2) p1 _ (ap suc e2) r.1.lines.0, (s.0, (has_line sc op.Jump (pos end) (pos 0) None p2 _ s.1.lines.0, (inside sc _ (suc p2) _ k3, (i, m.0 i)))))),
           moved sc _ _ refl sum m.1,
         )
@@ -322,8 +318,7 @@ module _ (sc : Scope) (c : Context) (ag : Agrees sc c) where
         let k4 = subst (λ m. Behind sc (CS k more (suc m) (t + length (hidden_of_all body)) x end ++ rest) (suc p2) (at + sst sc body)) e2 k3 in
         let m = cases_stand k p more (suc p2) _ x end _ rest f.1 hk hid.1 k4 in
         let h2 = subst (λ z. Behind sc (labels_code c k labels pc z ++ (jump (suc q2) ∷ behind_it)) pc at) e1 h1 in
-        let h3 = subst (λ z. Behind sc (labels_code c k labels pc p1 ++ (jump (suc z) ∷ behind_it)) pc at) e2 h2 in
-        (
+        let h3 = subst (λ z. Behind sc (labels_code c k labels pc p1 ++ (jump (suc z) ∷ behind_it)) pc at) e2 h2 in (
           λ i. (labels_stand sc c ag k p labels pc p1 (suc p2) at behind_it hk (inside sc behind_it p1 at k1) (inside sc _ (suc p2) _ k4) h3, (s.0, (has_line sc op.Jump (pos end) (pos 0) None p2 _ s.1.lines.0, (i, m.0 i)))),
           texts_on sc at (sst sc body) (texts_of_cases (form_in sc.program) more) m.1,
         )

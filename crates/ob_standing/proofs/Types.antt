@@ -1,5 +1,5 @@
 -- The record types of compiled modules stand in the image as the law of simulation asks.
-use Rattle.std.proofs.Common.{◌≡◌, ℕ, suc, List, [], ◌∷◌, ◌++◌, refl, sym, ap, ◌∙◌, subst, Option, Some, None}
+use Rattle.std.proofs.Common.{◌≡◌, ℕ, suc, List, [], ◌∷◌, ◌++◌, refl, sym, ap, ◌∙◌, Option, Some}
 use Rattle.std.specs.Prelude.{Bool, true, false, bytes_eq, ◌&&◌, if◌then◌else◌, slice_get}
 use Rattle.ob_tree.specs.declared.names.QName.{QName}
 use Rattle.ob_types.specs.declared.desc.Desc.{Desc}
@@ -7,15 +7,15 @@ use Rattle.ob_types.specs.declared.desc.Desc.TheVariants as desc
 use Rattle.ob_types.specs.declared.typed.TypedType.{TypedType}
 use Rattle.ob_types.specs.TypedSyntax.{Module}
 use Rattle.ob_tdesc.specs.declared.descriptor.Descriptor.{Descriptor}
-use Rattle.ob_meaning.specs.Values.{Program, RecordForm, fields_of, record_in, words}
+use Rattle.ob_meaning.specs.Values.{Program, record_in, words}
 use Rattle.ob_obj.specs.declared.parts.RecordType.{RecordType}
 use Rattle.ob_obj.specs.Images.{descriptor_of, with_types}
 use Rattle.ob_code.specs.Object.{record_in as record_of, records_in}
 use Rattle.ob_relation.specs.Layout.{type_number}
 use Rattle.ob_relation.specs.Relation.{OrElse}
 use Rattle.ob_relation.specs.Setting.{Setting}
-use Rattle.ob_relation.specs.Linked.{TypeStands, TypesStand}
-use Rattle.ob_relation.proofs.Names.{bytes_same, bytes_true, and_both}
+use Rattle.ob_relation.specs.Linked.{TypesStand}
+use Rattle.ob_relation.proofs.Names.{bytes_true, and_both}
 use Rattle.ob_standing.specs.Descriptors.{named, DescriptorsFit, IsDescriptor, RecordsFit, DescFits, DeclarationsFit, TypesThere}
 
 -- a descriptor that was found, with its words

@@ -9,7 +9,7 @@ use Rattle.ob_types.specs.TypedSyntax.{Procedure, Module}
 use Rattle.ob_instr.specs.Parts.{slots}
 use Rattle.ob_instr.specs.Image.{ModuleImage}
 use Rattle.ob_instr.proofs.Steps.{InModule}
-use Rattle.ob_meaning.specs.Values.{Program, Form, ArrayForm, OpenForm, RecordForm, form_in}
+use Rattle.ob_meaning.specs.Values.{Program, Form, form_in}
 use Rattle.ob_code.specs.Numbers.{nothing_named, instrs_in, positions_at}
 use Rattle.ob_code.specs.Context.{own_types, type_index, records}
 use Rattle.ob_code.specs.Procedures.{body_of, within, module_code, module_rows, all_local_words, param_for}

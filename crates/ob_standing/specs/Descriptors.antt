@@ -5,7 +5,7 @@ use Rattle.ob_types.specs.declared.desc.Desc.{Desc}
 use Rattle.ob_types.specs.declared.desc.Desc.TheVariants as desc
 use Rattle.ob_types.specs.declared.typed.TypedType.{TypedType}
 use Rattle.ob_tdesc.specs.declared.descriptor.Descriptor.{Descriptor}
-use Rattle.ob_meaning.specs.Values.{Program, Form, RecordForm, fields_of, record_in, words}
+use Rattle.ob_meaning.specs.Values.{Program, RecordForm, fields_of, record_in, words}
 use Rattle.ob_obj.specs.declared.parts.RecordType.{RecordType}
 use Rattle.ob_obj.specs.declared.file.ObjFile.{ObjFile}
 use Rattle.ob_relation.specs.Relation.{OrElse, FormOk}

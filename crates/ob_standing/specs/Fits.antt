@@ -1,12 +1,11 @@
 -- What the code rests on in a checked tree: its names are there, and of each part there is what is wanted of it.
-use Rattle.std.specs.Prelude.{◌≡◌, ◌⊎◌, ◌<◌, ◌^◌, ℕ, zero, List, [], ◌∷◌, ℤ, pos, negsuc, Option, Some, None, Bool, bytes_eq}
+use Rattle.std.specs.Prelude.{◌≡◌, ◌⊎◌, ◌<◌, ◌^◌, ℕ, zero, List, [], ◌∷◌, ℤ, pos, Option, Some, None, bytes_eq}
 use Rattle.ob_tree.specs.declared.names.QName.{QName}
 use Rattle.ob_types.specs.declared.types.TypeRef.{TypeRef}
 use Rattle.ob_types.specs.declared.types.TypeRef.TheVariants as ref
 use Rattle.ob_types.specs.declared.types.Basic.TheVariants as basic
 use Rattle.ob_types.specs.declared.value.Value.{Value as Literal}
 use Rattle.ob_types.specs.declared.value.Value.TheVariants as literal
-use Rattle.ob_types.specs.declared.typed.Passing.{Passing}
 use Rattle.ob_types.specs.declared.typed.Passing.TheVariants as passing
 use Rattle.ob_types.specs.declared.typed.Variable.{Variable}
 use Rattle.ob_types.specs.declared.typed.Variable.TheVariants as variable
@@ -28,7 +27,7 @@ use Rattle.ob_code.specs.declared.want.Want.{Want}
 use Rattle.ob_code.specs.declared.want.Want.TheVariants as want
 use Rattle.ob_code.specs.Context.{Context, words, is_own, records}
 use Rattle.ob_code.specs.Expressions.{wanted, guard_want}
-use Rattle.ob_code.specs.Statements.{target_want, source_want, has_tag, record_want}
+use Rattle.ob_code.specs.Statements.{target_want, source_want}
 use Rattle.ob_relation.specs.Relation.{OrElse, FieldIn}
 
 -- NAMES

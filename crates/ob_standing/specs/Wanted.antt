@@ -1,12 +1,10 @@
 -- What is wanted of designators and expressions, as what stands in the code, and where it ends.
-use Rattle.std.specs.Prelude.{ℕ, suc, List, length, Some}
+use Rattle.std.specs.Prelude.{ℕ, suc}
 use Rattle.ob_types.specs.declared.value.Value.{Value as Literal}
 use Rattle.ob_types.specs.declared.value.Value.TheVariants as literal
-use Rattle.ob_types.specs.declared.typed.Label.{Label}
-use Rattle.ob_types.specs.TypedKinds.{variable_type}
 use Rattle.ob_types.specs.TypedSyntax.{Desig, Expr, Constant}
 use Rattle.ob_instr.specs.declared.opcode.Opcode.TheVariants as op
-use Rattle.ob_meaning.specs.Values.{Program, form_in}
+use Rattle.ob_meaning.specs.Values.{Program}
 use Rattle.ob_code.specs.declared.want.Want.{Want}
 use Rattle.ob_code.specs.declared.want.Want.TheVariants as want
 use Rattle.ob_meaning.specs.Globals.{literal_words}
