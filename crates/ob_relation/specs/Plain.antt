@@ -43,3 +43,4 @@ PlainUnary o = ⊥
 abbrev pub PlainLiteral : Literal → Type 0
 PlainLiteral (literal.Set n) = ⊥
 PlainLiteral c = Unit {0}
+

@@ -12,6 +12,7 @@ use Rattle.ob_types.specs.declared.typed.Assigned.TheVariants as assigned
 use Rattle.ob_types.specs.TypedSyntax.{Desig, OfVariable, Field, Index, Deref, Expr, Constant, ValueOf, Monadic, Dyadic, Logical, Call, Actuals, NoActual, AnActual, Stmt, Assign, CallProper, Updated, Assert, Halt, If, While, Repeat, Loop, Exit, Return, Stmts, Nothing, Then, Branches, NoBranch, Branch, New, Procedure}
 use Rattle.ob_meaning.specs.Values as values
 use Rattle.ob_relation.specs.Setting.{Setting}
+
 use Rattle.ob_relation.specs.Plain.{Plain, PlainBinary, PlainUnary, PlainLiteral}
 
 abbrev mutual
