@@ -30,9 +30,9 @@ use Rattle.ob_code.specs.Expressions as scheme
 use Rattle.ob_code.specs.Expressions.{wanted, constant_code, index_want, guard_want, from_guard, from_place, from_pointer, measured_behind, variable_code}
 use Rattle.ob_code.specs.Statements as scheme_of
 use Rattle.ob_code.specs.Statements.{target_want, source_want, record_want, has_tag, for_place, for_value}
-use Rattle.ob_relation.specs.Ends.{is_open, end_variable, end_place, end_tagged, end_open, end_unary, end_actuals, end_target, end_assigned, end_optional, end_labels, end_stmt, end_stmts, end_branches, end_cases, end_else}
+use Rattle.ob_relation.specs.Ends.{is_open, end_variable, end_place, end_tagged, end_open, end_unary, end_actuals, end_target, end_assigned, end_optional, end_labels, end_stmt, end_stmts, end_branches, end_cases, end_else, end_expr}
 use Rattle.ob_standing.specs.Described.{IsDescribed}
-use Rattle.ob_standing.specs.Fits.{IsWhole, IsArrayType, IsOpenType, PlaceGives, OpenGives, TaggedGives, VariableGives, PointerGives, GuardGives, ConstantGives, IsNoPointer, DesigFits, ExprFits, ActualsFit, ResultFits, AssignedFits, StmtFits, StmtsFit, BranchesFit, CasesFit, ElseFits}
+use Rattle.ob_standing.specs.Fits.{IsWhole, IsArrayType, IsOpenType, PlaceGives, OpenGives, TaggedGives, VariableGives, PointerGives, GuardGives, ConstantGives, IsNoPointer, DesigFits, ExprFits, ActualsFit, ResultFits, AssignedFits, StmtFits, StmtsFit, BranchesFit, CasesFit, ElseFits, ProperFits}
 use Rattle.ob_standing.specs.Wanted.{place_end, desig_end, expr_end}
 
 unary_ends : (o : Unary) (at : Pos) (pc : ℕ) → behind (unary_code o at) pc ≡ end_unary o pc
@@ -185,7 +185,7 @@ module _ (c : Context) (program : Program) where
       expr_ends want.Value (IsPointer e q) pc f = ap suc (expr_ends want.Value e pc f.1.0)
       expr_ends want.Value (IsRecord d q) pc f = ap suc (desig_ends want.Tag d pc f.1.0)
       expr_ends want.Value (Length d) pc f = desig_ends want.Length d pc f.1
-      expr_ends want.Value (Call callee es at t) pc f = ap suc (actuals_end es pc f.1.0)
+      expr_ends want.Value (Call callee es at t) pc f = ap suc (actuals_end es pc f.1.1.0)
       expr_ends want.Value (CallVariable d es at t) pc f = ap (λ p. suc (scheme.end_actuals c es p)) (desig_ends want.Value d pc f.1.0) ∙ ap suc (actuals_end es _ f.1.1)
       expr_ends w e pc f = absurd f.0
 
@@ -225,6 +225,11 @@ module _ (c : Context) (program : Program) where
     labels_end [] pc = refl
     labels_end (l ∷ ls) pc = labels_end ls _
 
+    proper_ends : (e : Expr) (pc : ℕ) → ProperFits program c e → scheme.end_expr c want.Value e pc ≡ end_expr program e pc
+    proper_ends (Call callee es at t) pc f = ap suc (actuals_end es pc f.0)
+    proper_ends (CallVariable d es at t) pc f = expr_ends want.Value (CallVariable d es at t) pc (tt, f)
+    proper_ends e pc f = absurd f
+
     result_ends : (e : Option Expr) (pc : ℕ) → ResultFits program c e → scheme_of.end_result c e pc ≡ suc (end_optional program e pc)
     result_ends None pc f = refl
     result_ends (Some e) pc f = ap suc (expr_ends want.Value e pc f)
@@ -249,7 +254,7 @@ module _ (c : Context) (program : Program) where
     mutual
       pub stmt_ends : (s : Stmt) (pc : ℕ) → StmtFits program c s → scheme_of.end_stmt c s pc ≡ end_stmt program s pc
       stmt_ends (Assign d how e at) pc f = assigned_ends how d e pc f.0 f.1.0 f.1.1
-      stmt_ends (CallProper e) pc f = expr_ends want.Value e pc f
+      stmt_ends (CallProper e) pc f = proper_ends e pc f
       stmt_ends (Updated o d e at) pc f = ap (λ p. suc (scheme.end_expr c want.Value e p)) (desig_ends want.Place d pc f.0) ∙ ap suc (expr_ends want.Value e _ f.1)
       stmt_ends (Copy e d at) pc f = ap (λ p. suc (scheme.end_desig c want.PlaceAndLength d p)) (expr_ends want.PlaceAndLength e pc f.0) ∙ ap suc (desig_ends want.PlaceAndLength d _ f.1)
       stmt_ends (New d what at) pc f = ap suc (desig_ends want.Place d pc f.0)

@@ -210,8 +210,8 @@ module _ (sc : Scope) (c : Context) (ag : Agrees sc c) where
         ((r.0, has_type sc c ag op.IsR q None (desig_end sc.program want.Tag d pc) _ f.1.1 r.1.lines.0), next_type sc c ag q r.1)
     expr_stands want.Value (Length d) pc at rest f h = desig_stands want.Length d pc at rest f.1 h
     expr_stands want.Value (Call callee es p t) pc at rest f h =
-        let r = actuals_stand es pc at (call_line c callee es p ∷ rest) f.1.0 (apart sc (A es pc) _ rest pc at h) in
-        let y = call_stands sc c ag callee es p (end_actuals sc.program es pc) _ rest f.1.1 r.1 in
+        let r = actuals_stand es pc at (call_line c callee es p ∷ rest) f.1.1.0 (apart sc (A es pc) _ rest pc at h) in
+        let y = call_stands sc c ag callee es p (end_actuals sc.program es pc) _ rest f.1.1.1 r.1 in
         ((r.0, y.0), y.1)
     expr_stands want.Value (CallVariable d es p t) pc at rest f h =
         let q = scheme.end_desig c want.Value d pc in

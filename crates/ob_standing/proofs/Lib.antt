@@ -11,3 +11,4 @@ pub mod Procedures
 pub mod Types
 pub mod Entered
 pub mod Linking
+pub mod Operands

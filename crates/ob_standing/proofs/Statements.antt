@@ -6,7 +6,7 @@ use Rattle.ob_types.specs.declared.types.TypeRef.TheVariants as ref
 use Rattle.ob_types.specs.declared.types.Basic.TheVariants as basic
 use Rattle.ob_types.specs.declared.typed.Variable.{Variable}
 use Rattle.ob_types.specs.declared.typed.Width.{Width}
-use Rattle.ob_types.specs.TypedSyntax.{Expr, Stmt, Assign, CallProper, Updated, Copy, New, NewOpenArray, Assert, Halt, If, Case, While, Repeat, For, Loop, Exit, Return, With, Stmts, Nothing, Then, Branches, NoBranch, Branch, Cases, NoCase, OneCase, Otherwise, NoElse, Else}
+use Rattle.ob_types.specs.TypedSyntax.{Expr, Stmt, Assign, CallProper, Updated, Copy, New, NewOpenArray, Assert, Halt, If, Case, While, Repeat, For, Loop, Exit, Return, With, Stmts, Nothing, Then, Branches, NoBranch, Branch, Cases, NoCase, OneCase, Otherwise, NoElse, Else, Call, CallVariable}
 use Rattle.ob_instr.specs.declared.opcode.Opcode.{Opcode}
 use Rattle.ob_instr.specs.declared.opcode.Opcode.TheVariants as op
 use Rattle.ob_meaning.specs.Values.{form_in}
@@ -25,7 +25,7 @@ use Rattle.ob_relation.specs.Ends.{end_variable, end_test, end_place, end_expr, 
 use Rattle.ob_relation.specs.Stands as code
 use Rattle.ob_relation.specs.Stands.{Scope, Has, HasAt, OptionalCode, StmtCode, StmtsCode, BranchesCode, CasesCode, ElseCode, with_a, instr, bytes, hidden_slot, dt, et, st, sst, for_code}
 use Rattle.ob_standing.specs.Standing.{LineStands, Behind}
-use Rattle.ob_standing.specs.Fits.{IsThere, StepFits, VariableGives, ExprFits, ResultFits, StmtFits, StmtsFit, BranchesFit, CasesFit, ElseFits}
+use Rattle.ob_standing.specs.Fits.{IsThere, StepFits, VariableGives, ExprFits, ResultFits, StmtFits, StmtsFit, BranchesFit, CasesFit, ElseFits, ProperFits}
 use Rattle.ob_standing.specs.Agrees.{Agrees}
 use Rattle.ob_standing.specs.Wanted.{desig_end, expr_end}
 use Rattle.ob_standing.proofs.Ends.{expr_ends, value_place, counter_value, counter_place, labels_end, stmt_ends, stmts_end, branches_end, cases_end, else_ends}
@@ -66,6 +66,12 @@ module _ (sc : Scope) (c : Context) (ag : Agrees sc c) where
       let r = expr_stands sc c ag want.Value e pc at rest f h in
       (r.0, moved sc _ _ refl (ap (λ m. at + m) (value_texts sc c ag e)) r.1)
 
+  -- the code of a call does not ask whether there is a result
+  proper_stands : (e : Expr) (pc at : ℕ) (rest : List Line) → ProperFits sc.program c e → Behind sc (E sc c ag want.Value e pc ++ rest) pc at → code.ExprCode sc e pc at × Behind sc rest (ee e pc) (at + et sc e)
+  proper_stands (Call callee es p t) pc at rest f h = value_stands (Call callee es p (Some (ref.Basic basic.Boolean))) pc at rest (tt, (tt, f)) h
+  proper_stands (CallVariable d es p t) pc at rest f h = value_stands (CallVariable d es p t) pc at rest (tt, f) h
+  proper_stands e pc at rest f h = absurd f
+
   -- an expression of which the scheme's place is the law's
   value_on : (e : Expr) (p pc at : ℕ) (rest : List Line) → p ≡ pc → ExprFits sc.program c want.Value e → Behind sc (E sc c ag want.Value e p ++ rest) pc at → code.ExprCode sc e pc at × Behind sc rest (ee e pc) (at + et sc e)
   value_on e p pc at rest h f b = value_stands e pc at rest f (on_expr sc c ag want.Value e p pc _ _ rest h refl b)
@@ -105,7 +111,7 @@ module _ (sc : Scope) (c : Context) (ag : Agrees sc c) where
     stmt_stands (Assign d how e p) pc t x at rest f hd h =
         let r = assigned_stands sc c ag how d e p pc at rest f.0 f.1.0 f.1.1 h in
         (r.0, texts_on sc at (dt sc d) (et sc e) r.1)
-    stmt_stands (CallProper e) pc t x at rest f hd h = value_stands e pc at rest f h
+    stmt_stands (CallProper e) pc t x at rest f hd h = proper_stands e pc at rest f h
     stmt_stands (Updated o d e p) pc t x at rest f hd h =
         let r = place_and_value sc c ag d e (update_line o p) pc at rest f.0 f.1 h in
         let u = update_stands sc o p (ee e (end_place sc.program d pc)) _ rest r.1.1 in

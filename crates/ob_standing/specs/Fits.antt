@@ -103,6 +103,10 @@ IsWhole want.Tag = ⊥
 IsWhole want.Length = ⊥
 IsWhole w = Unit {0}
 
+abbrev pub HasResult : Option TypeRef → Type 0
+HasResult None = ⊥
+HasResult (Some t) = Unit {0}
+
 abbrev pub StepFits : ℤ → Type 0
 StepFits (pos zero) = ⊥
 StepFits step = Unit {0}
@@ -189,12 +193,18 @@ module _ (program : Program) (c : Context) where
     ExprFits w (IsPointer e q) = IsValue w × (ExprFits want.Value e × IsKnown c q)
     ExprFits w (IsRecord d q) = IsValue w × (DesigFits want.Tag d × IsKnown c q)
     ExprFits w (Length d) = IsValue w × DesigFits want.Length d
-    ExprFits w (Call callee es at t) = IsValue w × (ActualsFit es × CalleeFits callee)
+    ExprFits w (Call callee es at t) = IsValue w × (HasResult t × (ActualsFit es × CalleeFits callee))
     ExprFits w (CallVariable d es at t) = IsValue w × (DesigFits want.Value d × ActualsFit es)
 
     pub ActualsFit : Actuals → Type 0
     ActualsFit NoActual = Unit {0}
     ActualsFit (AnActual how t e rest) = ExprFits (wanted (words c) how t) e × ActualsFit rest
+
+  -- a call that stands as a statement
+  abbrev pub ProperFits : Expr → Type 0
+  ProperFits (Call callee es at t) = ActualsFit es × CalleeFits callee
+  ProperFits (CallVariable d es at t) = DesigFits want.Value d × ActualsFit es
+  ProperFits e = ⊥
 
   abbrev pub ResultFits : Option Expr → Type 0
   ResultFits None = Unit {0}
@@ -213,7 +223,7 @@ module _ (program : Program) (c : Context) where
   abbrev mutual
     pub StmtFits : Stmt → Type 0
     StmtFits (Assign d how e at) = DesigFits (target_want how d) d × (ExprFits (source_want how) e × AssignedFits how d)
-    StmtFits (CallProper e) = ExprFits want.Value e
+    StmtFits (CallProper e) = ProperFits e
     StmtFits (Updated o d e at) = DesigFits want.Place d × ExprFits want.Value e
     StmtFits (Copy e d at) = ExprFits want.PlaceAndLength e × DesigFits want.PlaceAndLength d
     StmtFits (New d what at) = DesigFits want.Place d × MadeFits what
