@@ -1,5 +1,5 @@
 -- The operands that the law asks for are no more than the scheme counts.
-use Rattle.std.proofs.Common.{◌≡◌, ◌≤◌, ℕ, suc, ◌+◌, max, refl, sym, ap, subst, arith, Option, Some, None}
+use Rattle.std.proofs.Common.{◌≡◌, ◌≤◌, ℕ, ◌+◌, max, refl, sym, subst, arith, Option, Some, None}
 use Rattle.ob_tree.specs.declared.pos.Pos.{Pos}
 use Rattle.ob_tree.specs.declared.names.QName.{QName}
 use Rattle.ob_types.specs.declared.value.Value.{Value as Literal}
@@ -16,7 +16,7 @@ use Rattle.ob_meaning.specs.Values.{Program}
 use Rattle.ob_code.specs.Context.{Context, words}
 use Rattle.ob_code.specs.declared.want.Want.{Want}
 use Rattle.ob_code.specs.declared.want.Want.TheVariants as want
-use Rattle.ob_code.specs.Expressions.{wanted, guard_want}
+use Rattle.ob_code.specs.Expressions.{guard_want}
 use Rattle.ob_code.specs.Statements.{target_want, source_want, record_want, has_tag}
 use Rattle.ob_code.specs.Needs as scheme
 use Rattle.ob_code.specs.Needs.{operands_of}

@@ -42,6 +42,7 @@ use Rattle.ob_standing.proofs.Lines.{has_line, has_at}
 use Rattle.ob_standing.proofs.Counters.{HiddenAt, stmts_next}
 use Rattle.ob_standing.proofs.Statements.{stmts_stand}
 use Rattle.ob_standing.proofs.Numbered.{AllStand, all_stand, kept_all, position_found, stand_apart, texts_past, with_end}
+use Rattle.ob_standing.proofs.Operands.{stmts_le}
 use Rattle.ob_standing.proofs.Words.{procedures_before, words_two, HiddenIn, hidden_in, variables_before, globals_before, local_sum, parameters_before, parameter_sum, local_past}
 
 -- SMALL THINGS
@@ -194,7 +195,7 @@ module _ (types : QName → Option Desc) (md : Module) where
           code = r.0;
           last = subst (λ n. LastCode sc p n p.result) ends_at (last_stands sc p p.result (behind body f.entry) _ last);
           inside = subst (λ n. n < length u.code) ends_at inside;
-          need = h.need;
+          need = let n = stmts_le c.program ctx p.body h.fits in omega (arith, n, h.few);
           ok = h.ok;
           different = h.different;
           forms = h.forms;

@@ -20,7 +20,7 @@ use Rattle.ob_relation.specs.Stands.{Scope}
 use Rattle.ob_relation.specs.Setting.{Setting, has_of}
 use Rattle.ob_relation.specs.Linked.{OneSlot, OwnFormsOk, own_variables}
 use Rattle.ob_relation.specs.Typed as typed
-use Rattle.ob_relation.specs.Need.{need_stmts}
+use Rattle.ob_code.specs.Needs.{need_stmts}
 use Rattle.ob_standing.specs.Standing.{own_types_in}
 use Rattle.ob_standing.specs.Described.{IsDescribed}
 use Rattle.ob_standing.specs.Resolved.{LinksResolve}
@@ -76,7 +76,7 @@ pub record IsChecked (c : Setting) (types : QName → Option Desc) (md : Module)
   pub different : AreDifferent (static_held c.program p)
   pub forms : OwnFormsOk (own_variables c.program p)
   pub small : slots (map (λ x. param_for types md (within types md p) x.passing x.of) p.parameters) + all_local_words types md p ≤ 1048576
-  pub need : need_stmts p.body ≤ 256
+  pub few : need_stmts (within types md p) p.body ≤ 256
 
 abbrev pub ProceduresChecked : Setting → (QName → Option Desc) → Module → List Procedure → Type 0
 ProceduresChecked c types md [] = Unit {0}
