@@ -27,7 +27,7 @@ use Rattle.ob_code.specs.Operations.{unary_code}
 use Rattle.ob_code.specs.declared.want.Want.{Want}
 use Rattle.ob_code.specs.declared.want.Want.TheVariants as want
 use Rattle.ob_code.specs.Expressions as scheme
-use Rattle.ob_code.specs.Expressions.{wanted, constant_code, index_want, guard_want, from_guard, from_place, from_pointer, measured_behind, variable_code}
+use Rattle.ob_code.specs.Expressions.{constant_code, guard_want, from_guard, from_place, from_pointer, measured_behind, variable_code}
 use Rattle.ob_code.specs.Statements as scheme_of
 use Rattle.ob_code.specs.Statements.{target_want, source_want, record_want, has_tag, for_place, for_value}
 use Rattle.ob_relation.specs.Ends.{is_open, end_variable, end_place, end_tagged, end_open, end_unary, end_actuals, end_target, end_assigned, end_optional, end_labels, end_stmt, end_stmts, end_branches, end_cases, end_else, end_expr}

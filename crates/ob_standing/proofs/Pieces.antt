@@ -1,6 +1,6 @@
 -- The small pieces of the code of designators and operators.
 use Rattle.std.proofs.Common.{◌≡◌, ℕ, suc, ◌+◌, List, [], ◌∷◌, ◌++◌, length, map, ℤ, refl, sym, ap, ◌∙◌, subst, arith, append_assoc, inl, inr, Some, None}
-use Rattle.std.specs.Prelude.{take, replicate, zero, pos, negsuc, ◌<◌, ◌^◌, Bool, true, false}
+use Rattle.std.specs.Prelude.{take, replicate, pos, negsuc, ◌<◌, ◌^◌, Bool, true, false}
 use Rattle.std.specs.Int.{w32, cast_signed}
 use Rattle.ob_tree.specs.declared.pos.Pos.{Pos}
 use Rattle.ob_tree.specs.declared.names.QName.{QName}
@@ -46,7 +46,7 @@ use Rattle.ob_code.specs.Expressions.{pair_code, from_place, from_pointer, from_
 use Rattle.ob_relation.specs.Layout.{slot}
 use Rattle.ob_relation.specs.Ends.{end_unary, end_place, end_tagged, end_variable}
 use Rattle.ob_relation.specs.Stands as code
-use Rattle.ob_relation.specs.Stands.{Scope, instr, with_a, bytes, Has, HasAt, HasType, HasTypeAt, PlaceCode, TaggedCode, OpenCode, TagCode, LengthCode, Form2, form_of, fixed_length, record_name, literal_word, TextStands, FilledStands, dt, et}
+use Rattle.ob_relation.specs.Stands.{Scope, instr, with_a, bytes, Has, HasAt, HasType, PlaceCode, TaggedCode, OpenCode, Form2, form_of, fixed_length, record_name, TextStands, FilledStands}
 use Rattle.ob_relation.specs.Texts.{text_words}
 use Rattle.ob_standing.specs.Standing.{LineStands, Behind}
 use Rattle.ob_standing.specs.Fits.{IsWhole, CalleeFits, IsThere, IsKnown, IsArrayType, IsOpenType, IsRecordType, PlaceGives, OpenGives, TaggedGives, VariableGives, PointerGives, GuardGives, ConstantGives}

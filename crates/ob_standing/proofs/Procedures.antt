@@ -20,7 +20,7 @@ use Rattle.ob_meaning.specs.Calls.{hidden_of_all, hidden_held, held_variable}
 use Rattle.ob_code.specs.Lines.{behind}
 use Rattle.ob_code.specs.Descriptions.{method_number}
 use Rattle.ob_layout.specs.Words.{words_of}
-use Rattle.ob_code.specs.Context.{Context, before, local_words, first_hidden}
+use Rattle.ob_code.specs.Context.{before, local_words, first_hidden}
 use Rattle.ob_code.specs.Numbers.{nothing_named}
 use Rattle.ob_code.specs.Statements as scheme_of
 use Rattle.ob_code.specs.Procedures.{within, all_procedures, closing, end_procedure, procedure_code, procedures_code, module_code, module_rows, rows_of, row_of, param_for, has_result, all_local_words}

@@ -19,11 +19,11 @@ use Rattle.ob_code.specs.Operations.{bytes_of, update_line}
 use Rattle.ob_code.specs.declared.want.Want.TheVariants as want
 use Rattle.ob_code.specs.Expressions as scheme
 use Rattle.ob_code.specs.Statements as scheme_of
-use Rattle.ob_code.specs.Statements.{target_want, source_want, for_place, for_value, within, new_line, assign_line, labels_code, next_stmt, next_stmts, next_branches, next_cases}
+use Rattle.ob_code.specs.Statements.{for_place, for_value, within, new_line, labels_code, next_stmt, next_stmts, next_branches, next_cases}
 use Rattle.ob_relation.specs.Layout.{slot}
 use Rattle.ob_relation.specs.Ends.{end_variable, end_test, end_place, end_expr, end_optional, end_labels, end_stmt, end_stmts, end_branches, end_cases, end_else}
 use Rattle.ob_relation.specs.Stands as code
-use Rattle.ob_relation.specs.Stands.{Scope, Has, HasAt, OptionalCode, StmtCode, StmtsCode, BranchesCode, CasesCode, ElseCode, with_a, instr, bytes, hidden_slot, dt, et, st, sst, for_code}
+use Rattle.ob_relation.specs.Stands.{Scope, Has, HasAt, OptionalCode, StmtCode, StmtsCode, BranchesCode, CasesCode, ElseCode, with_a, bytes, hidden_slot, dt, et, st, sst, for_code}
 use Rattle.ob_standing.specs.Standing.{LineStands, Behind}
 use Rattle.ob_standing.specs.Fits.{IsThere, StepFits, VariableGives, ExprFits, ResultFits, StmtFits, StmtsFit, BranchesFit, CasesFit, ElseFits, ProperFits}
 use Rattle.ob_standing.specs.Agrees.{Agrees}

@@ -32,7 +32,7 @@ abbrev pub module_scope : Setting → ModuleImage → List ℕ → Scope
 module_scope c u unit = record { program = c.program; img = c.img; u = u; unit = unit; held = []; method_number = λ f. 0 }
 
 -- A module of the program stands in the image as it was compiled: its code, positions and procedures are the scheme's, its links have
--- what they name, and its record types have their descriptors.
+-- what they name, its strings are among its words, and its record types have their descriptors.
 pub record IsCompiled (c : Setting) (types : QName → Option Desc) (md : Module) (m : ℕ) (u : ModuleImage) : Type 0 where
   pub is : InModule c.img m u
   pub named : module_number c.program md.name ≡ m
