@@ -6,7 +6,9 @@ use Rattle.std.specs.Ordering.{int_eq}
 use Rattle.ob_tree.specs.declared.pos.Pos.{Pos}
 use Rattle.ob_tree.specs.declared.names.QName.{QName}
 use Rattle.ob_types.specs.declared.typed.Assigned.TheVariants as assigned
-use Rattle.ob_types.specs.TypedSyntax.{Desig, ValueOf, Assign}
+use Rattle.ob_types.specs.declared.typed.Passing.TheVariants as passing
+use Rattle.ob_types.specs.declared.typed.Variable.TheVariants as variable
+use Rattle.ob_types.specs.TypedSyntax.{Desig, OfVariable, Field, Index, Deref, Guard, ValueOf, Assign}
 use Rattle.ob_mem.specs.Words.{copied}
 use Rattle.ob_instr.specs.declared.opcode.Opcode.TheVariants as op
 use Rattle.ob_instr.specs.Image.{World, Point}
@@ -17,7 +19,7 @@ use Rattle.ob_meaning.specs.Results.{Trapped, Stops, Caller, assign}
 use Rattle.ob_meaning.specs.Meaning.{exec, Source, Stands, Text, source, choose, is_exactly, assign_record, as_record}
 use Rattle.ob_relation.specs.Layout.{type_number, address, place_form}
 use Rattle.ob_relation.specs.Relation.{OrElse, PlaceIn, PlaceOf, Sub, second_word}
-use Rattle.ob_relation.specs.Need.{need_place}
+use Rattle.ob_relation.specs.Need.{need_place, need_tagged, need_record}
 use Rattle.ob_relation.specs.Ends.{end_place, end_tagged, end_target}
 use Rattle.ob_relation.specs.Stands as code
 use Rattle.ob_relation.specs.Stands.{may_differ}
@@ -45,6 +47,35 @@ next_same m n = go (nat_eq (suc m) (suc n)) (nat_eq m n) refl refl
     go false false e f = refl
     go true false e f = grind (arith, nat_tests)
     go false true e f = grind (arith, nat_tests)
+
+-- what a record's target is taken with, and what is put behind it
+needs_differing : (sc : code.Scope) (d : Desig) (n : ℕ) → may_differ sc d ≡ true → (need_tagged d ≤ need_record d n) × (2 + n ≤ need_record d n)
+needs_differing sc (OfVariable (variable.Module m x) t) n e = absurd (cc)
+needs_differing sc (OfVariable (variable.Local x) t) n e = absurd (cc)
+needs_differing sc (OfVariable (variable.Parameter passing.Scalar x) t) n e = absurd (cc)
+needs_differing sc (OfVariable (variable.Parameter passing.Structure x) t) n e = absurd (cc)
+needs_differing sc (OfVariable (variable.Parameter passing.OpenArray x) t) n e = absurd (cc)
+needs_differing sc (OfVariable (variable.Parameter passing.Variable x) t) n e = absurd (cc)
+needs_differing sc (OfVariable (variable.Parameter passing.VariableRecord x) t) n e = (omega arith, omega arith)
+needs_differing sc (OfVariable (variable.Parameter passing.VariableOpenArray x) t) n e = absurd (cc)
+needs_differing sc (Field d o x t) n e = absurd (cc)
+needs_differing sc (Index d m i at t) n e = absurd (cc)
+needs_differing sc (Deref d at t) n e = (omega arith, omega arith)
+needs_differing sc (Guard d g q at t) n e = (omega arith, omega arith)
+
+needs_exact : (sc : code.Scope) (d : Desig) (n : ℕ) → may_differ sc d ≡ false → (need_place d ≤ need_record d n) × (1 + n ≤ need_record d n)
+needs_exact sc (OfVariable (variable.Module m x) t) n e = (omega arith, omega arith)
+needs_exact sc (OfVariable (variable.Local x) t) n e = (omega arith, omega arith)
+needs_exact sc (OfVariable (variable.Parameter passing.Scalar x) t) n e = (omega arith, omega arith)
+needs_exact sc (OfVariable (variable.Parameter passing.Structure x) t) n e = (omega arith, omega arith)
+needs_exact sc (OfVariable (variable.Parameter passing.OpenArray x) t) n e = (omega arith, omega arith)
+needs_exact sc (OfVariable (variable.Parameter passing.Variable x) t) n e = (omega arith, omega arith)
+needs_exact sc (OfVariable (variable.Parameter passing.VariableRecord x) t) n e = absurd (cc)
+needs_exact sc (OfVariable (variable.Parameter passing.VariableOpenArray x) t) n e = (omega arith, omega arith)
+needs_exact sc (Field d o x t) n e = (omega arith, omega arith)
+needs_exact sc (Index d m i at t) n e = (omega arith, omega arith)
+needs_exact sc (Deref d at t) n e = absurd (cc)
+needs_exact sc (Guard d g q at t) n e = absurd (cc)
 
 module _ (c : Setting) (a : Activation c) (n : ℕ) (call : Caller) (b : ℕ) where
   abbrev Kp : List AnObject → State → World → Type 0
@@ -154,9 +185,9 @@ module _ (c : Setting) (a : Activation c) (n : ℕ) (call : Caller) (b : ℕ) wh
   pub assign_tagged_case : (stand : BasesStand c) (d : Desig) (q : QName) (e : Desig) (at : Pos) → may_differ (scope c a) d ≡ true → ((pc : ℕ) → end_target c.program d pc ≡ end_tagged c.program d pc) → RecordFollows c a n call b d → PlaceFollows c a n call b e → StmtFollows c a n call b (Assign d (assigned.Record q) (ValueOf e) at)
   assign_tagged_case stand d q e at may ends ih_d ih_e l exit pc k os s w le inside lies has ok st =
       subst (λ m. Follows c (go c a pc [] w) (FlowTo c a n call b (suc (end_place c.program e m)) exit) (FlowKept c a n call b l os) (exec (Assign d (assigned.Record q) (ValueOf e) at) (here_in c a n call b) s)) (sym (ends pc))
-      (follows_bind c (ih_d pc k [] os s w (omega (arith, le)) code_is.0 ok.0 (record_form d q line form built) st) λ p s1 w1 k1.
+      (follows_bind c (ih_d pc k [] os s w (omega (arith, le, (needs_differing (scope c a) d (need_place e) may).0, (needs_differing (scope c a) d (need_place e) may).1)) code_is.0 ok.0 (record_form d q line form built) st) λ p s1 w1 k1.
       follows_bind c
-      (follows_bind c (source_follows e ih_e t p1 _ (tag_at s1 p ∷ pos (address_at s1 p) ∷ []) s1.made s1 w1 (omega (arith, le)) code_is.1.0 ok.1.1.1.0 (subst (λ u. Sub (T e) u) form ok.1.1.1.1) (from_here c a n call b k1.1)) λ x s2 w2 k2.
+      (follows_bind c (source_follows e ih_e t p1 _ (tag_at s1 p ∷ pos (address_at s1 p) ∷ []) s1.made s1 w1 (omega (arith, le, (needs_differing (scope c a) d (need_place e) may).0, (needs_differing (scope c a) d (need_place e) may).1)) code_is.1.0 ok.1.1.1.0 (subst (λ u. Sub (T e) u) form ok.1.1.1.1) (from_here c a n call b k1.1)) λ x s2 w2 k2.
       on_source x p s1 s2 w1 w2 k1 k2)
       λ u s3 w3 k3. follows_value c w3 (here c _) (tt, k3))
     where
@@ -195,9 +226,9 @@ module _ (c : Setting) (a : Activation c) (n : ℕ) (call : Caller) (b : ℕ) wh
   pub assign_exact_case : (d : Desig) (q : QName) (e : Desig) (at : Pos) → may_differ (scope c a) d ≡ false → ((pc : ℕ) → end_target c.program d pc ≡ end_place c.program d pc) → ExactFollows c a n call b d → PlaceFollows c a n call b e → StmtFollows c a n call b (Assign d (assigned.Record q) (ValueOf e) at)
   assign_exact_case d q e at may ends ih_d ih_e l exit pc k os s w le inside lies has ok st =
       subst (λ m. Follows c (go c a pc [] w) (FlowTo c a n call b (suc (end_place c.program e m)) exit) (FlowKept c a n call b l os) (exec (Assign d (assigned.Record q) (ValueOf e) at) (here_in c a n call b) s)) (sym (ends pc))
-      (follows_bind c (ih_d pc k [] os s w (omega (arith, le)) code_is.0 ok.0 (record_form d q line form built) st) λ p s1 w1 k1.
+      (follows_bind c (ih_d pc k [] os s w (omega (arith, le, (needs_exact (scope c a) d (need_place e) may).0, (needs_exact (scope c a) d (need_place e) may).1)) code_is.0 ok.0 (record_form d q line form built) st) λ p s1 w1 k1.
       follows_bind c
-      (follows_bind c (source_follows e ih_e t p1 _ (pos (address_at s1 p) ∷ []) s1.made s1 w1 (omega (arith, le)) code_is.1.0 ok.1.1.1.0 (subst (λ u. Sub (T e) u) form ok.1.1.1.1) (from_here c a n call b k1.1)) λ x s2 w2 k2.
+      (follows_bind c (source_follows e ih_e t p1 _ (pos (address_at s1 p) ∷ []) s1.made s1 w1 (omega (arith, le, (needs_exact (scope c a) d (need_place e) may).0, (needs_exact (scope c a) d (need_place e) may).1)) code_is.1.0 ok.1.1.1.0 (subst (λ u. Sub (T e) u) form ok.1.1.1.1) (from_here c a n call b k1.1)) λ x s2 w2 k2.
       on_source x p s1 s2 w1 w2 k1 k2)
       λ u s3 w3 k3. follows_value c w3 (here c _) (tt, k3))
     where

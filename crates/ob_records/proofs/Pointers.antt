@@ -46,7 +46,8 @@ tagged_more (Field d o x t) = omega arith
 tagged_more (Index d (Some n) i at t) = omega arith
 tagged_more (Index d None i at t) = omega arith
 tagged_more (Deref d at t) = omega arith
-tagged_more (Guard d g q at t) = omega arith
+tagged_more (Guard d guarded.Pointer q at t) = omega arith
+tagged_more (Guard d guarded.Record q at t) = omega arith
 
 -- THE TEST OF A POINTER
 

@@ -41,7 +41,8 @@ two_tagged (Field d o x t) = omega arith
 two_tagged (Index d (Some n) i at t) = omega arith
 two_tagged (Index d None i at t) = omega arith
 two_tagged (Deref d at t) = omega arith
-two_tagged (Guard d g q at t) = two_tagged d
+two_tagged (Guard d guarded.Pointer q at t) = omega arith
+two_tagged (Guard d guarded.Record q at t) = two_tagged d
 
 -- THE TEST OF A TAG
 

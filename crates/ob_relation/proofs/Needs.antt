@@ -1,6 +1,7 @@
 -- A designator and an expression put at least one operand.
 use Rattle.std.proofs.Common.{◌≤◌, arith}
 use Rattle.std.specs.Prelude.{Some, None}
+use Rattle.ob_types.specs.declared.typed.Guarded.TheVariants as guarded
 use Rattle.ob_types.specs.TypedSyntax.{Desig, OfVariable, Field, Index, Deref, Guard, Expr, Constant, ValueOf, ProcedureValue, Monadic, Dyadic, Logical, CompareTexts, IsPointer, IsRecord, Length, Call, CallVariable}
 use Rattle.ob_relation.specs.Need.{need_place, need_tagged, need_expr, need_length}
 
@@ -11,7 +12,8 @@ mutual
   need_one (Index d (Some n) i at t) = omega arith
   need_one (Index d None i at t) = omega arith
   need_one (Deref d at t) = need_one d
-  need_one (Guard d g q at t) = need_one_tagged d
+  need_one (Guard d guarded.Pointer q at t) = need_one d
+  need_one (Guard d guarded.Record q at t) = need_one_tagged d
 
   need_one_tagged : (d : Desig) → 1 ≤ need_tagged d
   need_one_tagged (OfVariable v t) = omega arith
@@ -19,7 +21,8 @@ mutual
   need_one_tagged (Index d (Some n) i at t) = omega arith
   need_one_tagged (Index d None i at t) = omega arith
   need_one_tagged (Deref d at t) = omega arith
-  need_one_tagged (Guard d g q at t) = need_one_tagged d
+  need_one_tagged (Guard d guarded.Pointer q at t) = omega arith
+  need_one_tagged (Guard d guarded.Record q at t) = need_one_tagged d
 
   pub need_one_e : (e : Expr) → 1 ≤ need_expr e
   need_one_e (Constant c) = omega arith

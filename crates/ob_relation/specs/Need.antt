@@ -2,6 +2,8 @@
 use Rattle.std.specs.Prelude.{ℕ, ◌+◌, max, Option, Some, None}
 use Rattle.ob_types.specs.declared.typed.Passing.{Passing}
 use Rattle.ob_types.specs.declared.typed.Passing.TheVariants as passing
+use Rattle.ob_types.specs.declared.typed.Variable.TheVariants as variable
+use Rattle.ob_types.specs.declared.typed.Guarded.TheVariants as guarded
 use Rattle.ob_types.specs.declared.typed.Assigned.{Assigned}
 use Rattle.ob_types.specs.declared.typed.Assigned.TheVariants as assigned
 use Rattle.ob_types.specs.TypedSyntax.{Desig, OfVariable, Field, Index, Deref, Guard, Expr, Constant, ValueOf, ProcedureValue, Monadic, Dyadic, Logical, CompareTexts, IsPointer, IsRecord, Length, Call, CallVariable, Actuals, NoActual, AnActual, Stmt, Assign, CallProper, Updated, Copy, New, NewOpenArray, Assert, Halt, If, Case, While, Repeat, For, Loop, Exit, Return, With, Stmts, Nothing, Then, Branches, NoBranch, Branch, Cases, NoCase, OneCase, Otherwise, NoElse, Else}
@@ -14,7 +16,8 @@ abbrev mutual
   need_place (Index d (Some n) i at t) = max (need_place d) (1 + need_expr i)
   need_place (Index d None i at t) = max (need_open d) (2 + need_expr i)
   need_place (Deref d at t) = need_place d
-  need_place (Guard d g q at t) = need_tagged d
+  need_place (Guard d guarded.Pointer q at t) = need_place d
+  need_place (Guard d guarded.Record q at t) = need_tagged d
 
   pub need_tagged : Desig → ℕ
   need_tagged (OfVariable v t) = 2
@@ -22,7 +25,8 @@ abbrev mutual
   need_tagged (Index d (Some n) i at t) = max 2 (max (need_place d) (1 + need_expr i))
   need_tagged (Index d None i at t) = max 2 (max (need_open d) (2 + need_expr i))
   need_tagged (Deref d at t) = max 2 (need_place d)
-  need_tagged (Guard d g q at t) = need_tagged d
+  need_tagged (Guard d guarded.Pointer q at t) = max 2 (need_place d)
+  need_tagged (Guard d guarded.Record q at t) = need_tagged d
 
   pub need_open : Desig → ℕ
   need_open (OfVariable v t) = 2
@@ -57,7 +61,9 @@ abbrev mutual
   need_passed (ValueOf d) passing.Variable = need_place d
   need_passed (ValueOf d) passing.VariableRecord = need_tagged d
   need_passed (ValueOf d) how = max (need_open d) (max 2 (need_place d))
-  need_passed (Constant c) how = 2
+  need_passed (Constant c) passing.OpenArray = 2
+  need_passed (Constant c) passing.VariableOpenArray = 2
+  need_passed (Constant c) how = 1
   need_passed (ProcedureValue q signature) how = 1
   need_passed (Monadic op e at) how = need_expr e
   need_passed (Dyadic op a b at) how = max (need_expr a) (1 + need_expr b)
@@ -77,11 +83,18 @@ abbrev pub need_optional : Option Expr → ℕ
 need_optional None = 0
 need_optional (Some e) = need_expr e
 
+-- a record's target, and behind it what is assigned: with its tag where that may be another than its static type's
+abbrev pub need_record : Desig → ℕ → ℕ
+need_record (OfVariable (variable.Parameter passing.VariableRecord x) t) n = 2 + n
+need_record (Deref d at t) n = max (need_tagged (Deref d at t)) (2 + n)
+need_record (Guard d g q at t) n = max (need_tagged (Guard d g q at t)) (2 + n)
+need_record d n = max (need_place d) (1 + n)
+
 abbrev pub need_assigned : Assigned → Desig → Expr → ℕ
 need_assigned assigned.Scalar d e = max (need_place d) (1 + need_expr e)
 need_assigned assigned.Text d e = max (need_place d) 2
 need_assigned assigned.Array d e = max (need_place d) (1 + need_passed e passing.Structure)
-need_assigned (assigned.Record q) d e = max (need_tagged d) (max (need_place d) (2 + need_passed e passing.Structure))
+need_assigned (assigned.Record q) d e = need_record d (need_passed e passing.Structure)
 
 abbrev mutual
   pub need_stmt : Stmt → ℕ

@@ -1,0 +1,14 @@
+pub mod Ends
+pub mod Lines
+pub mod Pieces
+pub mod Expressions
+pub mod Counters
+pub mod Assignments
+pub mod Statements
+pub mod Numbered
+pub mod Words
+pub mod Procedures
+pub mod Types
+pub mod Entered
+pub mod Linking
+pub mod Operands
