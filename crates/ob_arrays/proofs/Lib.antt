@@ -7,4 +7,3 @@ pub mod Strings
 pub mod Texts
 pub mod Writing
 pub mod Slots
-pub mod Passed

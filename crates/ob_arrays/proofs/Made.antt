@@ -9,7 +9,7 @@ use Rattle.ob_types.specs.TypedSyntax.{Desig, Expr, NewOpenArray}
 use Rattle.ob_mem.specs.Words.{are_there}
 use Rattle.ob_instr.specs.declared.opcode.Opcode.TheVariants as op
 use Rattle.ob_instr.specs.Image.{World}
-use Rattle.ob_instr.specs.Rows.{Traps, made}
+use Rattle.ob_instr.specs.Rows.{Traps}
 use Rattle.ob_instr.proofs.Goes as rows
 use Rattle.ob_meaning.specs.Values.{Form, PointerForm, ArrayForm, OpenForm, form_in, words, integer_of, Place, AnObject, Opened, State}
 use Rattle.ob_meaning.specs.Results.{Caller}

@@ -22,21 +22,21 @@ use Rattle.ob_relation.specs.Layout.{held_name, held_form, slot, slots_words, co
 use Rattle.ob_relation.specs.Relation.{OrElse, Fine, FormOk, ValueIn, PlaceOf, Sub, opened, pointing, second_word, call_start}
 use Rattle.ob_relation.specs.Typed.{As, IsReferred, IsCopied, longint}
 use Rattle.ob_relation.specs.Stands as code
-use Rattle.ob_relation.proofs.Names.{bytes_true, nat_same}
+use Rattle.ob_relation.proofs.Names.{bytes_true}
 use Rattle.ob_relation.proofs.Steps.{Reach, then_reach, here, Follows, follows_value, follows_map}
-use Rattle.ob_relation.proofs.Statements.{ParameterHeld, ParametersHeld, IsCallOf, Activation, scope, go, fb, K, Keeps, PlaceTo, LongTo, PlaceKept, ValueTo, ValueKept, PlaceFollows, ExprFollows}
+use Rattle.ob_relation.proofs.Statements.{ParameterHeld, ParametersHeld, IsCallOf, Activation, scope, go, fb, K, Keeps, ValueTo, ValueKept, ExprFollows}
 use Rattle.ob_relation.proofs.Parts.{W, flat-length}
 use Rattle.ob_relation.proofs.Places.{S, C, Cs, referred, pointing_length, calls-length}
 use Rattle.ob_relation.proofs.Modules.{Ms}
 use Rattle.ob_relation.proofs.Slots.{WordAt, word_before, word_behind, word_same, word_got}
-use Rattle.ob_relation.proofs.Frames.{referred_fixed, call_alike, slot_alike, same_alike, place_of_up, address_up, form_up, own_place, own_form, ref_place}
+use Rattle.ob_relation.proofs.Frames.{referred_fixed, call_alike, slot_alike, same_alike, place_of_up, form_up, own_place, own_form, ref_place}
 use Rattle.ob_relation.proofs.Moves.{goes, small_word, all_length}
 use Rattle.ob_relation.proofs.Located.{located}
 use Rattle.ob_relation.proofs.Exprs.{widen_kept}
 use Rattle.ob_meaning.specs.Operators.{is_in}
 use Rattle.ob_types.specs.declared.typed.Width.TheVariants as width
 use Rattle.ob_arrays.proofs.Orders.{place_ok}
-use Rattle.ob_arrays.proofs.Opens.{OpenArrayFollows, open_form, long_length}
+use Rattle.ob_arrays.proofs.Opens.{open_form, long_length}
 use Rattle.ob_relation.specs.Setting.{Setting, StandIn, has_of}
 
 got_within : (l : List ℤ) (n : ℕ) (x : ℤ) → word_at l (pos n) ≡ Some x → n ≤ length l
@@ -194,71 +194,7 @@ module _ (c : Setting) where
       let all = word_before (Ms c s.made c.program s.store.globals) _ _ _ (word_before c.behind _ _ _ behind) in
       word_got c w.words _ _ _ (word_same _ _ _ _ _ _ all (sym st.words) refl refl) (omega (arith, st.globals_size, calls-length c s.made cs g))
 
-  copy_address : (os : List AnObject) (cs : List Active) (a : Active) (x : List ℕ) → has_copy a.held x ≡ true → call_start c.program (has_of c) c.img cs + slots_words a.held + copy_offset a.held x ≡ address c.program c.img os (a ∷ cs) (At (OfCall (length cs) x) [])
-  copy_address os cs a x h = let e = nat_same (length cs) in rw (e, h) (omega arith)
-
   module _ (a : Activation c) (n : ℕ) (call : Caller) (b : ℕ) where
-    -- the slots of a parameter by two loads
-    two_go : (x : List ℕ) (z y : ℤ) (pc : ℕ) (ops : List ℤ) (s : State) (w : World) → StandIn c (K c a) s w → length ops + 2 ≤ 256 → code.Has (scope c a) pc (code.with_a op.Local (slot (static_held c.program a.procedure) x)) → code.Has (scope c a) (suc pc) (code.plain op.Load) → code.Has (scope c a) (suc (suc pc)) (code.with_a op.Local (suc (slot (static_held c.program a.procedure) x))) → code.Has (scope c a) (suc (suc (suc pc))) (code.plain op.Load) → TwoWords (S c s.made a.cs a.active.places (fb c a + slots_words a.active.held) a.active.held (s.store.locals (length a.cs))) (slot a.active.held x) z y → Reach c (go c a pc ops w) (go c a (suc (suc (suc (suc pc)))) (y ∷ z ∷ ops) w)
-    two_go x z y pc ops s w st le has1 has2 has3 has4 r =
-        let k = slot (static_held c.program a.procedure) x in
-        let same = slot_alike _ _ x (call_alike c.program a.procedure a.active a.call) in
-        let load = ap (λ k. word_at w.words (pos (fb c a + k))) same ∙ slot_load a.active a.cs s w (slot a.active.held x) z st (two_first _ _ _ _ r) in
-        let load2 = ap (λ k. word_at w.words (pos (fb c a + suc k))) same ∙ slot_load a.active a.cs s w (suc (slot a.active.held x)) y st (two_second _ _ _ _ r) in
-        let all = all_length c (K c a) s w st in
-        let within = got_within w.words (fb c a + k) z load in
-        let within2 = got_within w.words (fb c a + suc k) y load2 in
-        let small = small_word c (fb c a + k) (omega (arith, within, all)) in
-        let small2 = small_word c (fb c a + suc k) (omega (arith, within2, all)) in
-        then_reach c (goes c a _ w has1 (rows.local_next c.img a.u a.m a.p (fb c a) pc w k ops small) (omega (arith, le)))
-        (then_reach c (goes c a _ w has2 (rows.load_next c.img a.u a.m a.p (fb c a) (suc pc) w (pos (fb c a + k)) z ops load) (omega (arith, le)))
-        (then_reach c (goes c a _ w has3 (rows.local_next c.img a.u a.m a.p (fb c a) (suc (suc pc)) w (suc k) (z ∷ ops) small2) (omega (arith, le)))
-        (goes c a _ w has4 (rows.load_next c.img a.u a.m a.p (fb c a) (suc (suc (suc pc))) w (pos (fb c a + suc k)) y (z ∷ ops) load2) (omega (arith, le)))))
-
-    pub open_by_variable_case : (x : List ℕ) (t : TypeRef) → OpenArrayFollows c a n call b (OfVariable (variable.Parameter passing.VariableOpenArray x) t)
-    open_by_variable_case x t u pc at ops os s w le has ok form st =
-        let p = a.active.places x in
-        let k = same_alike (IsReferred 2) (referred_fixed 2) _ _ x (call_alike c.program a.procedure a.active a.call) ok.0 in
-        let r = ref_place c s.made a.cs a.active.places a.active.held 2 x (s.store.locals (length a.cs)) k.as_it st.all.calls_fine.1.1 in
-        let up = place_of_up c s.made a.cs a.active (form_in c.program t) p (subst (λ u. PlaceOf c.program (has_of c) c.img s.made a.cs u p) (k.form ∙ ok.1) r) in
-        let two = two_referred s.made a.cs a.active.places a.active.held (fb c a + slots_words a.active.held) x (s.store.locals (length a.cs)) k.as_it in
-        let at_it = address_up c s.made a.cs a.active p r.0 in
-        let form_it = form_up c s.made a.cs a.active p r.0 in
-        subst (λ k. Follows c (go c a pc ops w) (LongTo c a n call b (suc (suc (suc (suc pc)))) ops) (PlaceKept c a n call b (form_in c.program t) os) (Gives (place_of (variable.Parameter passing.VariableOpenArray x) k) s)) (sym st.calls)
-        (follows_value c w
-        (subst (λ m. Reach c (go c a pc ops w) (go c a (suc (suc (suc (suc pc)))) (second_word c.program (has_of c) c.img (place_form c.program c.img s.made (K c a) p) ∷ pos m ∷ ops) w)) (sym at_it)
-        (subst (λ f. Reach c (go c a pc ops w) (go c a (suc (suc (suc (suc pc)))) (second_word c.program (has_of c) c.img f ∷ pos (address c.program c.img s.made a.cs p) ∷ ops) w)) (sym form_it)
-        (two_go x _ _ pc ops s w st.all le has.0.0 has.0.1 has.1.0 has.1.1 two)))
-        (up, st))
-
-    pub open_by_value_case : (x : List ℕ) (t : TypeRef) → OpenArrayFollows c a n call b (OfVariable (variable.Parameter passing.OpenArray x) t)
-    open_by_value_case x t u pc at ops os s w le has ok form st =
-        let p = At (OfCall (length a.cs) x) [] in
-        let k = call_copy c.program a.procedure a.active x u a.call ok.0.0 (ok.1 ∙ form) in
-        let there = copy_there a.active.held x 2 k.as_it in
-        let two = two_copied s.made a.cs a.active.places a.active.held (fb c a + slots_words a.active.held) x (s.store.locals (length a.cs)) k.as_it in
-        let at_it = copy_address s.made a.cs a.active x there.1 in
-        let form_it = own_form c s.made a.cs a.active x in
-        let here_p : PlaceOf c.program (has_of c) c.img s.made (K c a) (form_in c.program t) p = (own_place c s.made a.cs a.active x there.0, subst (λ v. Sub v (form_in c.program t)) (sym (form_it ∙ k.form)) (subst (λ v. Sub (ArrayForm k.m u) v) (sym form) (opened k.m))) in
-        subst (λ k. Follows c (go c a pc ops w) (LongTo c a n call b (suc (suc (suc (suc pc)))) ops) (PlaceKept c a n call b (form_in c.program t) os) (Gives (place_of (variable.Parameter passing.OpenArray x) k) s)) (sym st.calls)
-        (follows_value c w
-        (subst (λ m. Reach c (go c a pc ops w) (go c a (suc (suc (suc (suc pc)))) (second_word c.program (has_of c) c.img (place_form c.program c.img s.made (K c a) p) ∷ pos m ∷ ops) w)) at_it
-        (subst (λ f. Reach c (go c a pc ops w) (go c a (suc (suc (suc (suc pc)))) (second_word c.program (has_of c) c.img f ∷ pos (fb c a + slots_words a.active.held + copy_offset a.active.held x) ∷ ops) w)) (sym form_it)
-        (two_go x _ _ pc ops s w st.all le has.0.0 has.0.1 has.1.0 has.1.1 two)))
-        (here_p, st))
-
-    -- the address alone
-    one_go : (x : List ℕ) (z y : ℤ) (pc : ℕ) (ops : List ℤ) (s : State) (w : World) → StandIn c (K c a) s w → length ops + 1 ≤ 256 → code.Has (scope c a) pc (code.with_a op.Local (slot (static_held c.program a.procedure) x)) → code.Has (scope c a) (suc pc) (code.plain op.Load) → TwoWords (S c s.made a.cs a.active.places (fb c a + slots_words a.active.held) a.active.held (s.store.locals (length a.cs))) (slot a.active.held x) z y → Reach c (go c a pc ops w) (go c a (suc (suc pc)) (z ∷ ops) w)
-    one_go x z y pc ops s w st le has1 has2 r =
-        let k = slot (static_held c.program a.procedure) x in
-        let same = slot_alike _ _ x (call_alike c.program a.procedure a.active a.call) in
-        let load = ap (λ k. word_at w.words (pos (fb c a + k))) same ∙ slot_load a.active a.cs s w (slot a.active.held x) z st (two_first _ _ _ _ r) in
-        let all = all_length c (K c a) s w st in
-        let within = got_within w.words (fb c a + k) z load in
-        let small = small_word c (fb c a + k) (omega (arith, within, all)) in
-        then_reach c (goes c a _ w has1 (rows.local_next c.img a.u a.m a.p (fb c a) pc w k ops small) (omega (arith, le)))
-        (goes c a _ w has2 (rows.load_next c.img a.u a.m a.p (fb c a) (suc pc) w (pos (fb c a + k)) z ops load) (omega (arith, le)))
-
     -- the length alone
     length_go : (x : List ℕ) (z y : ℤ) (pc : ℕ) (ops : List ℤ) (s : State) (w : World) → StandIn c (K c a) s w → length ops + 1 ≤ 256 → code.Has (scope c a) pc (code.with_a op.Local (suc (slot (static_held c.program a.procedure) x))) → code.Has (scope c a) (suc pc) (code.plain op.Load) → TwoWords (S c s.made a.cs a.active.places (fb c a + slots_words a.active.held) a.active.held (s.store.locals (length a.cs))) (slot a.active.held x) z y → Reach c (go c a pc ops w) (go c a (suc (suc pc)) (y ∷ ops) w)
     length_go x z y pc ops s w st le has1 has2 r =
@@ -270,19 +206,6 @@ module _ (c : Setting) where
         let small = small_word c (fb c a + suc k) (omega (arith, within, all)) in
         then_reach c (goes c a _ w has1 (rows.local_next c.img a.u a.m a.p (fb c a) pc w (suc k) ops small) (omega (arith, le)))
         (goes c a _ w has2 (rows.load_next c.img a.u a.m a.p (fb c a) (suc pc) w (pos (fb c a + suc k)) y ops load) (omega (arith, le)))
-
-    pub place_by_variable_case : (x : List ℕ) (t : TypeRef) → PlaceFollows c a n call b (OfVariable (variable.Parameter passing.VariableOpenArray x) t)
-    place_by_variable_case x t pc at ops os s w le has ok st =
-        let p = a.active.places x in
-        let k = same_alike (IsReferred 2) (referred_fixed 2) _ _ x (call_alike c.program a.procedure a.active a.call) ok.0 in
-        let r = ref_place c s.made a.cs a.active.places a.active.held 2 x (s.store.locals (length a.cs)) k.as_it st.all.calls_fine.1.1 in
-        let up = place_of_up c s.made a.cs a.active (form_in c.program t) p (subst (λ u. PlaceOf c.program (has_of c) c.img s.made a.cs u p) (k.form ∙ ok.1) r) in
-        let two = two_referred s.made a.cs a.active.places a.active.held (fb c a + slots_words a.active.held) x (s.store.locals (length a.cs)) k.as_it in
-        let at_it = address_up c s.made a.cs a.active p r.0 in
-        subst (λ k. Follows c (go c a pc ops w) (PlaceTo c a n call b (suc (suc pc)) ops) (PlaceKept c a n call b (form_in c.program t) os) (Gives (place_of (variable.Parameter passing.VariableOpenArray x) k) s)) (sym st.calls)
-        (follows_value c w
-        (subst (λ m. Reach c (go c a pc ops w) (go c a (suc (suc pc)) (pos m ∷ ops) w)) (sym at_it) (one_go x _ _ pc ops s w st.all le has.0 has.1 two))
-        (up, st))
 
     -- LEN
     length_is : (p : Place) (u : Form) (pc : ℕ) (ops : List ℤ) (os : List AnObject) (s : State) (w : World) (x : Point) → PlaceOf c.program (has_of c) c.img s.made (K c a) (OpenForm u) p → Reach c x (go c a pc (second_word c.program (has_of c) c.img (place_form c.program c.img s.made (K c a) p) ∷ ops) w) → Keeps c a n call b os s w → Follows c x (ValueTo c a n call b pc ops) (ValueKept c a n call b longint os) (Gives (Integer (pos (length_of (value_at s.store p)))) s)

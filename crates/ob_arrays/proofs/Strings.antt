@@ -1,6 +1,6 @@
 -- Where the words of a text stand: of a string among those of its module, of an array at its place.
 use Rattle.std.proofs.lemmas.List.{map-append, drop-map, take-append-drop, length-map, length-take-le}
-use Rattle.std.proofs.Common.{◌≡◌, ℕ, suc, ◌+◌, ◌-◌, ◌<◌, List, [], ◌∷◌, ◌++◌, length, ℤ, refl, sym, ap, ◌∙◌, subst, arith, append_assoc, length-append}
+use Rattle.std.proofs.Common.{◌≡◌, ℕ, suc, ◌+◌, ◌<◌, List, [], ◌∷◌, ◌++◌, length, ℤ, refl, sym, ap, ◌∙◌, subst, arith, append_assoc, length-append}
 use Rattle.std.specs.Prelude.{pos, map, take, drop, Bool, true, false, nat_le, bytes_eq, if◌then◌else◌}
 use Rattle.ob_types.specs.TypedSyntax.{Module}
 use Rattle.ob_instr.specs.Image.{World}

@@ -1,5 +1,5 @@
 -- The code of texts follows their meaning: their addresses and lengths, and their relations.
-use Rattle.std.proofs.Common.{◌≡◌, ℕ, suc, ◌+◌, ◌-◌, ◌≤◌, List, [], ◌∷◌, ◌++◌, length, Option, Some, None, ℤ, refl, sym, ap, ◌∙◌, subst, arith, length-append}
+use Rattle.std.proofs.Common.{◌≡◌, ℕ, suc, ◌+◌, ◌≤◌, List, [], ◌∷◌, ◌++◌, length, Option, Some, None, ℤ, refl, sym, ap, ◌∙◌, subst, arith, length-append}
 use Rattle.std.specs.Prelude.{pos, map, true, nat_lt}
 use Rattle.ob_tree.specs.declared.pos.Pos.{Pos}
 use Rattle.ob_types.specs.declared.value.Value.TheVariants as literal

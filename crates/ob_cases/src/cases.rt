@@ -1,19 +1,18 @@
-//! Sections of a worked example: files, sessions over them, changes and questions.
+//! Sections of a case: files, sessions over them, changes and questions.
 
+use crate::faults::{Failing, run, table};
 use crate::files::Files;
-use ob_io::{MemSink, MemSource};
-use ob_session::session;
+use crate::numbered::{numbered, repeated};
 use std::alloc::{AllocError, Global};
 
-/// Room for what a session writes, in bytes.
-const ROOM: usize = 1 << 20;
-
-/// A worked example as far as it was told: its files, the words of the next session, and what is printed.
+/// A case as far as it was told: its files, the words of the next session, how often the numbered lines of the
+/// next section stand (0: they have no numbers), and what is printed.
 #[derive(Drop)]
 pub struct Case {
     alloc: Global,
     files: Files,
     words: Vec<String>,
+    times: u32,
     printed: String,
 }
 
@@ -48,6 +47,7 @@ impl Case {
             alloc,
             files: Files::new(alloc),
             words: Vec::new(alloc),
+            times: 0,
             printed: String::new(alloc),
         }
     }
@@ -77,9 +77,23 @@ impl Case {
     }
 
     fn tell_of(&mut self, what: &str, rest: &[&str], body: &str) -> anyhow::Result<()> {
-        if what == "words" {
-            return self.set_words(rest);
+        match (what, rest) {
+            ("words", words) => self.set_words(words),
+            ("times", [count]) => {
+                self.times = count.parse()?;
+                Ok(())
+            }
+            ("files", [name]) => self.put_files(name, body),
+            ("faults", []) => self.run_faults(body),
+            _ => {
+                let body = repeated(self.alloc, body, self.times)?;
+                self.times = 0;
+                self.tell_body(what, rest, &body)
+            }
         }
+    }
+
+    fn tell_body(&mut self, what: &str, rest: &[&str], body: &str) -> anyhow::Result<()> {
         match rest {
             [] => self.run(body),
             [name] => self.tell_name(what, name, body),
@@ -87,6 +101,18 @@ impl Case {
             [name, first, second, third] => self.patch(name, first, second, third),
             _ => anyhow::bail!("no section"),
         }
+    }
+
+    // Files with numbered names and contents.
+    fn put_files(&mut self, name: &str, body: &str) -> anyhow::Result<()> {
+        for number in 0..self.times {
+            let number = number + 1;
+            let name = numbered(self.alloc, name, number)?;
+            let body = numbered(self.alloc, body, number)?;
+            self.files.put(&name, body.as_bytes())?;
+        }
+        self.times = 0;
+        Ok(())
     }
 
     fn set_words(&mut self, words: &[&str]) -> anyhow::Result<()> {
@@ -195,11 +221,25 @@ impl Case {
     // What a session writes, and its status.
     fn answer(&mut self, script: &str) -> anyhow::Result<String> {
         let alloc = self.alloc;
-        let mut source = MemSource::new(script.as_bytes().to_vec(alloc)?, Vec::new(alloc));
-        let mut sink = MemSink::new(alloc, ROOM, Vec::new(alloc))?;
-        let status = session(alloc, &self.words, &mut self.files, &mut source, &mut sink);
-        let written = str::from_utf8(sink.bytes())?;
+        let done = run(alloc, &self.words, &self.files, script, Failing::Script, 0)?;
+        self.files = done.files;
+        let written = done.text;
+        let status = done.status;
         Ok(format!(in alloc; "{written}== status {status}\n")?)
+    }
+
+    // Tables of a script with faults; then it is done without.
+    fn run_faults(&mut self, script: &str) -> anyhow::Result<()> {
+        self.run_table("folder", Failing::Folder, script)?;
+        self.run_table("folder keeping", Failing::KeepingFolder, script)?;
+        self.run_table("sink", Failing::Sink, script)?;
+        self.run_table("script", Failing::Script, script)?;
+        self.run(script)
+    }
+
+    fn run_table(&mut self, head: &str, failing: Failing, script: &str) -> anyhow::Result<()> {
+        let lines = table(self.alloc, &self.words, &self.files, script, failing)?;
+        self.print(&["== ", head, "\n", &lines])
     }
 
     // A session over each front of a file, which are to answer alike; then the file is whole again.

@@ -1,19 +1,29 @@
-//! Does the worked examples of `cases.txt`, each over files in memory, and prints what each session
-//! wrote, its status, and what is asked of the files.
+//! Does the cases of some texts, each over files in memory, and prints what each session wrote, its
+//! status, and what is asked of the files: `cases.txt` has worked examples, `rules.txt` broken
+//! rules, `refusals.txt` refusals with their causes, and `faults.txt` calls that fail.
 #![tactic(auto)]
 
 mod cases;
+mod faults;
 mod files;
+mod numbered;
 
 use cases::Case;
 use std::alloc::Global;
 use std::fs;
 
 fn main(rt: HostRuntime) -> anyhow::Result<()> {
-    let alloc = rt.alloc();
-    let text = fs::read_to_string(&rt, "cases.txt")?;
-    let mut case = Case::new(alloc);
-    let told = tell_all(alloc, &mut case, &text);
+    do_text(&rt, "cases.txt")?;
+    do_text(&rt, "rules.txt")?;
+    do_text(&rt, "refusals.txt")?;
+    do_text(&rt, "faults.txt")
+}
+
+// Does the cases of a text.
+fn do_text(rt: &HostRuntime, name: &str) -> anyhow::Result<()> {
+    let text = fs::read_to_string(rt, name)?;
+    let mut case = Case::new(rt.alloc());
+    let told = tell_all(rt.alloc(), &mut case, &text);
     rt.print(case.printed())?;
     told
 }

@@ -7,7 +7,7 @@ use Rattle.ob_compile.specs.declared.shape.Built.{Built}
 use Rattle.ob_compile.specs.declared.fault.CompileFault.{CompileFault}
 use Rattle.ob_compile.specs.declared.fault.CompileFault.TheVariants as fault
 use Rattle.ob_compile.specs.Compiling.{Refusal, Compiled}
-use Rattle.ob_compile.specs.Contract.{Compiles, Makes}
+use Rattle.ob_compile.specs.Contract.{AreFile, Compiles, Makes}
 
 -- it is answered as it is
 pub made_compiles : (a : Result (Compiled Print) (Refusal Print)) (r : Result Built CompileFault) → Makes a r → Compiles a r
@@ -20,6 +20,10 @@ made_compiles a (Err fault.Memory) h = tt
 pub made_fits : (a : Result (Compiled Print) (Refusal Print)) (r : Result Built CompileFault) → Makes a r → IfOk r (λ b. face_form.fits b.face)
 made_fits a (Ok b) h = h.1
 made_fits a (Err e) h = tt
+
+pub made_file : (a : Result (Compiled Print) (Refusal Print)) (r : Result Built CompileFault) → Makes a r → IfOk r (λ b. AreFile b.obj)
+made_file a (Ok b) h = h.2
+made_file a (Err e) h = tt
 
 -- and never names the folder
 pub no_folder : (a : Result (Compiled Print) (Refusal Print)) (r : Result Built CompileFault) → Makes a r → IsErrOf r fault.Folder → ⊥

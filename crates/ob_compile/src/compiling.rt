@@ -5,7 +5,7 @@ ghost use Rattle.ob_sym.specs.Grammar.{face as face_form};
 ghost use Rattle.ob_io.specs.Io.{SameFiles};
 ghost use Rattle.ob_walk.specs.Walk.{symbol_entry};
 ghost use Rattle.ob_compile.specs.Compiling.{compiled, prints};
-ghost use Rattle.ob_compile.specs.Contract.{Compiles, CompileHasCause};
+ghost use Rattle.ob_compile.specs.Contract.{AreFile, Compiles, CompileHasCause};
 
 use crate::faces::compile_text;
 use crate::fault::CompileFault;
@@ -24,6 +24,7 @@ pub fn compile<F: Shelf>(alloc: Global, folder: &mut F, file: &str) -> Result<Bu
     ensures files { F.tells folder.old ≡ true → SameFiles (F.files folder.new) (F.files folder.old) }
     ensures compiles { F.tells folder.old ≡ true → Compiles (compiled prints (symbol_entry (F.files folder.old)) (F.files folder.old file.now)) result }
     ensures fits { IfOk result (λ b. face_form.fits b.face) }
+    ensures file { IfOk result (λ b. AreFile b.obj) }
     ensures cause { CompileHasCause (F.faults folder.old) (F.faults folder.new) result }
 {
     match read_source(alloc, folder, file) {

@@ -9,7 +9,7 @@ ghost use Rattle.ob_env.specs.Found.{CarryPrints};
 ghost use Rattle.ob_walk.specs.Walk.{symbol_entry, walk as walking};
 ghost use Rattle.ob_walk.specs.Answer.{after_walk};
 ghost use Rattle.ob_compile.specs.Compiling.{of_reading, of_tree, of_reached, of_standing, prints, imported};
-ghost use Rattle.ob_compile.specs.Contract.{Compiles, Makes, CompileHasCause};
+ghost use Rattle.ob_compile.specs.Contract.{AreFile, Compiles, Makes, CompileHasCause};
 ghost use Rattle.ob_compile.specs.Steps.{stood};
 
 use crate::answers::{fault_of_env, fault_of_text, fault_of_walk, over_limit};
@@ -70,6 +70,7 @@ fn compile_with<F: Shelf>(
     ensures files { F.tells folder.old ≡ true → SameFiles (F.files folder.new) (F.files folder.old) }
     ensures compiles { F.tells folder.old ≡ true → Compiles (of_reached prints tree.now (after_walk stood (walking (symbol_entry (F.files folder.old)) tree.now.name.name imports.now))) result }
     ensures fits { IfOk result (λ b. face_form.fits b.face) }
+    ensures file { IfOk result (λ b. AreFile b.obj) }
     ensures cause { CompileHasCause (F.faults folder.old) (F.faults folder.new) result }
 {
     match walk(alloc, folder, &tree.name.name, imports) {
@@ -88,6 +89,7 @@ fn compile_tree<F: Shelf>(
     ensures files { F.tells folder.old ≡ true → SameFiles (F.files folder.new) (F.files folder.old) }
     ensures compiles { F.tells folder.old ≡ true → Compiles (of_tree prints (symbol_entry (F.files folder.old)) tree.now) result }
     ensures fits { IfOk result (λ b. face_form.fits b.face) }
+    ensures file { IfOk result (λ b. AreFile b.obj) }
     ensures cause { CompileHasCause (F.faults folder.old) (F.faults folder.new) result }
 {
     if tree.imports.len() > MOST_IMPORTS {
@@ -111,6 +113,7 @@ pub fn compile_text<F: Shelf>(
     ensures files { F.tells folder.old ≡ true → SameFiles (F.files folder.new) (F.files folder.old) }
     ensures compiles { F.tells folder.old ≡ true → Compiles (of_reading prints (symbol_entry (F.files folder.old)) (reading text.now)) result }
     ensures fits { IfOk result (λ b. face_form.fits b.face) }
+    ensures file { IfOk result (λ b. AreFile b.obj) }
     ensures cause { CompileHasCause (F.faults folder.old) (F.faults folder.new) result }
 {
     match read_module(alloc, text) {

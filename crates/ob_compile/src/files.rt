@@ -7,7 +7,7 @@ ghost use Rattle.ob_obj.specs.Grammar.{file as file_form};
 ghost use Rattle.ob_spelled.specs.Prints.{AllHavePrints};
 ghost use Rattle.ob_walk.specs.Walk.{file_limit};
 ghost use Rattle.ob_compile.specs.Compiling.{Compiled, within, limit_of_files, object_by, object_bytes, symbol_bytes, interface_by, prints};
-ghost use Rattle.ob_compile.specs.Contract.{Makes};
+ghost use Rattle.ob_compile.specs.Contract.{AreFile, Makes};
 
 use crate::answers::over_limit;
 use crate::fault::CompileFault;
@@ -26,7 +26,8 @@ const MOST_BYTES: usize = 16_777_216;
 // The bytes of an object file. What a compile makes has a spelling; no law says so yet, so it is
 // asked, and where it had none this would answer want of memory.
 fn object_bytes(alloc: Global, file: &ObjFile) -> Result<Text, AllocError>
-    ensures { IfOk result (λ text. text ≡ file_form.spell file.now) }
+    ensures text { IfOk result (λ text. text ≡ file_form.spell file.now) }
+    ensures fits { OnOk result (file_form.fits file.now) }
 {
     let spelled = has_object_file(alloc, file)?;
     if !spelled {
@@ -70,7 +71,8 @@ fn limit_of_files(obj: &Text, sym: &Text) -> Option<Which>
 
 // What is compiled, with the bytes of its two files.
 fn built(shown: ShownFace, obj: Text, sym: Text) -> Result<Built, CompileFault>
-    requires { face_form.fits shown.face }
+    requires face { face_form.fits shown.face }
+    requires file { AreFile obj }
     ensures { (c : Compiled PrintValue) → shown.face ≡ interface_by prints c → obj ≡ object_bytes prints c → sym ≡ symbol_bytes prints c → Makes (within c (limit_of_files (object_bytes prints c) (symbol_bytes prints c))) result }
 {
     match limit_of_files(&obj, &sym) {

@@ -3,7 +3,7 @@ use Rattle.ob_env.specs.Building.{stands_as}
 use Rattle.ob_walk.specs.Walk.{symbol_entry, walk}
 use Rattle.ob_compile.specs.declared.fault.CompileFault.TheVariants as fault
 use Rattle.ob_compile.specs.Compiling.{of_standing, prints}
-use Rattle.ob_compile.proofs.Answered.{made_fits, no_folder}
+use Rattle.ob_compile.proofs.Answered.{made_file, made_fits, no_folder}
 use Rattle.ob_compile.proofs.Walked.{whole, same_fault}
 use Rattle.ob_compile.proofs.faces.compile_with.Goals as goal
 
@@ -26,6 +26,9 @@ returns-in-Err-clause-cause g c = record {
   later = c.in-Err.ensures.cause.later;
   failed = λ h. c.in-Err.ensures.cause.failed (ap Err (c.fault_of_walk.ensures.folder (same_fault c.fault_of_walk.result fault.Folder h)));
 }
+
+pub returns-in-Ok-clause-file : goal.returns-in-Ok-clause-file
+returns-in-Ok-clause-file g c = made_file (of_standing prints c.args.tree.now (stands_as c.in-Ok.faces)) c.compile_over.result c.compile_over.ensures
 
 pub returns-in-Ok-clause-fits : goal.returns-in-Ok-clause-fits
 returns-in-Ok-clause-fits g c = made_fits (of_standing prints c.args.tree.now (stands_as c.in-Ok.faces)) c.compile_over.result c.compile_over.ensures
