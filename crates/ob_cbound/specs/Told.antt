@@ -11,12 +11,14 @@ use Rattle.ob_cbound.specs.declared.pointers.Progress.{Progress}
 
 -- the pointers that were judged, where so much was said
 abbrev pub at_notes : Progress → Notes → Pointers
-at_notes p n = record { judged = p.judged; unsound = p.unsound; notes = n }
+at_notes p n = record { judged = p.judged; unsound = p.unsound; through = p.through; rings = p.rings; notes = n }
 
 -- what was judged is so, and what is said of it is written down
 pub record Told (b : Notebook) (s : Pointers) (p : Progress) (book : Notebook) : Type 0 where
   pub judged : p.judged ≡ s.judged
   pub unsound : p.unsound ≡ s.unsound
+  pub through : p.through ≡ s.through
+  pub rings : p.rings ≡ s.rings
   pub noted : book ≡ book_after b s.notes
 
 abbrev pub left_pointers : List Later → List Later

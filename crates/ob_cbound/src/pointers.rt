@@ -9,6 +9,7 @@ ghost use Rattle.ob_known.specs.Scopes.{around_of};
 ghost use Rattle.ob_rules.specs.declared.notes.Notebook.{Notebook as ABook};
 ghost use Rattle.ob_rules.specs.Books.{book_after};
 ghost use Rattle.ob_rules.specs.Judged.{Notes};
+ghost use Rattle.ob_rules.specs.Names.{is_among};
 ghost use Rattle.ob_rules.specs.Declarations as spec;
 ghost use Rattle.ob_cbound.specs.Told.{at_notes, Told, left_pointers, base_judged};
 
@@ -18,11 +19,14 @@ use ob_rules::{Later, Notebook};
 use ob_types::{TypeRef, Types, target_within};
 use std::alloc::{AllocError, Global};
 
-/// The pointers that were judged, and those of them that break the rule.
+/// The pointers that were judged or are being judged, those of them that break the rule, those
+/// whose bases were gone through, and where a ring begins that is gone through.
 #[derive(Drop)]
 pub(crate) struct Progress {
     pub(crate) judged: Stack,
     pub(crate) unsound: Stack,
+    pub(crate) through: Stack,
+    pub(crate) rings: Stack,
 }
 
 fn pointer_name(left: &Later) -> &[u8]
@@ -112,18 +116,22 @@ fn note_wrong(book: &mut Notebook, wrong: bool, left: &Later)
     }
 }
 
-fn add_unsound(
-    alloc: Global,
-    progress: &mut Progress,
-    adds: bool,
-    left: &Later,
-) -> Result<(), AllocError>
-    ensures { OnOk result (progress.new ≡ record progress.old { unsound = spec.add_if adds (spec.pointer_name left.now) progress.old.unsound }) }
+fn add_if(alloc: Global, names: &mut Stack, adds: bool, name: &[u8]) -> Result<(), AllocError>
+    ensures { OnOk result (names.new ≡ spec.add_if adds name.now names.old) }
 {
     if adds {
-        progress.unsound.push(alloc, pointer_name(left))?;
+        names.push(alloc, name)?;
     }
     Ok(())
+}
+
+// The ring ends with the pointer where it begins.
+fn leave_ring(rings: &mut Stack, name: &[u8])
+    ensures { rings.new ≡ spec.ring_left (is_among name.now rings.old) rings.old }
+{
+    if rings.has(name) {
+        rings.pop();
+    }
 }
 
 fn tell(
@@ -131,20 +139,38 @@ fn tell(
     book: &mut Notebook,
     progress: &mut Progress,
     left: &Later,
+    base: &[u8],
+    told: bool,
     unsound: bool,
-    wrong: bool,
+    back: bool,
 ) -> Result<(), AllocError>
-    ensures { (b : ABook) (t : Notes) → book.old ≡ book_after b t → OnOk result (Told b (spec.pointer_told left.now unsound wrong (at_notes progress.old t)) progress.new book.new) }
+    ensures { (b : ABook) (t : Notes) → book.old ≡ book_after b t → OnOk result (Told b (spec.pointer_told left.now base.now told unsound back (at_notes progress.old t)) progress.new book.new) }
 {
-    let broken = wrong && !unsound;
-    add_unsound(
+    let name = pointer_name(left);
+    add_if(
         alloc,
-        progress,
-        broken || (unsound && is_inline(left)),
-        left,
+        &mut progress.unsound,
+        told || (unsound && is_inline(left)),
+        name,
     )?;
-    note_wrong(book, broken, left);
+    progress.through.push(alloc, name)?;
+    add_if(alloc, &mut progress.rings, told && back, base)?;
+    leave_ring(&mut progress.rings, name);
+    note_wrong(book, told, left);
     Ok(())
+}
+
+// Whether the base is being judged.
+fn comes_back(progress: &Progress, base: &[u8]) -> bool
+    ensures { (t : Notes) → result ≡ spec.comes_back base.now (at_notes progress.now t) }
+{
+    progress.judged.has(base) && !progress.through.has(base)
+}
+
+fn is_told(progress: &Progress, wrong: bool, unsound: bool, back: bool) -> bool
+    ensures { (t : Notes) → result ≡ spec.is_told wrong unsound back (at_notes progress.now t) }
+{
+    wrong && !unsound && (back || progress.rings.len() == 0)
 }
 
 fn judge_one<E: Imports>(
@@ -156,9 +182,11 @@ fn judge_one<E: Imports>(
 ) -> Result<(), AllocError>
     ensures { (b : ABook) (t : Notes) → book.old ≡ book_after b t → OnOk result (Told b (spec.pointer_judged (around_of E.types scope.now) left.now (at_notes progress.old t)) progress.new book.new) }
 {
-    let unsound = progress.unsound.has(base_name(scope, left));
-    let wrong = is_wrong(scope, left);
-    tell(alloc, book, progress, left, unsound, wrong)?;
+    let base = base_name(scope, left);
+    let unsound = progress.unsound.has(base);
+    let back = comes_back(progress, base);
+    let told = is_told(progress, is_wrong(scope, left), unsound, back);
+    tell(alloc, book, progress, left, base, told, unsound, back)?;
     Ok(())
 }
 
@@ -257,6 +285,8 @@ pub fn pointers_judged<E: Imports>(
     let mut progress = Progress {
         judged: Stack::new(alloc),
         unsound: Stack::new(alloc),
+        through: Stack::new(alloc),
+        rings: Stack::new(alloc),
     };
     let fuel = fuel_for(all);
     'all: for left in all {

@@ -7,4 +7,4 @@ use Rattle.ob_cbound.specs.Told.{left_pointers, at_notes}
 use Rattle.ob_cbound.proofs.pointers.pointers_judged.Given as goal
 
 abbrev pub invariant-all : goal.invariant-all
-invariant-all g l = (t : Notes) × (l.book ≡ book_after l.fn.book t) × (judge_pointers (around_of g.E.Types.types l.scope) (left_pointers l.all) (left_pointers (drop l.left-index l.all)) (at_notes l.progress t) ≡ judge_pointers (around_of g.E.Types.types l.scope) (left_pointers l.all) (left_pointers l.all) (record { judged = []; unsound = []; notes = no_notes }))
+invariant-all g l = (t : Notes) × (l.book ≡ book_after l.fn.book t) × (judge_pointers (around_of g.E.Types.types l.scope) (left_pointers l.all) (left_pointers (drop l.left-index l.all)) (at_notes l.progress t) ≡ judge_pointers (around_of g.E.Types.types l.scope) (left_pointers l.all) (left_pointers l.all) (record { judged = []; unsound = []; through = []; rings = []; notes = no_notes }))
