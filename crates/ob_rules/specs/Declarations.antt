@@ -1,5 +1,5 @@
 -- Declarations in their order, the procedures behind them, and modules.
-use Rattle.std.specs.Prelude.{ℕ, zero, suc, ◌+◌, Bool, true, false, not, ◌&&◌, ◌||◌, List, [], ◌∷◌, ◌++◌, length, map, Option, Some, None, is_some, codes, bytes_eq}
+use Rattle.std.specs.Prelude.{ℕ, zero, suc, ◌+◌, ◌==◌, Bool, true, false, not, ◌&&◌, ◌||◌, List, [], ◌∷◌, ◌++◌, length, drop, map, Option, Some, None, is_some, codes, bytes_eq}
 use Rattle.std.specs.List.{list_any, find, filter, filter_map, flat_map}
 use Rattle.ob_types.specs.Tests.{target}
 use Rattle.ob_tree.specs.declared.pos.Pos.{Pos}
@@ -237,10 +237,12 @@ headings_in_order (p ∷ ps) hs = headings_in_order ps (add_heading hs p.heading
 
 -- WHAT WAS LEFT FOR LATER
 
--- the pointers to pointers that were judged, and those of them that break the rule
+-- the pointers that were judged or are being judged, those of them that break the rule, those whose bases were gone through, and where a ring begins that is gone through
 pub record Pointers : Type 0 where
   pub judged : List (List ℕ)
   pub unsound : List (List ℕ)
+  pub through : List (List ℕ)
+  pub rings : List (List ℕ)
   pub notes : Notes
 
 abbrev pub pointer_name : Later → List ℕ
@@ -277,16 +279,30 @@ abbrev pub notes_of_wrong : Bool → Later → Notes
 notes_of_wrong true l = wrong_at l
 notes_of_wrong false l = no_notes
 
--- where the base breaks a rule the pointer is not told of; it breaks one too where the base is written in it
-abbrev pub pointer_told : Later → Bool → Bool → Pointers → Pointers
-pointer_told l unsound wrong s = record {
+-- the base is being judged: the text comes back to it
+abbrev pub comes_back : List ℕ → Pointers → Bool
+comes_back x s = is_among x s.judged && not (is_among x s.through)
+
+-- where the base breaks a rule the pointer is not told of; nor in a ring, but where the text comes back
+abbrev pub is_told : Bool → Bool → Bool → Pointers → Bool
+is_told wrong unsound back s = wrong && not unsound && (back || length s.rings == 0)
+
+abbrev pub ring_left : Bool → List (List ℕ) → List (List ℕ)
+ring_left true xs = drop 1 xs
+ring_left false xs = xs
+
+-- a pointer breaks the rule too where its base does and is written in it
+abbrev pub pointer_told : Later → List ℕ → Bool → Bool → Bool → Pointers → Pointers
+pointer_told l base told unsound back s = record {
   judged = s.judged;
-  unsound = add_if ((wrong && not unsound) || (unsound && is_inline l)) (pointer_name l) s.unsound;
-  notes = joined s.notes (notes_of_wrong (wrong && not unsound) l);
+  unsound = add_if (told || (unsound && is_inline l)) (pointer_name l) s.unsound;
+  through = pointer_name l ∷ s.through;
+  rings = ring_left (is_among (pointer_name l) (add_if (told && back) base s.rings)) (add_if (told && back) base s.rings);
+  notes = joined s.notes (notes_of_wrong told l);
 }
 
 abbrev pub pointer_judged : Around → Later → Pointers → Pointers
-pointer_judged u l s = pointer_told l (is_among (base_name u l) s.unsound) (is_wrong (map_of u) l) s
+pointer_judged u l s = pointer_told l (base_name u l) (is_told (is_wrong (map_of u) l) (is_among (base_name u l) s.unsound) (comes_back (base_name u l) s) s) (is_among (base_name u l) s.unsound) (comes_back (base_name u l) s) s
 
 abbrev pub judge_base : Option Later → Pointers → (Later → Pointers → Pointers) → Pointers
 judge_base None s f = s
@@ -294,7 +310,7 @@ judge_base (Some l) s f = f l s
 
 abbrev pub judge_unless : Bool → Pointers → (Pointers → Pointers) → List ℕ → Pointers
 judge_unless true s f x = s
-judge_unless false s f x = f (record { judged = x ∷ s.judged; unsound = s.unsound; notes = s.notes })
+judge_unless false s f x = f (record s { judged = x ∷ s.judged })
 
 -- rule 15 of the bases that were left: each behind the pointer that its base is. In a ring it stands where the text comes back
 abbrev pub judge_pointer : Around → List Later → ℕ → Later → Pointers → Pointers
@@ -310,7 +326,7 @@ is_pointer_left (later.PointsTo x at t inline) = true
 is_pointer_left (later.Inherits x t) = false
 
 abbrev pub pointers_judged : Around → List Later → Notes
-pointers_judged u ls = (judge_pointers u (filter is_pointer_left ls) (filter is_pointer_left ls) (record { judged = []; unsound = []; notes = no_notes })).notes
+pointers_judged u ls = (judge_pointers u (filter is_pointer_left ls) (filter is_pointer_left ls) (record { judged = []; unsound = []; through = []; rings = []; notes = no_notes })).notes
 
 -- rule 1 of a field with the name of a bound procedure of a base
 abbrev pub field_judged : Map → Later → Notes

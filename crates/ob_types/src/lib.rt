@@ -20,7 +20,7 @@ pub use face::{Aspect, Interface, Object, Use};
 pub use ob_tree::Mark;
 pub use relations::{
     element_within, equal, equal_within, extends, extends_within, is_same_at, matches, same,
-    shape_of, signature_within, signatures_match, stands_for, target_within,
+    shape_of, signature_within, signatures_match, target_within,
 };
 pub use spelled::{read_print, write_print};
 pub use typed::{

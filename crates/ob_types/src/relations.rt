@@ -2,7 +2,7 @@ ghost use Rattle.std.specs.Prelude.{◌≡◌, ◌↔◌, IsTrue, Option};
 ghost use Rattle.std.specs.Option.{option_copied};
 ghost use Rattle.std.specs.List.{AllByRecursion};
 ghost use Rattle.ob_types.specs.Maps.{IsHeld, signature_types};
-ghost use Rattle.ob_types.specs.Relations.{StandsFor, Same, Equal, Matches, Extends, IsGrounded};
+ghost use Rattle.ob_types.specs.Relations.{Same, Equal, Matches, Extends, IsGrounded};
 ghost use Rattle.ob_types.specs.Tests.{basic_number, target_of, alias_of, target, type_eq, same_at, shape_at, base_of, pointer_of, climbs, both, extends_at, element_of, signature_of, modes_alike, params_alike, results_alike, signatures_alike, equal_at};
 
 use crate::desc::Desc;
@@ -263,16 +263,6 @@ fn params_equal<T: Types>(
         }
     }
     second.is_empty()
-}
-
-/// The type that `t` stands for, which is no alias: itself, or what it is equated to. Takes no
-/// memory.
-pub fn stands_for<'a, T: Types>(types: &'a T, t: &'a TypeRef) -> &'a TypeRef
-    requires grounded { IsGrounded (T.types types.now) }
-    requires held { IsHeld (T.types types.now) t.now }
-    ensures { StandsFor (T.types types.now) t.now result.now }
-{
-    target_within(types, t)
 }
 
 /// Whether two types are the same: come from the same identifier, identifiers equated to each
