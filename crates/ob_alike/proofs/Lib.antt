@@ -4,3 +4,4 @@ pub mod Stale
 pub mod Standing
 pub mod Made
 pub mod Whole
+pub mod Law

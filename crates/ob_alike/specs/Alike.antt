@@ -1,12 +1,15 @@
 -- The law: a compile by prints and a compile by texts come to the same, where no two of the texts that are spoken of have one print.
-use Rattle.std.specs.Prelude.{◌≡◌, ◌⊎◌, ℕ, List, [], ◌∷◌, map as each, Option, Some, Result, Ok, Err, Contains}
+use Rattle.std.specs.Prelude.{◌≡◌, ◌⊎◌, ℕ, List, [], ◌∷◌, map as each, Option, Some, Bool, true, Result, Ok, Err, Contains}
+use Rattle.std.specs.List.{AllByRecursion}
 use Rattle.ob_tree.specs.declared.names.QName.{QName}
 use Rattle.ob_tree.specs.declared.print.Print.{Print}
+use Rattle.ob_tree.specs.declared.decl.Module.{Module as Tree}
 use Rattle.ob_types.specs.declared.face.Aspect.{Aspect}
 use Rattle.ob_fprint.specs.Print.{print_from}
 use Rattle.ob_env.specs.Faces.{Wanted, Face, text_in, printed}
 use Rattle.ob_walk.specs.Walk.{Entry, Holds}
-use Rattle.ob_compile.specs.Compiling.{Refusal, Compiled, compiled, texts, prints, object_bytes, symbol_bytes}
+use Rattle.ob_reading.specs.Reading.{reading}
+use Rattle.ob_compile.specs.Compiling.{Refusal, Compiled, compiled, texts, prints, imported, object_bytes, symbol_bytes}
 use Rattle.ob_alike.specs.Printed.{Text, entry_printed, refusal_printed}
 
 -- ---- the texts that are spoken of
@@ -44,9 +47,31 @@ ComeToTheSame (Err r) (Err q) = r ≡ refusal_printed q
 ComeToTheSame (Ok c) (Err q) = ⊥
 ComeToTheSame (Err r) (Ok d) = ⊥
 
--- THE LAW
+-- THE LAW: where what is found by prints is what is found by texts
 abbrev pub CompilesAlike : Type 0
 CompilesAlike =
     (finds : List ℕ → Entry Text) (files : List ℕ → Entry Print) (source : Option (List ℕ)) →
     ((m : List ℕ) → files m ≡ entry_printed (finds m)) → Apart (IsSpokenOf finds) →
+    ComeToTheSame (compiled prints files source) (compiled texts finds source)
+
+-- ---- where the same is found for some names alone
+
+abbrev pub AreAll : (List ℕ → Bool) → List (List ℕ) → Type 0
+AreAll test ms = AllByRecursion (λ m. test m ≡ true) ms
+
+-- all names that a compile of the source looks up pass the test
+pub record LooksUp (test : List ℕ → Bool) (finds : List ℕ → Entry Text) (source : Option (List ℕ)) : Type 0 where
+  pub first : (text : List ℕ) (tree : Tree) → source ≡ Some text → reading text ≡ Ok tree → AreAll test (each imported tree.imports)
+  pub further : (m : List ℕ) (f : Face Text) → test m ≡ true → finds m ≡ Holds f → AreAll test f.imports
+
+-- an interface that is found for a name that passes the test speaks of the text
+abbrev pub IsSpokenOfAmong : (List ℕ → Bool) → (List ℕ → Entry Text) → Text → Type 0
+IsSpokenOfAmong test finds t = (m : List ℕ) × (f : Face Text) × (test m ≡ true) × (finds m ≡ Holds f) × (IsShownBy f t ⊎ IsKeptBy f t)
+
+-- THE LAW among the names that are looked up
+abbrev pub CompilesAlikeAmong : Type 0
+CompilesAlikeAmong =
+    (test : List ℕ → Bool) (finds : List ℕ → Entry Text) (files : List ℕ → Entry Print) (source : Option (List ℕ)) →
+    LooksUp test finds source →
+    ((m : List ℕ) → test m ≡ true → files m ≡ entry_printed (finds m)) → Apart (IsSpokenOfAmong test finds) →
     ComeToTheSame (compiled prints files source) (compiled texts finds source)
