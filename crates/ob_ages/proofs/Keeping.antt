@@ -8,7 +8,9 @@ use Rattle.ob_io.specs.Io.{put}
 use Rattle.ob_link.specs.Plan.{Entry, Missing, TooLong, Junk, Holds}
 use Rattle.ob_link.specs.Files.{Files, object_file_name}
 use Rattle.ob_walk.specs.Walk.{symbol_name}
+use Rattle.ob_demo.specs.Source.{module_name}
 use Rattle.ob_lines.specs.Lines.{is_identifier}
+use Rattle.ob_bytes.specs.Bytes.{source_name}
 use Rattle.ob_ages.specs.Builds.{Build, bytes_of, symbols_of}
 use Rattle.ob_ages.specs.Library.{Library, Kept, ObjectKept, SymbolKept, with_entry, Change, ObjectBecomes, SymbolBecomes, after, after_all}
 use Rattle.ob_ages.specs.Model.{written, written_all}
@@ -75,3 +77,16 @@ stays files l (SymbolBecomes name b) k = record {
 pub all_stay : (cs : List Change) (files : Files) (l : Library) → Kept files l → Kept (written_all files cs) (after_all l cs)
 all_stay [] files l k = k
 all_stay (c ∷ cs) files l k = all_stay cs (written files c) (after l c) (stays files l c k)
+
+-- a source keeps no library
+differ_source : (n : List ℕ) (i : ℕ) → (source_name i ≡ object_file_name n → ⊥) × (source_name i ≡ symbol_name n → ⊥)
+differ_source n i = (
+  λ e. let x : 100 ≡ 106 = sym (last_is (module_name i) 46 77 111 100) ∙ ap last_of e ∙ last_is n 46 79 98 106 in omega (arith, x),
+  λ e. let x : 100 ≡ 109 = sym (last_is (module_name i) 46 77 111 100) ∙ ap last_of e ∙ last_is n 46 83 121 109 in omega (arith, x),
+)
+
+pub source_stays : (files : Files) (l : Library) (i : ℕ) (text : List ℕ) → Kept files l → Kept (put files (source_name i) text) l
+source_stays files l i text k = record {
+  objects = λ n h. subst (λ x. ObjectKept n x (l.objects n)) (sym (put_there files (source_name i) text (object_file_name n) (differ_source n i).0)) (k.objects n h);
+  symbols = λ n h. subst (λ x. SymbolKept n x (l.symbols n)) (sym (put_there files (source_name i) text (symbol_name n) (differ_source n i).1)) (k.symbols n h);
+}
