@@ -64,8 +64,8 @@ module _ (S : (n : Nest) → Spelling (Nested n)) where
   item_named : (i : Import) (ts : Tokens) → AreNamed ts → spells_as S import_item i ts → IsNamedImport i
   item_named i ts all h =
       subst IsNamedImport h.1
-        (target_named h.0.0 h.0.1 h.2.1 (right h.2.0 h.2.1 ts h.2.2 all)
-          (ident_named h.0.0 h.2.0 (left h.2.0 h.2.1 ts h.2.2 all) h.2.3) h.2.4)
+      (target_named h.0.0 h.0.1 h.2.1 (right h.2.0 h.2.1 ts h.2.2 all)
+      (ident_named h.0.0 h.2.0 (left h.2.0 h.2.1 ts h.2.2 all) h.2.3) h.2.4)
 
   many_named : (is : List Import) (ts : Tokens) → AreNamed ts → spells_many (spells_as S (next_of s.Comma import_item)) is ts → AllByRecursion IsNamedImport is
   many_named [] ts all h = tt
@@ -76,9 +76,10 @@ module _ (S : (n : Nest) → Spelling (Nested n)) where
 
   separated_named : (is : List Import) (ts : Tokens) → AreNamed ts → spells_as S (separated s.Comma import_item) is ts → AllByRecursion IsNamedImport is
   separated_named is ts all h =
-      subst (AllByRecursion IsNamedImport) h.1
-        (item_named h.0.0 h.2.0 (left h.2.0 h.2.1 ts h.2.2 all) h.2.3,
-         many_named h.0.1 h.2.1 (right h.2.0 h.2.1 ts h.2.2 all) h.2.4)
+      subst (AllByRecursion IsNamedImport) h.1 (
+        item_named h.0.0 h.2.0 (left h.2.0 h.2.1 ts h.2.2 all) h.2.3,
+        many_named h.0.1 h.2.1 (right h.2.0 h.2.1 ts h.2.2 all) h.2.4,
+      )
 
   imports_named : (is : List Import) (ts : Tokens) → AreNamed ts → spells_as S imports is ts → AllByRecursion IsNamedImport is
   imports_named is ts all h =

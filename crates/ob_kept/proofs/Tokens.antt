@@ -89,8 +89,10 @@ symbol_named text e = go (is_word text) (nat_le (length text) 64) refl refl e
   where
     others : Option Symbol
     others = cond (is_decimal text || is_hex 72 text) (Some s.Int) (cond (is_hex 88 text) (Some s.Char) (cond (is_string text) (Some s.Str) (mark_of text)))
+
     none : is_name others ≡ false
     none = neither (is_decimal text || is_hex 72 text) _ _ refl (neither (is_hex 88 text) _ _ refl (neither (is_string text) _ _ refl (no_mark text)))
+
     go : (w l : Bool) → is_word text ≡ w → nat_le (length text) 64 ≡ l → is_name (cond w (cond l (Some (word_symbol text)) None) others) ≡ true → is_identifier text ≡ true
     go true true w l e = word_named text w l
     go true false w l e = absurd (false≢true e)
@@ -146,6 +148,7 @@ tokens_named (suc k) i = go (step i) (step_named i) (λ j. tokens_named k j)
     ends : (b : Bool) (ts : Tokens) → AllByRecursion IsNamed ts → AllByRecursion IsNamed (cond b [] ts)
     ends true ts h = tt
     ends false ts h = h
+
     go : (r : Step) → IsNamedStep r → ((j : Input) → AllByRecursion IsNamed (tokens_in k j)) → AllByRecursion IsNamed (listed r (λ j. tokens_in k j))
     go (Gives l j) h more = (h, ends (same l.symbol s.End) (tokens_in k j) (more j))
     go (Faults f) h more = tt
