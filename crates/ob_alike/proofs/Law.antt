@@ -1,15 +1,12 @@
 -- Compiles by prints and by texts are alike.
-use Rattle.std.proofs.Common.{◌≡◌, ℕ, zero, suc, ◌<◌, Bool, true, List, [], ◌∷◌, Option, Some, Result, Ok, Err, Contains, refl, sym, subst, arith, inl, inr}
+use Rattle.std.proofs.Common.{◌≡◌, ℕ, zero, suc, true, List, [], ◌∷◌, Result, Ok, Err, Contains, refl, sym, subst, arith, inl, inr}
 use Rattle.std.specs.Prelude.{map as each}
 use Rattle.std.specs.List.{AllByRecursion}
 use Rattle.ob_tree.specs.declared.print.Print.{Print}
-use Rattle.ob_env.specs.Faces.{Face, Wanted}
-use Rattle.ob_walk.specs.Walk.{Entry, Holds}
-use Rattle.ob_compile.specs.Compiling.{Refusal, Compiled, compiled, prints, texts, imported}
-use Rattle.ob_alike.specs.Printed.{Text, entry_printed, result_printed}
-use Rattle.ob_alike.specs.Alike.{Apart, IsSpokenOf, IsSpokenOfAmong, LooksUp, ComeToTheSame, CompilesAlike, CompilesAlikeAmong}
+use Rattle.ob_compile.specs.Compiling.{Refusal, Compiled, compiled, texts, imported}
+use Rattle.ob_alike.specs.Printed.{Text, result_printed}
+use Rattle.ob_alike.specs.Alike.{IsSpokenOfAmong, ComeToTheSame, CompilesAlike, CompilesAlikeAmong}
 use Rattle.ob_alike.proofs.Walking.{Known}
-use Rattle.ob_alike.proofs.Stale.{Speaks}
 use Rattle.ob_alike.proofs.Made.{bytes_same}
 use Rattle.ob_alike.proofs.Whole.{IsKnown, compiled_gives}
 

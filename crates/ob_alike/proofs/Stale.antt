@@ -1,5 +1,5 @@
 -- Where texts are apart, the first use that is not met is the same by prints.
-use Rattle.std.proofs.Common.{◌≡◌, ℕ, zero, suc, ◌+◌, ◌<◌, Bool, true, false, cond, List, [], ◌∷◌, length, Option, Some, None, Contains, refl, sym, ap, subst, ◌∙◌, arith}
+use Rattle.std.proofs.Common.{◌≡◌, ℕ, Bool, true, false, cond, List, [], ◌∷◌, Option, Some, None, refl, sym, ap, subst, ◌∙◌}
 use Rattle.std.specs.Prelude.{map as each, bytes_eq}
 use Rattle.std.specs.Option.{option_map}
 use Rattle.std.specs.List.{AllByRecursion}
@@ -7,13 +7,12 @@ use Rattle.std.specs.Cmp.Lexicographic.{bytes_decides}
 use Rattle.ob_format.specs.Format.{◌>>=◌}
 use Rattle.ob_tree.specs.declared.names.QName.{QName}
 use Rattle.ob_tree.specs.declared.print.Print.{Print}
-use Rattle.ob_types.specs.declared.desc.Desc.{Desc}
 use Rattle.ob_types.specs.declared.face.Aspect.{Aspect}
 use Rattle.ob_desc.specs.Grammar.{text_of}
 use Rattle.ob_fprint.specs.Print.{print_from}
 use Rattle.ob_layout.specs.Lists.{or_else}
 use Rattle.ob_env.specs.Faces.{Face, Wanted, object_named, face_named, text_in, print_in, printed}
-use Rattle.ob_env.specs.Stale.{prints_agree, Found, AsWanted, IsAbsent, IsChanged, as_wanted, compared, found_as, StaleUse, unmet, first_among, first_stale}
+use Rattle.ob_env.specs.Stale.{prints_agree, Found, AsWanted, IsAbsent, IsChanged, as_wanted, compared, found_as, unmet, first_among, first_stale}
 use Rattle.ob_alike.specs.Printed.{Text, wanted_printed, found_printed, stale_printed}
 use Rattle.ob_alike.specs.Alike.{Apart}
 use Rattle.ob_alike.proofs.Faces.{print_is}
@@ -68,7 +67,7 @@ first_is : {A B C D : Type 0} (g : A → C) (h : B → D) (f : C → Option D) (
 first_is g h f e [] all = refl
 first_is g h f e (x ∷ xs) all = ap (λ o. or_else o (first_among f (each g xs))) all.0 ∙ ap (λ o. or_else (option_map h (e x)) o) (first_is g h f e xs all.1) ∙ sym (else_is h (e x) (first_among e xs))
 
-every : {A : Type 0} (P Q : A → Type 0) → ((x : A) → P x → Q x) → (xs : List A) → AllByRecursion P xs → AllByRecursion Q xs
+pub every : {A : Type 0} (P Q : A → Type 0) → ((x : A) → P x → Q x) → (xs : List A) → AllByRecursion P xs → AllByRecursion Q xs
 every P Q more [] all = tt
 every P Q more (x ∷ xs) all = (more x all.0, every P Q more xs all.1)
 

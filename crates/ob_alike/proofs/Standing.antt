@@ -1,5 +1,5 @@
 -- What interfaces come to is the same by prints.
-use Rattle.std.proofs.Common.{◌≡◌, ℕ, List, [], ◌∷◌, Option, Some, None, refl, sym, ap, ◌∙◌}
+use Rattle.std.proofs.Common.{◌≡◌, ℕ, List, [], ◌∷◌, Option, Some, None, refl, ap, ◌∙◌}
 use Rattle.std.specs.Prelude.{map as each, bytes_eq}
 use Rattle.std.specs.Option.{option_map}
 use Rattle.std.specs.List.{AllByRecursion}
@@ -10,7 +10,7 @@ use Rattle.ob_layout.specs.Lists.{or_else}
 use Rattle.ob_env.specs.Faces.{Face, described, text_in, print_in, printed}
 use Rattle.ob_env.specs.Stale.{prints_agree, StaleUse, first_among, first_stale}
 use Rattle.ob_env.specs.Fit.{misfit, steps_of, first_unfit}
-use Rattle.ob_env.specs.Answer.{Standing, Stands, Stale, Unfit, if_fit, if_coherent, standing}
+use Rattle.ob_env.specs.Answer.{if_fit, if_coherent, standing}
 use Rattle.ob_alike.specs.Printed.{Text, stale_printed, standing_printed}
 use Rattle.ob_alike.specs.Alike.{Apart}
 use Rattle.ob_alike.proofs.Faces.{described_same, steps_same}

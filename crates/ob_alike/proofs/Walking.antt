@@ -1,11 +1,11 @@
 -- A walk over what keeps texts, and one over the same with prints for texts, come to the same.
-use Rattle.std.proofs.Common.{◌≡◌, ℕ, zero, suc, ◌+◌, Bool, true, false, List, [], ◌∷◌, ◌++◌, length, refl, sym, ap, subst, ◌∙◌}
+use Rattle.std.proofs.Common.{◌≡◌, ℕ, zero, suc, ◌+◌, Bool, true, false, List, [], ◌∷◌, ◌++◌, length, refl, sym, ap, subst}
 use Rattle.std.specs.Prelude.{map as each, bytes_eq, ◌||◌, codes, nat_le}
 use Rattle.std.specs.List.{list_any, AllByRecursion}
 use Rattle.std.proofs.lemmas.List.{map-append, length-map}
 use Rattle.ob_tree.specs.declared.print.Print.{Print}
 use Rattle.ob_env.specs.Faces.{Face, printed}
-use Rattle.ob_walk.specs.Walk.{Entry, Missing, Junk, Holds, Walked, Left, NoInterface, Damaged, Cycle, TooMany, go_on, is_among, is_passed_over, importer_of, through, entered, at_entry, at_module, entering, visit, walk}
+use Rattle.ob_walk.specs.Walk.{Entry, Missing, Junk, Holds, Walked, Left, NoInterface, Damaged, Cycle, TooMany, go_on, is_among, is_passed_over, through, entered, at_entry, at_module, entering, visit, walk}
 use Rattle.ob_alike.specs.Printed.{Text, entry_printed, walked_printed}
 
 -- what is known of the names that are looked up, and of the interfaces that are found for them

@@ -1,10 +1,10 @@
 -- The compile from the source to its answer, by prints and by texts.
-use Rattle.std.proofs.Common.{◌≡◌, ℕ, Bool, true, false, List, [], ◌∷◌, Option, Some, None, Result, Ok, Err, refl, sym, ap, ◌∙◌}
+use Rattle.std.proofs.Common.{◌≡◌, ℕ, Bool, true, false, List, [], ◌∷◌, Option, Some, None, Result, Ok, Err, refl, ap, ◌∙◌}
 use Rattle.std.specs.Prelude.{map as each, bytes_eq, nat_le, length}
 use Rattle.std.specs.List.{AllByRecursion}
 use Rattle.ob_tree.specs.declared.print.Print.{Print}
 use Rattle.ob_tree.specs.declared.decl.Module.{Module as Tree}
-use Rattle.ob_env.specs.Faces.{Face, text_in, print_in, printed}
+use Rattle.ob_env.specs.Faces.{Face, text_in, print_in}
 use Rattle.ob_env.specs.Stale.{prints_agree}
 use Rattle.ob_env.specs.Answer.{Standing, Stands, Stale, Unfit, standing}
 use Rattle.ob_walk.specs.Walk.{Entry, Walked, Left, NoInterface, Damaged, Cycle, TooMany, walk}
@@ -14,7 +14,7 @@ use Rattle.ob_compile.specs.Compiling.{Refusal, Compiled, compiled, prints, text
 use Rattle.ob_alike.specs.Printed.{Text, walked_printed, standing_printed, reached_printed, result_printed}
 use Rattle.ob_alike.specs.Alike.{Apart}
 use Rattle.ob_alike.proofs.Walking.{Known, AreKnown, Alike, walks}
-use Rattle.ob_alike.proofs.Stale.{Speaks}
+use Rattle.ob_alike.proofs.Stale.{Speaks, every}
 use Rattle.ob_alike.proofs.Standing.{standing_is}
 use Rattle.ob_alike.proofs.Made.{faces_are}
 
@@ -38,10 +38,6 @@ short_gives false r = refl
 -- an interface whose texts are spoken of, and whose imports are looked up
 abbrev pub IsKnown : (Q : List ℕ → Type 0) (P : Text → Type 0) → Face Text → Type 0
 IsKnown Q P f = Speaks P f × AllByRecursion Q f.imports
-
-every : {A : Type 0} (P Q : A → Type 0) → ((x : A) → P x → Q x) → (xs : List A) → AllByRecursion P xs → AllByRecursion Q xs
-every P Q more [] all = tt
-every P Q more (x ∷ xs) all = (more x all.0, every P Q more xs all.1)
 
 module _ (Q : List ℕ → Type 0) (P : Text → Type 0) (apart : Apart P) where
   after_gives : (v : Walked Text) → AreKnown (IsKnown Q P) v → after_walk (standing prints_agree print_in) (walked_printed v) ≡ reached_printed (after_walk (standing bytes_eq text_in) v)

@@ -1,8 +1,8 @@
 -- What keeps prints in place of what keeps texts: of each text its print, and all else as it is.
-use Rattle.std.specs.Prelude.{ℕ, List, map as each, Option, Some, None, Result, Ok, Err}
+use Rattle.std.specs.Prelude.{ℕ, List, map as each, Result, Ok, Err}
 use Rattle.ob_tree.specs.declared.print.Print.{Print}
 use Rattle.ob_fprint.specs.Print.{print_from}
-use Rattle.ob_env.specs.Faces.{Wanted, Face, printed}
+use Rattle.ob_env.specs.Faces.{Wanted, printed}
 use Rattle.ob_env.specs.Stale.{Found, AsWanted, IsAbsent, IsChanged, StaleUse}
 use Rattle.ob_env.specs.Answer.{Standing, Stands, Stale, Unfit}
 use Rattle.ob_walk.specs.Walk.{Entry, Missing, Junk, Holds, Walked, Left, NoInterface, Damaged, Cycle, TooMany}

@@ -1,6 +1,6 @@
 -- What is found in a kept symbol file is what the library has, with prints for texts.
-use Rattle.std.proofs.Common.{◌≡◌, ℕ, suc, ◌<◌, ◌≤◌, Bool, true, false, cond, List, [], ◌∷◌, length, Option, Some, None, refl, sym, ap, ◌∙◌, subst, arith}
-use Rattle.std.specs.Prelude.{◌&&◌, ◌||◌, nat_le, nat_lt, bytes_eq}
+use Rattle.std.proofs.Common.{◌≡◌, ℕ, suc, ◌≤◌, Bool, true, false, cond, List, [], ◌∷◌, length, Option, Some, None, refl, sym, ap, ◌∙◌, subst, arith}
+use Rattle.std.specs.Prelude.{◌&&◌, ◌||◌, nat_le, nat_lt}
 use Rattle.std.specs.Int.{is_in_range}
 use Rattle.std.specs.List.{list_all, AllByRecursion}
 use Rattle.std.specs.Char.{is_ascii_alphanumeric}
@@ -18,7 +18,7 @@ use Rattle.ob_link.specs.Files.{Files}
 use Rattle.ob_compile.specs.Compiling.{Compiled, texts, interface_by}
 use Rattle.ob_lines.specs.Lines.{is_letter_or_digit, is_identifier}
 use Rattle.ob_alike.specs.Printed.{Text, entry_printed}
-use Rattle.ob_ages.specs.Builds.{Build, IsValid, of, shows_of, name_of, symbols_of}
+use Rattle.ob_ages.specs.Builds.{Build, IsValid, shows_of, name_of, symbols_of}
 use Rattle.ob_ages.specs.Library.{Library, IsLibrary, IsEntry, Kept, SymbolKept}
 use Rattle.ob_ages.specs.Model.{face_entry, interface_in}
 use Rattle.ob_ages.specs.Laws.{IsWritten, BuildsAreWritten}
@@ -61,15 +61,15 @@ turned false false c e = or_false c e
     or_false true e = refl
     or_false false e = e
 
+both_true : (a b : Bool) → a ≡ true → b ≡ true → (a && b) ≡ true
+both_true true b e f = f
+both_true false b e f = e
+
 letters : (cs : List ℕ) → list_all is_ascii_alphanumeric cs ≡ true → list_all is_letter_or_digit cs ≡ true
 letters [] e = refl
 letters (c ∷ cs) e =
     let p = and_parts (is_ascii_alphanumeric c) (list_all is_ascii_alphanumeric cs) e in
     both_true (is_letter_or_digit c) (list_all is_letter_or_digit cs) (turned (is_in_range 48 57 c) (is_in_range 65 90 c) (is_in_range 97 122 c) p.0) (letters cs p.1)
-  where
-    both_true : (a b : Bool) → a ≡ true → b ≡ true → (a && b) ≡ true
-    both_true true b e f = f
-    both_true false b e f = e
 
 -- an identifier of a file is one of a line
 identifier : (t : List ℕ) → is_name t ≡ true → is_identifier t ≡ true
@@ -80,10 +80,6 @@ identifier (c ∷ cs) e =
     let n : suc (length cs) ≤ 64 = leb-true (suc (length cs)) 64 p.1 in
     let m : nat_lt (length cs) 64 ≡ true = grind (arith, n) in
     both_true _ _ q.0 (both_true _ _ (letters cs q.1) m)
-  where
-    both_true : (a b : Bool) → a ≡ true → b ≡ true → (a && b) ≡ true
-    both_true true b e f = f
-    both_true false b e f = e
 
 identifiers : (ts : List (List ℕ)) → AllByRecursion (λ t. is_name t ≡ true) ts → AreIdentifiers ts
 identifiers [] all = tt

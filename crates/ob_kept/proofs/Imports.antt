@@ -1,5 +1,5 @@
 -- The imports of a module that is read are named by identifiers.
-use Rattle.std.proofs.Common.{◌≡◌, ℕ, suc, Bool, true, List, [], ◌∷◌, ◌++◌, length, Option, Some, None, Result, Ok, Err, refl, sym, ap, subst}
+use Rattle.std.proofs.Common.{◌≡◌, ℕ, suc, true, List, [], ◌∷◌, ◌++◌, length, Option, Some, None, Result, Ok, Err, refl, sym, ap, subst}
 use Rattle.std.specs.Prelude.{map as each}
 use Rattle.std.specs.List.{AllByRecursion}
 use Rattle.ob_tree.specs.declared.symbol.Symbol.{Symbol}
@@ -11,11 +11,10 @@ use Rattle.ob_tree.specs.declared.decl.Module.{Module as Tree}
 use Rattle.ob_scan.specs.declared.fault.ScanFault.{ScanFault}
 use Rattle.ob_scan.specs.Scanning.{Input, start_of}
 use Rattle.ob_grammar.specs.Phrase.{Tokens, Nest, Tree as Nested, Spelling, spells_as, spells_maybe, spells_many}
-use Rattle.ob_grammar.specs.Expressions.{next_of, separated, optional, list_of, ident, ident_of}
+use Rattle.ob_grammar.specs.Expressions.{next_of, separated, list_of, ident}
 use Rattle.ob_grammar.specs.Declarations.{import_item, imports, «module»}
 use Rattle.ob_grammar.specs.Reading.{Read, Found, Fails, Wrong, Deep}
 use Rattle.ob_grammar.specs.Grammar.{reads, spells}
-use Rattle.ob_grammar.specs.Laws.{IsModule}
 use Rattle.ob_grammar.proofs.Verdicts.{verdict}
 use Rattle.ob_parse.specs.Parsed.{limit}
 use Rattle.ob_pexpr.specs.Left.{tokens_of}

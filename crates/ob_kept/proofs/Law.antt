@@ -1,5 +1,5 @@
 -- A compile over kept files is a compile over the library.
-use Rattle.std.proofs.Common.{◌≡◌, ℕ, List, Option, Result, Ok, Err, refl, ap, ◌∙◌}
+use Rattle.std.proofs.Common.{◌≡◌, Result, Ok, Err, refl, ap, ◌∙◌}
 use Rattle.ob_tree.specs.declared.print.Print.{Print}
 use Rattle.ob_env.specs.Stale.{Found, AsWanted, IsAbsent, IsChanged, StaleUse}
 use Rattle.ob_walk.specs.Walk.{Walked, Left, NoInterface, Damaged, Cycle, TooMany, symbol_entry}

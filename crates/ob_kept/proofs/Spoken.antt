@@ -1,30 +1,26 @@
 -- The texts of which a library's interfaces speak are those of its builds.
-use Rattle.std.proofs.Common.{◌≡◌, ℕ, Bool, true, false, cond, List, [], ◌∷◌, ◌++◌, Option, Some, None, Contains, refl, sym, ap, ◌∙◌, subst, inl, inr, ⊎_elim}
+use Rattle.std.proofs.Common.{◌≡◌, ℕ, Bool, true, false, cond, List, [], ◌∷◌, ◌++◌, Option, Some, None, refl, sym, ap, ◌∙◌, subst, inl, inr, ⊎_elim}
 use Rattle.std.specs.Prelude.{◌⊎◌, bytes_eq}
 use Rattle.std.specs.List.{flat_map}
 use Rattle.std.specs.Option.{option_map}
 use Rattle.ob_format.specs.Format.{◌>>=◌}
 use Rattle.ob_tree.specs.declared.names.QName.{QName}
 use Rattle.ob_types.specs.declared.face.Aspect.{Aspect}
-use Rattle.ob_types.specs.TypedSyntax.{Module}
 use Rattle.ob_types.specs.Maps.{listed}
 use Rattle.ob_desc.specs.Grammar.{text_of}
-use Rattle.ob_layout.specs.LaidOut.{viewed}
-use Rattle.ob_env.specs.Faces.{Face, Wanted, object_named, face_named, described, text_in}
-use Rattle.ob_env.specs.Fit.{count_of}
+use Rattle.ob_env.specs.Faces.{Face, Wanted, object_named, face_named, text_in}
 use Rattle.ob_uses.specs.declared.pair.Pair.{Pair}
-use Rattle.ob_uses.specs.Uses.{with_kept, pairs_of}
+use Rattle.ob_uses.specs.Uses.{with_kept}
 use Rattle.ob_walk.specs.Walk as walk
 use Rattle.ob_link.specs.Plan.{Entry, Missing, TooLong, Junk, Holds}
 use Rattle.ob_compile.specs.Compiling.{Compiled, texts, made}
 use Rattle.ob_lines.specs.Lines.{is_identifier}
 use Rattle.ob_alike.specs.Printed.{Text}
 use Rattle.ob_alike.specs.Alike.{IsShownBy, IsKeptBy, IsSpokenOfAmong}
-use Rattle.ob_ages.specs.Builds.{Build, IsValid, of, shows_of}
+use Rattle.ob_ages.specs.Builds.{Build, IsValid, shows_of}
 use Rattle.ob_ages.specs.Library.{Library, IsLibrary, IsEntry}
 use Rattle.ob_ages.specs.Model.{face_entry, interface_in}
 use Rattle.ob_ages.specs.Laws.{IsTextOf, IsTextOfBuild}
-use Rattle.ob_ages.specs.Headline.{IsIn}
 use Rattle.ob_ages.specs.Composing.{IsTextIn}
 use Rattle.ob_ages.proofs.Compiled.{Comes, comes}
 use Rattle.ob_ages.proofs.Members.{In, to_in, of_in}
@@ -55,9 +51,6 @@ either_in (y ∷ xs) ys x (inr i) = ⊎_elim (λ (a : In xs x). inl (inr a)) (λ
 kept_by_one : (has : QName → Aspect → Option Text) (p : Pair) (w : Wanted Text) → In (with_kept has p) w → has w.object w.aspect ≡ Some w.kept
 kept_by_one has p w i = go (has p.object p.aspect) refl i
   where
-    wanted : Text → Wanted Text
-    wanted k = record { object = p.object; aspect = p.aspect; kept = k }
-
     go : (o : Option Text) → has p.object p.aspect ≡ o → In (listed (option_map (λ (k : Text). let v : Wanted Text = record { object = p.object; aspect = p.aspect; kept = k } in v) o)) w → has w.object w.aspect ≡ Some w.kept
     go None e i = absurd i
     go (Some k) e (inl is) = subst (λ (v : Wanted Text). has v.object v.aspect ≡ Some v.kept) is e

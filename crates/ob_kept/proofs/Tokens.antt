@@ -1,5 +1,5 @@
 -- A token that is an identifier has the text of one.
-use Rattle.std.proofs.Common.{◌≡◌, ℕ, zero, suc, ◌<◌, ◌≤◌, Bool, true, false, cond, List, [], ◌∷◌, length, take, Option, Some, None, Result, Ok, Err, refl, sym, ap, ◌∙◌, subst, arith}
+use Rattle.std.proofs.Common.{◌≡◌, ℕ, zero, suc, ◌≤◌, Bool, true, false, cond, [], ◌∷◌, length, take, Option, Some, None, Result, Err, refl, sym, ap, ◌∙◌, arith}
 use Rattle.std.specs.Prelude.{◌&&◌, ◌||◌, ◌==◌, nat_le, nat_lt}
 use Rattle.std.specs.List.{list_all, AllByRecursion}
 use Rattle.std.proofs.lemmas.Bool.{false≢true, and_parts, leb-true}
@@ -10,9 +10,9 @@ use Rattle.ob_tree.specs.declared.pos.Pos.{Pos}
 use Rattle.ob_scan.specs.declared.fault.ScanFault.{ScanFault}
 use Rattle.ob_scan.specs.declared.fault.ScanFault.TheVariants as fault
 use Rattle.ob_scan.specs.Vocabulary.{Bytes, all_are, is_word, is_letter_or_digit, is_decimal, is_hex, is_string, mark_of, mark_of_one, mark_of_two, word_symbol, symbol_of}
-use Rattle.ob_scan.specs.Scanning.{Input, Gap, Behind, Unfinished, Lexeme, Step, Gives, Faults, or_shorter, longest, known, is_too_long, is_real, symbol_at, taken, token_in, after_gap, behind, step}
+use Rattle.ob_scan.specs.Scanning.{Input, Gap, Behind, Unfinished, Step, Gives, Faults, or_shorter, longest, known, is_too_long, is_real, taken, token_in, after_gap, behind, step}
 use Rattle.ob_grammar.specs.Phrase.{Tokens, same}
-use Rattle.ob_pexpr.specs.Left.{listed, tokens_in, token_of}
+use Rattle.ob_pexpr.specs.Left.{listed, tokens_in}
 use Rattle.ob_lines.specs.Lines.{is_identifier}
 
 -- whether a symbol is that of a name
