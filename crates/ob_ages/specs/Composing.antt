@@ -96,10 +96,14 @@ LinesAgree s P = Agree as_bytes (Alike s P) (bytes.answer s) (answer s)
 abbrev pub KeptStays : Type 0
 KeptStays = (files : Files) (l : Library) (c : Change) → Kept files l → Kept (written files c) (after l c)
 
--- Each line of a script agrees, where compiles, loads, checks and commands do.
+-- Checks are alike where builds are written as they are read.
+abbrev pub ChecksFollow : Type 0
+ChecksFollow = BuildsAreWritten → ChecksAlike
+
+-- Each line of a script agrees, where compiles, plans and commands do.
 abbrev pub LinesAgreeAll : Type 0
 LinesAgreeAll = (s : Settings) (l : Library) (old : Files) (script : List ℕ) →
-    CompilesAlike → PlansAlike → ChecksAlike → BuildsAreWritten → NewIsValid → Simulation → Apart (IsText s old l script) → LinesAgree s (IsText s old l script)
+    CompilesAlike → PlansAlike → BuildsAreWritten → NewIsValid → Simulation → Apart (IsText s old l script) → LinesAgree s (IsText s old l script)
 
 -- what the byte session's clause and the laws come to
 abbrev pub Composes : Type 0
