@@ -26,6 +26,8 @@ use Rattle.ob_ages.proofs.Named.{IsNamed, named}
 use Rattle.ob_ages.proofs.Core.{Core, Made, CompilesSo, compiles_so, apart_alone}
 use Rattle.ob_ages.proofs.Commanded.{Alright, commands_so}
 use Rattle.ob_ages.proofs.Demos.{demos_so}
+use Rattle.ob_ages.proofs.Checked.{checks_so}
+use Rattle.ob_ages.proofs.New.{new_is_valid}
 
 compiled_so : (s : Settings) (P : Text → Type 0) (w : bytes.World) (v : World) (name text : List ℕ) (r : Result (Compiled Print) (compile.Refusal Print)) (q : Result (Compiled Text) (compile.Refusal Text)) → Core s P w v → CompilesSo s P w v text r q → Alright s P (bytes.compile_answer w name r) (compile_answer v name text q)
 compiled_so s P w v name text (Ok c) (Ok d) h k = record { same = record { text = k.counts; opening = refl; refused = refl; changes = k.changes }; core = k.core }
@@ -88,9 +90,9 @@ unfolding changes_from
 now s v n l ls name b c = let a = answer s v n (line_of l) in inl (name, has_left a.changes (changes_from (answer s) a.world (n + 1) ls) (ObjectBecomes name b) c)
 
 pub agreed : LinesAgreeAll
-agreed s l0 old script compiles plans checks written valid simulation apart w v n l ls h =
+agreed s l0 old script compiles plans written simulation apart w v n l ls h =
     let P = IsText s old l0 script in
-    let a = by_line s P apart compiles plans checks written valid simulation w v n (line_of l) (named l)
+    let a = by_line s P apart compiles plans (checks_so written) written (new_is_valid written) simulation w v n (line_of l) (named l)
     (λ name b c t x. h.to_come b (now s v n l ls name b c) t x)
     (λ k j x b e le i m t y. h.to_come b (inr (k, j, l, x, has_head l ls, e, le, i, m)) t y)
     (record { files = h.files; library = h.library; kept = h.kept; loaded = h.loaded; together = h.together; stand = h.stand; texts = h.texts }) in (

@@ -34,7 +34,7 @@ objects_back : (m : List ℕ) (os : List (List ℕ × Desc)) → map (λ o. (o.n
 objects_back m [] = refl
 objects_back m (o ∷ os) = ap (λ r. o ∷ r) (objects_back m os)
 
-uses_back : (us : List (Wanted Print)) → map wanted_of (map use_of us) ≡ us
+pub uses_back : (us : List (Wanted Print)) → map wanted_of (map use_of us) ≡ us
 uses_back [] = refl
 uses_back (u ∷ us) = ap (λ r. u ∷ r) (uses_back us)
 

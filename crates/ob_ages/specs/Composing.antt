@@ -96,10 +96,22 @@ LinesAgree s P = Agree as_bytes (Alike s P) (bytes.answer s) (answer s)
 abbrev pub KeptStays : Type 0
 KeptStays = (files : Files) (l : Library) (c : Change) → Kept files l → Kept (written files c) (after l c)
 
--- Each line of a script agrees, where compiles, loads, checks and commands do.
+-- Checks are alike where builds are written as they are read.
+abbrev pub ChecksFollow : Type 0
+ChecksFollow = BuildsAreWritten → ChecksAlike
+
+-- What compiles against a library is a valid build, where builds are written as they are read.
+abbrev pub NewBuildsAreValid : Type 0
+NewBuildsAreValid = BuildsAreWritten → NewIsValid
+
+-- Sources that are loaded are a well formed program, taken afresh together, where each is what it was against other interfaces.
+abbrev pub AfreshFollows : Type 0
+AfreshFollows = Locality → Afresh
+
+-- Each line of a script agrees, where compiles, plans and commands do.
 abbrev pub LinesAgreeAll : Type 0
 LinesAgreeAll = (s : Settings) (l : Library) (old : Files) (script : List ℕ) →
-    CompilesAlike → PlansAlike → ChecksAlike → BuildsAreWritten → NewIsValid → Simulation → Apart (IsText s old l script) → LinesAgree s (IsText s old l script)
+    CompilesAlike → PlansAlike → BuildsAreWritten → Simulation → Apart (IsText s old l script) → LinesAgree s (IsText s old l script)
 
 -- what the byte session's clause and the laws come to
 abbrev pub Composes : Type 0
@@ -115,4 +127,11 @@ abbrev pub HeadlineFollows : Type 0
 HeadlineFollows = (s : Settings) (l : Library) (before now : List ℕ) (old new : Files) (script : List ℕ) (status : ℕ) →
     Simulation → Afresh → LinesAgree s (IsText s old l script) → Stands s old l script →
     (is_whole status ≡ false → 3 ≤ status) → (is_whole status ≡ false → status ≤ 6) →
+    Ends (session.bytes s old) before now old new script status → Headline s before now old new l script status
+
+-- THE HEADLINE, from the laws alone: of each session with accepted words, over files that a library keeps and texts that are apart.
+abbrev pub HeadlineHolds : Type 0
+HeadlineHolds = (s : Settings) (l : Library) (before now : List ℕ) (old new : Files) (script : List ℕ) (status : ℕ) →
+    Locality → Simulation → BuildsAreWritten → CompilesAlike → PlansAlike → Stands s old l script →
+    (status ≡ 2 → ⊥) → status ≤ 7 →
     Ends (session.bytes s old) before now old new script status → Headline s before now old new l script status
