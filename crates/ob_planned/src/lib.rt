@@ -1,0 +1,2 @@
+//! The plan of a load, over two kinds of modules.
+#![tactic(auto)]
