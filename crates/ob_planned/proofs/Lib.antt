@@ -1,2 +1,4 @@
 pub mod Asked
 pub mod Walked
+pub mod Turns
+pub mod Seen
