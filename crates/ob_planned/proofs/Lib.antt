@@ -2,3 +2,9 @@ pub mod Asked
 pub mod Walked
 pub mod Turns
 pub mod Seen
+pub mod FilesSeen
+pub mod Whole
+pub mod Orders
+pub mod Exports
+pub mod Commands
+pub mod Instance
