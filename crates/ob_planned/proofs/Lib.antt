@@ -7,4 +7,6 @@ pub mod Whole
 pub mod Orders
 pub mod Exports
 pub mod Commands
+pub mod Texts
+pub mod TextsOf
 pub mod Instance
