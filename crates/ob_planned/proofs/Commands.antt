@@ -31,10 +31,10 @@ use Rattle.ob_planned.specs.Compiled.{AreProceduresNamed}
 use Rattle.ob_planned.proofs.Orders.{all_in_order}
 use Rattle.ob_planned.proofs.Turns.{bytes_back}
 
-abbrev in_their_order : List Command → List Command
+abbrev pub in_their_order : List Command → List Command
 in_their_order cs = in_order (λ a b. by_name a.name b.name) cs
 
-abbrev AreOthers : List ℕ → List Command → Type 0
+abbrev pub AreOthers : List ℕ → List Command → Type 0
 AreOthers n cs = AllByRecursion (λ c. bytes_eq n c.name ≡ false) cs
 
 -- ---- a command is found in the order as before
@@ -63,11 +63,11 @@ put_found n x (y ∷ ys) h = go (by_name x.name y.name) refl (put_found n x ys h
     go Equal e r = absurd (false≢true (sym h.0 ∙ equal_names x.name y.name e))
     go Greater e r = ap (first_or (bytes_eq n y.name) y.procedure) r ∙ either_first n x.name y.name h.0 (bytes_eq n x.name) (bytes_eq n y.name) refl refl x.procedure y.procedure (command_number n ys)
 
-abbrev AreApart : List Command → Type 0
+abbrev pub AreApart : List Command → Type 0
 AreApart [] = Unit {0}
 AreApart (c ∷ cs) = AreOthers c.name cs × AreApart cs
 
-order_found : (n : List ℕ) (cs : List Command) → AreApart cs → command_number n (in_their_order cs) ≡ command_number n cs
+pub order_found : (n : List ℕ) (cs : List Command) → AreApart cs → command_number n (in_their_order cs) ≡ command_number n cs
 order_found n [] h = refl
 order_found n (c ∷ cs) h =
     put_found n c (in_their_order cs) (all_in_order (λ a b. by_name a.name b.name) (λ d. bytes_eq c.name d.name ≡ false) cs h.0)
@@ -106,10 +106,10 @@ from_start : (ps : List Procedure) → StandFrom ps 0 ps
 from_start [] = tt
 from_start (p ∷ ps) = (refl, one_further p ps 0 ps (from_start ps))
 
-abbrev Differ : List ℕ → List Procedure → Type 0
+abbrev pub Differ : List ℕ → List Procedure → Type 0
 Differ n ps = AllByRecursion (λ p. bytes_eq n p.name ≡ false) ps
 
-abbrev AreDistinct : List Procedure → Type 0
+abbrev pub AreDistinct : List Procedure → Type 0
 AreDistinct [] = Unit {0}
 AreDistinct (p ∷ ps) = Differ p.name ps × AreDistinct ps
 
@@ -117,7 +117,7 @@ mapped_differ : (n : List ℕ) (ps : List Procedure) → AllByRecursion (λ x. b
 mapped_differ n [] h = tt
 mapped_differ n (p ∷ ps) h = (h.0, mapped_differ n ps h.1)
 
-distinct_from : (ps : List Procedure) → IsDistinct bytes_eq (map (λ p. p.name) ps) → AreDistinct ps
+pub distinct_from : (ps : List Procedure) → IsDistinct bytes_eq (map (λ p. p.name) ps) → AreDistinct ps
 unfolding IsDistinct
 distinct_from [] h = tt
 distinct_from (p ∷ ps) h = (mapped_differ p.name ps h.0, distinct_from ps h.1)
@@ -135,7 +135,7 @@ module _ (types : QName → Option Desc) (m : Module) where
   apart_if true p k cs h a = (h, a)
   apart_if false p k cs h a = a
 
-  apart_among : (ps : List Procedure) (k : ℕ) → AreDistinct ps → AreApart (commands_among types m ps k)
+  pub apart_among : (ps : List Procedure) (k : ℕ) → AreDistinct ps → AreApart (commands_among types m ps k)
   apart_among [] k h = tt
   apart_among (p ∷ ps) k h = apart_if (is_full p.mark && is_free p.binding) p k (commands_among types m ps (suc k)) (none_among p.name ps (suc k) h.0) (apart_among ps (suc k) h.1)
 

@@ -9,4 +9,9 @@ pub mod Exports
 pub mod Commands
 pub mod Texts
 pub mod TextsOf
+pub mod Counting
+pub mod Globals
 pub mod Instance
+pub mod Telling
+pub mod Shown
+pub mod Links

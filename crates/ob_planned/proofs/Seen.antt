@@ -31,7 +31,7 @@ module _ {A K : Type 0} (asks : Asks A K) where
   met_by xs client u None is e = absurd cc
   met_by xs client u (Some f) is e = record { found = f; is = is; same = let_pass (asks.same u.kept f) (Changed client u.object u.aspect u.kept f) e }
 
-  met_all : (xs : List A) (client : List ℕ) (us : List (Wanted K)) → first_of (use_fails asks xs client) us ≡ None → AllByRecursion (IsMet asks xs) us
+  pub met_all : (xs : List A) (client : List ℕ) (us : List (Wanted K)) → first_of (use_fails asks xs client) us ≡ None → AllByRecursion (IsMet asks xs) us
   met_all xs client [] e = tt
   met_all xs client (u ∷ us) e =
       let p = no_first (use_fails asks xs client u) (first_of (use_fails asks xs client) us) e in
