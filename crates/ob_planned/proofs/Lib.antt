@@ -1,0 +1,17 @@
+pub mod Asked
+pub mod Walked
+pub mod Turns
+pub mod Seen
+pub mod FilesSeen
+pub mod Whole
+pub mod Orders
+pub mod Exports
+pub mod Commands
+pub mod Texts
+pub mod TextsOf
+pub mod Counting
+pub mod Globals
+pub mod Instance
+pub mod Telling
+pub mod Shown
+pub mod Links

@@ -1,0 +1,27 @@
+-- The laws of plans.
+use Rattle.std.specs.Prelude.{◌≡◌, ℕ, List, map, Result, Ok}
+use Rattle.std.specs.List.{AllByRecursion}
+use Rattle.ob_tree.specs.declared.print.Print.{Print}
+use Rattle.ob_obj.specs.declared.file.ObjFile.{ObjFile}
+use Rattle.ob_link.specs.Plan.{Entry, Asks, plan}
+use Rattle.ob_link.specs.Files as files
+use Rattle.ob_link.specs.Files.{Files, object_entry, file_plan}
+use Rattle.ob_planned.specs.Alike.{AreAskedAlike, AreEntriesAlike, Agrees}
+use Rattle.ob_planned.specs.Seen.{AreNamed, IsSeenTo}
+
+-- Of modules that are known and of those that stand for them, two plans say the same: the modules of the one stand for those of the
+-- other, and the refusals are named alike.
+abbrev pub PlansAgree : Type 1
+PlansAgree = (A B K L : Type 0) (asks : Asks A K) (others : Asks B L) (twin : A → B) (short : K → L) (IsKnown : A → Type 0) (IsAsked : List ℕ → Type 0) (entry : List ℕ → Entry A) (other : List ℕ → Entry B) →
+    AreAskedAlike asks others twin short IsKnown → AreEntriesAlike asks entry other twin IsKnown IsAsked →
+    (loaded : List A) → AllByRecursion IsKnown loaded → (name command : List ℕ) → IsAsked name →
+    Agrees twin short IsKnown (plan asks entry loaded name command) (plan others other (map twin loaded) name command)
+
+-- A plan that is not refused has seen to all that it is asked for.
+abbrev pub PlanSees : Type 1
+PlanSees = (A K : Type 0) (asks : Asks A K) (entry : List ℕ → Entry A) → AreNamed asks entry →
+    (loaded : List A) (name command : List ℕ) (new : List A) → plan asks entry loaded name command ≡ Ok new → IsSeenTo asks entry loaded name command new
+
+-- So has a load of object files.
+abbrev pub LoadSees : Type 0
+LoadSees = (folder : Files) (loaded : List ObjFile) (name command : List ℕ) (new : List ObjFile) → file_plan folder loaded name command ≡ Ok new → IsSeenTo files.asks (object_entry folder) loaded name command new

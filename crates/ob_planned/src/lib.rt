@@ -1,0 +1,13 @@
+//! The plan of a load, over two kinds of modules of which it is told alike, and what a plan has
+//! seen to. The laws that hold of any modules are `specs/Laws.antt`'s `PlansAgree` and `PlanSees`,
+//! proved in `proofs/Whole.antt`.
+#![tactic(auto)]
+
+ghost use Rattle.ob_planned.specs.Laws.{LoadSees};
+
+/// A law, with nothing to run: the object files that a load brings in stand in turn, each behind
+/// those that it imports, with what agrees with its uses and what its links name; there are few
+/// enough, with room for their words, and the command is among them.
+pub fn load_sees()
+    ensures { LoadSees }
+{}
