@@ -12,7 +12,7 @@ use Rattle.ob_compile.specs.Compiling.{Compiled, compiled, texts, prints, object
 use Rattle.ob_lines.specs.Lines.{is_identifier, done_lines}
 use Rattle.ob_words.specs.declared.asked.Settings.{Settings}
 use Rattle.ob_printing.specs.Texts.{compile_reason, load_refused}
-use Rattle.ob_bytes.specs.Folds.{changes_from}
+use Rattle.ob_bytes.specs.Folds.{text_from, changes_from}
 use Rattle.ob_bytes.specs.Bytes as bytes
 use Rattle.ob_bytes.specs.Session as session
 use Rattle.ob_bytes.specs.Session.{Ends, is_whole}
@@ -135,3 +135,8 @@ HeadlineHolds = (s : Settings) (l : Library) (before now : List ℕ) (old new : 
     Locality → Simulation → BuildsAreWritten → CompilesAlike → PlansAlike → Stands s old l script →
     (status ≡ 2 → ⊥) → status ≤ 7 →
     Ends (session.bytes s old) before now old new script status → Headline s before now old new l script status
+
+-- The texts of the first lines, and of no others, are those of the meaning.
+abbrev pub FrontsAgree : Type 0
+FrontsAgree = (s : Settings) (l : Library) (old : Files) (script : List ℕ) → Simulation → BuildsAreWritten → CompilesAlike → PlansAlike → Stands s old l script →
+    (past rest : List (List ℕ)) → done_lines script ≡ past ++ rest → text_from (bytes.answer s) (bytes.start s old) 1 past ≡ text_from (answer s) (start old l) 1 past
