@@ -20,7 +20,7 @@ seven n h e = grind (arith, h, e)
 
 pub holds : HeadlineHolds
 holds s l before now old new script status locality simulation written compiles plans h two most ends =
-    follows s l before now old new script status simulation (afresh_so locality) (agreed s l old script compiles plans written simulation h.apart) h (apart_from status two) (seven status most) ends
+    follows s l before now old new script status simulation (afresh_so written locality) (agreed s l old script compiles plans written simulation h.apart) h (apart_from status two) (seven status most) ends
 
 pub fronts_so : FrontsAgree
 fronts_so s l old script simulation written compiles plans h past rest split =

@@ -17,7 +17,7 @@ use Rattle.ob_bytes.specs.Bytes as bytes
 use Rattle.ob_bytes.specs.Session as session
 use Rattle.ob_bytes.specs.Session.{Ends, is_whole}
 use Rattle.ob_ages.specs.Builds.{Text, Build, file_of, bytes_of, symbols_of}
-use Rattle.ob_ages.specs.Library.{Library, IsLibrary, Kept, Change, ObjectBecomes, SymbolBecomes, after}
+use Rattle.ob_ages.specs.Library.{Library, IsLibrary, Kept, Change, ObjectBecomes, SymbolBecomes, after, empty}
 use Rattle.ob_ages.specs.Model.{World, start, answer, written, interface_in, build_plan, check_in}
 use Rattle.ob_ages.specs.Agreeing.{Agree}
 use Rattle.ob_ages.specs.Laws.{IsTextOfBuild, Apart, AreTogether, IsPlanned, StandFor, Afresh, Locality, Simulation, BuildsAreWritten, NewIsValid}
@@ -92,6 +92,10 @@ LinesAgree s P = Agree as_bytes (Alike s P) (bytes.answer s) (answer s)
 
 -- THE COMPOSITION
 
+-- the empty folder keeps the empty library
+abbrev pub EmptyIsKept : Type 0
+EmptyIsKept = IsLibrary empty × Kept bytes.no_files empty
+
 -- an entry that becomes a build is kept by its new file
 abbrev pub KeptStays : Type 0
 KeptStays = (files : Files) (l : Library) (c : Change) → Kept files l → Kept (written files c) (after l c)
@@ -106,7 +110,7 @@ NewBuildsAreValid = BuildsAreWritten → NewIsValid
 
 -- Sources that are loaded are a well formed program, taken afresh together, where each is what it was against other interfaces.
 abbrev pub AfreshFollows : Type 0
-AfreshFollows = Locality → Afresh
+AfreshFollows = BuildsAreWritten → Locality → Afresh
 
 -- Each line of a script agrees, where compiles, plans and commands do.
 abbrev pub LinesAgreeAll : Type 0
