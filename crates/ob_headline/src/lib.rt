@@ -9,9 +9,9 @@ ghost use Rattle.ob_headline.specs.Holds.{HeadlineHolds, LinesHold};
 /// together, are a well formed program with the interfaces of the builds. The second clause says of each front of the
 /// lines that its text is that of the meaning.
 ///
-/// It rests on laws of builds that are premises here: each is the same against all interfaces that have the texts of its
-/// uses (`Locality`), commands by the table are those of the meaning (`Simulation`), what is written of a build has a
-/// spelling (`BuildsAreWritten`), and the rules and the code say of a module what a load goes by (`ModulesAreSaid`).
+/// It rests on laws of builds that are premises here (`specs/Holds.antt`: `Promises`): each is the same against all
+/// interfaces that have the texts of its uses, commands by the table are those of the meaning, what is written of a
+/// build has a spelling, and the rules and the code say of a module what a load goes by.
 pub fn headline()
     ensures whole { HeadlineHolds }
     ensures lines { LinesHold }
