@@ -16,18 +16,39 @@ use Rattle.ob_link.specs.Plan.{Asks, is_there, named, kept_by, present, plan}
 use Rattle.ob_link.specs.Files as files
 use Rattle.ob_link.specs.Files.{Files, object_entry, file_plan}
 use Rattle.ob_link.specs.Plan.{Entry}
-use Rattle.ob_planned.specs.Alike.{AreEntriesAlike, Agrees}
+use Rattle.ob_planned.specs.Alike.{FindsAlike, AreAskedAlike, AreEntriesAlike, Agrees}
 use Rattle.ob_planned.specs.Seen.{is_among, IsAmong, IsMet}
 use Rattle.ob_planned.specs.Compiled.{Text, AreApart, text_shown, IsKnown, file_of, asks_by}
 use Rattle.ob_planned.proofs.Walked.{plans_agree}
 use Rattle.ob_planned.proofs.Instance.{compiled_alike}
 use mathlib.Core.Logic.{inl, inr}
 
+-- ---- fewer modules
+
+all_less : {A : Type 0} (P Q : A → Type 0) → ((x : A) → Q x → P x) → (xs : List A) → AllByRecursion Q xs → AllByRecursion P xs
+all_less P Q f [] h = tt
+all_less P Q f (x ∷ xs) h = (f x h.0, all_less P Q f xs h.1)
+
+-- what is told alike of modules is told alike of fewer
+pub alike_less : {A B K L : Type 0} (asks : Asks A K) (others : Asks B L) (twin : A → B) (short : K → L) (P Q : A → Type 0) → ((x : A) → Q x → P x) → AreAskedAlike asks others twin short P → AreAskedAlike asks others twin short Q
+alike_less asks others twin short P Q f alike = record {
+  name = λ x q. alike.name x (f x q);
+  imports = λ x q. alike.imports x (f x q);
+  uses = λ x q. alike.uses x (f x q);
+  keeps = λ x q. alike.keeps x (f x q);
+  same = λ x q. all_less (λ u. (y : _) → Q y → FindsAlike asks others short y u) (λ u. (y : _) → P y → FindsAlike asks others short y u) (λ u h y k. h y (f y k)) (asks.uses x) (alike.same x (f x q));
+  links = λ xs k x q met. alike.links xs (all_less P Q f xs k) x (f x q) met;
+  words = λ x q. alike.words x (f x q);
+  has_command = λ x q. alike.has_command x (f x q);
+}
+
 -- THE LOADS AGREE
-pub loads_agree : (P : Text → Type 0) → AreApart P → {A : Type 0} (of : A → Compiled Text) (IsAsked : List ℕ → Type 0) (entry : List ℕ → Entry A) (folder : Files) → AreEntriesAlike (asks_by of) entry (object_entry folder) (λ x. file_of (of x)) (λ x. IsKnown P (of x)) IsAsked → (loaded : List A) → AllByRecursion (λ x. IsKnown P (of x)) loaded → (name command : List ℕ) → IsAsked name → Agrees (λ x. file_of (of x)) print_from (λ x. IsKnown P (of x)) (plan (asks_by of) entry loaded name command) (file_plan folder (map (λ x. file_of (of x)) loaded) name command)
+pub loads_agree : (P : Text → Type 0) → AreApart P → {A : Type 0} (of : A → Compiled Text) (IsOne : A → Type 0) → ((x : A) → IsOne x → IsKnown P (of x)) → (IsAsked : List ℕ → Type 0) (entry : List ℕ → Entry A) (folder : Files) → AreEntriesAlike (asks_by of) entry (object_entry folder) (λ x. file_of (of x)) IsOne IsAsked → (loaded : List A) → AllByRecursion IsOne loaded → (name command : List ℕ) → IsAsked name → Agrees (λ x. file_of (of x)) print_from IsOne (plan (asks_by of) entry loaded name command) (file_plan folder (map (λ x. file_of (of x)) loaded) name command)
 unfolding file_plan
-loads_agree P apart of IsAsked entry folder entries loaded known name command asked =
-    plans_agree (asks_by of) files.asks (λ x. file_of (of x)) print_from (λ x. IsKnown P (of x)) (compiled_alike P apart of) loaded known entry (object_entry folder) IsAsked entries name command asked
+loads_agree P apart of IsOne known IsAsked entry folder entries loaded all name command asked =
+    plans_agree (asks_by of) files.asks (λ x. file_of (of x)) print_from IsOne
+    (alike_less (asks_by of) files.asks (λ x. file_of (of x)) print_from (λ x. IsKnown P (of x)) IsOne known (compiled_alike P apart of))
+    loaded all entry (object_entry folder) IsAsked entries name command asked
 
 -- ---- in the words of interfaces
 

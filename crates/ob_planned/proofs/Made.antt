@@ -1,18 +1,26 @@
 -- What a compile sees to.
 use Rattle.std.proofs.Common.{◌≡◌, ℕ, ◌≤◌, Bool, true, false, List, [], ◌∷◌, length, Option, Some, None, Result, Ok, Err, refl, sym, ap, subst, ◌∙◌}
-use Rattle.std.specs.Prelude.{cond, not, nat_le, map as each}
+use Rattle.std.specs.Prelude.{◌+◌, cond, not, nat_le, map as each}
+use Rattle.std.specs.Option.{option_map}
+use Rattle.std.specs.List.{AllByRecursion, flat_map}
 use Rattle.std.proofs.lemmas.Bool.{false≢true, leb-true}
+use Rattle.ob_tree.specs.declared.names.QName.{QName}
 use Rattle.ob_tree.specs.declared.which.Which.{Which}
 use Rattle.ob_tree.specs.declared.which.Which.TheVariants as which
 use Rattle.ob_tree.specs.declared.decl.Module.{Module as Tree}
+use Rattle.ob_types.specs.declared.face.Aspect.{Aspect}
 use Rattle.ob_types.specs.declared.typed.TypedModule.{TypedModule}
+use Rattle.ob_types.specs.Maps.{listed}
 use Rattle.ob_types.specs.TypedSyntax.{Module}
 use Rattle.ob_types.specs.TypedView.{module_view}
 use Rattle.ob_rules.specs.declared.broken.Broken.{Broken as BrokenRule}
 use Rattle.ob_rules.specs.Declarations.{first_break, checked}
 use Rattle.ob_layout.specs.LaidOut.{laid_out, viewed}
 use Rattle.ob_layout.specs.Room.{above, limits, first_of, first_limit, globals_words}
-use Rattle.ob_env.specs.Faces.{Face, described}
+use Rattle.ob_env.specs.Faces.{Face, Wanted, described, text_in}
+use Rattle.ob_env.specs.Fit.{count_of}
+use Rattle.ob_uses.specs.declared.pair.Pair.{Pair}
+use Rattle.ob_uses.specs.Uses.{with_kept, pairs_of}
 use Rattle.ob_env.specs.Answer.{Standing, Stands, Stale, Unfit}
 use Rattle.ob_env.specs.Shown.{shown}
 use Rattle.ob_walk.specs.Walk.{Entry}
@@ -20,6 +28,7 @@ use Rattle.ob_walk.specs.Answer.{Reached, Stopped, Whole, env_answer}
 use Rattle.ob_reading.specs.Reading.{NoModule, reading}
 use Rattle.ob_compile.specs.Compiling.{Keeping, texts, Refusal, Compiled, or_first, limit_of_operands, exceeds, within, made, of_checked, of_break, by_rules, and_limits, is_deep, unless_deep, of_faces, of_standing, of_reached, most_imports, of_few, imported, of_tree, of_reading, most_source, of_short, compiled}
 use Rattle.ob_planned.specs.Compiled.{Text, IsMade}
+use Rattle.ob_planned.proofs.Asked.{all_joined}
 
 abbrev Answer : Type 0
 Answer = Result (Compiled Text) (Refusal Text)
@@ -106,3 +115,21 @@ pub compiled_made : (entry : List ℕ → Entry Text) (source : Option (List ℕ
 unfolding compiled
 compiled_made entry None c e = absurd cc
 compiled_made entry (Some source) c e = short_made c (nat_le (length source) most_source) entry (reading source) e
+
+-- ---- the texts of uses
+
+abbrev kept_as : Pair → Text → Wanted Text
+kept_as p k = record { object = p.object; aspect = p.aspect; kept = k }
+
+kept_one : (has : QName → Aspect → Option Text) (p : Pair) (o : Option Text) → has p.object p.aspect ≡ o → AllByRecursion (λ w. has w.object w.aspect ≡ Some w.kept) (listed (option_map (kept_as p) o))
+kept_one has p None e = tt
+kept_one has p (Some k) e = (e, tt)
+
+all_kept : (has : QName → Aspect → Option Text) (ps : List Pair) → AllByRecursion (λ w. has w.object w.aspect ≡ Some w.kept) (flat_map (with_kept has) ps)
+all_kept has [] = tt
+all_kept has (p ∷ ps) = all_joined (λ w. has w.object w.aspect ≡ Some w.kept) (with_kept has p) (flat_map (with_kept has) ps) (kept_one has p (has p.object p.aspect) refl) (all_kept has ps)
+
+-- what uses keep are the texts of the interfaces that the module was compiled against
+pub uses_against : (c : Compiled Text) → IsMade c → AllByRecursion (λ w. text_in c.against w.object w.aspect ≡ Some w.kept) c.shows.uses
+uses_against c m = subst (λ (us : List (Wanted Text)). AllByRecursion (λ w. text_in c.against w.object w.aspect ≡ Some w.kept) us) (sym (ap (λ f. f.uses) m.shows))
+    (all_kept (text_in c.against) (pairs_of (viewed (described c.against) c.tree) (length c.tree.types + count_of c.against) c.tree))
