@@ -14,11 +14,10 @@ use Rattle.ob_link.specs.Plan.{Asks}
 use Rattle.ob_link.specs.Files as files
 use Rattle.ob_link.specs.Files.{agrees}
 use Rattle.ob_planned.specs.Alike.{wanted_as, FindsAlike, AreAskedAlike}
-use Rattle.ob_planned.specs.Compiled.{Text, AreApart, IsKnown, file_of, asks_by}
+use Rattle.ob_planned.specs.Compiled.{Text, AreApart, IsKnown, file_of, asks_by, AreLinked}
 use Rattle.ob_planned.proofs.Exports.{exports_shown}
 use Rattle.ob_planned.proofs.Commands.{command_found}
 use Rattle.ob_planned.proofs.Globals.{globals_are}
-use Rattle.ob_planned.proofs.Links.{links_named}
 
 -- ---- uses
 
@@ -53,15 +52,15 @@ module _ (P : Text → Type 0) (apart : AreApart P) where
     finds_alike [] h = tt
     finds_alike (u ∷ us) h = (λ y ky found e. apart_by u.kept found h.0 (ky.has u.object.object u.aspect found e) (agrees (print_from u.kept) (print_from found)) (bytes_eq u.kept found) refl refl, finds_alike us h.1)
 
-    -- WHAT A LOAD ASKS of compiled modules is told alike of their object files
-    pub compiled_alike : AreAskedAlike (asks_by of) files.asks twin print_from IsOne
-    compiled_alike = record {
-      name = λ x k. sym (ap (λ f. f.«module») k.made.shows);
-      imports = λ x k. sym (ap (λ f. f.imports) k.made.shows);
+    -- What a load asks of compiled modules is told alike of their object files, where their links are met.
+    pub compiled_alike : AreLinked of IsOne → AreAskedAlike (asks_by of) files.asks twin print_from IsOne
+    compiled_alike linked = record {
+      name = λ x k. sym (ap (λ f. f.«module») k.shows);
+      imports = λ x k. sym (ap (λ f. f.imports) k.shows);
       uses = λ x k. uses_kept (of x).shows.uses;
-      keeps = λ x k name aspect. exports_shown (of x).tree (of x).shows (ap (λ f. f.objects) k.made.shows) name aspect;
+      keeps = λ x k name aspect. exports_shown (of x).tree (of x).shows (ap (λ f. f.objects) k.shows) name aspect;
       same = λ x k. finds_alike (of x).shows.uses k.uses;
-      links = links_named P of;
-      words = λ x k. globals_are (viewed (described (of x).against) (of x).tree) (of x).tree (exports_of (interface_by texts (of x))) (interface_by texts (of x)).uses k.made.room;
-      has_command = λ x k name. command_found (viewed (described (of x).against) (of x).tree) (of x).tree name k.sound.procedures;
+      links = linked;
+      words = λ x k. globals_are (viewed (described (of x).against) (of x).tree) (of x).tree (exports_of (interface_by texts (of x))) (interface_by texts (of x)).uses k.room;
+      has_command = λ x k name. command_found (viewed (described (of x).against) (of x).tree) (of x).tree name k.procedures;
     }

@@ -11,9 +11,7 @@ pub mod Texts
 pub mod TextsOf
 pub mod Counting
 pub mod Globals
+pub mod Instance
 pub mod Telling
 pub mod Shown
 pub mod Links
-pub mod Instance
-pub mod Made
-pub mod Loads

@@ -21,7 +21,7 @@ use Rattle.ob_link.specs.Plan.{Asks, named, kept_by, present}
 use Rattle.ob_link.specs.Files.{has_variable, has_procedure, has_type, file_named, holds, unless, linked, unlinked_variable, unlinked_procedure, unlinked_type, unlinked}
 use Rattle.ob_planned.specs.Alike.{AreMet}
 use Rattle.ob_planned.specs.Seen.{IsMet}
-use Rattle.ob_planned.specs.Compiled.{Text, text_shown, IsKnown, file_of, asks_by, AreLinked, is_variable, is_procedure, is_record, IsUsedAs}
+use Rattle.ob_planned.specs.Compiled.{Text, text_shown, IsKnown, file_of, asks_by, AreLinked, is_variable, is_procedure, is_record, IsUsedAs, AreLinksUsed}
 use Rattle.ob_planned.proofs.Asked.{IfSome}
 use Rattle.ob_planned.proofs.Seen.{met_all}
 use Rattle.ob_planned.proofs.Exports.{eq_itself}
@@ -79,7 +79,7 @@ module _ (P : Text → Type 0) {A : Type 0} (of : A → Compiled Text) where
   file_as : (n : List ℕ) (xs : List A) → AllByRecursion IsOne xs → file_named n (map twin xs) ≡ option_map twin (named (asks_by of) n xs)
   file_as n [] k = refl
   file_as n (x ∷ xs) k =
-      ap (λ m. if bytes_eq n m then Some (twin x) else file_named n (map twin xs)) (sym (ap (λ f. f.«module») k.0.made.shows))
+      ap (λ m. if bytes_eq n m then Some (twin x) else file_named n (map twin xs)) (sym (ap (λ f. f.«module») k.0.shows))
       ∙ ap (λ o. if bytes_eq n (of x).shows.«module» then Some (twin x) else o) (file_as n xs k.1)
       ∙ file_chosen (bytes_eq n (of x).shows.«module») x (named (asks_by of) n xs)
 
@@ -117,17 +117,17 @@ module _ (P : Text → Type 0) {A : Type 0} (of : A → Compiled Text) where
         let here : QName = record { «module» = (of y.one).shows.«module»; object = q.object } in
         let k : kind s.desc ≡ true = sym (kind_seen s.desc) ∙ told q here (seen u.desc) (seen s.desc) (sym s.text) (kind_seen u.desc ∙ u.kind_is) in
         ap (holds (in_file q.object)) (file_as q.«module» xs ks ∙ ap (option_map twin) y.named_is)
-        ∙ there y.one y.known q.object s.desc (sym (ap (λ f. object_named f.objects q.object) y.known.made.shows) ∙ s.is) k
+        ∙ there y.one y.known q.object s.desc (sym (ap (λ f. object_named f.objects q.object) y.known.shows) ∙ s.is) k
 
-  pub links_named : AreLinked of IsOne
-  links_named xs ks x k met =
-      let l = k.sound.links in
+  pub links_named : ((x : A) → IsOne x → AreLinksUsed (of x)) → AreLinked of IsOne
+  links_named used xs ks x k met =
+      let l = used x k in
       let fs : List ObjFile = map twin xs in
       ap (λ o. or_first o (or_first (first_of (unlinked_procedure fs) (twin x).links.procedures) (first_of (unlinked_type fs) (twin x).links.types)))
       (first_none (unlinked_variable fs) (twin x).links.variables (all_from (λ l. IsUsedAs is_variable (of x) (linked l)) (λ l. unlinked_variable fs l ≡ None)
-      (λ l u. ap (unless (linked l)) (kind_there is_variable variables_told variable_seen (λ n f. has_variable n f.globals.variables) (λ y h n d e v. variable_there (viewed (described (of y).against) (of y).tree) (of y).tree h.sound.types n d e v) xs ks x met (linked l) u)) (twin x).links.variables l.variables))
+      (λ l u. ap (unless (linked l)) (kind_there is_variable variables_told variable_seen (λ n f. has_variable n f.globals.variables) (λ y h n d e v. variable_there (viewed (described (of y).against) (of y).tree) (of y).tree h.types n d e v) xs ks x met (linked l) u)) (twin x).links.variables l.variables))
       ∙ ap (λ o. or_first o (first_of (unlinked_type fs) (twin x).links.types))
       (first_none (unlinked_procedure fs) (twin x).links.procedures (all_from (λ l. IsUsedAs is_procedure (of x) (linked l)) (λ l. unlinked_procedure fs l ≡ None)
-      (λ l u. ap (unless (linked l)) (kind_there is_procedure procedures_told procedure_seen (λ n f. has_procedure n f.body.commands) (λ y h n d e v. procedure_there (viewed (described (of y).against) (of y).tree) (of y).tree h.sound.types h.sound.procedures n d e v) xs ks x met (linked l) u)) (twin x).links.procedures l.procedures))
+      (λ l u. ap (unless (linked l)) (kind_there is_procedure procedures_told procedure_seen (λ n f. has_procedure n f.body.commands) (λ y h n d e v. procedure_there (viewed (described (of y).against) (of y).tree) (of y).tree h.types h.procedures n d e v) xs ks x met (linked l) u)) (twin x).links.procedures l.procedures))
       ∙ first_none (unlinked_type fs) (twin x).links.types (all_from (λ q. IsUsedAs is_record (of x) q) (λ q. unlinked_type fs q ≡ None)
-      (λ q u. ap (unless q) (kind_there is_record records_told record_seen (λ n f. has_type n f.body.types) (λ y h n d e v. record_there (viewed (described (of y).against) (of y).tree) (of y).tree h.sound.types (type_links (viewed (described (of y).against) (of y).tree) (of y).tree) n d e v) xs ks x met q u)) (twin x).links.types l.types)
+      (λ q u. ap (unless q) (kind_there is_record records_told record_seen (λ n f. has_type n f.body.types) (λ y h n d e v. record_there (viewed (described (of y).against) (of y).tree) (of y).tree h.types (type_links (viewed (described (of y).against) (of y).tree) (of y).tree) n d e v) xs ks x met q u)) (twin x).links.types l.types)

@@ -42,8 +42,37 @@ pub record AreProceduresNamed (ps : List Procedure) : Type 0 where
   pub identifiers : AllByRecursion (λ p. (is_full p.mark && is_free p.binding) ≡ true → is_identifier p.name ≡ true) ps
   pub marks : AllByRecursion (λ p. is_full p.mark ≡ not (is_hidden p.mark)) ps
 
+-- What is known of a module that was compiled: it shows what its tree says, its globals have room, its procedures are named and its types described as the
+-- rules want, and the texts that it has and uses are among those.
+pub record IsKnown (P : Text → Type 0) (c : Compiled Text) : Type 0 where
+  pub shows : c.shows ≡ face_of_laid (text_in c.against) c.against c.tree
+  pub room : globals_words (viewed (described c.against) c.tree) c.tree ≤ most_globals
+  pub procedures : AreProceduresNamed c.tree.procedures
+  pub types : AllByRecursion (λ t. is_type t.desc ≡ true) c.tree.types
+  pub has : (name : List ℕ) (aspect : Aspect) (t : Text) → text_shown c.shows name aspect ≡ Some t → P t
+  pub uses : AllByRecursion (λ u. P u.kept) c.shows.uses
+
 abbrev pub file_of : Compiled Text → ObjFile
 file_of c = object_by texts c
+
+-- WHAT A LOAD ASKS, of what holds a compiled module: its uses keep texts, its names are met by declarations, and its words are those
+-- of its layout
+module _ {A : Type 0} (of : A → Compiled Text) where
+  abbrev pub asks_by : Asks A Text
+  asks_by = record {
+    name = λ x. (of x).shows.«module»;
+    imports = λ x. (of x).shows.imports;
+    uses = λ x. (of x).shows.uses;
+    same = bytes_eq;
+    keeps = λ x name aspect. text_shown (of x).shows name aspect;
+    unlinked = λ xs x. None;
+    words = λ x. globals_words (viewed (described (of x).against) (of x).tree) (of x).tree;
+    has_command = λ x name. is_there (command_named (of x).tree name);
+  }
+
+  -- The links of object files name something wherever the uses of their modules are met.
+  abbrev pub AreLinked : (A → Type 0) → Type 0
+  AreLinked IsOne = (xs : List A) → AllByRecursion IsOne xs → (x : A) → IsOne x → AreMet asks_by xs x → files.unlinked (map (λ y. file_of (of y)) xs) (file_of (of x)) ≡ None
 
 -- LINKS
 
@@ -71,43 +100,3 @@ pub record AreLinksUsed (c : Compiled Text) : Type 0 where
   pub variables : AllByRecursion (λ l. IsUsedAs is_variable c (linked l)) (file_of c).links.variables
   pub procedures : AllByRecursion (λ l. IsUsedAs is_procedure c (linked l)) (file_of c).links.procedures
   pub types : AllByRecursion (λ q. IsUsedAs is_record c q) (file_of c).links.types
-
--- WHAT IS KNOWN
-
--- What a compile sees to: the module shows what its tree says, and there is room for its globals.
-pub record IsMade (c : Compiled Text) : Type 0 where
-  pub shows : c.shows ≡ face_of_laid (text_in c.against) c.against c.tree
-  pub room : globals_words (viewed (described c.against) c.tree) c.tree ≤ most_globals
-
--- What the rules see to: the procedures are named apart, the types are described as such, and what the links of the code name is
--- used.
-pub record IsSound (c : Compiled Text) : Type 0 where
-  pub procedures : AreProceduresNamed c.tree.procedures
-  pub types : AllByRecursion (λ t. is_type t.desc ≡ true) c.tree.types
-  pub links : AreLinksUsed c
-
--- What is known of a module that was compiled, the texts that it has and uses being among those.
-pub record IsKnown (P : Text → Type 0) (c : Compiled Text) : Type 0 where
-  pub made : IsMade c
-  pub sound : IsSound c
-  pub has : (name : List ℕ) (aspect : Aspect) (t : Text) → text_shown c.shows name aspect ≡ Some t → P t
-  pub uses : AllByRecursion (λ u. P u.kept) c.shows.uses
-
--- WHAT A LOAD ASKS, of what holds a compiled module: its uses keep texts, its names are met by declarations, and its words are those
--- of its layout
-module _ {A : Type 0} (of : A → Compiled Text) where
-  abbrev pub asks_by : Asks A Text
-  asks_by = record {
-    name = λ x. (of x).shows.«module»;
-    imports = λ x. (of x).shows.imports;
-    uses = λ x. (of x).shows.uses;
-    same = bytes_eq;
-    keeps = λ x name aspect. text_shown (of x).shows name aspect;
-    unlinked = λ xs x. None;
-    words = λ x. globals_words (viewed (described (of x).against) (of x).tree) (of x).tree;
-    has_command = λ x name. is_there (command_named (of x).tree name);
-  }
-
-  -- The links of object files name something wherever the uses of their modules are met.
-  abbrev pub AreLinked : (A → Type 0) → Type 0
-  AreLinked IsOne = (xs : List A) → AllByRecursion IsOne xs → (x : A) → IsOne x → AreMet asks_by xs x → files.unlinked (map (λ y. file_of (of y)) xs) (file_of (of x)) ≡ None
