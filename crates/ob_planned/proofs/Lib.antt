@@ -16,3 +16,4 @@ pub mod Telling
 pub mod Shown
 pub mod Links
 pub mod Checked
+pub mod Numbered

@@ -3,7 +3,7 @@
 //! proved in `proofs/Whole.antt`.
 #![tactic(auto)]
 
-ghost use Rattle.ob_planned.specs.Laws.{CompiledAreMarked, LoadSees, WordsAgree};
+ghost use Rattle.ob_planned.specs.Laws.{CommandsAreNumbered, CompiledAreMarked, LoadSees, WordsAgree};
 
 /// A law, with nothing to run: the object files that a load brings in stand in turn, each behind
 /// those that it imports, with what agrees with its uses and what its links name; there are few
@@ -23,4 +23,10 @@ pub fn words_agree()
 /// procedure is exported in full or hidden.
 pub fn compiled_are_marked()
     ensures { CompiledAreMarked }
+{}
+
+/// A law, with nothing to run: where the procedures of a module are named apart, its command of a
+/// name has in the object file the number of its procedure.
+pub fn commands_are_numbered()
+    ensures { CommandsAreNumbered }
 {}
