@@ -39,7 +39,7 @@ AreOthers n cs = AllByRecursion (λ c. bytes_eq n c.name ≡ false) cs
 
 -- ---- a command is found in the order as before
 
-abbrev first_or : Bool → ℕ → Option ℕ → Option ℕ
+abbrev pub first_or : Bool → ℕ → Option ℕ → Option ℕ
 first_or b k o = if b then Some k else o
 
 no_two : (n a b : List ℕ) → bytes_eq a b ≡ false → bytes_eq n a ≡ true → bytes_eq n b ≡ true → ⊥
@@ -75,10 +75,10 @@ order_found n (c ∷ cs) h =
 
 -- ---- rows of the table of procedures
 
-abbrev plain_procedure : Procedure → Bool
+abbrev pub plain_procedure : Procedure → Bool
 plain_procedure p = nat_eq (length p.parameters) 0 && not (has_result p.result)
 
-abbrev plain_at : Option Procedure → Bool
+abbrev pub plain_at : Option Procedure → Bool
 plain_at None = false
 plain_at (Some p) = plain_procedure p
 
@@ -86,7 +86,7 @@ module _ (types : QName → Option Desc) (m : Module) where
   row_plain : (p : Procedure) (pc : ℕ) → is_plain (Some (row_of types m p pc)) ≡ plain_procedure p
   row_plain p pc = ap (λ n. nat_eq n 0 && not (has_result p.result)) (length-map p.parameters _)
 
-  rows_plain : (ps : List Procedure) (pc k : ℕ) → is_plain (slice_get (rows_of types m ps pc) k) ≡ plain_at (slice_get ps k)
+  pub rows_plain : (ps : List Procedure) (pc k : ℕ) → is_plain (slice_get (rows_of types m ps pc) k) ≡ plain_at (slice_get ps k)
   rows_plain [] pc k = refl
   rows_plain (p ∷ ps) pc zero = row_plain p pc
   rows_plain (p ∷ ps) pc (suc k) = rows_plain ps (end_procedure types m p pc) k
@@ -94,15 +94,15 @@ module _ (types : QName → Option Desc) (m : Module) where
 -- ---- the procedures from an index on
 
 -- the procedures stand from this index on
-abbrev StandFrom : List Procedure → ℕ → List Procedure → Type 0
+abbrev pub StandFrom : List Procedure → ℕ → List Procedure → Type 0
 StandFrom all k [] = Unit {0}
 StandFrom all k (p ∷ ps) = (slice_get all k ≡ Some p) × StandFrom all (suc k) ps
 
-one_further : (p : Procedure) (all : List Procedure) (k : ℕ) (ps : List Procedure) → StandFrom all k ps → StandFrom (p ∷ all) (suc k) ps
+pub one_further : (p : Procedure) (all : List Procedure) (k : ℕ) (ps : List Procedure) → StandFrom all k ps → StandFrom (p ∷ all) (suc k) ps
 one_further p all k [] h = tt
 one_further p all k (q ∷ ps) h = (h.0, one_further p all (suc k) ps h.1)
 
-from_start : (ps : List Procedure) → StandFrom ps 0 ps
+pub from_start : (ps : List Procedure) → StandFrom ps 0 ps
 from_start [] = tt
 from_start (p ∷ ps) = (refl, one_further p ps 0 ps (from_start ps))
 
@@ -145,7 +145,7 @@ module _ (types : QName → Option Desc) (m : Module) where
 
   -- ---- whether a procedure is a command
 
-  abbrev numbered_by : List Row → Option ℕ → Option ℕ
+  abbrev pub numbered_by : List Row → Option ℕ → Option ℕ
   numbered_by rows None = None
   numbered_by rows (Some k) = if is_plain (slice_get rows k) then Some k else None
 
@@ -172,10 +172,10 @@ module _ (types : QName → Option Desc) (m : Module) where
   plain_is : (p : Procedure) → plain_procedure p ≡ (is_none_of p.parameters && is_none p.result)
   plain_is p = ap (λ b. b && not (has_result p.result)) (no_parameter p.parameters) ∙ ap (λ b. is_none_of p.parameters && b) (no_result p.result)
 
-  abbrev told : Bool → Bool → Bool → Bool → Bool
+  abbrev pub told : Bool → Bool → Bool → Bool → Bool
   told full identifier free plain = full && (identifier && (free && plain))
 
-  command_told : (p : Procedure) → is_full p.mark ≡ not (is_hidden p.mark) → is_command p ≡ told (is_full p.mark) (is_identifier p.name) (is_free p.binding) (plain_procedure p)
+  pub command_told : (p : Procedure) → is_full p.mark ≡ not (is_hidden p.mark) → is_command p ≡ told (is_full p.mark) (is_identifier p.name) (is_free p.binding) (plain_procedure p)
   command_told p e =
       ap (λ b. told b (is_identifier p.name) (is_none p.binding) (is_none_of p.parameters && is_none p.result)) (sym e)
       ∙ ap (λ b. told (is_full p.mark) (is_identifier p.name) b (is_none_of p.parameters && is_none p.result)) (sym (free p.binding))

@@ -15,3 +15,5 @@ pub mod Instance
 pub mod Telling
 pub mod Shown
 pub mod Links
+pub mod Checked
+pub mod Numbered
