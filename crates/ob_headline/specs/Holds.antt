@@ -11,7 +11,7 @@ use Rattle.ob_ages.specs.Library.{Library}
 use Rattle.ob_ages.specs.Model.{start, answer}
 use Rattle.ob_ages.specs.Laws.{Locality, Simulation, BuildsAreWritten}
 use Rattle.ob_ages.specs.Headline.{Headline, Stands}
-use Rattle.ob_loads.specs.Loads.{ModulesAreSaid}
+use Rattle.ob_loads.specs.Loads.{BuildsAreSaid}
 
 -- WHAT IS TAKEN FOR GRANTED: laws of builds, that speak of no session and no folder
 pub record Promises : Type 0 where
@@ -22,7 +22,7 @@ pub record Promises : Type 0 where
   -- what is written of a build has a spelling
   pub written : BuildsAreWritten
   -- the procedures of a module that compiles are named apart, and its links name what it uses
-  pub said : ModulesAreSaid
+  pub said : BuildsAreSaid
 
 -- with accepted words the status is 0, 1 or 3 to 7
 abbrev pub HeadlineHolds : Type 0
