@@ -99,7 +99,7 @@ composes s l before now old new script status law afresh first small neither end
 
 -- AT ENTRY
 
-starts_alike : (s : Settings) (l : Library) (old : Files) (script : List ℕ) → Simulation → Stands s old l script → Alike s (IsText s old l script) (bytes.start s old) (start old l) 1 (done_lines script)
+pub starts_alike : (s : Settings) (l : Library) (old : Files) (script : List ℕ) → Simulation → Stands s old l script → Alike s (IsText s old l script) (bytes.start s old) (start old l) 1 (done_lines script)
 starts_alike s l old script simulation h = record {
   files = refl;
   library = h.library;

@@ -17,7 +17,7 @@ use Rattle.ob_load.specs.Command.{Ran, ran}
 use Rattle.ob_reading.specs.Reading.{NoModule, reading}
 use Rattle.ob_compile.specs.Compiling.{Compiled, Refusal, texts, compiled, by_rules, object_by, interface_by}
 use Rattle.ob_words.specs.declared.asked.Settings.{Settings}
-use Rattle.ob_ages.specs.Builds.{Text, Build, IsValid, shows_of, tree_of, name_of, file_of, asks}
+use Rattle.ob_ages.specs.Builds.{Text, Build, IsSpelled, IsValid, shows_of, tree_of, name_of, file_of, asks}
 use Rattle.ob_ages.specs.Library.{Library, IsLibrary}
 use Rattle.ob_ages.specs.Model.{outcome_of, joined, ended, interface_in, new_build}
 
@@ -46,11 +46,18 @@ pub record IsSame (c d : Compiled Text) : Type 0 where
   pub shows : d.shows ≡ c.shows
   pub object : object_by texts d ≡ object_by texts c
 
+-- interfaces around a module of this name: each can stand in a symbol file, none is of that module, and each of their uses has its
+-- text among them
+pub record AreAround (m : List ℕ) (faces : List (Face Text)) : Type 0 where
+  pub spelled : AllByRecursion IsSpelled faces
+  pub other : Contains (map (λ f. f.«module») faces) m → ⊥
+  pub met : AllByRecursion (λ f. AreAsWanted faces f.uses) faces
+
 -- A valid build whose uses have the same texts in other interfaces keeps the rules against those too, with the same checked
 -- module, interface, uses and code. (Not so the limit depth: a type far below may be nested deeper there.)
 abbrev pub Locality : Type 0
 Locality = (b : Build) (c : Compiled Text) (m : Tree) → IsValid b c → reading b.source ≡ Ok m →
-    (faces : List (Face Text)) → AreAsWanted faces c.shows.uses →
+    (faces : List (Face Text)) → AreAround c.shows.«module» faces → AreAsWanted faces c.shows.uses →
     (d : Compiled Text) × (by_rules texts faces m ≡ Ok d) × IsSame c d
 
 -- AFRESH
