@@ -21,7 +21,7 @@ pub record Promises : Type 0 where
   pub simulation : Simulation
   -- what is written of a build has a spelling
   pub written : BuildsAreWritten
-  -- the rules and the code say of a module what a load goes by
+  -- the procedures of a module that compiles are named apart, and its links name what it uses
   pub said : ModulesAreSaid
 
 -- with accepted words the status is 0, 1 or 3 to 7

@@ -18,6 +18,8 @@ use Rattle.ob_compile.specs.Compiling.{Compiled, Refusal, texts, or_first, limit
 use Rattle.ob_planned.specs.Alike.{FindsAlike, AreMet, AreAskedAlike}
 use Rattle.ob_types.specs.Maps.{is_type}
 use Rattle.ob_planned.specs.Compiled.{AreApart, IsKnown, AreLinksUsed, AreProceduresNamed, text_shown}
+use Rattle.ob_planned.specs.Laws.{IsMarked}
+use Rattle.ob_planned.proofs.Checked.{compiled_marked}
 use Rattle.ob_planned.proofs.Instance.{compiled_alike}
 use Rattle.ob_planned.proofs.Links.{links_named}
 use Rattle.ob_ages.specs.Builds.{Text, Build, IsValid, compiled_of, or_none, of, shows_of, name_of, file_of, asks}
@@ -74,11 +76,12 @@ known said l loaded b c v i =
     let o : of b ≡ c = of_is b c v in
     let h : Comes texts c = comes texts _ (Some b.source) c v.is in
     let s : IsSaid c = said _ b.source c v.is in
+    let m : IsMarked c = compiled_marked _ (Some b.source) c v.is in
     record {
       shows = subst (λ (x : Compiled Text). x.shows ≡ face_of_laid (text_in x.against) x.against x.tree) (sym (o ∙ h.is)) refl;
       room = subst (λ (x : Compiled Text). globals_words (viewed (described x.against) x.tree) x.tree ≤ most_globals) (sym o) (has_room c h.limits);
-      procedures = subst (λ (x : Compiled Text). AreProceduresNamed x.tree.procedures) (sym o) s.procedures;
-      types = subst (λ (x : Compiled Text). AllByRecursion (λ t. is_type t.desc ≡ true) x.tree.types) (sym o) s.types;
+      procedures = subst (λ (x : Compiled Text). AreProceduresNamed x.tree.procedures) (sym o) (record { names = s.names; identifiers = s.identifiers; marks = m.marks });
+      types = subst (λ (x : Compiled Text). AllByRecursion (λ t. is_type t.desc ≡ true) x.tree.types) (sym o) m.types;
       has = λ name aspect t e. (b, i, inl (record { «module» = name_of b; object = name }, aspect, e));
       uses = subst (λ (x : Compiled Text). AllByRecursion (λ u. IsTextIn l loaded u.kept) x.shows.uses) (sym o) (all_texts l loaded b c v i c.shows.uses (uses_kept b c v));
     }

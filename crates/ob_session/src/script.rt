@@ -198,12 +198,13 @@ fn do_all<F: Folder, I: Source, O: Sink>(
 /// - 7 exactly where a line has more than 1,024 bytes or the script more than 1,048,576, and none
 ///   of 2 to 6 came before: the lines before that line are done, and in it nothing is.
 ///
-/// Beside what it does by the bytes of files, `headline` says what that means: over files that any earlier runs have
-/// left, so that some library of builds keeps them, the bytes written are those that the Report's meaning gives the
-/// loaded modules' sources, taken afresh together. It takes for granted, as premises in one record (`Promises`), that a
-/// build is the same against all interfaces that have the texts of its uses, that commands by the machine's table are
-/// those of the meaning, that what is written of a build has a spelling, and that the rules and the code say of a
-/// module what a load goes by.
+/// Beside what it does by the bytes of files, `headline` says what that means: over files that any
+/// earlier runs have left, so that some library of builds keeps them, the bytes written are those
+/// that the Report's meaning gives the loaded modules' sources, taken afresh together. It takes for
+/// granted, as premises in one record (`Promises`), that a build is the same against all interfaces
+/// that have the texts of its uses, that commands by the machine's table are those of the meaning,
+/// that what is written of a build has a spelling, and that the procedures of a module that
+/// compiles are named apart and its links name what it uses.
 pub fn session<F: Folder, I: Source, O: Sink>(
     alloc: Global,
     words: &[String],
@@ -222,10 +223,11 @@ pub fn session<F: Folder, I: Source, O: Sink>(
     ensures refused { result ≡ 2 → settings_of (map (λ w. w.bytes.items) words.now) ≡ None }
     ensures untouched { settings_of (map (λ w. w.bytes.items) words.now) ≡ None → (script.new ≡ script.old) × (out.new ≡ out.old) × (folder.new ≡ folder.old) }
     ensures read { I.tells script.old ≡ true → result < 2 → I.left script.new ≡ [] }
-    // Where the files keep a library, and no two of the texts of its builds, and of those that the lines make, have one
-    // print unless they are the same: what is written, answered and left is what the meaning of the builds' sources
-    // says, whole or cut short, and the loaded sources, taken afresh together, are a well formed program at each line.
-    // Laws of builds are taken for granted here.
+    // Where the files keep a library, and no two of the texts of its builds, and of those that the
+    // lines make, have one print unless they are the same: what is written, answered and left is
+    // what the meaning of the builds' sources says, whole or cut short, and the loaded sources,
+    // taken afresh together, are a well formed program at each line. Laws of builds are taken for
+    // granted here.
     ensures headline { (s : TheSettings) → settings_of (map (λ w. w.bytes.items) words.now) ≡ Some s → I.tells script.old ≡ true → F.tells folder.old ≡ true → O.tells out.old ≡ true → (l : Library) → Promises → Stands s (F.files folder.old) l (I.left script.old) → Headline s (O.taken out.old) (O.taken out.new) (F.files folder.old) (F.files folder.new) l (I.left script.old) result }
 {
     do_all(alloc, words, folder, script, out)
