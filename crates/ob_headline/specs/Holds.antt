@@ -9,7 +9,7 @@ use Rattle.ob_bytes.specs.Session as session
 use Rattle.ob_bytes.specs.Session.{Ends}
 use Rattle.ob_ages.specs.Library.{Library}
 use Rattle.ob_ages.specs.Model.{start, answer}
-use Rattle.ob_ages.specs.Laws.{Locality, Simulation, BuildsAreWritten}
+use Rattle.ob_ages.specs.Laws.{AreSettings, Locality, Simulation, BuildsAreWritten}
 use Rattle.ob_ages.specs.Headline.{Headline, Stands}
 use Rattle.ob_loads.specs.Loads.{BuildsAreSaid}
 
@@ -27,12 +27,12 @@ pub record Promises : Type 0 where
 -- with accepted words the status is 0, 1 or 3 to 7
 abbrev pub HeadlineHolds : Type 0
 HeadlineHolds = Promises →
-    (s : Settings) (l : Library) (before now : List ℕ) (old new : Files) (script : List ℕ) (status : ℕ) → Stands s old l script →
+    (s : Settings) (l : Library) (before now : List ℕ) (old new : Files) (script : List ℕ) (status : ℕ) → AreSettings s → Stands s old l script →
     (status ≡ 2 → ⊥) → status ≤ 7 →
     Ends (session.bytes s old) before now old new script status → Headline s before now old new l script status
 
 -- the texts of the first lines, and of no others
 abbrev pub LinesHold : Type 0
 LinesHold = Promises →
-    (s : Settings) (l : Library) (old : Files) (script : List ℕ) → Stands s old l script →
+    (s : Settings) (l : Library) (old : Files) (script : List ℕ) → AreSettings s → Stands s old l script →
     (past rest : List (List ℕ)) → done_lines script ≡ past ++ rest → text_from (bytes.answer s) (bytes.start s old) 1 past ≡ text_from (answer s) (start old l) 1 past

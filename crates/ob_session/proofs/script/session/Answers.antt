@@ -2,6 +2,7 @@ use Rattle.std.proofs.Common.{◌≡◌, Bool, true, false, Option, Some, None, 
 use Rattle.std.proofs.lemmas.Bool.{false≢true}
 use Rattle.ob_words.specs.declared.asked.Settings.{Settings}
 use Rattle.ob_headline.proofs.Held.{whole_so}
+use Rattle.ob_headline.proofs.Chosen.{settings_in}
 use Rattle.ob_session.proofs.script.session.Goals as goal
 
 abbrev is_some : Option Settings → Bool
@@ -13,5 +14,6 @@ no_words s e = false≢true (sym (ap is_some e))
 
 pub returns-clause-headline : goal.returns-clause-headline
 returns-clause-headline g c = λ s e ti tf to l k h.
-    whole_so k s l (g.O.Sink.taken c.args.out.now) (g.O.Sink.taken c.do_all.new.out) (g.F.Shelf.files c.args.folder.now) (g.F.Shelf.files c.do_all.new.folder) (g.I.Source.left c.args.script.now) c.do_all.result h
+    whole_so k s l (g.O.Sink.taken c.args.out.now) (g.O.Sink.taken c.do_all.new.out) (g.F.Shelf.files c.args.folder.now) (g.F.Shelf.files c.do_all.new.folder) (g.I.Source.left c.args.script.now) c.do_all.result
+    (settings_in _ s e) h
     (λ t. no_words s (sym e ∙ c.do_all.ensures.refused t)) c.do_all.ensures.causes.known (c.do_all.ensures.ends s e ti tf to)
