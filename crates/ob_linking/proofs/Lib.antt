@@ -1,0 +1,6 @@
+pub mod Lines
+pub mod Expressions
+pub mod Statements
+pub mod Lookup
+pub mod TypeNumbers
+pub mod Modules
