@@ -4,3 +4,5 @@ pub mod Statements
 pub mod Lookup
 pub mod TypeNumbers
 pub mod Modules
+pub mod Entering
+pub mod Whole
