@@ -1,5 +1,5 @@
 -- A file that is entered: the numbers of its types in the whole image, its links, and its strings.
-use Rattle.std.proofs.Common.{◌≡◌, ℕ, suc, ◌+◌, List, [], ◌∷◌, ◌++◌, length, map, refl, sym, ap, ◌∙◌, subst, arith, append_assoc, append-nil, Option, Some, None}
+use Rattle.std.proofs.Common.{◌≡◌, ℕ, ◌+◌, List, [], ◌∷◌, ◌++◌, length, map, refl, sym, ap, ◌∙◌, subst, arith, append_assoc, append-nil, Option, Some, None}
 use Rattle.std.specs.Prelude.{Bool, true, false, bytes_eq, slice_get, IsSome, if◌then◌else◌}
 use Rattle.std.specs.List.{AllByRecursion}
 use Rattle.ob_tree.specs.declared.names.QName.{QName}
@@ -7,32 +7,27 @@ use Rattle.ob_types.specs.declared.desc.Desc.{Desc}
 use Rattle.ob_types.specs.TypedSyntax.{Module}
 use Rattle.ob_tdesc.specs.declared.descriptor.Descriptor.{Descriptor}
 use Rattle.ob_instr.specs.Image.{ModuleImage, Image}
-use Rattle.ob_obj.specs.declared.parts.RecordType.{RecordType}
 use Rattle.ob_obj.specs.declared.file.ObjFile.{ObjFile}
 use Rattle.ob_obj.specs.Images.{module_from, linked_type, or_zero, type_links, module_of, entered, image_of, AreEnterable, numbers}
 use Rattle.ob_meaning.specs.Values.{Program}
 use Rattle.ob_meaning.specs.Globals.{all_globals, globals_words}
 use Rattle.ob_code.specs.Context.{own_types, type_index, records, records_among}
-use Rattle.ob_code.specs.Numbers.{nothing_named}
 use Rattle.ob_code.specs.Procedures.{body_of, within, module_code}
 use Rattle.ob_code.specs.Object.{own_words, all_named, records_in}
 use Rattle.ob_code.specs.Object as object
 use Rattle.ob_relation.specs.Layout.{type_number, module_offset, module_held, slots_words, variables_in}
 use Rattle.ob_relation.specs.Texts.{module_texts, texts_in}
 use Rattle.ob_relation.specs.Relation.{FreshModule, ModulesOk}
-use Rattle.ob_relation.specs.Setting.{Setting}
 use Rattle.ob_relation.proofs.Names.{bytes_same, bytes_true, bytes_sym}
-use Rattle.ob_relation.proofs.Lengths.{module_length}
 use Rattle.ob_standing.specs.Standing.{own_types_in, StringsStand}
 use Rattle.ob_standing.specs.Described.{IsDescribed}
 use Rattle.ob_standing.specs.Fits.{AmongTypes}
 use Rattle.ob_standing.proofs.Words.{local_sum}
 use Rattle.ob_standing.proofs.Entered.{variables_here}
-use Rattle.ob_linking.specs.Files.{Build, file_of}
-use Rattle.ob_linking.proofs.Lines.{lines_words, lines_strings, strings_stand}
+use Rattle.ob_linking.proofs.Lines.{lines_words, strings_stand}
 use Rattle.ob_linking.proofs.Statements.{module_words}
 use Rattle.ob_linking.proofs.Lookup.{IsAmong, among_more, all_at, map_at}
-use Rattle.ob_linking.proofs.TypeNumbers.{typed, NotOf, not_two, AreOf, others_not, none_counted, all_counted, none_at_all, past_others, place_of, own_number, numbers_at, numbers_past, added, linked_is, names_of, records_named, named_place, is_named, ones, length_named, bases_stay}
+use Rattle.ob_linking.proofs.TypeNumbers.{typed, NotOf, not_two, AreOf, others_not, none_counted, all_counted, none_at_all, past_others, own_number, numbers_at, numbers_past, added, linked_is, names_of, records_named, named_place, is_named, ones, length_named, bases_stay}
 
 -- DESCRIPTORS OF LATER FILES are of other modules
 

@@ -1,5 +1,5 @@
 -- The strings of the code of designators, expressions and actual parameters are those that the meaning counts, in the same order.
-use Rattle.std.proofs.Common.{◌≡◌, ℕ, suc, ◌+◌, List, [], ◌∷◌, ◌++◌, length, refl, sym, ap, ◌∙◌, subst, arith, append-nil, Option, Some, None}
+use Rattle.std.proofs.Common.{◌≡◌, ℕ, suc, ◌+◌, List, [], ◌∷◌, length, refl, ap, ◌∙◌, arith, append-nil, Option, Some, None}
 use Rattle.std.specs.Prelude.{ℤ, Bool, true, false, if◌then◌else◌}
 use Rattle.ob_tree.specs.declared.pos.Pos.{Pos}
 use Rattle.ob_tree.specs.declared.names.QName.{QName}
@@ -25,9 +25,9 @@ use Rattle.ob_instr.specs.declared.opcode.Opcode.TheVariants as op
 use Rattle.ob_meaning.specs.Values.{Program, form_in, words as words_in}
 use Rattle.ob_code.specs.declared.want.Want.{Want}
 use Rattle.ob_code.specs.declared.want.Want.TheVariants as want
-use Rattle.ob_code.specs.Lines.{Operand, OtherVariable, OtherProcedure, OtherType, Line, plain, placed, count}
+use Rattle.ob_code.specs.Lines.{OtherVariable, OtherProcedure, OtherType, Line, plain, placed, count}
 use Rattle.ob_code.specs.Descriptions.{own_name, elements_of}
-use Rattle.ob_code.specs.Context.{Context, words, is_own, variable_place, parameter_slot, local_slot, procedure_index, type_index, own_types, type_operand, named_operand, record_operand}
+use Rattle.ob_code.specs.Context.{Context, words, is_own, variable_place, parameter_slot, procedure_index, type_index, own_types, type_operand, named_operand, record_operand}
 use Rattle.ob_code.specs.Operations.{unary_code, binary_line}
 use Rattle.ob_code.specs.Expressions.{wanted, text_code, constant_code, behind_guard, pair_code, length_operand, measured_behind, index_want, guard_want, from_place, from_pointer, index_line, guard_line, from_guard, parameter_code, module_line, variable_code, procedure_line, declared_line, call_line, end_desig, end_expr, desig_code, expr_code, actuals_code}
 use Rattle.ob_relation.specs.Texts.{text_words, literal_text, passed_text, designator_texts, expr_texts, actuals_texts}

@@ -1,6 +1,8 @@
 -- Modules that were entered are found by their names, and what they export by its names, where the program has it.
-use Rattle.std.proofs.Common.{◌≡◌, ℕ, zero, suc, ◌+◌, List, [], ◌∷◌, ◌++◌, length, map, refl, sym, ap, ◌∙◌, subst, arith, append_assoc, Option, Some, None}
+use Rattle.std.proofs.Common.{◌≡◌, ℕ, suc, ◌+◌, List, [], ◌∷◌, ◌++◌, length, map, refl, sym, ap, ◌∙◌, subst, arith, append_assoc, Option, Some, None}
 use Rattle.std.specs.Prelude.{Bool, true, false, ◌&&◌, bytes_eq, IsSome, if◌then◌else◌}
+use Rattle.std.specs.List.{AllByRecursion, IsDistinct}
+use Rattle.std.proofs.lemmas.Map.Keys.{IsDistinct-head, IsDistinct-tail}
 use Rattle.ob_tree.specs.declared.names.QName.{QName}
 use Rattle.ob_tree.specs.declared.proc_ref.ProcRef.{ProcRef}
 use Rattle.ob_types.specs.declared.desc.Desc.{Desc}
@@ -11,21 +13,34 @@ use Rattle.ob_obj.specs.declared.parts.Link.{Link}
 use Rattle.ob_obj.specs.Grammar.{by_name}
 use Rattle.ob_obj.specs.Images as image
 use Rattle.ob_obj.specs.Images.{same, named, module_from, module_at, commands_in, linked_variable, linked_procedure, ref_of, or_zero, or_first}
-use Rattle.ob_meaning.specs.Values.{Program}
-use Rattle.ob_meaning.specs.Calls.{held_variable}
 use Rattle.ob_code.specs.Context.{variable_place}
 use Rattle.ob_code.specs.Object.{is_seen, is_full, is_free, own, seen_variables, variables, commands_among, commands}
 use Rattle.ob_relation.specs.Layout.{module_number, module_offset, procedure_number, procedure_index, procedures_in, variables_in, module_held, slot}
 use Rattle.ob_relation.specs.Setting.{Setting}
-use Rattle.ob_relation.specs.Relation.{number_of}
 use Rattle.ob_relation.proofs.Names.{bytes_same, bytes_true, bytes_sym}
 use Rattle.ob_standing.specs.Fits.{IsNamed}
 use Rattle.ob_standing.specs.Compiled.{ProceduresChecked}
 use Rattle.ob_standing.proofs.Words.{globals_before}
-use Rattle.ob_linking.specs.Files.{Build, NoneNamed, ProceduresDiffer, KeepsRules, AllKeepRules}
+use Rattle.ob_linking.specs.Files.{Build, KeepsRules, AllKeepRules}
 use Rattle.ob_linking.proofs.Lookup.{same_is, Numbered, order_numbered, named_is, find, found, length_one}
 
 -- PROCEDURES OF A MODULE BY THEIR NAMES
+
+abbrev NoneNamed : List ℕ → List Procedure → Type 0
+NoneNamed x [] = Unit {0}
+NoneNamed x (p ∷ ps) = (bytes_eq x p.name ≡ false) × NoneNamed x ps
+
+abbrev ProceduresDiffer : List Procedure → Type 0
+ProceduresDiffer [] = Unit {0}
+ProceduresDiffer (p ∷ ps) = NoneNamed p.name ps × ProceduresDiffer ps
+
+none_named : (x : List ℕ) (ps : List Procedure) → AllByRecursion (λ y. bytes_eq x y ≡ false) (map (λ p. p.name) ps) → NoneNamed x ps
+none_named x [] h = tt
+none_named x (p ∷ ps) h = (h.0, none_named x ps h.1)
+
+procedures_differ : (ps : List Procedure) → IsDistinct bytes_eq (map (λ p. p.name) ps) → ProceduresDiffer ps
+procedures_differ [] h = tt
+procedures_differ (p ∷ ps) h = (none_named p.name ps (IsDistinct-head bytes_eq p.name (map (λ p. p.name) ps) h), procedures_differ ps (IsDistinct-tail bytes_eq p.name (map (λ p. p.name) ps) h))
 
 index_named : (ps : List Procedure) (x : List ℕ) → IsNamed x → suc (procedure_number ps x) ≡ procedure_index ps x
 index_named ps [] n = absurd n
@@ -166,7 +181,7 @@ module _ (c : Setting) where
         let f = find_module 0 bs us rest l.«module» are rules some.0 in
         let b = f.build in
         let here : commands_in (module_at us (module_from 0 us l.«module»)) ≡ map (λ x. (x.name, x.procedure)) (commands b.types b.unit) = ap commands_in (found us l.«module» ∙ f.there) ∙ f.is.commands in
-        let numbered = order_numbered (λ x. x.name) (λ x. x.procedure) (procedure_index b.unit.procedures) (λ a d. by_name a.name d.name) (commands_among b.types b.unit b.unit.procedures 1) (commands_numbered c b.types b.unit [] b.unit.procedures 1 refl f.rules.different f.rules.checked) in
+        let numbered = order_numbered (λ x. x.name) (λ x. x.procedure) (procedure_index b.unit.procedures) (λ a d. by_name a.name d.name) (commands_among b.types b.unit b.unit.procedures 1) (commands_numbered c b.types b.unit [] b.unit.procedures 1 refl (procedures_differ b.unit.procedures f.rules.different) f.rules.checked) in
         let is = named_is (λ x. x.name) (λ x. x.procedure) (procedure_index b.unit.procedures) (λ n. n) (commands b.types b.unit) l.name numbered (subst (λ t. IsSome (named t l.name)) here some.1) in
         let number : module_from 0 us l.«module» ≡ Some (module_number c.program l.«module») = f.number ∙ ap (λ k. Some k) (let z : 0 + module_number (units bs ++ rest) l.«module» ≡ module_number (units bs ++ rest) l.«module» = omega arith in z) ∙ ap (λ p. Some (module_number p l.«module»)) (sym whole) in
         let held = ap (λ p. procedures_in p l.«module») whole ∙ f.procedures in

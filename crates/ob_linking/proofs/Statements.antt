@@ -1,5 +1,5 @@
 -- The strings of the code of statements, procedures and a module are those that the meaning counts, in the same order.
-use Rattle.std.proofs.Common.{◌≡◌, ℕ, suc, ◌+◌, List, [], ◌∷◌, ◌++◌, length, refl, sym, ap, ◌∙◌, append-nil, Option, Some, None}
+use Rattle.std.proofs.Common.{◌≡◌, ℕ, suc, List, [], ◌∷◌, ◌++◌, refl, ap, Option, Some, None}
 use Rattle.std.specs.Prelude.{ℤ, Bool, true, false}
 use Rattle.ob_tree.specs.declared.pos.Pos.{Pos}
 use Rattle.ob_tree.specs.declared.names.QName.{QName}
@@ -7,7 +7,6 @@ use Rattle.ob_types.specs.declared.types.TypeRef.{TypeRef}
 use Rattle.ob_types.specs.declared.types.TypeRef.TheVariants as ref
 use Rattle.ob_types.specs.declared.types.Basic.TheVariants as basic
 use Rattle.ob_types.specs.declared.desc.Desc.{Desc}
-use Rattle.ob_types.specs.declared.typed.Variable.{Variable}
 use Rattle.ob_types.specs.declared.typed.Assigned.{Assigned}
 use Rattle.ob_types.specs.declared.typed.Assigned.TheVariants as assigned
 use Rattle.ob_types.specs.declared.typed.Made.{Made}
@@ -19,16 +18,15 @@ use Rattle.ob_types.specs.TypedSyntax.{Desig, Expr, Stmt, Assign, CallProper, Up
 use Rattle.ob_meaning.specs.Values.{Program, form_in, words as words_in}
 use Rattle.ob_code.specs.declared.want.Want.{Want}
 use Rattle.ob_code.specs.declared.want.Want.TheVariants as want
-use Rattle.ob_code.specs.Lines.{Line, placed_two, count, behind, jump, jump_if_false, jump_back}
-use Rattle.ob_code.specs.Context.{Context, words, type_operand, first_hidden}
+use Rattle.ob_code.specs.Lines.{behind, jump}
+use Rattle.ob_code.specs.Context.{Context, words, first_hidden}
 use Rattle.ob_code.specs.Operations.{update_line}
-use Rattle.ob_code.specs.Expressions.{end_desig, end_expr, desig_code, expr_code, variable_code}
-use Rattle.ob_code.specs.Statements.{target_want, source_want, has_tag, copy_record, assign_line, new_line, for_place, for_value, end_for_test, end_for_step, end_label, end_labels, label_code, labels_code, result_code, end_stmt, end_stmts, end_branches, end_cases, end_else, next_stmt, next_stmts, next_branches, next_cases, stmt_code, stmts_code, branches_code, cases_code, else_code}
-use Rattle.ob_code.specs.Procedures.{body_of, all_procedures, within, closing, end_procedure, procedure_code, procedures_code, module_code}
+use Rattle.ob_code.specs.Expressions.{end_desig, end_expr, desig_code, expr_code}
+use Rattle.ob_code.specs.Statements.{target_want, source_want, has_tag, copy_record, assign_line, new_line, for_place, for_value, end_for_test, end_label, end_labels, labels_code, result_code, end_stmt, end_stmts, end_branches, end_cases, end_else, next_stmt, next_stmts, next_branches, next_cases, stmt_code, stmts_code, branches_code, cases_code, else_code}
+use Rattle.ob_code.specs.Procedures.{all_procedures, within, closing, end_procedure, procedure_code, procedures_code, module_code}
 use Rattle.ob_relation.specs.Texts.{designator_texts, expr_texts, optional_texts, stmt_texts, stmts_texts, branches_texts, cases_texts, else_texts, procedures_texts, module_texts}
 use Rattle.ob_standing.specs.Described.{IsDescribed}
-use Rattle.ob_linking.proofs.Lines.{operand_words, lines_words, two, then_none, none_then, no_string}
-use Rattle.ob_linking.proofs.Expressions as expression
+use Rattle.ob_linking.proofs.Lines.{lines_words, two, then_none, none_then, no_string}
 use Rattle.ob_linking.proofs.Expressions.{NotRoom, type_none, variable_none, as_whole, desig_words, expr_words}
 
 -- SMALL PIECES

@@ -1,5 +1,5 @@
 -- The descriptors of a file's record types: how many they are, and their numbers by their names.
-use Rattle.std.proofs.Common.{◌≡◌, ℕ, zero, suc, ◌+◌, List, [], ◌∷◌, ◌++◌, length, map, refl, sym, ap, ◌∙◌, subst, arith, append_assoc, append-nil, Option, Some, None}
+use Rattle.std.proofs.Common.{◌≡◌, ℕ, zero, suc, ◌+◌, List, [], ◌∷◌, ◌++◌, length, map, refl, sym, ap, ◌∙◌, arith, append_assoc, append-nil, Option, Some, None}
 use Rattle.std.specs.Prelude.{Bool, true, false, bytes_eq, ◌&&◌, slice_get, IsSome, if◌then◌else◌}
 use Rattle.std.proofs.lemmas.Option.{none-some}
 use Rattle.ob_tree.specs.declared.names.QName.{QName}
@@ -18,7 +18,7 @@ use Rattle.ob_code.specs.Context.{is_own}
 use Rattle.ob_code.specs.Object.{own}
 use Rattle.ob_relation.specs.Layout.{type_number}
 use Rattle.ob_relation.specs.Relation.{OrElse}
-use Rattle.ob_relation.proofs.Names.{bytes_same, bytes_true, bytes_sym}
+use Rattle.ob_relation.proofs.Names.{bytes_same}
 use Rattle.ob_standing.specs.Standing.{own_types_in}
 use Rattle.ob_standing.specs.Fits.{AmongTypes}
 use Rattle.ob_linking.proofs.Lookup.{same_is}

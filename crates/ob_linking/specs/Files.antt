@@ -1,14 +1,14 @@
 -- The files that a program was compiled to, and what is asked of them where they are an image.
-use Rattle.std.specs.Prelude.{◌≡◌, ℕ, List, [], ◌∷◌, ◌++◌, map, bytes_eq, false, Option}
+use Rattle.std.specs.Prelude.{◌≡◌, List, [], ◌∷◌, ◌++◌, map, bytes_eq, Option}
+use Rattle.std.specs.List.{IsDistinct}
 use Rattle.ob_tree.specs.declared.names.QName.{QName}
 use Rattle.ob_types.specs.declared.desc.Desc.{Desc}
 use Rattle.ob_types.specs.declared.face.Use.{Use}
-use Rattle.ob_types.specs.TypedSyntax.{Procedure, Module}
+use Rattle.ob_types.specs.TypedSyntax.{Module}
 use Rattle.ob_instr.specs.Image.{Image, Room}
 use Rattle.ob_obj.specs.declared.parts.Export.{Export}
 use Rattle.ob_obj.specs.declared.file.ObjFile.{ObjFile}
 use Rattle.ob_obj.specs.Images.{image_of, AreEnterable}
-use Rattle.ob_meaning.specs.Values.{Program}
 use Rattle.ob_code.specs.Object.{object_file}
 use Rattle.ob_relation.specs.Setting.{Setting}
 use Rattle.ob_standing.specs.Described.{IsDescribed}
@@ -35,20 +35,11 @@ pub record AreFiles (c : Setting) (builds : List Build) (more : List ObjFile) : 
   pub image : c.img ≡ image_of (empty c.img.room) (map file_of builds ++ more)
   pub enterable : AreEnterable (empty c.img.room) (map file_of builds ++ more)
 
--- procedures with different names
-abbrev pub NoneNamed : List ℕ → List Procedure → Type 0
-NoneNamed x [] = Unit {0}
-NoneNamed x (p ∷ ps) = (bytes_eq x p.name ≡ false) × NoneNamed x ps
-
-abbrev pub ProceduresDiffer : List Procedure → Type 0
-ProceduresDiffer [] = Unit {0}
-ProceduresDiffer (p ∷ ps) = NoneNamed p.name ps × ProceduresDiffer ps
-
 -- what the rules owe of each module: its descriptions say what types are, its procedures are checked, and their names differ
 pub record KeepsRules (c : Setting) (b : Build) : Type 0 where
   pub described : IsDescribed b.types c.program
   pub checked : ProceduresChecked c b.types b.unit b.unit.procedures
-  pub different : ProceduresDiffer b.unit.procedures
+  pub different : IsDistinct bytes_eq (map (λ p. p.name) b.unit.procedures)
 
 abbrev pub AllKeepRules : Setting → List Build → Type 0
 AllKeepRules c [] = Unit {0}
