@@ -6,3 +6,5 @@ pub mod TypeNumbers
 pub mod Modules
 pub mod Entering
 pub mod Whole
+pub mod Described
+pub mod Made

@@ -27,7 +27,7 @@ use Rattle.ob_linking.proofs.Statements.{module_words}
 use Rattle.ob_linking.proofs.Lookup.{all_at, map_at, length_one, none_in_front, none_at_last, among_last}
 use Rattle.ob_linking.proofs.TypeNumbers.{NotOf, not_two, AreOf, others_not, added, records_named}
 use Rattle.ob_linking.proofs.Modules.{ModulesAre, one_more, variable_link, procedure_link}
-use Rattle.ob_linking.proofs.Entering.{later, own_is, types_are, links_are, offset_here, all_more, own_strings}
+use Rattle.ob_linking.proofs.Entering.{IsApart, apart_more, types_in, own_is, types_are, links_are, offset_here, all_more, own_strings}
 
 -- THE WORDS OF A MODULE'S GLOBALS
 
@@ -63,7 +63,7 @@ module _ (c : Setting) where
     pub modules : ModulesAre c bs img.modules
     pub number : length (units bs) ≡ length img.modules
     pub next : img.next ≡ suc (all_globals c.program (units bs))
-    pub types : (name : List ℕ) → module_from 0 img.modules name ≡ None → NotOf name img.types
+    pub types : IsApart img
     pub rules : AllKeepRules c bs
 
   -- with one more
@@ -82,7 +82,6 @@ module _ (c : Setting) where
 
     entered_more : Entered (bs ++ b ∷ []) (entered img f)
     entered_more =
-        let a = added b.unit.name (length img.types) (type_links img f) (length img.modules) img.types f.body.types in
         let words = file_words b c.program rules.described in
         let more = all_more c.program (units bs) b.unit in
         let first = h.next in
@@ -90,27 +89,24 @@ module _ (c : Setting) where
           modules = one_more c bs img.modules b u h.modules (record { name = refl; first = place; variables = refl; commands = refl });
           number = ap length (units_one bs b) ∙ length_one (units bs) b.unit ∙ ap suc h.number ∙ sym (length_one img.modules u);
           next = omega (arith, first, words, more) ∙ ap (λ l. suc (all_globals c.program l)) (sym (units_one bs b));
-          types = λ name e. subst (NotOf name) (sym a.is) (not_two name img.types a.descriptors (h.types name (none_in_front 0 img.modules (u ∷ []) name e)) (others_not name b.unit.name _ a.descriptors (none_at_last 0 img.modules u name e) a.are));
+          types = apart_more img f h.types;
           rules = rules_more bs b h.rules rules;
         }
 
     stands : (files : List ObjFile) → c.img ≡ image_of (entered img f) files → AreEnterable img (f ∷ files) → IsCompiled c b.types b.unit (length img.modules) u
     stands files loaded can =
-        let a = added b.unit.name (length img.types) (type_links img f) (length img.modules) img.types f.body.types in
-        let l = later b.unit.name (entered img f) files (among_last img.modules u) can.1 in
-        let all = ap (λ i. i.types) loaded ∙ l.is ∙ ap (λ t. t ++ l.descriptors) a.is ∙ append_assoc img.types a.descriptors l.descriptors in
-        let none = h.types b.unit.name can.0.new in
-        let are = subst (λ n. AreOf b.unit.name n a.descriptors) (records_named b.types b.unit f.links.types b.unit.types) a.are in
+        let t = types_in b img files h.types can in
+        let all = ap (λ i. i.types) loaded ∙ t.is in
         let n = all_named b.types b.unit in
         entered_stands c b.types b.unit b.exports b.uses img files (units bs) back whole h.number loaded place rules.described
         (own_strings b.types b.unit c.program rules.described (units bs) back whole ok)
         (record {
           variables = λ k x e. map_at (λ y. or_zero (linked_variable img.modules y)) n.variables k x e ∙ ap (λ v. Some v) (variable_link c bs img.modules (b.unit ∷ back) whole h.modules h.rules x (all_at (λ y. IsSome (linked_variable img.modules y)) n.variables k x can.0.variables e));
           procedures = λ k x e. map_at (λ y. or_first (linked_procedure img.modules y)) n.procedures k x e ∙ ap (λ v. Some v) (procedure_link c bs img.modules (b.unit ∷ back) whole h.modules h.rules x (all_at (λ y. IsSome (linked_procedure img.modules y)) n.procedures k x can.0.procedures e));
-          types = λ k q e. links_are b.types b.unit f.links.types img.types a.descriptors l.descriptors c.img.types all none are l.others k q can.0.types e;
+          types = λ k q e. links_are b.types b.unit f.links.types img.types t.own t.behind c.img.types all t.none t.are t.others k q can.0.types e;
         })
-        (own_is b.types b.unit f.links.types img.types a.descriptors l.descriptors c.img.types all none are l.others)
-        (λ x i. types_are b.types b.unit f.links.types img.types a.descriptors l.descriptors c.img.types all none are l.others (type_links img f) x i)
+        (own_is b.types b.unit f.links.types img.types t.own t.behind c.img.types all t.none t.are t.others)
+        (λ x i. types_are b.types b.unit f.links.types img.types t.own t.behind c.img.types all t.none t.are t.others (type_links img f) x i)
 
   stand_from : (bs : List Build) (img : Image) (back : List Build) (more : List ObjFile) → Entered bs img → c.program ≡ units bs ++ units back → c.img ≡ image_of img (map file_of back ++ more) → AreEnterable img (map file_of back ++ more) → AllKeepRules c back → AllCompiled c (units back)
   stand_from bs img [] more h whole loaded can rules = tt
@@ -121,4 +117,4 @@ module _ (c : Setting) where
 
 -- THE LAW
 pub compiled_stand : CompiledStand
-compiled_stand c builds more files rules = subst (AllCompiled c) (sym files.program) (stand_from c [] (empty c.img.room) builds more (record { modules = tt; number = refl; next = refl; types = λ name e. tt; rules = tt }) files.program files.image files.enterable rules)
+compiled_stand c builds more files rules = subst (AllCompiled c) (sym files.program) (stand_from c [] (empty files.room) builds more (record { modules = tt; number = refl; next = refl; types = λ name e. tt; rules = tt }) files.program files.image files.enterable rules)
