@@ -1,5 +1,5 @@
 -- A record type of a program is declared as one, in one of its modules.
-use Rattle.std.proofs.Common.{◌≡◌, ℕ, zero, suc, ◌+◌, List, [], ◌∷◌, ◌++◌, length, map, refl, sym, ap, ◌∙◌, subst, Option, Some, None}
+use Rattle.std.proofs.Common.{◌≡◌, ℕ, zero, suc, List, [], ◌∷◌, ◌++◌, map, refl, sym, ap, ◌∙◌, subst, Option, Some, None}
 use Rattle.std.specs.Prelude.{Bool, true, false, bytes_eq, unwrap_or, if◌then◌else◌}
 use Rattle.std.proofs.lemmas.Option.{none-some}
 use Rattle.ob_tree.specs.declared.names.QName.{QName}
@@ -11,7 +11,7 @@ use Rattle.ob_types.specs.declared.desc.Desc.TheVariants as desc
 use Rattle.ob_types.specs.declared.desc.RecordDesc.{RecordDesc}
 use Rattle.ob_types.specs.declared.typed.TypedType.{TypedType}
 use Rattle.ob_types.specs.TypedSyntax.{Module}
-use Rattle.ob_meaning.specs.Values.{Program, Form, BasicForm, PointerForm, ProcedureForm, ArrayForm, OpenForm, RecordForm, Fields, line_of, described, form_within, form_in, record_in, type_named, description, number_of_types}
+use Rattle.ob_meaning.specs.Values.{Program, Form, BasicForm, RecordForm, Fields, line_of, described, form_within, type_named, description}
 use Rattle.ob_relation.specs.Relation.{FreshModule, ModulesOk}
 use Rattle.ob_relation.proofs.Names.{bytes_same, bytes_true, bytes_sym}
 use Rattle.ob_standing.specs.Descriptors.{named}

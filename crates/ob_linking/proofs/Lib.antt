@@ -8,3 +8,7 @@ pub mod Entering
 pub mod Whole
 pub mod Described
 pub mod Made
+pub mod Linked
+pub mod Records
+pub mod Extends
+pub mod Few

@@ -1,5 +1,5 @@
 -- The descriptor of a record type that a module declares.
-use Rattle.std.proofs.Common.{◌≡◌, ℕ, zero, suc, ◌+◌, ◌<◌, List, [], ◌∷◌, ◌++◌, length, map, refl, sym, ap, ◌∙◌, subst, arith, append_assoc, append-nil, Option, Some, None}
+use Rattle.std.proofs.Common.{◌≡◌, ℕ, zero, suc, ◌+◌, List, [], ◌∷◌, ◌++◌, length, map, refl, sym, ap, ◌∙◌, subst, arith, Option, Some}
 use Rattle.std.specs.Prelude.{Bool, true, false, bytes_eq, unwrap_or, slice_get, if◌then◌else◌}
 use Rattle.std.proofs.lemmas.Option.{none-some}
 use Rattle.ob_tree.specs.declared.names.QName.{QName}
@@ -20,7 +20,7 @@ use Rattle.ob_relation.specs.Layout.{type_number}
 use Rattle.ob_relation.specs.Relation.{OrElse}
 use Rattle.ob_standing.specs.Fits.{AmongTypes}
 use Rattle.ob_linking.specs.Files.{Build, file_of}
-use Rattle.ob_linking.proofs.TypeNumbers.{typed, AreMade, IsName, names_of, place_of, is_named, own_number, past_others}
+use Rattle.ob_linking.proofs.TypeNumbers.{typed, AreMade, names_of, place_of, is_named, own_number, past_others}
 use Rattle.ob_linking.proofs.Entering.{TypesIn}
 
 is_record_of : (s r : RecordDesc) → Some (desc.Record s) ≡ Some (desc.Record r) → s ≡ r

@@ -1,12 +1,12 @@
 -- The modules of a program stand in the image of their files as they were compiled.
-use Rattle.std.proofs.Common.{◌≡◌, ℕ, suc, ◌+◌, List, [], ◌∷◌, ◌++◌, length, map, refl, sym, ap, ◌∙◌, subst, arith, append_assoc, Some, None}
+use Rattle.std.proofs.Common.{◌≡◌, suc, ◌+◌, List, [], ◌∷◌, ◌++◌, length, map, refl, sym, ap, ◌∙◌, subst, arith, Some}
 use Rattle.std.specs.Prelude.{IsSome}
 use Rattle.ob_types.specs.declared.typed.TypedVariable.{TypedVariable}
 use Rattle.ob_types.specs.TypedSyntax.{Module}
 use Rattle.ob_instr.specs.Image.{ModuleImage, Image}
 use Rattle.ob_obj.specs.declared.file.ObjFile.{ObjFile}
 use Rattle.ob_obj.specs.Grammar.{words_of}
-use Rattle.ob_obj.specs.Images.{module_from, linked_variable, linked_procedure, or_zero, or_first, type_links, module_of, global_words, entered, image_of, AreEnterable}
+use Rattle.ob_obj.specs.Images.{linked_variable, linked_procedure, or_zero, or_first, type_links, module_of, global_words, entered, image_of, AreEnterable}
 use Rattle.ob_meaning.specs.Values.{Program}
 use Rattle.ob_meaning.specs.Globals.{words_of_variables, all_globals, globals_words}
 use Rattle.ob_meaning.specs.Calls.{held_variable}
@@ -24,8 +24,7 @@ use Rattle.ob_standing.proofs.Entered.{entered_stands}
 use Rattle.ob_linking.specs.Files.{Build, file_of, empty, KeepsRules, AllKeepRules, CompiledStand}
 use Rattle.ob_linking.proofs.Lines.{lines_strings}
 use Rattle.ob_linking.proofs.Statements.{module_words}
-use Rattle.ob_linking.proofs.Lookup.{all_at, map_at, length_one, none_in_front, none_at_last, among_last}
-use Rattle.ob_linking.proofs.TypeNumbers.{NotOf, not_two, AreOf, others_not, added, records_named}
+use Rattle.ob_linking.proofs.Lookup.{all_at, map_at, length_one}
 use Rattle.ob_linking.proofs.Modules.{ModulesAre, one_more, variable_link, procedure_link}
 use Rattle.ob_linking.proofs.Entering.{IsApart, apart_more, types_in, own_is, types_are, links_are, offset_here, all_more, own_strings}
 

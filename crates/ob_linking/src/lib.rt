@@ -3,6 +3,7 @@
 #![tactic(auto)]
 
 ghost use Rattle.ob_linking.specs.Files.{CompiledStand};
+ghost use Rattle.ob_linking.specs.Records.{RecordTypesStand, RecordBasesStand, ProceduresNumbered};
 
 /// A law, with nothing to run. Where the object files of the modules of a program are the first of
 /// an image, in their order, and could be entered one behind the other (`specs/Files.antt`:
@@ -12,4 +13,18 @@ ghost use Rattle.ob_linking.specs.Files.{CompiledStand};
 /// rules owe stays as a premise (`KeepsRules`).
 pub fn compiled_stand()
     ensures { CompiledStand }
+{}
+
+/// A law, with nothing to run. In such an image each record type of the program has its descriptor,
+/// with its words, and so has each of its bases, before what extends it. Premise is that record
+/// types are what their declarations say (`specs/Records.antt`: `AllDeclared`).
+pub fn records_stand()
+    ensures types { RecordTypesStand }
+    ensures bases { RecordBasesStand }
+{}
+
+/// A law, with nothing to run. In such an image the procedures that variables may have as values are
+/// told by words.
+pub fn procedures_numbered()
+    ensures { ProceduresNumbered }
 {}
