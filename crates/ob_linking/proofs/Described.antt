@@ -16,6 +16,7 @@ use Rattle.ob_relation.specs.Relation.{FreshModule, ModulesOk}
 use Rattle.ob_relation.proofs.Names.{bytes_same, bytes_true, bytes_sym}
 use Rattle.ob_standing.specs.Descriptors.{named}
 use Rattle.ob_linking.specs.Files.{Build}
+use Rattle.ob_linking.specs.Standing.{IsIn}
 use Rattle.ob_linking.specs.Records.{IsDeclaredRecord, IsDeclared, AreDeclared, AllDeclared}
 
 -- WHAT IS A RECORD has the name of a record type
@@ -58,12 +59,6 @@ record_named types (suc n) (ref.Named p) q l fs e = go (types p) refl e (λ t f.
 
 abbrev pub units : List Build → List Module
 units bs = map (λ b. b.unit) bs
-
--- one of the modules, in its place
-pub record IsIn (bs : List Build) (b : Build) : Type 0 where
-  pub front : List Build
-  pub back : List Build
-  pub is : bs ≡ front ++ b ∷ back
 
 pub in_more : (a : Build) (bs : List Build) (b : Build) → IsIn bs b → IsIn (a ∷ bs) b
 in_more a bs b i = record { front = a ∷ i.front; back = i.back; is = ap (λ l. a ∷ l) i.is }

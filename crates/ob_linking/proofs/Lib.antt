@@ -12,3 +12,4 @@ pub mod Linked
 pub mod Records
 pub mod Extends
 pub mod Few
+pub mod Standing

@@ -4,6 +4,7 @@
 
 ghost use Rattle.ob_linking.specs.Files.{CompiledStand};
 ghost use Rattle.ob_linking.specs.Records.{RecordTypesStand, RecordBasesStand, ProceduresNumbered};
+ghost use Rattle.ob_linking.specs.Standing.{ProceduresStand, BodiesStand};
 
 /// A law, with nothing to run. Where the object files of the modules of a program are the first of
 /// an image, in their order, and could be entered one behind the other (`specs/Files.antt`:
@@ -13,6 +14,14 @@ ghost use Rattle.ob_linking.specs.Records.{RecordTypesStand, RecordBasesStand, P
 /// rules owe stays as a premise (`KeepsRules`).
 pub fn compiled_stand()
     ensures { CompiledStand }
+{}
+
+/// A law, with nothing to run. In such an image each procedure of the program stands as the law of
+/// simulation asks, and so does each module's body that is checked, both by the numbers of bound
+/// procedures that the descriptions of its module have.
+pub fn procedures_stand()
+    ensures procedures { ProceduresStand }
+    ensures bodies { BodiesStand }
 {}
 
 /// A law, with nothing to run. In such an image each record type of the program has its descriptor,
