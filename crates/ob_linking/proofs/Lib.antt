@@ -13,3 +13,5 @@ pub mod Records
 pub mod Extends
 pub mod Few
 pub mod Standing
+pub mod Contents
+pub mod Commands

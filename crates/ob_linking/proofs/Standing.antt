@@ -1,12 +1,11 @@
 -- The procedures and the bodies of compiled modules stand in an image of their files.
-use Rattle.std.proofs.Common.{◌≡◌, ℕ, suc, List, [], ◌∷◌, ◌++◌, map, refl, sym, ap, ◌∙◌, subst, Option, Some}
+use Rattle.std.proofs.Common.{◌≡◌, ℕ, suc, List, [], ◌∷◌, ◌++◌, refl, sym, ap, ◌∙◌, subst, Option, Some}
 use Rattle.std.specs.Prelude.{unwrap_or, Bool, true, false, bytes_eq, if◌then◌else◌, slice_get}
 use Rattle.std.proofs.lemmas.Option.{none-some}
 use Rattle.ob_tree.specs.declared.names.QName.{QName}
 use Rattle.ob_types.specs.declared.desc.Desc.{Desc}
 use Rattle.ob_types.specs.TypedSyntax.{Procedure, Module}
 use Rattle.ob_instr.specs.Image.{ModuleImage}
-use Rattle.ob_obj.specs.declared.file.ObjFile.{ObjFile}
 use Rattle.ob_meaning.specs.Values.{procedure_named, procedure_of}
 use Rattle.ob_code.specs.Procedures.{body_of, all_procedures}
 use Rattle.ob_relation.specs.Layout.{procedure_number}
@@ -15,8 +14,8 @@ use Rattle.ob_relation.proofs.Names.{bytes_true}
 use Rattle.ob_standing.specs.Fits.{IsNamed}
 use Rattle.ob_standing.specs.Compiled.{IsCompiled, IsChecked, ProceduresChecked}
 use Rattle.ob_standing.proofs.Procedures.{index_named, procedure_stands, methods_are}
-use Rattle.ob_linking.specs.Files.{Build, AreFiles, AllKeepRules}
-use Rattle.ob_linking.specs.Standing.{IsIn, StandsBy, BodyStandsBy, ProceduresStand, BodiesStand}
+use Rattle.ob_linking.specs.Files.{Build, AllKeepRules}
+use Rattle.ob_linking.specs.Standing.{IsIn, StandsBy, ProceduresStand, BodiesStand}
 use Rattle.ob_linking.proofs.Described.{units, in_more}
 use Rattle.ob_linking.proofs.Whole.{AllStand, all_stand}
 

@@ -34,7 +34,7 @@ variables_words : (program : Program) (vs : List TypedVariable) → slots_words 
 variables_words program [] = refl
 variables_words program (v ∷ vs) = let h = variables_words program vs in omega (arith, h)
 
-file_words : (b : Build) (program : Program) → IsDescribed b.types program → global_words (file_of b) ≡ globals_words program b.unit
+pub file_words : (b : Build) (program : Program) → IsDescribed b.types program → global_words (file_of b) ≡ globals_words program b.unit
 file_words b program described =
     let v = local_sum b.types program described b.unit.variables ∙ variables_words program b.unit.variables in
     let s = lines_strings (nothing_named (own_words b.types b.unit)) (module_code b.types b.unit) in

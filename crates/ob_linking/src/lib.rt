@@ -4,6 +4,7 @@
 
 ghost use Rattle.ob_linking.specs.Files.{CompiledStand};
 ghost use Rattle.ob_linking.specs.Records.{RecordTypesStand, RecordBasesStand, ProceduresNumbered};
+ghost use Rattle.ob_linking.specs.Contents.{FilesHaveContents, FilesHaveCommands};
 ghost use Rattle.ob_linking.specs.Standing.{ProceduresStand, BodiesStand};
 
 /// A law, with nothing to run. Where the object files of the modules of a program are the first of
@@ -36,4 +37,12 @@ pub fn records_stand()
 /// told by words.
 pub fn procedures_numbered()
     ensures { ProceduresNumbered }
+{}
+
+/// A law, with nothing to run. The file of a compiled module that has a spelling has the room of the
+/// module's variables and the words of the strings that its code uses, in order; and each command
+/// has in it the number of its procedure.
+pub fn files_have()
+    ensures contents { FilesHaveContents }
+    ensures commands { FilesHaveCommands }
 {}
