@@ -15,3 +15,6 @@ pub mod Few
 pub mod Standing
 pub mod Contents
 pub mod Commands
+pub mod SameCode
+pub mod SameStatements
+pub mod SameFile

@@ -14,7 +14,8 @@ use Rattle.ob_relation.specs.Setting.{Setting}
 use Rattle.ob_standing.specs.Described.{IsDescribed}
 use Rattle.ob_standing.specs.Compiled.{ProceduresChecked, AllCompiled}
 
--- a module as it was compiled: by these descriptions of types, to a file with these exports and uses
+-- A module as it was compiled, to a file with these exports and uses. The descriptions are of all types of the program, those too that the
+-- module does not know: where they say the same of what it names as those that it was compiled with, its file is the same.
 pub record Build : Type 0 where
   pub types : QName → Option Desc
   pub unit : Module

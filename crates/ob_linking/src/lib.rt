@@ -5,6 +5,7 @@
 ghost use Rattle.ob_linking.specs.Files.{CompiledStand};
 ghost use Rattle.ob_linking.specs.Records.{RecordTypesStand, RecordBasesStand, ProceduresNumbered};
 ghost use Rattle.ob_linking.specs.Contents.{FilesHaveContents, FilesHaveCommands};
+ghost use Rattle.ob_linking.specs.Same.{FilesSame};
 ghost use Rattle.ob_linking.specs.Standing.{ProceduresStand, BodiesStand};
 
 /// A law, with nothing to run. Where the object files of the modules of a program are the first of
@@ -45,4 +46,12 @@ pub fn procedures_numbered()
 pub fn files_have()
     ensures contents { FilesHaveContents }
     ensures commands { FilesHaveCommands }
+{}
+
+/// A law, with nothing to run. By two maps of descriptions that say the same of the types, fields and
+/// bound procedures that a module names (`specs/Same.antt`: `ModuleSame`), its object file is the
+/// same. So a file that was compiled with what its module knows is the one by the descriptions of
+/// the whole program, of which the other laws speak.
+pub fn files_same()
+    ensures { FilesSame }
 {}
