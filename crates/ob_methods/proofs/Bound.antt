@@ -17,7 +17,7 @@ use Rattle.ob_instr.specs.Rows.{Traps, is_zero, on_found, on_receiver, on_tag, c
 use Rattle.ob_instr.specs.Table.{position_at}
 use Rattle.ob_mem.specs.Words.{word_at}
 use Rattle.ob_meaning.specs.Values as values
-use Rattle.ob_meaning.specs.Values.{Form, PointerForm, RecordForm, fields_of, form_in, record_in, bases_in, Value, Nil, Object, OfObject, Place, At, value_at, type_of, AnObject, State}
+use Rattle.ob_meaning.specs.Values.{Form, PointerForm, RecordForm, fields_of, form_in, record_in, bases_in, Nil, Object, OfObject, Place, At, AnObject, State}
 use Rattle.ob_meaning.specs.Results.{Passed, ByValue, ByPlace, Caller}
 use Rattle.ob_meaning.specs.Meaning.{nearest, bases_of, call_found, call_bound}
 use Rattle.ob_relation.specs.Layout.{static_held, type_number, object_at, has_length_at, heap_start, object_offset, address, place_form}
@@ -30,8 +30,9 @@ use Rattle.ob_relation.specs.Typed.{IsRecordType, ReceiverOk}
 use Rattle.ob_relation.proofs.Steps.{here, Follows, follows_bind, follows_value, follows_stop, stands_any}
 use Rattle.ob_relation.proofs.Statements.{Activation, scope, go, K, here_in, Keeps, onto, ExprFollows, ActualsFollow, StmtFollows, LongPlaceFits, ArgumentFits, ArgumentsFit, CallsFollow, ResultFine, result_words}
 use Rattle.ob_relation.proofs.Moves.{traps, effect}
+use Rattle.ob_relation.proofs.Sources.{place_ok}
 use Rattle.ob_relation.specs.Setting.{Setting, StandIn, has_of}
-use Rattle.ob_records.proofs.Tags.{IsRecord, one_less, record_below, record_above, place_form_ok, type_at, object_tag}
+use Rattle.ob_records.proofs.Tags.{IsRecord, one_less, record_below, record_above, type_at, object_tag}
 use Rattle.ob_methods.specs.Tables.{TablesStand, FamiliesStand, Redefinition, Redefined, ReceiverTakes}
 use Rattle.ob_methods.proofs.Fits.{args_are, all_alike, counted, ValueFits}
 use Rattle.ob_methods.proofs.Named.{NamedGoes, named_value, named_proper}
@@ -71,7 +72,7 @@ module _ (c : Setting) (a : Activation c) (n : ℕ) (call : Caller) (b : ℕ) wh
     module _ (t q : QName) (p : Procedure) (f : Family) (built : IsRecordType c.program t) (near : nearest c.program (bases_in c.program t) f ≡ Some q) (found : values.procedure_of c.program q ≡ Some p) where
       -- the record type of what the receiver stands for
       dynamic : (s : State) (w : World) (x : Place) → StandIn c (K c a) s w → PlaceOf c.program (has_of c) c.img s.made (K c a) (record_in c.program t) x → IsRecord c (place_form c.program c.img s.made (K c a) x)
-      dynamic s w x st k = record_below c (place_form c.program c.img s.made (K c a) x) (record_in c.program t) (t ∷ built.0) (fields_of (record_in c.program t)) k.1 built.1 (place_form_ok c (K c a) s w st x k.0)
+      dynamic s w x st k = record_below c (place_form c.program c.img s.made (K c a) x) (record_in c.program t) (t ∷ built.0) (fields_of (record_in c.program t)) k.1 built.1 (place_ok c (K c a) s w st x k.0)
 
       redefined : (k : Receiver) (s : State) (w : World) (x : Place) (st : StandIn c (K c a) s w) → ReceiverOk c.program k t p.parameters → (h : PlaceOf c.program (has_of c) c.img s.made (K c a) (record_in c.program t) x) → Redefinition c f k p (dynamic s w x st h).name
       redefined k s w x st rk h =
