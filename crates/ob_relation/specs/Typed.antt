@@ -97,6 +97,12 @@ ByPassing passing.Variable A B C D E F = D
 ByPassing passing.VariableRecord A B C D E F = E
 ByPassing passing.VariableOpenArray A B C D E F = F
 
+-- the type of the parameter, as an actual one names it: only that of a record or an array by value must be the parameter's own, since a
+-- receiver names its own type, which may extend the parameter's
+abbrev pub IsFormal : Passing → TypeRef → TypeRef → Type 0
+IsFormal passing.Structure t u = t ≡ u
+IsFormal how t u = Unit {0}
+
 abbrev pub As : (Held → Type 0) → List Held → List ℕ → Type 0
 As Kind [] x = ⊥
 As Kind (h ∷ hs) x = OrElse (bytes_eq x (held_name h)) (Kind h) (As Kind hs x)
@@ -289,7 +295,7 @@ module _ (program : Program) (Has : Signature → QName → Type 0) (unit : List
     ActualsOk NoActual [] = Unit {0}
     ActualsOk NoActual (p ∷ ps) = ⊥
     ActualsOk (AnActual how t e rest) [] = ⊥
-    ActualsOk (AnActual how t e rest) (p ∷ ps) = (how ≡ p.passing) × ((t ≡ p.of) × (ByPassing how (ExprOk e (form_in program t) × Scalar (form_in program t)) (StructureOk e (form_in program t)) (ArrayOk e (form_in program t)) (ReferredOk e (form_in program t)) (RecordOk e (form_in program t)) (VariableArrayOk e (form_in program t)) × ActualsOk rest ps))
+    ActualsOk (AnActual how t e rest) (p ∷ ps) = (how ≡ p.passing) × (IsFormal how t p.of × (ByPassing how (ExprOk e (form_in program p.of) × Scalar (form_in program p.of)) (StructureOk e (form_in program p.of)) (ArrayOk e (form_in program p.of)) (ReferredOk e (form_in program p.of)) (RecordOk e (form_in program p.of)) (VariableArrayOk e (form_in program p.of)) × ActualsOk rest ps))
 
     -- by a signature alone, as procedure variables are called
     pub SignatureOk : Actuals → List (Mode × TypeRef) → Type 0
