@@ -1,0 +1,14 @@
+//! That the record types of compiled modules have in an image of their files the bases and the
+//! procedure tables that the law of simulation asks for.
+#![tactic(auto)]
+
+ghost use Rattle.ob_tables.specs.Based.{BasesFromFiles};
+
+/// A law, with nothing to run. Where the object files of a program's modules are the first of an
+/// image (`AreFiles`), each record type has a descriptor with the number of its base's, which stands
+/// before it, and extends each of its bases (`BasesStand`). What the rules owe stays as premises: a
+/// record type is built of its base (`BasesBuilt`), and its declaration names it
+/// (`AllBasesDeclared`).
+pub fn bases_from_files()
+    ensures { BasesFromFiles }
+{}
