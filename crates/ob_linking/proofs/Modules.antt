@@ -30,7 +30,7 @@ abbrev NoneNamed : List ℕ → List Procedure → Type 0
 NoneNamed x [] = Unit {0}
 NoneNamed x (p ∷ ps) = (bytes_eq x p.name ≡ false) × NoneNamed x ps
 
-abbrev ProceduresDiffer : List Procedure → Type 0
+abbrev pub ProceduresDiffer : List Procedure → Type 0
 ProceduresDiffer [] = Unit {0}
 ProceduresDiffer (p ∷ ps) = NoneNamed p.name ps × ProceduresDiffer ps
 
@@ -38,11 +38,11 @@ none_named : (x : List ℕ) (ps : List Procedure) → AllByRecursion (λ y. byte
 none_named x [] h = tt
 none_named x (p ∷ ps) h = (h.0, none_named x ps h.1)
 
-procedures_differ : (ps : List Procedure) → IsDistinct bytes_eq (map (λ p. p.name) ps) → ProceduresDiffer ps
+pub procedures_differ : (ps : List Procedure) → IsDistinct bytes_eq (map (λ p. p.name) ps) → ProceduresDiffer ps
 procedures_differ [] h = tt
 procedures_differ (p ∷ ps) h = (none_named p.name ps (IsDistinct-head bytes_eq p.name (map (λ p. p.name) ps) h), procedures_differ ps (IsDistinct-tail bytes_eq p.name (map (λ p. p.name) ps) h))
 
-index_named : (ps : List Procedure) (x : List ℕ) → IsNamed x → suc (procedure_number ps x) ≡ procedure_index ps x
+pub index_named : (ps : List Procedure) (x : List ℕ) → IsNamed x → suc (procedure_number ps x) ≡ procedure_index ps x
 index_named ps [] n = absurd n
 index_named ps (k ∷ x) n = refl
 
@@ -50,7 +50,7 @@ none_at : (x : List ℕ) (front : List Procedure) (p : Procedure) (ps : List Pro
 none_at x [] p ps h = h.0
 none_at x (k ∷ front) p ps h = none_at x front p ps h.1
 
-number_here : (front : List Procedure) (p : Procedure) (ps : List Procedure) → ProceduresDiffer (front ++ p ∷ ps) → procedure_number (front ++ p ∷ ps) p.name ≡ length front
+pub number_here : (front : List Procedure) (p : Procedure) (ps : List Procedure) → ProceduresDiffer (front ++ p ∷ ps) → procedure_number (front ++ p ∷ ps) p.name ≡ length front
 number_here [] p ps d = ap (λ b. if b then 0 else suc (procedure_number ps p.name)) (bytes_same p.name)
 number_here (k ∷ front) p ps d = ap (λ b. if b then 0 else suc (procedure_number (front ++ p ∷ ps) p.name)) (bytes_sym p.name k.name ∙ none_at k.name front p ps d.0) ∙ ap suc (number_here front p ps d.1)
 

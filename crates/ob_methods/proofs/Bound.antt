@@ -58,16 +58,16 @@ module _ (c : Setting) (a : Activation c) (n : ℕ) (call : Caller) (b : ℕ) wh
       len ∙ ap (λ h. slots_passed h + operands_of rest) (ok.0 ∙ k.0) ∙ step
 
   module _ (families : FamiliesStand c) (tables : TablesStand c a.methods) (calls_follow : CallsFollow c call b) where
-    -- the procedure that is reached is called with the same words
-    reached : (f : Family) (k : Receiver) (t : QName) (p : Procedure) (d : QName) (e : Redefinition c f k p d) (xs : List Passed) (ws ops : List ℤ) (at : Pos) (pc : ℕ) (os : List AnObject) (s : State) (w : World) (number : ℕ) (o : Opcode) → code.HasAt (scope c a) pc (instr o (pos (a.methods f)) (pos number)) at → position_at a.u.positions pc ≡ at → effect c a pc (onto ws ops) w (instr o (pos (a.methods f)) (pos number)) ≡ on_found (method_at (slice_get c.img.types (type_number c.img.types d)) (pos (a.methods f))) (λ r. calls c.img r ws ops w) → ArgumentsFit c s.made (K c a) e.procedure.parameters xs ws → length ops + 1 ≤ 256 → Keeps c a n call b os s w →
-        Follows c (go c a pc (onto ws ops) w) (λ r s w. go c a (suc pc) (result_words c s.made r ++ ops) w) (λ r s w. ResultFine c p.result s.made r × Keeps c a n call b os s w) (call_found (nearest c.program (bases_in c.program d) f) xs (here_in c a n call b) at s)
-    reached f k t p d e xs ws ops at pc os s w number o has place is fit le st =
-        subst (λ z. Follows c (go c a pc (onto ws ops) w) (λ r s w. go c a (suc pc) (result_words c s.made r ++ ops) w) (λ r s w. ResultFine c p.result s.made r × Keeps c a n call b os s w) (call_found z xs (here_in c a n call b) at s)) (sym e.near)
-        (subst (λ z. Follows c (go c a pc (onto ws ops) w) (λ r s w. go c a (suc pc) (result_words c s.made r ++ ops) w) (λ r s w. ResultFine c z s.made r × Keeps c a n call b os s w) (call e.q xs a.unit at s)) e.result
-        (known_goes c a n call b calls_follow e.q e.procedure xs ws ops (onto ws ops) at pc (instr o (pos (a.methods f)) (pos number)) os s w e.is has.has place (is ∙ ap (λ m. on_found m (λ r. calls c.img r ws ops w)) (tables d f e.q e.near)) fit le st))
-
     own_type : (u : Form) (r : IsRecord c u) → IsRecordType c.program r.name
     own_type u r = (r.line, r.built ∙ ap (λ g. RecordForm (r.name ∷ r.line) g) (sym (ap fields_of r.built)))
+
+    -- the procedure that is reached is called with the same words
+    reached : (f : Family) (k : Receiver) (t : QName) (p : Procedure) (d : QName) (built : IsRecordType c.program d) (e : Redefinition c f k p d) (xs : List Passed) (ws ops : List ℤ) (at : Pos) (pc : ℕ) (os : List AnObject) (s : State) (w : World) (number : ℕ) (o : Opcode) → code.HasAt (scope c a) pc (instr o (pos (a.methods f)) (pos number)) at → position_at a.u.positions pc ≡ at → effect c a pc (onto ws ops) w (instr o (pos (a.methods f)) (pos number)) ≡ on_found (method_at (slice_get c.img.types (type_number c.img.types d)) (pos (a.methods f))) (λ r. calls c.img r ws ops w) → ArgumentsFit c s.made (K c a) e.procedure.parameters xs ws → length ops + 1 ≤ 256 → Keeps c a n call b os s w →
+        Follows c (go c a pc (onto ws ops) w) (λ r s w. go c a (suc pc) (result_words c s.made r ++ ops) w) (λ r s w. ResultFine c p.result s.made r × Keeps c a n call b os s w) (call_found (nearest c.program (bases_in c.program d) f) xs (here_in c a n call b) at s)
+    reached f k t p d built e xs ws ops at pc os s w number o has place is fit le st =
+        subst (λ z. Follows c (go c a pc (onto ws ops) w) (λ r s w. go c a (suc pc) (result_words c s.made r ++ ops) w) (λ r s w. ResultFine c p.result s.made r × Keeps c a n call b os s w) (call_found z xs (here_in c a n call b) at s)) (sym e.near)
+        (subst (λ z. Follows c (go c a pc (onto ws ops) w) (λ r s w. go c a (suc pc) (result_words c s.made r ++ ops) w) (λ r s w. ResultFine c z s.made r × Keeps c a n call b os s w) (call e.q xs a.unit at s)) e.result
+        (known_goes c a n call b calls_follow e.q e.procedure xs ws ops (onto ws ops) at pc (instr o (pos (a.methods f)) (pos number)) os s w e.is has.has place (is ∙ ap (λ m. on_found m (λ r. calls c.img r ws ops w)) (tables d f e.q built e.near)) fit le st))
 
     module _ (t q : QName) (p : Procedure) (f : Family) (built : IsRecordType c.program t) (near : nearest c.program (bases_in c.program t) f ≡ Some q) (found : values.procedure_of c.program q ≡ Some p) where
       -- the record type of what the receiver stands for
@@ -115,7 +115,7 @@ module _ (c : Setting) (a : Activation c) (n : ℕ) (call : Caller) (b : ℕ) wh
               let args2 = subst (λ x. ArgumentsFit c s.made (K c a) red.procedure.parameters (x ∷ xs) ws) g.1 args in
               subst (λ x. Goal (x ∷ xs)) (sym g.1)
               (subst (λ z. Follows c (go c a pc (onto ws ops) w) (λ r s w. go c a (suc pc) (result_words c s.made r ++ ops) w) (λ r s w. ResultFine c p.result s.made r × Keeps c a n call b os s w) (call_found (nearest c.program (bases_of c.program z) f) (ByPlace y ∷ xs) (here_in c a n call b) at s)) (sym (type_at c (K c a) s w st.all y h.0 r))
-              (reached f receiver.Record t p r.name red (ByPlace y ∷ xs) ws ops at pc os s w (behind_receiver es) op.CallR has has.place is args2 le st))
+              (reached f receiver.Record t p r.name (own_type _ r) red (ByPlace y ∷ xs) ws ops at pc os s w (behind_receiver es) op.CallR has has.place is args2 le st))
 
       -- POINTERS AS RECEIVERS
 
@@ -166,7 +166,7 @@ module _ (c : Setting) (a : Activation c) (n : ℕ) (call : Caller) (b : ℕ) wh
                   let args2 = subst (λ x. ArgumentsFit c s.made (K c a) red.procedure.parameters (x ∷ xs) ws) (g.1 ∙ ap ByValue z.1) args in
                   subst (λ x. Goal (x ∷ xs)) (sym (g.1 ∙ ap ByValue z.1))
                   (subst (λ o. Follows c (go c a pc (onto ws ops) w) (λ r s w. go c a (suc pc) (result_words c s.made r ++ ops) w) (λ r s w. ResultFine c p.result s.made r × Keeps c a n call b os s w) (call_found (nearest c.program (bases_of c.program o) f) (ByValue (Object m) ∷ xs) (here_in c a n call b) at s)) (sym (type_at c (K c a) s w st.all y (z.2, tt) r))
-                  (reached f receiver.Pointer t p r.name red (ByValue (Object m) ∷ xs) ws ops at pc os s w (behind_receiver es) op.CallP has has.place is args2 le st))
+                  (reached f receiver.Pointer t p r.name (own_type _ r) red (ByValue (Object m) ∷ xs) ws ops at pc os s w (behind_receiver es) op.CallP has has.place is args2 le st))
 
     bound_goes : (f : Family) (k : Receiver) (es : Actuals) (at : Pos) (pc : ℕ) (ops : List ℤ) (os : List AnObject) (t q : QName) (p : Procedure) → IsRecordType c.program t → nearest c.program (bases_in c.program t) f ≡ Some q → values.procedure_of c.program q ≡ Some p → ReceiverOk c.program k t p.parameters → Ok es p.parameters → code.CallCode (scope c a) (callee.Bound f k) es pc at → length ops + 1 ≤ 256 → NamedGoes c a n call b (callee.Bound f k) at p.result p.parameters pc ops os
     bound_goes f receiver.Record es at pc ops os t q p built near found rk ok has le = record_goes t q p f built near found es at pc ops os rk ok has le

@@ -251,7 +251,7 @@ module _ (program : Program) (Has : Signature → QName → Type 0) (unit : List
   abbrev pub CallOk : Callee → Option TypeRef → (List TypedParameter → Type 0) → Type 0 → Type 0
   CallOk (callee.Declared q) r Fits Out = (p : Procedure) × (procedure_of program q ≡ Some p) × (p.result ≡ r) × Fits p.parameters
   CallOk (callee.Bound f k) r Fits Out = (t : QName) × (q : QName) × (p : Procedure) × IsRecordType program t × (nearest program (bases_in program t) f ≡ Some q) × (procedure_of program q ≡ Some p) × ReceiverOk program k t p.parameters × (p.result ≡ r) × Fits p.parameters
-  CallOk (callee.Super base f k) r Fits Out = (q : QName) × (p : Procedure) × (nearest program (bases_in program base) f ≡ Some q) × (procedure_of program q ≡ Some p) × (p.result ≡ r) × Fits p.parameters
+  CallOk (callee.Super base f k) r Fits Out = (q : QName) × (p : Procedure) × IsRecordType program base × (nearest program (bases_in program base) f ≡ Some q) × (procedure_of program q ≡ Some p) × (p.result ≡ r) × Fits p.parameters
   CallOk (callee.Out o) r Fits Out = (r ≡ None) × Out
 
   abbrev mutual

@@ -3,3 +3,5 @@ pub mod Records
 pub mod Added
 pub mod Declared
 pub mod Entering
+pub mod Definitions
+pub mod Families
