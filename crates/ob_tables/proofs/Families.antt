@@ -17,6 +17,7 @@ use Rattle.ob_relation.specs.Layout.{procedure_index}
 use Rattle.ob_relation.specs.Typed.{IsRecordType}
 use Rattle.ob_relation.proofs.Names.{nat_same, and_both, bytes_same, bytes_true, name_true, name_same}
 use Rattle.ob_standing.specs.Fits.{IsNamed}
+use Rattle.ob_linking.proofs.Lookup.{length_one}
 use Rattle.ob_linking.proofs.Modules.{ProceduresDiffer, index_named, number_here}
 use Rattle.ob_tables.specs.Declared.{typed}
 use Rattle.ob_tables.specs.Families.{HasFamily, NumbersDiffer, NumbersAgree, IsBoundOnce, AreBoundOnce}
@@ -56,6 +57,13 @@ declared_somewhere (k ∷ front) p ps q f e = go (is_bound k.binding q f) (decla
     go true more = (typed q.«module» k.name, refl)
     go false more = more
 
+abbrev pub AllNamed : List Procedure → Type 0
+AllNamed [] = Unit {0}
+AllNamed (p ∷ ps) = IsNamed p.name × AllNamed ps
+
+some_one : (a b : QName) → Some a ≡ Some b → a ≡ b
+some_one a b e = cc
+
 module _ (program : Program) (number : Family → ℕ) (differ : NumbersDiffer program number) (types : QName → Option Desc) (agree : NumbersAgree program number types) (md : Module) (x : List ℕ) where
   abbrev q : QName
   q = typed md.name x
@@ -82,7 +90,7 @@ module _ (program : Program) (number : Family → ℕ) (differ : NumbersDiffer p
         record { owner = owner; has = has; number_is = agree q b.family built has }
 
     -- where a family is not declared, its number is none of a definition
-    none_found : (front ps : List Procedure) (n : ℕ) → md.procedures ≡ front ++ ps → AreBoundOnce md.name ps → (f : Family) → HasFamily program q f → declared_among ps q f ≡ None → found (Definitions ps n) (number f) ≡ None
+    pub none_found : (front ps : List Procedure) (n : ℕ) → md.procedures ≡ front ++ ps → AreBoundOnce md.name ps → (f : Family) → HasFamily program q f → declared_among ps q f ≡ None → found (Definitions ps n) (number f) ≡ None
     none_found front [] n whole once f has e = refl
     none_found front (p ∷ ps) n whole once f has e = go p.binding refl once.0 (none_found (front ++ p ∷ []) ps (suc n) (whole ∙ sym (append_assoc front (p ∷ []) ps)) once.1 f has (none_behind p ps q f e))
       where
@@ -103,3 +111,76 @@ module _ (program : Program) (number : Family → ℕ) (differ : NumbersDiffer p
                   where
                     both : (b : Bool) → b ≡ false → b ≡ true → ⊥
                     both b f t = absurd (cc)
+
+    -- where a family is declared, its number is that of a definition with the procedure that is declared
+    pub some_found : (front ps : List Procedure) (n : ℕ) → n ≡ suc (length front) → md.procedures ≡ front ++ ps → ProceduresDiffer md.procedures → AllNamed ps → AreBoundOnce md.name ps → (f : Family) → HasFamily program q f → (r : QName) → declared_among ps q f ≡ Some r → found (Definitions ps n) (number f) ≡ Some (procedure_index md.procedures r.object)
+    some_found front [] n at whole apart named once f has r e = absurd (none-some _ e)
+    some_found front (p ∷ ps) n at whole apart named once f has r e =
+        go p.binding refl once.0 e (λ g. some_found (front ++ p ∷ []) ps (suc n) (ap suc at ∙ ap suc (sym (length_one front p))) (whole ∙ sym (append_assoc front (p ∷ []) ps)) apart named.1 once.1 f has r g)
+      where
+        D : List Definition
+        D = Definitions ps (suc n)
+
+        Result : Option ℕ → Type 0
+        Result o = o ≡ Some (procedure_index md.procedures r.object)
+
+        index_is : procedure_index md.procedures p.name ≡ n
+        index_is =
+            ap (λ l. procedure_index l p.name) whole ∙ sym (index_named (front ++ p ∷ ps) p.name named.0)
+            ∙ ap suc (number_here front p ps (subst ProceduresDiffer whole apart)) ∙ sym at
+
+        go : (o : Option Binding) → p.binding ≡ o → IsBoundOnce md.name o ps → (if is_bound o q f then Some (typed q.«module» p.name) else declared_among ps q f) ≡ Some r → (declared_among ps q f ≡ Some r → Result (found D (number f))) → Result (found (if is_bound_to types md x o then record { number = bound_number types md o; procedure = n } ∷ D else D) (number f))
+        go None is once e more = more e
+        go (Some b) is once e more = by (bytes_eq x b.owner.object) refl
+          where
+            by : (z : Bool) → bytes_eq x b.owner.object ≡ z → Result (found (if z then record { number = bound_number types md (Some b); procedure = n } ∷ D else D) (number f))
+            by false g = more (subst (λ z. (if z then Some (typed q.«module» p.name) else declared_among ps q f) ≡ Some r) (not_here (is_bound (Some b) q f) refl) e)
+              where
+                not_here : (z : Bool) → is_bound (Some b) q f ≡ z → z ≡ false
+                not_here false h = refl
+                not_here true h = absurd (both (bytes_eq x b.owner.object) g (subst (λ (o : QName). bytes_eq x o.object ≡ true) (sym (bound_family b q f h).0) (bytes_same x)))
+                  where
+                    both : (b : Bool) → b ≡ false → b ≡ true → ⊥
+                    both b f t = absurd (cc)
+            by true g = on (is_bound (Some b) q f) refl e
+              where
+                k : Bound b
+                k = bound_to front p ps b whole is once g
+
+                at_it : ℕ
+                at_it = method_number types b.family.owner b.family.name
+
+                on : (z : Bool) → is_bound (Some b) q f ≡ z → (if z then Some (typed q.«module» p.name) else declared_among ps q f) ≡ Some r → Result (if nat_eq (number f) at_it then Some n else found D (number f))
+                on true h e =
+                    let same : nat_eq (number f) at_it ≡ true = subst (λ m. nat_eq (number f) m ≡ true) (sym (k.number_is ∙ ap number (bound_family b q f h).1)) (nat_same (number f)) in
+                    ap (λ z. if z then Some n else found D (number f)) same ∙ ap (λ i. Some i) (sym index_is) ∙ ap (λ (r : QName). Some (procedure_index md.procedures r.object)) (some_one (typed q.«module» p.name) r e)
+                on false h e =
+                    let other = differs (number f) at_it (λ same. no_one (differ q b.family f built k.has has (sym (same ∙ k.number_is)))) in
+                    ap (λ z. if z then Some n else found D (number f)) other ∙ more e
+                  where
+                    no_one : b.family ≡ f → ⊥
+                    no_one same = both (is_bound (Some b) q f) h (subst (λ g. is_bound (Some b) q g ≡ true) same (subst (λ o. is_bound (Some b) o b.family ≡ true) k.owner (bound_same b)))
+                      where
+                        both : (b : Bool) → b ≡ false → b ≡ true → ⊥
+                        both b f t = absurd (cc)
+
+    -- the definitions have different numbers
+    pub all_differ : (front ps : List Procedure) (n : ℕ) → md.procedures ≡ front ++ ps → AreBoundOnce md.name ps → Differ (Definitions ps n)
+    all_differ front [] n whole once = tt
+    all_differ front (p ∷ ps) n whole once = go p.binding refl once.0 (all_differ (front ++ p ∷ []) ps (suc n) whole2 once.1)
+      where
+        whole2 : md.procedures ≡ (front ++ p ∷ []) ++ ps
+        whole2 = whole ∙ sym (append_assoc front (p ∷ []) ps)
+
+        D : List Definition
+        D = Definitions ps (suc n)
+
+        go : (o : Option Binding) → p.binding ≡ o → IsBoundOnce md.name o ps → Differ D → Differ (if is_bound_to types md x o then record { number = bound_number types md o; procedure = n } ∷ D else D)
+        go None is o more = more
+        go (Some b) is o more = by (bytes_eq x b.owner.object) refl
+          where
+            by : (z : Bool) → bytes_eq x b.owner.object ≡ z → Differ (if z then record { number = bound_number types md (Some b); procedure = n } ∷ D else D)
+            by false g = more
+            by true g =
+                let k = bound_to front p ps b whole is o g in
+                (ap (found D) k.number_is ∙ none_found (front ++ p ∷ []) ps (suc n) whole2 once.1 b.family k.has (subst (λ z. declared_among ps z b.family ≡ None) k.owner o.1), more)
