@@ -6,7 +6,7 @@ use Rattle.std.specs.declared.cmp.Ordering.TheVariants as order
 use Rattle.std.proofs.lemmas.Bool.{eqb-true}
 use Rattle.std.proofs.lemmas.Cmp.{ranked}
 use Rattle.std.proofs.lemmas.List.{length-set, length-append, length-replicate}
-use Rattle.std.proofs.lemmas.Option.{none-some, slice_get_within}
+use Rattle.std.proofs.lemmas.Option.{none-some}
 use Rattle.ob_tree.specs.declared.proc_ref.ProcRef.{ProcRef}
 use Rattle.ob_obj.specs.declared.parts.Definition.{Definition}
 use Rattle.ob_obj.specs.Grammar.{by_number}

@@ -24,11 +24,11 @@ use Rattle.ob_tables.proofs.Added.{Added, added, are_of, descriptor_named, descr
 use Rattle.ob_tables.proofs.Declared.{declared_record, description_two, declared_name}
 
 -- what stands behind the descriptors of an image when more files are entered
-record Behind (types all : List Descriptor) : Type 0 where
+pub record Behind (types all : List Descriptor) : Type 0 where
   pub descriptors : List Descriptor
   pub is : all ≡ types ++ descriptors
 
-behind : (img : Image) (files : List ObjFile) → Behind img.types (image_of img files).types
+pub behind : (img : Image) (files : List ObjFile) → Behind img.types (image_of img files).types
 behind img [] = record { descriptors = []; is = sym (append-nil img.types) }
 behind img (f ∷ files) =
     let a = added f.head.«module» (length img.types) (type_links img f) (length img.modules) img.types f.body.types in
@@ -36,40 +36,44 @@ behind img (f ∷ files) =
     record { descriptors = a.descriptors ++ r.descriptors; is = r.is ∙ ap (λ t. t ++ r.descriptors) a.is ∙ append_assoc img.types a.descriptors r.descriptors }
 
 module _ (c : Setting) where
-  abbrev units : List Build → List Module
+  abbrev pub units : List Build → List Module
   units bs = map (λ b. b.unit) bs
 
   -- THE IMAGE of the first modules: their record types are in it, with their bases
-  record Front (ms : List Module) (img : Image) : Type 0 where
+  pub record Front (ms : List Module) (img : Image) : Type 0 where
     pub none : (name : List ℕ) → module_from 0 img.modules name ≡ None → NotOf name img.types
     pub based : AreBased c.program c.img.types img.types 0
     pub there : (q : QName) (r : RecordDesc) → description ms q ≡ Some (desc.Record r) → IsDescriptor img.types q
 
   -- with one more
   module _ (ms : List Module) (img : Image) (h : Front ms img) (b : Build) (declared : BasesDeclared c.program b.types b.unit b.unit.types 0) (files : List ObjFile) (loaded : c.img ≡ image_of (entered img (file_of b)) files) (can : AreEnterable img (file_of b ∷ files)) where
-    abbrev f : ObjFile
+    abbrev pub f : ObjFile
     f = file_of b
 
-    a : Added b.unit.name (length img.types) (type_links img f) (length img.modules) img.types f.body.types
-    a = added b.unit.name (length img.types) (type_links img f) (length img.modules) img.types f.body.types
+    -- its descriptors
+    pub mine : Added b.unit.name (length img.types) (type_links img f) (length img.modules) img.types f.body.types
+    mine = added b.unit.name (length img.types) (type_links img f) (length img.modules) img.types f.body.types
 
-    names : AreOf b.unit.name (names_of b.unit.types) a.descriptors
-    names = subst (λ n. AreOf b.unit.name n a.descriptors) (records_named b.types b.unit f.links.types b.unit.types) (are_of b.unit.name (length img.types) (type_links img f) (length img.modules) img.types f.body.types a.descriptors a.are)
+    pub names : AreOf b.unit.name (names_of b.unit.types) mine.descriptors
+    names = subst (λ n. AreOf b.unit.name n mine.descriptors) (records_named b.types b.unit f.links.types b.unit.types) (are_of b.unit.name (length img.types) (type_links img f) (length img.modules) img.types f.body.types mine.descriptors mine.are)
 
-    front_more : Front (ms ++ b.unit ∷ []) (entered img f)
-    front_more =
-        let u = module_of img f in
+    pub own_based : AreBased c.program c.img.types mine.descriptors (length img.types + 0)
+    own_based =
         let l = behind (entered img f) files in
-        let all = ap (λ (i : Image). i.types) loaded ∙ l.is ∙ ap (λ t. t ++ l.descriptors) a.is ∙ append_assoc img.types a.descriptors l.descriptors in
+        let all = ap (λ (i : Image). i.types) loaded ∙ l.is ∙ ap (λ t. t ++ l.descriptors) mine.is ∙ append_assoc img.types mine.descriptors l.descriptors in
         let none = h.none b.unit.name can.0.new in
         let count : 0 + length f.body.types ≡ length f.body.types = omega arith in
-        let own = descriptors_based b.types b.unit img.types a.descriptors l.descriptors c.img.types all none names can.0.types c.program (length img.modules) img.types f.body.types a.descriptors 0 (omega (arith, count)) a.are (file_based b.types b.unit c.program declared) in
+        descriptors_based b.types b.unit img.types mine.descriptors l.descriptors c.img.types all none names can.0.types c.program (length img.modules) img.types f.body.types mine.descriptors 0 (omega (arith, count)) mine.are (file_based b.types b.unit c.program declared)
+
+    pub front_more : Front (ms ++ b.unit ∷ []) (entered img f)
+    front_more =
+        let u = module_of img f in
         record {
-          none = λ name e. subst (NotOf name) (sym a.is) (not_two name img.types a.descriptors (h.none name (none_in_front 0 img.modules (u ∷ []) name e)) (others_not name b.unit.name (names_of b.unit.types) a.descriptors (none_at_last 0 img.modules u name e) names));
-          based = subst (λ t. AreBased c.program c.img.types t 0) (sym a.is) (based_two c.program c.img.types img.types a.descriptors 0 h.based own);
+          none = λ name e. subst (NotOf name) (sym mine.is) (not_two name img.types mine.descriptors (h.none name (none_in_front 0 img.modules (u ∷ []) name e)) (others_not name b.unit.name (names_of b.unit.types) mine.descriptors (none_at_last 0 img.modules u name e) names));
+          based = subst (λ t. AreBased c.program c.img.types t 0) (sym mine.is) (based_two c.program c.img.types img.types mine.descriptors 0 h.based own_based);
           there = λ q r e. ⊎_elim
               (λ k. types_stay b.unit.name (length img.types) (type_links img f) (length img.modules) img.types f.body.types q (h.there q r k))
-              (λ k. subst (λ t. IsDescriptor t q) (sym a.is) (descriptor_behind img.types a.descriptors q (descriptor_named b.unit.name (names_of b.unit.types) a.descriptors q names (declared_name b.unit.types q.object r k.1) k.0)))
+              (λ k. subst (λ t. IsDescriptor t q) (sym mine.is) (descriptor_behind img.types mine.descriptors q (descriptor_named b.unit.name (names_of b.unit.types) mine.descriptors q names (declared_name b.unit.types q.object r k.1) k.0)))
               (description_two ms b.unit q (desc.Record r) e);
         }
 

@@ -1,7 +1,6 @@
 -- The definitions of a record type in a module's file are those of the families that are declared for it there.
-use Rattle.std.proofs.Common.{◌≡◌, ℕ, suc, ◌+◌, List, [], ◌∷◌, ◌++◌, length, Option, Some, None, refl, sym, ap, ◌∙◌, subst, arith, append_assoc}
+use Rattle.std.proofs.Common.{◌≡◌, ℕ, suc, ◌+◌, List, [], ◌∷◌, ◌++◌, length, Option, Some, None, refl, sym, ap, ◌∙◌, subst, append_assoc}
 use Rattle.std.specs.Prelude.{Bool, true, false, ◌&&◌, nat_eq, bytes_eq, if◌then◌else◌}
-use Rattle.std.proofs.lemmas.Bool.{eqb-true}
 use Rattle.std.proofs.lemmas.Option.{none-some}
 use Rattle.ob_tree.specs.declared.names.QName.{QName}
 use Rattle.ob_types.specs.declared.desc.Desc.{Desc}
@@ -9,7 +8,7 @@ use Rattle.ob_types.specs.declared.typed.Binding.{Binding}
 use Rattle.ob_types.specs.declared.typed.Family.{Family}
 use Rattle.ob_types.specs.TypedSyntax.{Procedure, Module}
 use Rattle.ob_obj.specs.declared.parts.Definition.{Definition}
-use Rattle.ob_meaning.specs.Values.{same_name, Program, line_of, bases_in}
+use Rattle.ob_meaning.specs.Values.{same_name, Program, line_of}
 use Rattle.ob_meaning.specs.Meaning.{same_family, is_bound, declared_among, declared_for, first_of_both, nearest}
 use Rattle.ob_code.specs.Descriptions.{method_number}
 use Rattle.ob_code.specs.Object.{is_bound_to, bound_number, definitions_among}
@@ -61,7 +60,7 @@ abbrev pub AllNamed : List Procedure → Type 0
 AllNamed [] = Unit {0}
 AllNamed (p ∷ ps) = IsNamed p.name × AllNamed ps
 
-some_one : (a b : QName) → Some a ≡ Some b → a ≡ b
+pub some_one : (a b : QName) → Some a ≡ Some b → a ≡ b
 some_one a b e = cc
 
 module _ (program : Program) (number : Family → ℕ) (differ : NumbersDiffer program number) (types : QName → Option Desc) (agree : NumbersAgree program number types) (md : Module) (x : List ℕ) where

@@ -5,3 +5,5 @@ pub mod Declared
 pub mod Entering
 pub mod Definitions
 pub mod Families
+pub mod Tables
+pub mod Loaded

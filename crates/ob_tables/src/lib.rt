@@ -3,6 +3,7 @@
 #![tactic(auto)]
 
 ghost use Rattle.ob_tables.specs.Based.{BasesFromFiles};
+ghost use Rattle.ob_tables.specs.Families.{TablesFromFiles};
 
 /// A law, with nothing to run. Where the object files of a program's modules are the first of an
 /// image (`AreFiles`), each record type has a descriptor with the number of its base's, which stands
@@ -11,4 +12,14 @@ ghost use Rattle.ob_tables.specs.Based.{BasesFromFiles};
 /// (`AllBasesDeclared`).
 pub fn bases_from_files()
     ensures { BasesFromFiles }
+{}
+
+/// A law, with nothing to run. Where the object files of a program's modules are the first of an
+/// image (`AreFiles`), the table of each record type has, at the number of each family of bound
+/// procedures, the one that is declared nearest to the type (`TablesStand`), though the table is
+/// built from that of the base and the meaning searches. What the rules owe stays as premises: the
+/// families of a type have different numbers (`NumbersDiffer`), all descriptions have these numbers
+/// and count them, and a family is bound to a type once (`AllFamiliesDeclared`).
+pub fn tables_from_files()
+    ensures { TablesFromFiles }
 {}
