@@ -21,7 +21,7 @@ use Rattle.ob_standing.specs.Described.{IsDescribed}
 use Rattle.ob_standing.specs.Compiled.{AllCompiled, IsCompiled}
 use Rattle.ob_standing.proofs.Words.{local_sum}
 use Rattle.ob_standing.proofs.Entered.{entered_stands}
-use Rattle.ob_linking.specs.Files.{Build, file_of, empty, KeepsRules, AllKeepRules, CompiledStand}
+use Rattle.ob_linking.specs.Files.{Build, file_of, empty, AreFiles, KeepsRules, AllKeepRules, CompiledStand}
 use Rattle.ob_linking.proofs.Lines.{lines_strings}
 use Rattle.ob_linking.proofs.Statements.{module_words}
 use Rattle.ob_linking.proofs.Lookup.{all_at, map_at, length_one, none_in_front, none_at_last, among_last}
@@ -112,13 +112,25 @@ module _ (c : Setting) where
         (own_is b.types b.unit f.links.types img.types a.descriptors l.descriptors c.img.types all none are l.others)
         (λ x i. types_are b.types b.unit f.links.types img.types a.descriptors l.descriptors c.img.types all none are l.others (type_links img f) x i)
 
-  stand_from : (bs : List Build) (img : Image) (back : List Build) (more : List ObjFile) → Entered bs img → c.program ≡ units bs ++ units back → c.img ≡ image_of img (map file_of back ++ more) → AreEnterable img (map file_of back ++ more) → AllKeepRules c back → AllCompiled c (units back)
+  -- each build stands in the image as it was compiled
+  abbrev pub BuildsCompiled : List Build → Type 0
+  BuildsCompiled [] = Unit {0}
+  BuildsCompiled (b ∷ bs) = ((m : ℕ) × (u : ModuleImage) × IsCompiled c b.types b.unit m u) × BuildsCompiled bs
+
+  stand_from : (bs : List Build) (img : Image) (back : List Build) (more : List ObjFile) → Entered bs img → c.program ≡ units bs ++ units back → c.img ≡ image_of img (map file_of back ++ more) → AreEnterable img (map file_of back ++ more) → AllKeepRules c back → BuildsCompiled back
   stand_from bs img [] more h whole loaded can rules = tt
   stand_from bs img (b ∷ back) more h whole loaded can rules = (
-    (b.types, length img.modules, module_of img (file_of b), stands bs img h b (units back) whole rules.0 (map file_of back ++ more) loaded can, rules.0.checked),
+    (length img.modules, module_of img (file_of b), stands bs img h b (units back) whole rules.0 (map file_of back ++ more) loaded can),
     stand_from (bs ++ b ∷ []) (entered img (file_of b)) back more (entered_more bs img h b (units back) whole rules.0) (whole ∙ sym (units_more bs b (units back))) loaded can.1 rules.1,
   )
 
+  pub all_compiled : (bs : List Build) → BuildsCompiled bs → AllKeepRules c bs → AllCompiled c (units bs)
+  all_compiled [] h rules = tt
+  all_compiled (b ∷ bs) h rules = ((b.types, h.0.0, h.0.1, h.0.2, rules.0.checked), all_compiled bs h.1 rules.1)
+
+pub builds_compiled : (c : Setting) (builds : List Build) (more : List ObjFile) → AreFiles c builds more → AllKeepRules c builds → BuildsCompiled c builds
+builds_compiled c builds more files rules = stand_from c [] (empty c.img.room) builds more (record { modules = tt; number = refl; next = refl; types = λ name e. tt; rules = tt }) files.program files.image files.enterable rules
+
 -- THE LAW
 pub compiled_stand : CompiledStand
-compiled_stand c builds more files rules = subst (AllCompiled c) (sym files.program) (stand_from c [] (empty c.img.room) builds more (record { modules = tt; number = refl; next = refl; types = λ name e. tt; rules = tt }) files.program files.image files.enterable rules)
+compiled_stand c builds more files rules = subst (AllCompiled c) (sym files.program) (all_compiled c builds (builds_compiled c builds more files rules) rules)

@@ -7,3 +7,5 @@ pub mod Definitions
 pub mod Families
 pub mod Tables
 pub mod Loaded
+pub mod Redefined
+pub mod Image

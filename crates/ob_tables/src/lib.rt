@@ -4,6 +4,7 @@
 
 ghost use Rattle.ob_tables.specs.Based.{BasesFromFiles};
 ghost use Rattle.ob_tables.specs.Families.{TablesFromFiles};
+ghost use Rattle.ob_tables.specs.Image.{ProgramFromFiles};
 
 /// A law, with nothing to run. Where the object files of a program's modules are the first of an
 /// image (`AreFiles`), each record type has a descriptor with the number of its base's, which stands
@@ -22,4 +23,13 @@ pub fn bases_from_files()
 /// and count them, and a family is bound to a type once (`AllFamiliesDeclared`).
 pub fn tables_from_files()
     ensures { TablesFromFiles }
+{}
+
+/// A law, with nothing to run. Where the object files of a program's modules are the first of an
+/// image (`AreFiles`) and the modules keep the rules (`RulesKept`), the program stands in the image
+/// as the law of simulation asks (`ProgramStands`): each procedure and each body with the tables that
+/// its calls rest on, and each record type with its words, its bases and its families. Left to a
+/// premise of its own are the procedures that variables may have as values.
+pub fn program_from_files()
+    ensures { ProgramFromFiles }
 {}
