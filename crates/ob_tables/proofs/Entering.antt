@@ -1,5 +1,5 @@
 -- The record types of a program have their bases in the image of its files.
-use Rattle.std.proofs.Common.{◌≡◌, ⊎_elim, ℕ, ◌+◌, List, [], ◌∷◌, ◌++◌, length, map, sym, ap, ◌∙◌, subst, arith, append_assoc, append-nil, Some, None}
+use Rattle.std.proofs.Common.{◌<◌, ◌≡◌, ⊎_elim, ℕ, ◌+◌, List, [], ◌∷◌, ◌++◌, length, map, sym, ap, ◌∙◌, subst, arith, append_assoc, append-nil, Some, None}
 use Rattle.ob_tree.specs.declared.names.QName.{QName}
 use Rattle.ob_types.specs.declared.desc.Desc.TheVariants as desc
 use Rattle.ob_types.specs.declared.desc.RecordDesc.{RecordDesc}
@@ -21,6 +21,7 @@ use Rattle.ob_tables.specs.Based.{AllBasesDeclared, BasesFromFiles}
 use Rattle.ob_tables.proofs.Bases.{AreBased, based_two, FoundBased, found_based, bases_stand}
 use Rattle.ob_tables.proofs.Records.{file_based}
 use Rattle.ob_tables.proofs.Added.{Added, added, are_of, descriptor_named, descriptor_behind, descriptors_based}
+use Rattle.ob_tables.proofs.Few.{few_from, few_enough}
 use Rattle.ob_tables.proofs.Declared.{declared_record, description_two, declared_name}
 
 -- what stands behind the descriptors of an image when more files are entered
@@ -89,5 +90,6 @@ module _ (c : Setting) where
 
 -- THE LAW
 pub bases_from_files : BasesFromFiles
-bases_from_files c builds more files built declared few =
-    bases_stand c built (found_from c [] (empty c.img.room) builds more (record { none = λ name e. tt; based = tt; there = λ q r e. absurd (cc) }) files.program files.image files.enterable declared) few
+bases_from_files c builds more files built declared =
+    bases_stand c built (found_from c [] (empty c.img.room) builds more (record { none = λ name e. tt; based = tt; there = λ q r e. absurd (cc) }) files.program files.image files.enterable declared)
+    (subst (λ (i : Image). length i.types < 2147483648) (sym files.image) (few_enough _ (few_from (empty c.img.room) _ (record { modules = omega arith; types = omega arith }) files.enterable)))

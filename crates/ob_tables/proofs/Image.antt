@@ -1,5 +1,5 @@
 -- A program stands in the image of its files.
-use Rattle.std.proofs.Common.{◌≡◌, suc, List, [], ◌∷◌, ◌++◌, length, map, refl, sym, ap, ◌∙◌, subst, append_assoc, append-nil, Option, Some}
+use Rattle.std.proofs.Common.{arith, ◌≡◌, suc, List, [], ◌∷◌, ◌++◌, length, map, refl, sym, ap, ◌∙◌, subst, append_assoc, append-nil, Option, Some}
 use Rattle.std.specs.Prelude.{Bool, true, false, ◌&&◌, bytes_eq, slice_get, if◌then◌else◌}
 use Rattle.std.proofs.lemmas.Option.{none-some}
 use Rattle.ob_tree.specs.declared.names.QName.{QName}
@@ -24,6 +24,8 @@ use Rattle.ob_linking.proofs.Whole.{BuildsCompiled, builds_compiled}
 use Rattle.ob_tables.specs.Based.{AllBasesDeclared}
 use Rattle.ob_tables.specs.Families.{NumbersAgree, AllFamiliesDeclared}
 use Rattle.ob_tables.specs.Image.{AllDeclarationsFit, AllBodiesChecked, StandsWithTables, BodiesStand, ProgramFromFiles}
+use Rattle.ob_tables.proofs.Few.{Few, few_from, all_few}
+use Rattle.ob_tables.proofs.Numbered.{numbered}
 use Rattle.ob_tables.proofs.Definitions.{front_at}
 use Rattle.ob_tables.proofs.Declared.{declared_record}
 use Rattle.ob_tables.proofs.Entering.{behind, units, Front, front_more, bases_from_files}
@@ -77,20 +79,35 @@ module _ (c : Setting) where
 
 -- THE LAW
 pub program_from_files : ProgramFromFiles
-program_from_files c builds more files rules =
-    let compiled = builds_compiled c builds more files rules.modules in
-    let table = tables_from_files c builds more files rules.modules rules.built rules.bases rules.number rules.differ rules.families in
-    let tables = all_tables builds rules.families table in
-    record {
-      procedures = λ q p e. procedures_from c builds compiled rules.modules tables q p (ap (λ l. procedure_of l q) (sym files.program) ∙ e);
-      bodies = bodies_from c builds compiled rules.bodies tables;
-      types = λ q line e.
-          let t = size_from c [] (empty c.img.room) builds more (record { none = λ name e. tt; based = tt; there = λ q r e. absurd (cc) }) tt files.program files.image files.enterable rules.bases rules.sizes q (line, e) in
-          record { ok = rules.forms q (line, e); descriptor = t.descriptor; found = t.found; size = t.size };
-      bases = bases_from_files c builds more files rules.built rules.bases rules.few;
-      families = families_stand c rules.built rules.redefinitions;
-    }
+program_from_files c builds more files rules = record {
+  image = record {
+    linked = λ q p e. (procedures q p e).stands;
+    types = λ q line e.
+        let t = size_from c [] (empty c.img.room) builds more (record { none = λ name e. tt; based = tt; there = λ q r e. absurd (cc) }) tt files.program files.image files.enterable rules.bases rules.sizes q (line, e) in
+        record { ok = rules.forms q (line, e); descriptor = t.descriptor; found = t.found; size = t.size };
+    bases = bases_from_files c builds more files rules.built rules.bases;
+    numbered = λ s q has.
+        let v = rules.values s q has in
+        numbered c few builds compiled (all_few (empty c.img.room) builds more files.enterable) q v.0 v.1 (ap (λ l. procedure_of l q) (sym files.program) ∙ v.1);
+    match = rules.match;
+    tables = λ q p e. (procedures q p e).tables;
+    families = families_stand c rules.built rules.redefinitions;
+  };
+  bodies = bodies_from c builds compiled rules.bodies tables;
+}
   where
+    compiled : BuildsCompiled c builds
+    compiled = builds_compiled c builds more files rules.modules
+
+    few : Few c.img
+    few = subst Few (sym files.image) (few_from (empty c.img.room) (map file_of builds ++ more) (record { modules = omega arith; types = omega arith }) files.enterable)
+
     all_tables : (bs : List Build) → AllFamiliesDeclared c.program rules.number bs → ((types : QName → Option Desc) → NumbersAgree c.program rules.number types → TablesStand c (λ f. method_number types f.owner f.name)) → AllTables c bs
     all_tables [] h t = tt
     all_tables (b ∷ bs) h t = (t b.types h.0.0, all_tables bs h.1 t)
+
+    tables : AllTables c builds
+    tables = all_tables builds rules.families (tables_from_files c builds more files rules.modules rules.built rules.bases rules.number rules.differ rules.families)
+
+    procedures : (q : QName) (p : Procedure) → procedure_of c.program q ≡ Some p → StandsWithTables c q p
+    procedures q p e = procedures_from c builds compiled rules.modules tables q p (ap (λ l. procedure_of l q) (sym files.program) ∙ e)

@@ -1,8 +1,10 @@
 pub mod Bases
 pub mod Records
 pub mod Added
+pub mod Few
 pub mod Declared
 pub mod Entering
+pub mod Numbered
 pub mod Definitions
 pub mod Families
 pub mod Tables

@@ -1,5 +1,5 @@
 -- That the record types of an image have the bases of their declarations: the law.
-use Rattle.std.specs.Prelude.{◌<◌, List, [], ◌∷◌, length}
+use Rattle.std.specs.Prelude.{List, [], ◌∷◌}
 use Rattle.ob_obj.specs.declared.file.ObjFile.{ObjFile}
 use Rattle.ob_meaning.specs.Values.{Program}
 use Rattle.ob_relation.specs.Setting.{Setting}
@@ -12,6 +12,5 @@ AllBasesDeclared program [] = Unit {0}
 AllBasesDeclared program (b ∷ builds) = BasesDeclared program b.types b.unit b.unit.types 0 × AllBasesDeclared program builds
 
 -- Where the files of a program's modules are the first of an image, each record type has a descriptor, which has the number of its base's.
--- An image has fewer types than a word has numbers.
 abbrev pub BasesFromFiles : Type 0
-BasesFromFiles = (c : Setting) (builds : List Build) (more : List ObjFile) → AreFiles c builds more → BasesBuilt c.program → AllBasesDeclared c.program builds → length c.img.types < 2147483648 → BasesStand c
+BasesFromFiles = (c : Setting) (builds : List Build) (more : List ObjFile) → AreFiles c builds more → BasesBuilt c.program → AllBasesDeclared c.program builds → BasesStand c

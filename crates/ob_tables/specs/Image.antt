@@ -1,6 +1,7 @@
 -- That an image of files is as the law of simulation asks: the law.
-use Rattle.std.specs.Prelude.{◌≡◌, ◌<◌, ℕ, List, [], ◌∷◌, length, Some}
+use Rattle.std.specs.Prelude.{◌≡◌, ℕ, List, [], ◌∷◌, Some}
 use Rattle.ob_tree.specs.declared.names.QName.{QName}
+use Rattle.ob_types.specs.declared.types.Signature.{Signature}
 use Rattle.ob_types.specs.declared.typed.Family.{Family}
 use Rattle.ob_types.specs.TypedSyntax.{Procedure}
 use Rattle.ob_obj.specs.declared.file.ObjFile.{ObjFile}
@@ -9,10 +10,11 @@ use Rattle.ob_meaning.specs.Commands.{body_name, body_procedure}
 use Rattle.ob_code.specs.Procedures.{body_of}
 use Rattle.ob_relation.specs.Relation.{FormOk}
 use Rattle.ob_relation.specs.Typed.{IsRecordType}
-use Rattle.ob_relation.specs.Setting.{Setting}
-use Rattle.ob_relation.specs.Linked.{ProcedureStands, TypesStand}
-use Rattle.ob_records.specs.Bases.{BasesStand}
-use Rattle.ob_methods.specs.Tables.{TablesStand, FamiliesStand}
+use Rattle.ob_relation.specs.Setting.{Setting, has_of}
+use Rattle.ob_relation.specs.Linked.{ProcedureStands}
+use Rattle.ob_methods.specs.Signatures.{ValuesMatch}
+use Rattle.ob_methods.specs.Tables.{TablesStand}
+use Rattle.ob_simulation.specs.Simulates.{ImageStands}
 use Rattle.ob_standing.specs.Compiled.{IsChecked}
 use Rattle.ob_standing.specs.Descriptors.{DeclarationsFit}
 use Rattle.ob_linking.specs.Files.{Build, AreFiles, AllKeepRules}
@@ -44,8 +46,9 @@ pub record RulesKept (c : Setting) (builds : List Build) : Type 0 where
   pub differ : NumbersDiffer c.program number
   pub families : AllFamiliesDeclared c.program number builds
   pub redefinitions : RedefinitionsKept c.program
-  -- there are fewer record types than a word has numbers
-  pub few : length c.img.types < 2147483648
+  -- what a variable of a procedure type may have as its value is a procedure of the program, of the variable's signature
+  pub values : (s : Signature) (q : QName) → has_of c s q → (p : Procedure) × (procedure_of c.program q ≡ Some p)
+  pub match : ValuesMatch c
 
 -- a procedure stands in the image, and the tables are those that its calls rest on
 pub record StandsWithTables (c : Setting) (q : QName) (p : Procedure) : Type 0 where
@@ -56,13 +59,10 @@ abbrev pub BodiesStand : Setting → List Build → Type 0
 BodiesStand c [] = Unit {0}
 BodiesStand c (b ∷ builds) = StandsWithTables c (body_name b.unit) (body_procedure b.unit) × BodiesStand c builds
 
--- the premises of the law of simulation, but for the values that variables of procedure types have
+-- what the law of simulation asks for, and the same of the bodies of the modules
 pub record ProgramStands (c : Setting) (builds : List Build) : Type 0 where
-  pub procedures : (q : QName) (p : Procedure) → procedure_of c.program q ≡ Some p → StandsWithTables c q p
+  pub image : ImageStands c
   pub bodies : BodiesStand c builds
-  pub types : TypesStand c
-  pub bases : BasesStand c
-  pub families : FamiliesStand c
 
 -- Where the files of a program's modules are the first of an image and the modules keep the rules, the program stands in the image.
 abbrev pub ProgramFromFiles : Type 0

@@ -26,10 +26,10 @@ pub fn tables_from_files()
 {}
 
 /// A law, with nothing to run. Where the object files of a program's modules are the first of an
-/// image (`AreFiles`) and the modules keep the rules (`RulesKept`), the program stands in the image
-/// as the law of simulation asks (`ProgramStands`): each procedure and each body with the tables that
-/// its calls rest on, and each record type with its words, its bases and its families. Left to a
-/// premise of its own are the procedures that variables may have as values.
+/// image (`AreFiles`) and the modules keep the rules (`RulesKept`), the image is as the law of
+/// simulation asks (`ImageStands`): it has each procedure with the tables that its calls rest on, and
+/// each record type with its words, its bases and its families, and tells the procedures that
+/// variables may have as values. So are the bodies of the modules.
 pub fn program_from_files()
     ensures { ProgramFromFiles }
 {}
