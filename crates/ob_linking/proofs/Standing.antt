@@ -13,11 +13,11 @@ use Rattle.ob_relation.specs.Setting.{Setting}
 use Rattle.ob_relation.proofs.Names.{bytes_true}
 use Rattle.ob_standing.specs.Fits.{IsNamed}
 use Rattle.ob_standing.specs.Compiled.{IsCompiled, IsChecked, ProceduresChecked}
-use Rattle.ob_standing.proofs.Procedures.{index_named, procedure_stands, methods_are}
+use Rattle.ob_standing.proofs.Procedures.{index_named, procedure_stands, procedure_methods}
 use Rattle.ob_linking.specs.Files.{Build, AllKeepRules}
 use Rattle.ob_linking.specs.Standing.{IsIn, StandsBy, ProceduresStand, BodiesStand}
 use Rattle.ob_linking.proofs.Described.{units, in_more}
-use Rattle.ob_linking.proofs.Whole.{AllStand, all_stand}
+use Rattle.ob_linking.proofs.Whole.{BuildsCompiled, builds_compiled}
 
 module _ (c : Setting) where
   record Named (types : QName → Option Desc) (md : Module) (ps : List Procedure) (x : List ℕ) (p : Procedure) : Type 0 where
@@ -45,7 +45,7 @@ module _ (c : Setting) where
   later b bs q p s = record { build = s.build; among = in_more b bs s.build s.among; stands = s.stands; methods = s.methods }
 
   -- PROCEDURES
-  stand_by : (bs : List Build) (q : QName) (p : Procedure) → AllStand c bs → AllKeepRules c bs → procedure_of (units bs) q ≡ Some p → StandsBy c bs q p
+  stand_by : (bs : List Build) (q : QName) (p : Procedure) → BuildsCompiled c bs → AllKeepRules c bs → procedure_of (units bs) q ≡ Some p → StandsBy c bs q p
   stand_by [] q p all rules e = absurd (none-some _ e)
   stand_by (b ∷ bs) q p all rules e = go (bytes_eq q.module b.unit.name) refl e (λ f. stand_by bs q p all.1 rules.1 f)
     where
@@ -59,19 +59,19 @@ module _ (c : Setting) where
             build = b;
             among = in_front b bs;
             stands = procedure_stands b.types b.unit c k.0 k.1 k.2 q.object p f n.checked;
-            methods = methods_are b.types b.unit c k.0 k.1 k.2 q.object p f n.checked;
+            methods = procedure_methods b.types b.unit c k.0 k.1 k.2 q.object p f n.checked;
           })
       go false t e more = later b bs q p (more e)
 
   -- BODIES
-  body_at : (front : List Build) (b : Build) (back : List Build) → AllStand c (front ++ b ∷ back) → (m : ℕ) × (u : ModuleImage) × IsCompiled c b.types b.unit m u
+  body_at : (front : List Build) (b : Build) (back : List Build) → BuildsCompiled c (front ++ b ∷ back) → (m : ℕ) × (u : ModuleImage) × IsCompiled c b.types b.unit m u
   body_at [] b back all = all.0
   body_at (a ∷ front) b back all = body_at front b back all.1
 
 pub procedures_stand : ProceduresStand
-procedures_stand c builds more files rules q p e = stand_by c builds q p (all_stand c builds more files rules) rules (ap (λ ms. procedure_of ms q) (sym files.program) ∙ e)
+procedures_stand c builds more files rules q p e = stand_by c builds q p (builds_compiled c builds more files rules) rules (ap (λ ms. procedure_of ms q) (sym files.program) ∙ e)
 
 pub bodies_stand : BodiesStand
 bodies_stand c builds more files rules b i h =
-    let k = body_at c i.front b i.back (subst (AllStand c) i.is (all_stand c builds more files rules)) in
-    record { stands = procedure_stands b.types b.unit c k.0 k.1 k.2 [] (body_of b.unit) refl h; methods = methods_are b.types b.unit c k.0 k.1 k.2 [] (body_of b.unit) refl h }
+    let k = body_at c i.front b i.back (subst (BuildsCompiled c) i.is (builds_compiled c builds more files rules)) in
+    record { stands = procedure_stands b.types b.unit c k.0 k.1 k.2 [] (body_of b.unit) refl h; methods = procedure_methods b.types b.unit c k.0 k.1 k.2 [] (body_of b.unit) refl h }

@@ -107,25 +107,25 @@ module _ (c : Setting) where
         (own_is b.types b.unit f.links.types img.types t.own t.behind c.img.types all t.none t.are t.others)
         (λ x i. types_are b.types b.unit f.links.types img.types t.own t.behind c.img.types all t.none t.are t.others (type_links img f) x i)
 
-  -- each of them stands as it was compiled
-  abbrev pub AllStand : List Build → Type 0
-  AllStand [] = Unit {0}
-  AllStand (b ∷ bs) = ((m : ℕ) × (u : ModuleImage) × IsCompiled c b.types b.unit m u) × AllStand bs
+  -- each build stands in the image as it was compiled
+  abbrev pub BuildsCompiled : List Build → Type 0
+  BuildsCompiled [] = Unit {0}
+  BuildsCompiled (b ∷ bs) = ((m : ℕ) × (u : ModuleImage) × IsCompiled c b.types b.unit m u) × BuildsCompiled bs
 
-  stand_from : (bs : List Build) (img : Image) (back : List Build) (more : List ObjFile) → Entered bs img → c.program ≡ units bs ++ units back → c.img ≡ image_of img (map file_of back ++ more) → AreEnterable img (map file_of back ++ more) → AllKeepRules c back → AllStand back
+  stand_from : (bs : List Build) (img : Image) (back : List Build) (more : List ObjFile) → Entered bs img → c.program ≡ units bs ++ units back → c.img ≡ image_of img (map file_of back ++ more) → AreEnterable img (map file_of back ++ more) → AllKeepRules c back → BuildsCompiled back
   stand_from bs img [] more h whole loaded can rules = tt
   stand_from bs img (b ∷ back) more h whole loaded can rules = (
     (length img.modules, module_of img (file_of b), stands bs img h b (units back) whole rules.0 (map file_of back ++ more) loaded can),
     stand_from (bs ++ b ∷ []) (entered img (file_of b)) back more (entered_more bs img h b (units back) whole rules.0) (whole ∙ sym (units_more bs b (units back))) loaded can.1 rules.1,
   )
 
-  all_compiled : (bs : List Build) → AllStand bs → AllKeepRules c bs → AllCompiled c (units bs)
+  pub all_compiled : (bs : List Build) → BuildsCompiled bs → AllKeepRules c bs → AllCompiled c (units bs)
   all_compiled [] h rules = tt
   all_compiled (b ∷ bs) h rules = ((b.types, h.0.0, h.0.1, h.0.2, rules.0.checked), all_compiled bs h.1 rules.1)
 
-  pub all_stand : (builds : List Build) (more : List ObjFile) → AreFiles c builds more → AllKeepRules c builds → AllStand builds
-  all_stand builds more files rules = stand_from [] (empty files.room) builds more (record { modules = tt; number = refl; next = refl; types = λ name e. tt; rules = tt }) files.program files.image files.enterable rules
+pub builds_compiled : (c : Setting) (builds : List Build) (more : List ObjFile) → AreFiles c builds more → AllKeepRules c builds → BuildsCompiled c builds
+builds_compiled c builds more files rules = stand_from c [] (empty files.room) builds more (record { modules = tt; number = refl; next = refl; types = λ name e. tt; rules = tt }) files.program files.image files.enterable rules
 
 -- THE LAW
 pub compiled_stand : CompiledStand
-compiled_stand c builds more files rules = subst (AllCompiled c) (sym files.program) (all_compiled c builds (all_stand c builds more files rules) rules)
+compiled_stand c builds more files rules = subst (AllCompiled c) (sym files.program) (all_compiled c builds (builds_compiled c builds more files rules) rules)

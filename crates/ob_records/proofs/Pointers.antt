@@ -35,10 +35,11 @@ use Rattle.ob_relation.proofs.Exprs.{from_here, since, widen_kept}
 use Rattle.ob_relation.proofs.Pointers.{pointee_follows, made_follows}
 use Rattle.ob_relation.proofs.Stmts.{store_follows, plain_to, plain_kept}
 use Rattle.ob_relation.specs.Linked.{TypesStand}
+use Rattle.ob_relation.proofs.Sources.{place_ok}
 use Rattle.ob_relation.specs.Setting.{Setting, StandIn, has_of}
 use Rattle.ob_records.specs.Bases.{BasesStand}
 use Rattle.ob_records.proofs.Bases.{passes}
-use Rattle.ob_records.proofs.Tags.{one_less, IsRecord, record_below, record_above, sub_sub, place_form_ok, type_at, object_tag, extends_it}
+use Rattle.ob_records.proofs.Tags.{one_less, IsRecord, record_below, record_above, sub_sub, type_at, object_tag, extends_it}
 
 pub tagged_more : (d : Desig) → need_place d ≤ need_tagged d
 tagged_more (OfVariable v t) = omega arith
@@ -59,7 +60,7 @@ module _ (c : Setting) (stand : BasesStand c) (cs : List Active) (s : State) (w 
   pub object_record : (r : TypeRef) (q : QName) (n : ℕ) → TestOk c.program q (form_in c.program r) → n < length s.made → Sub (object_at s.made n) (form_in c.program r) → IsRecord c (object_at s.made n)
   object_record r q n ok lt sub =
       let up = record_above c (record_in c.program q) (form_in c.program r) _ _ ok.1 ok.0.1 in
-      record_below c (object_at s.made n) (form_in c.program r) up.0 _ sub up.1 (place_form_ok c cs s w st (At (OfObject n) []) (lt, tt))
+      record_below c (object_at s.made n) (form_in c.program r) up.0 _ sub up.1 (place_ok c cs s w st (At (OfObject n) []) (lt, tt))
 
   pub pointer_test : (v : Value) (r : TypeRef) (q : QName) → PointsTo c.program s.made r v → TestOk c.program q (form_in c.program r) → pointer_passes c.img.types w.words (word_of c.program (has_of c) c.img s.made v) (type_number c.img.types q) ≡ Some (test v q)
   pointer_test v r q fine ok = ⊎_elim (λ f. subst Goal (sym f) refl) (λ k. subst Goal (sym k.1) (object k.0 k.2 k.3)) fine

@@ -203,7 +203,7 @@ module _ (types : QName → Option Desc) (md : Module) where
           forms = h.forms;
         }
 
-    -- by the numbers of bound procedures that its descriptions have
-    pub methods_are : (x : List ℕ) (p : Procedure) (e : slice_get (all_procedures md) (procedure_index md.procedures x) ≡ Some p) (h : IsChecked c types md p) → (procedure_stands x p e h).methods ≡ methods
+    -- its numbers of families are those of the module's descriptions
+    pub procedure_methods : (x : List ℕ) (p : Procedure) (e : slice_get (all_procedures md) (procedure_index md.procedures x) ≡ Some p) (h : IsChecked c types md p) → (procedure_stands x p e h).methods ≡ methods
     unfolding procedure_stands
-    methods_are x p e h = refl
+    procedure_methods x p e h = refl
