@@ -1,4 +1,3 @@
-pub mod Orders
 pub mod Opens
 pub mod Made
 pub mod Copies

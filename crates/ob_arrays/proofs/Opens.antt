@@ -15,16 +15,15 @@ use Rattle.ob_instr.proofs.Goes as rows
 use Rattle.ob_meaning.specs.Values.{Program, Form, PointerForm, ArrayForm, OpenForm, form_in, words, Value, Integer, Nil, Object, length_of, integer_of, OfModule, OfCall, OfObject, ElementStep, Place, At, inside, value_at, Active, AnObject, Whole, Opened, State}
 use Rattle.ob_meaning.specs.Results.{Trapped, Gives, Stops, Caller}
 use Rattle.ob_meaning.specs.Operators.{is_in}
-use Rattle.ob_meaning.specs.Meaning.{place, pointee, element_place, choose, costs_of}
+use Rattle.ob_meaning.specs.Meaning.{pointee, element_place, choose, costs_of}
 use Rattle.ob_meaning.specs.Calls.{element_form}
 use Rattle.ob_relation.specs.Layout.{object_form, object_at, object_offset, extra_words, has_length, has_length_at, element_of_form, path_offset, place_form, address, heap_start}
 use Rattle.ob_relation.specs.Relation.{Fine, FormOk, IsLength, LengthFits, word_of, second_word, PathIn, PlaceIn, PlaceOf, Sub, itself, extended, opened}
-use Rattle.ob_relation.specs.Need.{need_open}
 use Rattle.ob_relation.specs.Ends.{end_place, end_open, end_expr}
 use Rattle.ob_relation.specs.Stands as code
 use Rattle.ob_relation.specs.Typed.{longint}
 use Rattle.ob_relation.proofs.Steps.{then_reach, here, Follows, follows_bind, follows_value, follows_stop, follows_map, stands_any}
-use Rattle.ob_relation.proofs.Statements.{Activation, scope, go, fb, K, here_in, Keeps, PlaceTo, LongTo, PlaceKept, ValueTo, ValueKept, DesigOk, PlaceFollows, ExprFollows}
+use Rattle.ob_relation.proofs.Statements.{Activation, scope, go, fb, K, here_in, Keeps, PlaceTo, LongTo, PlaceKept, ValueTo, ValueKept, PlaceFollows, OpenArrayFollows, ExprFollows}
 use Rattle.ob_relation.proofs.Grow.{form_same, address_same, place_of_more}
 use Rattle.ob_relation.proofs.Places.{Os, Ex, Cs, objects-length, calls-length}
 use Rattle.ob_relation.proofs.Parts.{W}
@@ -35,7 +34,7 @@ use Rattle.ob_relation.proofs.Needs.{need_one, need_one_e}
 use Rattle.ob_relation.proofs.Moves.{goes, traps, address_small, small_word}
 use Rattle.ob_relation.proofs.Exprs.{from_here, since, load_follows, widen_kept}
 use Rattle.ob_relation.proofs.Paths.{inside_in, inside_form, inside_address}
-use Rattle.ob_arrays.proofs.Orders.{place_ok}
+use Rattle.ob_relation.proofs.Sources.{place_ok}
 use Rattle.ob_relation.specs.Setting.{Setting, StandIn, has_of}
 
 -- an open array stands as an array of some length
@@ -99,11 +98,6 @@ module _ (c : Setting) where
 
     abbrev Second : Form → ℤ
     Second t = second_word c.program (has_of c) c.img t
-
-    -- the address and the length of an open array
-    abbrev pub OpenArrayFollows : Desig → Type 0
-    OpenArrayFollows d = (u : Form) (pc at : ℕ) (ops : List ℤ) (os : List AnObject) (s : State) (w : World) → length ops + need_open d ≤ 256 → code.OpenCode (scope c a) d pc at → DesigOk c a n call b d → code.form_of (scope c a) d ≡ OpenForm u → Kp os s w →
-        Follows c (go c a pc ops w) (LongTo c a n call b (end_open c.program d pc) ops) (PlaceKept c a n call b (code.form_of (scope c a) d) os) (place d (here_in c a n call b) s)
 
     -- what a pointer to open arrays points to
     pub record Opens (u : Form) (p : Place) (s : State) (w : World) : Type 0 where
@@ -173,7 +167,7 @@ module _ (c : Setting) where
     opens_place : (u : Form) (p : Place) (s : State) (w : World) → Opens u p s w → PlaceOf c.program (has_of c) c.img s.made (K c a) (OpenForm u) p
     opens_place u p s w o = subst (λ p. PlaceOf c.program (has_of c) c.img s.made (K c a) (OpenForm u) p) (sym o.is) ((o.lt, tt), subst (λ t. Sub t (OpenForm u)) (sym o.form) (opened o.m))
 
-    pub open_deref_case : (d : Desig) (at : Pos) (t : TypeRef) → PlaceFollows c a n call b d → OpenArrayFollows (Deref d at t)
+    pub open_deref_case : (d : Desig) (at : Pos) (t : TypeRef) → PlaceFollows c a n call b d → OpenArrayFollows c a n call b (Deref d at t)
     open_deref_case d at t ih u pc k ops os s w le has ok form st =
         let p1 = end_place c.program d pc in
         let r = ok.1.0 in
@@ -241,7 +235,7 @@ module _ (c : Setting) where
     pub open_form : (s : State) (w : World) (u v : Form) (p : Place) → StandIn c (K c a) s w → PlaceOf c.program (has_of c) c.img s.made (K c a) v p → v ≡ OpenForm u → (m : ℕ) × (place_form c.program c.img s.made (K c a) p ≡ ArrayForm m u)
     open_form s w u v p st here_p e = sub_open c.program _ v u here_p.1 e (place_ok c (K c a) s w st p here_p.0)
 
-    pub open_index_case : (d : Desig) (i : Expr) (at : Pos) (t : TypeRef) → OpenArrayFollows d → ExprFollows c a n call b i → PlaceFollows c a n call b (Index d None i at t)
+    pub open_index_case : (d : Desig) (i : Expr) (at : Pos) (t : TypeRef) → OpenArrayFollows c a n call b d → ExprFollows c a n call b i → PlaceFollows c a n call b (Index d None i at t)
     open_index_case d i at t ih_d ih_i pc k ops os s w le has ok st =
         let p1 = end_open c.program d pc in
         let u = form_in c.program t in

@@ -35,7 +35,7 @@ use Rattle.ob_relation.proofs.Located.{located}
 use Rattle.ob_relation.proofs.Exprs.{widen_kept}
 use Rattle.ob_meaning.specs.Operators.{is_in}
 use Rattle.ob_types.specs.declared.typed.Width.TheVariants as width
-use Rattle.ob_arrays.proofs.Orders.{place_ok}
+use Rattle.ob_relation.proofs.Sources.{place_ok}
 use Rattle.ob_arrays.proofs.Opens.{open_form, long_length}
 use Rattle.ob_relation.specs.Setting.{Setting, StandIn, has_of}
 

@@ -25,12 +25,12 @@ use Rattle.ob_relation.specs.Typed as typed
 use Rattle.ob_relation.specs.Typed.{boolean, char, IsText}
 use Rattle.ob_relation.specs.Layout.{static_held}
 use Rattle.ob_relation.proofs.Steps.{Reach, then_reach, here, Follows, follows_bind, follows_value, follows_stop, follows_map, stands_any}
-use Rattle.ob_relation.proofs.Statements.{onto, Activation, scope, go, fb, K, here_in, Keeps, LongTo, ValueTo, ValueKept, PlaceFollows, ExprFollows}
+use Rattle.ob_relation.proofs.Statements.{onto, Activation, scope, go, fb, K, here_in, Keeps, LongTo, ValueTo, ValueKept, PlaceFollows, OpenArrayFollows, ExprFollows}
 use Rattle.ob_relation.proofs.Grow.{address_same, form_same}
 use Rattle.ob_relation.proofs.Moves.{goes, traps, effect, all_length, small_word}
 use Rattle.ob_relation.proofs.Exprs.{from_here, since, widen_kept}
 use Rattle.ob_relation.proofs.Paths.{sub_array}
-use Rattle.ob_arrays.proofs.Opens.{OpenArrayFollows, open_form}
+use Rattle.ob_arrays.proofs.Opens.{open_form}
 use Rattle.ob_arrays.proofs.Chars.{found, related_same}
 use Rattle.ob_arrays.proofs.Strings.{SourceFine, SourceWords, source_more, Found, source_found, text_found, text_between}
 use Rattle.ob_relation.specs.Setting.{Setting, StandIn, has_of}

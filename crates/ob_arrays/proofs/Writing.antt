@@ -32,7 +32,7 @@ use Rattle.ob_relation.proofs.Statements.{onto, Activation, scope, go, fb, K, he
 use Rattle.ob_relation.proofs.Moves.{goes, traps, spends, effect}
 use Rattle.ob_relation.proofs.Exprs.{from_here, since}
 use Rattle.ob_relation.proofs.Paths.{sub_array}
-use Rattle.ob_arrays.proofs.Orders.{place_ok}
+use Rattle.ob_relation.proofs.Sources.{place_ok}
 use Rattle.ob_arrays.proofs.Copies.{are_between, put_between, copied_between}
 use Rattle.ob_arrays.proofs.Chars.{found, text_chars, take_chars}
 use Rattle.ob_arrays.proofs.Strings.{SourceFine, SourceWords, source_more, Found, source_found, text_found, text_between, put_text, array_at}

@@ -17,7 +17,7 @@ use Rattle.ob_instr.specs.Rows.{Traps, is_zero, on_found, on_receiver, on_tag, c
 use Rattle.ob_instr.specs.Table.{position_at}
 use Rattle.ob_mem.specs.Words.{word_at}
 use Rattle.ob_meaning.specs.Values as values
-use Rattle.ob_meaning.specs.Values.{Form, PointerForm, RecordForm, fields_of, form_in, record_in, bases_in, Value, Nil, Object, OfObject, Place, At, value_at, type_of, AnObject, State}
+use Rattle.ob_meaning.specs.Values.{Form, PointerForm, RecordForm, fields_of, form_in, record_in, bases_in, Nil, Object, OfObject, Place, At, AnObject, State}
 use Rattle.ob_meaning.specs.Results.{Passed, ByValue, ByPlace, Caller}
 use Rattle.ob_meaning.specs.Meaning.{nearest, bases_of, call_found, call_bound}
 use Rattle.ob_relation.specs.Layout.{static_held, type_number, object_at, has_length_at, heap_start, object_offset, address, place_form}
@@ -30,8 +30,9 @@ use Rattle.ob_relation.specs.Typed.{IsRecordType, ReceiverOk}
 use Rattle.ob_relation.proofs.Steps.{here, Follows, follows_bind, follows_value, follows_stop, stands_any}
 use Rattle.ob_relation.proofs.Statements.{Activation, scope, go, K, here_in, Keeps, onto, ExprFollows, ActualsFollow, StmtFollows, LongPlaceFits, ArgumentFits, ArgumentsFit, CallsFollow, ResultFine, result_words}
 use Rattle.ob_relation.proofs.Moves.{traps, effect}
+use Rattle.ob_relation.proofs.Sources.{place_ok}
 use Rattle.ob_relation.specs.Setting.{Setting, StandIn, has_of}
-use Rattle.ob_records.proofs.Tags.{IsRecord, one_less, record_below, record_above, place_form_ok, type_at, object_tag}
+use Rattle.ob_records.proofs.Tags.{IsRecord, one_less, record_below, record_above, type_at, object_tag}
 use Rattle.ob_methods.specs.Tables.{TablesStand, FamiliesStand, Redefinition, Redefined, ReceiverTakes}
 use Rattle.ob_methods.proofs.Fits.{args_are, all_alike, counted, ValueFits}
 use Rattle.ob_methods.proofs.Named.{NamedGoes, named_value, named_proper}
@@ -57,21 +58,21 @@ module _ (c : Setting) (a : Activation c) (n : ℕ) (call : Caller) (b : ℕ) wh
       len ∙ ap (λ h. slots_passed h + operands_of rest) (ok.0 ∙ k.0) ∙ step
 
   module _ (families : FamiliesStand c) (tables : TablesStand c a.methods) (calls_follow : CallsFollow c call b) where
-    -- the procedure that is reached is called with the same words
-    reached : (f : Family) (k : Receiver) (t : QName) (p : Procedure) (d : QName) (e : Redefinition c f k p d) (xs : List Passed) (ws ops : List ℤ) (at : Pos) (pc : ℕ) (os : List AnObject) (s : State) (w : World) (number : ℕ) (o : Opcode) → code.HasAt (scope c a) pc (instr o (pos (a.methods f)) (pos number)) at → position_at a.u.positions pc ≡ at → effect c a pc (onto ws ops) w (instr o (pos (a.methods f)) (pos number)) ≡ on_found (method_at (slice_get c.img.types (type_number c.img.types d)) (pos (a.methods f))) (λ r. calls c.img r ws ops w) → ArgumentsFit c s.made (K c a) e.procedure.parameters xs ws → length ops + 1 ≤ 256 → Keeps c a n call b os s w →
-        Follows c (go c a pc (onto ws ops) w) (λ r s w. go c a (suc pc) (result_words c s.made r ++ ops) w) (λ r s w. ResultFine c p.result s.made r × Keeps c a n call b os s w) (call_found (nearest c.program (bases_in c.program d) f) xs (here_in c a n call b) at s)
-    reached f k t p d e xs ws ops at pc os s w number o has place is fit le st =
-        subst (λ z. Follows c (go c a pc (onto ws ops) w) (λ r s w. go c a (suc pc) (result_words c s.made r ++ ops) w) (λ r s w. ResultFine c p.result s.made r × Keeps c a n call b os s w) (call_found z xs (here_in c a n call b) at s)) (sym e.near)
-        (subst (λ z. Follows c (go c a pc (onto ws ops) w) (λ r s w. go c a (suc pc) (result_words c s.made r ++ ops) w) (λ r s w. ResultFine c z s.made r × Keeps c a n call b os s w) (call e.q xs a.unit at s)) e.result
-        (known_goes c a n call b calls_follow e.q e.procedure xs ws ops (onto ws ops) at pc (instr o (pos (a.methods f)) (pos number)) os s w e.is has.has place (is ∙ ap (λ m. on_found m (λ r. calls c.img r ws ops w)) (tables d f e.q e.near)) fit le st))
-
     own_type : (u : Form) (r : IsRecord c u) → IsRecordType c.program r.name
     own_type u r = (r.line, r.built ∙ ap (λ g. RecordForm (r.name ∷ r.line) g) (sym (ap fields_of r.built)))
+
+    -- the procedure that is reached is called with the same words
+    reached : (f : Family) (k : Receiver) (t : QName) (p : Procedure) (d : QName) (built : IsRecordType c.program d) (e : Redefinition c f k p d) (xs : List Passed) (ws ops : List ℤ) (at : Pos) (pc : ℕ) (os : List AnObject) (s : State) (w : World) (number : ℕ) (o : Opcode) → code.HasAt (scope c a) pc (instr o (pos (a.methods f)) (pos number)) at → position_at a.u.positions pc ≡ at → effect c a pc (onto ws ops) w (instr o (pos (a.methods f)) (pos number)) ≡ on_found (method_at (slice_get c.img.types (type_number c.img.types d)) (pos (a.methods f))) (λ r. calls c.img r ws ops w) → ArgumentsFit c s.made (K c a) e.procedure.parameters xs ws → length ops + 1 ≤ 256 → Keeps c a n call b os s w →
+        Follows c (go c a pc (onto ws ops) w) (λ r s w. go c a (suc pc) (result_words c s.made r ++ ops) w) (λ r s w. ResultFine c p.result s.made r × Keeps c a n call b os s w) (call_found (nearest c.program (bases_in c.program d) f) xs (here_in c a n call b) at s)
+    reached f k t p d built e xs ws ops at pc os s w number o has place is fit le st =
+        subst (λ z. Follows c (go c a pc (onto ws ops) w) (λ r s w. go c a (suc pc) (result_words c s.made r ++ ops) w) (λ r s w. ResultFine c p.result s.made r × Keeps c a n call b os s w) (call_found z xs (here_in c a n call b) at s)) (sym e.near)
+        (subst (λ z. Follows c (go c a pc (onto ws ops) w) (λ r s w. go c a (suc pc) (result_words c s.made r ++ ops) w) (λ r s w. ResultFine c z s.made r × Keeps c a n call b os s w) (call e.q xs a.unit at s)) e.result
+        (known_goes c a n call b calls_follow e.q e.procedure xs ws ops (onto ws ops) at pc (instr o (pos (a.methods f)) (pos number)) os s w e.is has.has place (is ∙ ap (λ m. on_found m (λ r. calls c.img r ws ops w)) (tables d f e.q built e.near)) fit le st))
 
     module _ (t q : QName) (p : Procedure) (f : Family) (built : IsRecordType c.program t) (near : nearest c.program (bases_in c.program t) f ≡ Some q) (found : values.procedure_of c.program q ≡ Some p) where
       -- the record type of what the receiver stands for
       dynamic : (s : State) (w : World) (x : Place) → StandIn c (K c a) s w → PlaceOf c.program (has_of c) c.img s.made (K c a) (record_in c.program t) x → IsRecord c (place_form c.program c.img s.made (K c a) x)
-      dynamic s w x st k = record_below c (place_form c.program c.img s.made (K c a) x) (record_in c.program t) (t ∷ built.0) (fields_of (record_in c.program t)) k.1 built.1 (place_form_ok c (K c a) s w st x k.0)
+      dynamic s w x st k = record_below c (place_form c.program c.img s.made (K c a) x) (record_in c.program t) (t ∷ built.0) (fields_of (record_in c.program t)) k.1 built.1 (place_ok c (K c a) s w st x k.0)
 
       redefined : (k : Receiver) (s : State) (w : World) (x : Place) (st : StandIn c (K c a) s w) → ReceiverOk c.program k t p.parameters → (h : PlaceOf c.program (has_of c) c.img s.made (K c a) (record_in c.program t) x) → Redefinition c f k p (dynamic s w x st h).name
       redefined k s w x st rk h =
@@ -114,7 +115,7 @@ module _ (c : Setting) (a : Activation c) (n : ℕ) (call : Caller) (b : ℕ) wh
               let args2 = subst (λ x. ArgumentsFit c s.made (K c a) red.procedure.parameters (x ∷ xs) ws) g.1 args in
               subst (λ x. Goal (x ∷ xs)) (sym g.1)
               (subst (λ z. Follows c (go c a pc (onto ws ops) w) (λ r s w. go c a (suc pc) (result_words c s.made r ++ ops) w) (λ r s w. ResultFine c p.result s.made r × Keeps c a n call b os s w) (call_found (nearest c.program (bases_of c.program z) f) (ByPlace y ∷ xs) (here_in c a n call b) at s)) (sym (type_at c (K c a) s w st.all y h.0 r))
-              (reached f receiver.Record t p r.name red (ByPlace y ∷ xs) ws ops at pc os s w (behind_receiver es) op.CallR has has.place is args2 le st))
+              (reached f receiver.Record t p r.name (own_type _ r) red (ByPlace y ∷ xs) ws ops at pc os s w (behind_receiver es) op.CallR has has.place is args2 le st))
 
       -- POINTERS AS RECEIVERS
 
@@ -165,7 +166,7 @@ module _ (c : Setting) (a : Activation c) (n : ℕ) (call : Caller) (b : ℕ) wh
                   let args2 = subst (λ x. ArgumentsFit c s.made (K c a) red.procedure.parameters (x ∷ xs) ws) (g.1 ∙ ap ByValue z.1) args in
                   subst (λ x. Goal (x ∷ xs)) (sym (g.1 ∙ ap ByValue z.1))
                   (subst (λ o. Follows c (go c a pc (onto ws ops) w) (λ r s w. go c a (suc pc) (result_words c s.made r ++ ops) w) (λ r s w. ResultFine c p.result s.made r × Keeps c a n call b os s w) (call_found (nearest c.program (bases_of c.program o) f) (ByValue (Object m) ∷ xs) (here_in c a n call b) at s)) (sym (type_at c (K c a) s w st.all y (z.2, tt) r))
-                  (reached f receiver.Pointer t p r.name red (ByValue (Object m) ∷ xs) ws ops at pc os s w (behind_receiver es) op.CallP has has.place is args2 le st))
+                  (reached f receiver.Pointer t p r.name (own_type _ r) red (ByValue (Object m) ∷ xs) ws ops at pc os s w (behind_receiver es) op.CallP has has.place is args2 le st))
 
     bound_goes : (f : Family) (k : Receiver) (es : Actuals) (at : Pos) (pc : ℕ) (ops : List ℤ) (os : List AnObject) (t q : QName) (p : Procedure) → IsRecordType c.program t → nearest c.program (bases_in c.program t) f ≡ Some q → values.procedure_of c.program q ≡ Some p → ReceiverOk c.program k t p.parameters → Ok es p.parameters → code.CallCode (scope c a) (callee.Bound f k) es pc at → length ops + 1 ≤ 256 → NamedGoes c a n call b (callee.Bound f k) at p.result p.parameters pc ops os
     bound_goes f receiver.Record es at pc ops os t q p built near found rk ok has le = record_goes t q p f built near found es at pc ops os rk ok has le

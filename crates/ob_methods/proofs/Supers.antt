@@ -23,6 +23,7 @@ use Rattle.ob_relation.specs.Layout.{type_number}
 use Rattle.ob_relation.specs.Relation.{number_of}
 use Rattle.ob_relation.specs.Ends.{end_actuals}
 use Rattle.ob_relation.specs.Stands as code
+use Rattle.ob_relation.specs.Typed.{IsRecordType}
 use Rattle.ob_relation.specs.Stands.{instr}
 use Rattle.ob_relation.proofs.Steps.{here, Follows, follows_bind, follows_value}
 use Rattle.ob_relation.proofs.Statements.{Activation, scope, go, fb, K, here_in, Keeps, onto, ExprFollows, ActualsFollow, StmtFollows, ArgumentsFit, CallsFollow, ResultFine, result_words, result_slots}
@@ -47,13 +48,13 @@ module _ (c : Setting) (a : Activation c) (n : ℕ) (call : Caller) (b : ℕ) wh
       by (Some t) le = le
 
   module _ (link : Linked c) (tables : TablesStand c a.methods) (calls_follow : CallsFollow c call b) where
-    super_goes : (base : QName) (f : Family) (k : Receiver) (es : Actuals) (at : Pos) (pc : ℕ) (ops : List ℤ) (os : List AnObject) (q : QName) (p : Procedure) → nearest c.program (bases_in c.program base) f ≡ Some q → values.procedure_of c.program q ≡ Some p → code.CallCode (scope c a) (callee.Super base f k) es pc at → length ops + 1 ≤ 256 → NamedGoes c a n call b (callee.Super base f k) at p.result p.parameters pc ops os
-    super_goes base f k es at pc ops os q p near found has le xs ws s w fit st =
+    super_goes : (base : QName) (f : Family) (k : Receiver) (es : Actuals) (at : Pos) (pc : ℕ) (ops : List ℤ) (os : List AnObject) (q : QName) (p : Procedure) → IsRecordType c.program base → nearest c.program (bases_in c.program base) f ≡ Some q → values.procedure_of c.program q ≡ Some p → code.CallCode (scope c a) (callee.Super base f k) es pc at → length ops + 1 ≤ 256 → NamedGoes c a n call b (callee.Super base f k) at p.result p.parameters pc ops os
+    super_goes base f k es at pc ops os q p built near found has le xs ws s w fit st =
         let ps = link q p found in
         let len = slots_fit c s.made (K c a) p.parameters ps.entry.params xs ws ps.kinds fit in
         let r = number_of c.program (has_of c) c.img q in
         let is : effect c a pc (onto ws ops) w (instr op.CallS (pos has.0) (pos (a.methods f))) ≡ calls c.img r ws ops w =
-        rows.call_s_is c.img a.u a.m a.p (fb c a) pc w has.0 (a.methods f) (type_number c.img.types base) r (onto ws ops) has.2 (tables base f q near)
+        rows.call_s_is c.img a.u a.m a.p (fb c a) pc w has.0 (a.methods f) (type_number c.img.types base) r (onto ws ops) has.2 (tables base f q built near)
         ∙ ap (λ o. on_found o (λ q. on_args (slots q.params) (onto ws ops) (λ args rest. calls c.img r args rest w))) (procedure_found c a n call b link q p ps)
         ∙ args_are (slots ps.entry.params) ws ops (λ args rest. calls c.img r args rest w) len in
         subst (λ o. Follows c (go c a pc (onto ws ops) w) (λ r s w. go c a (suc pc) (result_words c s.made r ++ ops) w) (λ v s w. ResultFine c p.result s.made v × Keeps c a n call b os s w) (call_found o xs (here_in c a n call b) at s)) (sym near)
@@ -63,14 +64,14 @@ module _ (c : Setting) (a : Activation c) (n : ℕ) (call : Caller) (b : ℕ) wh
     super_case base f k es at r ih t pc j ops os s w le has ok st =
         let q = ok.0.0 in
         let p = ok.0.1 in
-        let goes = super_goes base f k es at (end_actuals c.program es pc) ops os q p ok.0.2 ok.0.3 has.1 (omega (arith, le)) in
-        named_value c a n call b (callee.Super base f k) es at r t p.parameters pc j ops os s w ih (omega (arith, le)) has.0 ok.0.5 ok.1 (subst (λ z. NamedGoes c a n call b (callee.Super base f k) at z p.parameters (end_actuals c.program es pc) ops os) ok.0.4 goes) st
+        let goes = super_goes base f k es at (end_actuals c.program es pc) ops os q p ok.0.2 ok.0.3 ok.0.4 has.1 (omega (arith, le)) in
+        named_value c a n call b (callee.Super base f k) es at r t p.parameters pc j ops os s w ih (omega (arith, le)) has.0 ok.0.6 ok.1 (subst (λ z. NamedGoes c a n call b (callee.Super base f k) at z p.parameters (end_actuals c.program es pc) ops os) ok.0.5 goes) st
 
     pub super_proper_case : (base : QName) (f : Family) (k : Receiver) (es : Actuals) (at : Pos) (r : Option TypeRef) → ActualsFollow c a n call b es → StmtFollows c a n call b (CallProper (Call (callee.Super base f k) es at r))
     super_proper_case base f k es at r ih l exit pc j os s w le inside lies has ok st =
         let q = ok.0.0 in
         let p = ok.0.1 in
-        let goes = super_goes base f k es at (end_actuals c.program es pc) [] os q p ok.0.2 ok.0.3 has.1 (omega arith) in
+        let goes = super_goes base f k es at (end_actuals c.program es pc) [] os q p ok.0.2 ok.0.3 ok.0.4 has.1 (omega arith) in
         follows_bind c
-        (named_proper c a n call b (callee.Super base f k) es at p.parameters pc j os s w r ok.1 ih (omega (arith, le)) has.0 ok.0.5 (subst (λ z. NamedGoes c a n call b (callee.Super base f k) at z p.parameters (end_actuals c.program es pc) [] os) ok.0.4 goes) st)
+        (named_proper c a n call b (callee.Super base f k) es at p.parameters pc j os s w r ok.1 ih (omega (arith, le)) has.0 ok.0.6 (subst (λ z. NamedGoes c a n call b (callee.Super base f k) at z p.parameters (end_actuals c.program es pc) [] os) ok.0.5 goes) st)
         λ v s2 w2 k2. follows_value c w2 (here c _) (tt, k2)

@@ -8,8 +8,10 @@ use Rattle.ob_tree.specs.declared.proc_ref.ProcRef.{ProcRef}
 use Rattle.ob_types.specs.declared.types.Mode.{Mode}
 use Rattle.ob_types.specs.declared.types.TypeRef.{TypeRef}
 use Rattle.ob_types.specs.declared.types.Signature.{Signature}
+use Rattle.ob_types.specs.declared.typed.Passing.{Passing}
+use Rattle.ob_types.specs.declared.typed.Passing.TheVariants as passing
 use Rattle.ob_types.specs.declared.typed.TypedParameter.{TypedParameter}
-use Rattle.ob_types.specs.TypedSyntax.{Desig, CallVariable, Actuals, NoActual, AnActual, CallProper}
+use Rattle.ob_types.specs.TypedSyntax.{Desig, Expr, CallVariable, Actuals, NoActual, AnActual, CallProper}
 use Rattle.ob_instr.specs.declared.opcode.Opcode.TheVariants as op
 use Rattle.ob_instr.specs.Image.{World}
 use Rattle.ob_instr.specs.Rows.{Traps, calls, is_zero, on_one, on_found, proc_value, proc_of_value}
@@ -65,11 +67,23 @@ module _ (c : Setting) (a : Activation c) (n : ℕ) (call : Caller) (b : ℕ) wh
   parameters_of [] = []
   parameters_of (t ∷ ts) = record { name = []; passing = passing_for t.0 (form_in c.program t.1); of = t.1 } ∷ parameters_of ts
 
+  -- what is asked of an actual parameter by how it is passed
+  abbrev Passes : Passing → Expr → TypeRef → Type 0
+  Passes how e t = typed.ByPassing how (typed.ExprOk c.program (has_of c) a.unit (static_held c.program a.procedure) a.procedure.result e (form_in c.program t) × Scalar (form_in c.program t)) (typed.StructureOk c.program (has_of c) a.unit (static_held c.program a.procedure) a.procedure.result e (form_in c.program t)) (typed.ArrayOk c.program (has_of c) a.unit (static_held c.program a.procedure) a.procedure.result e (form_in c.program t)) (typed.ReferredOk c.program (has_of c) a.unit (static_held c.program a.procedure) a.procedure.result e (form_in c.program t)) (typed.RecordOk c.program (has_of c) a.unit (static_held c.program a.procedure) a.procedure.result e (form_in c.program t)) (typed.VariableArrayOk c.program (has_of c) a.unit (static_held c.program a.procedure) a.procedure.result e (form_in c.program t))
+
+  formal_is : (how : Passing) (t u : TypeRef) → t ≡ u → typed.IsFormal how t u
+  formal_is passing.Structure t u e = e
+  formal_is passing.Scalar t u e = tt
+  formal_is passing.OpenArray t u e = tt
+  formal_is passing.Variable t u e = tt
+  formal_is passing.VariableRecord t u e = tt
+  formal_is passing.VariableOpenArray t u e = tt
+
   actuals_ok : (es : Actuals) (ts : List (Mode × TypeRef)) → Sg es ts → typed.ActualsOk c.program (has_of c) a.unit (static_held c.program a.procedure) a.procedure.result es (parameters_of ts)
   actuals_ok NoActual [] ok = ok
   actuals_ok NoActual (t ∷ ts) ok = ok
   actuals_ok (AnActual how t e rest) [] ok = ok
-  actuals_ok (AnActual how t e rest) (u ∷ ts) ok = (ok.0, (ok.1.0, (ok.1.1.0, actuals_ok rest ts ok.1.1.1)))
+  actuals_ok (AnActual how t e rest) (u ∷ ts) ok = (ok.0, (formal_is how t u.1 ok.1.0, (subst (λ z. Passes how e z) ok.1.0 ok.1.1.0, actuals_ok rest ts ok.1.1.1)))
 
   match_alike : (os : List AnObject) (ps : List TypedParameter) (ts : List (Mode × TypeRef)) → ParametersMatch c.program ps ts → Alike c.program (parameters_of ts) ps
   match_alike os [] [] k = k

@@ -16,7 +16,7 @@ use Rattle.ob_methods.specs.Signatures.{Alike}
 
 -- the table of a record type has, at the number of each family, the procedure that is declared nearest to the type
 abbrev pub TablesStand : Setting → (Family → ℕ) → Type 0
-TablesStand c methods = (t : QName) (f : Family) (q : QName) → nearest c.program (bases_in c.program t) f ≡ Some q → method_at (slice_get c.img.types (type_number c.img.types t)) (pos (methods f)) ≡ Some (number_of c.program (has_of c) c.img q)
+TablesStand c methods = (t : QName) (f : Family) (q : QName) → IsRecordType c.program t → nearest c.program (bases_in c.program t) f ≡ Some q → method_at (slice_get c.img.types (type_number c.img.types t)) (pos (methods f)) ≡ Some (number_of c.program (has_of c) c.img q)
 
 -- a receiver that a record can be: it is of a type that the record's type extends
 abbrev pub ReceiverTakes : Program → Receiver → QName → TypedParameter → Type 0

@@ -24,18 +24,19 @@ use Rattle.ob_relation.specs.Ends.{end_place, end_tagged, end_target}
 use Rattle.ob_relation.specs.Stands as code
 use Rattle.ob_relation.specs.Stands.{may_differ}
 use Rattle.ob_relation.proofs.Names.{name_true, name_same}
+use Rattle.ob_relation.specs.Typed.{IsRecordForm}
 use Rattle.ob_relation.proofs.Steps.{Reach, here, Follows, follows_bind, follows_value, follows_stop, stands_any}
-use Rattle.ob_relation.proofs.Statements.{Activation, scope, go, fb, K, here_in, Keeps, PlaceTo, PlaceKept, PlaceFollows, StmtFollows, FlowTo, FlowKept, DesigOk}
+use Rattle.ob_relation.proofs.Statements.{Activation, scope, go, fb, K, here_in, Keeps, PlaceTo, PlaceKept, PlaceFollows, StmtFollows, FlowTo, FlowKept, DesigOk, RecordFollows}
 use Rattle.ob_relation.proofs.Grow.{address_same, form_same, place_more, place_of_more}
 use Rattle.ob_relation.proofs.Moves.{goes, traps}
 use Rattle.ob_relation.proofs.Values.{nat_equal}
 use Rattle.ob_relation.proofs.Exprs.{from_here, since}
 use Rattle.ob_relation.proofs.Stmts.{plain_to, plain_kept}
+use Rattle.ob_relation.proofs.Sources.{place_ok}
 use Rattle.ob_relation.specs.Setting.{Setting, has_of}
 use Rattle.ob_records.specs.Bases.{BasesStand}
 use Rattle.ob_records.proofs.Bases.{number_same, first_here}
-use Rattle.ob_records.proofs.Tags.{sub_sub, IsRecord, record_below, place_form_ok, type_at}
-use Rattle.ob_records.proofs.Records.{IsRecordForm, RecordFollows}
+use Rattle.ob_records.proofs.Tags.{sub_sub, IsRecord, record_below, type_at}
 use Rattle.ob_records.proofs.Exact.{ExactKept, ExactFollows}
 use Rattle.ob_records.proofs.Copies.{copy_there, copy_stands}
 
@@ -142,7 +143,7 @@ module _ (c : Setting) (a : Activation c) (n : ℕ) (call : Caller) (b : ℕ) wh
       fs = fields_of (record_in c.program q)
 
       r : IsRecord c (form_at s p)
-      r = record_below c (form_at s p) (record_in c.program q) (q ∷ line) fs k.1 e (place_form_ok c (K c a) s w st.all p k.0)
+      r = record_below c (form_at s p) (record_in c.program q) (q ∷ line) fs k.1 e (place_ok c (K c a) s w st.all p k.0)
 
       type_is : is_exactly (type_of (value_at s.store p)) q ≡ same_name r.name q
       type_is = ap (λ o. is_exactly o q) (type_at c (K c a) s w st.all p k.0 r)
@@ -178,7 +179,7 @@ module _ (c : Setting) (a : Activation c) (n : ℕ) (call : Caller) (b : ℕ) wh
   abbrev kept_target : (t : Form) (p : Place) (s1 s2 : State) (os : List AnObject) (w1 w2 : World) → PlaceKept c a n call b t os p s1 w1 → Kp s1.made s2 w2 → Of s2 t p
   kept_target t p s1 s2 os w1 w2 k1 k2 = place_of_more c s1.made s2.made k2.objects (K c a) t p k1.0
 
-  record_form : (d : Desig) (q : QName) (line : List QName) → T d ≡ record_in c.program q → record_in c.program q ≡ RecordForm (q ∷ line) (fields_of (record_in c.program q)) → IsRecordForm c a n call b (T d)
+  record_form : (d : Desig) (q : QName) (line : List QName) → T d ≡ record_in c.program q → record_in c.program q ≡ RecordForm (q ∷ line) (fields_of (record_in c.program q)) → IsRecordForm (T d)
   record_form d q line form e = (q ∷ line, form ∙ e ∙ ap (λ u. RecordForm (q ∷ line) (fields_of u)) (sym form))
 
   -- of a record to a target whose dynamic type may be another than its static one

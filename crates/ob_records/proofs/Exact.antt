@@ -14,18 +14,18 @@ use Rattle.ob_instr.specs.declared.opcode.Opcode.TheVariants as op
 use Rattle.ob_instr.specs.Image.{World}
 use Rattle.ob_instr.specs.Rows.{Next, is_zero, tag}
 use Rattle.ob_instr.proofs.Goes as rows
-use Rattle.ob_meaning.specs.Values.{Form, PointerForm, ArrayForm, OpenForm, fields_of, form_in, record_in, words, Value, Nil, Object, integer_of, value_at, FieldStep, ElementStep, OfCall, OfObject, Place, At, inside, Held, Own, Referred, Copied, Active, AnObject, State}
+use Rattle.ob_meaning.specs.Values.{Form, PointerForm, ArrayForm, fields_of, form_in, record_in, words, Value, Nil, Object, integer_of, value_at, FieldStep, ElementStep, OfCall, OfObject, Place, At, inside, Held, Own, Referred, Copied, Active, AnObject, State}
 use Rattle.ob_meaning.specs.Results.{Trapped, Gives, Stops, bind, Caller}
 use Rattle.ob_meaning.specs.Meaning.{place, value, indexed, place_of, choose, element_place, pointee}
 use Rattle.ob_relation.specs.Layout.{type_number, field_offset, element_of_form, path_offset, form_named, static_held, object_at, object_offset, heap_start, place_form, address}
 use Rattle.ob_relation.specs.Relation.{OrElse, Fine, HeldFine, Scalar, SlotsFit, PathIn, PlaceIn, Sub, itself, word_of, second_word}
-use Rattle.ob_relation.specs.Need.{need_place, need_open}
+use Rattle.ob_relation.specs.Need.{need_place}
 use Rattle.ob_relation.specs.Ends.{end_variable, end_place, end_open, end_expr}
 use Rattle.ob_relation.specs.Stands as code
-use Rattle.ob_relation.specs.Typed.{As, IsOwn, IsReferred, longint}
+use Rattle.ob_relation.specs.Typed.{As, IsOwn, IsReferred, IsRecordForm, longint}
 use Rattle.ob_relation.specs.Plain.{Plain}
 use Rattle.ob_relation.proofs.Steps.{Reach, Follows, follows_bind, follows_value, follows_stop, follows_map, stands_any}
-use Rattle.ob_relation.proofs.Statements.{Activation, scope, go, fb, K, here_in, Keeps, PlaceTo, LongTo, PlaceKept, PlaceFollows, ExprFollows, DesigOk}
+use Rattle.ob_relation.proofs.Statements.{Activation, scope, go, fb, K, here_in, Keeps, PlaceTo, LongTo, PlaceKept, PlaceFollows, ExprFollows, DesigOk, RecordFollows, OpenArrayFollows}
 use Rattle.ob_relation.proofs.Grow.{address_same, form_same, place_of_more}
 use Rattle.ob_relation.proofs.Needs.{need_one, need_one_e}
 use Rattle.ob_relation.proofs.Located.{located}
@@ -36,12 +36,12 @@ use Rattle.ob_relation.proofs.Moves.{goes, traps, address_small, small_word}
 use Rattle.ob_relation.proofs.Variables.{variable_of, variable_goes}
 use Rattle.ob_relation.proofs.Paths.{inside_in, inside_form, inside_address, sub_field, sub_array}
 use Rattle.ob_relation.proofs.Exprs.{from_here, since}
+use Rattle.ob_relation.proofs.Sources.{place_ok}
 use Rattle.ob_relation.specs.Setting.{Setting, StandIn, has_of}
 use Rattle.ob_records.specs.Bases.{BasesStand}
 use Rattle.ob_records.proofs.Bases.{there}
-use Rattle.ob_records.proofs.Tags.{one_less, array_below, is_record, record_below, place_form_ok, object_tag}
+use Rattle.ob_records.proofs.Tags.{one_less, array_below, is_record, record_below, object_tag}
 use Rattle.ob_records.proofs.Pointers.{HolderFollows, holder_load}
-use Rattle.ob_records.proofs.Records.{IsRecordForm, RecordFollows}
 
 module _ (c : Setting) where
   -- a parameter by VAR has as many slots as its type asks for
@@ -83,7 +83,7 @@ module _ (c : Setting) (a : Activation c) (n : ℕ) (call : Caller) (b : ℕ) wh
   ExactKept t os p s w = (In s p × (form_at s p ≡ t)) × Kp os s w
 
   abbrev pub ExactFollows : Desig → Type 0
-  ExactFollows d = (pc at : ℕ) (ops : List ℤ) (os : List AnObject) (s : State) (w : World) → length ops + need_place d ≤ 256 → code.PlaceCode (scope c a) d pc at → DesigOk c a n call b d → IsRecordForm c a n call b (T d) → Kp os s w →
+  ExactFollows d = (pc at : ℕ) (ops : List ℤ) (os : List AnObject) (s : State) (w : World) → length ops + need_place d ≤ 256 → code.PlaceCode (scope c a) d pc at → DesigOk c a n call b d → IsRecordForm (T d) → Kp os s w →
       Follows c (go c a pc ops w) (PlaceTo c a n call b (end_place c.program d pc) ops) (ExactKept (T d) os) (place d (here_in c a n call b) s)
 
   -- VARIABLES
@@ -91,7 +91,7 @@ module _ (c : Setting) (a : Activation c) (n : ℕ) (call : Caller) (b : ℕ) wh
   own_exact : (x : List ℕ) (t : Form) (s : State) → As IsOwn (static_held c.program a.procedure) x → form_named (static_held c.program a.procedure) x ≡ t → form_at s (At (OfCall (length a.cs) x) []) ≡ t
   own_exact x t s h e = let k = same_alike IsOwn own_fixed _ _ x (call_alike c.program a.procedure a.active a.call) h in own_form c s.made a.cs a.active x ∙ k.form ∙ e
 
-  variable_exact : (v : Variable) (t : TypeRef) (s : State) (w : World) → StandIn c (K c a) s w → Plain v → DesigOk c a n call b (OfVariable v t) → IsRecordForm c a n call b (form_in c.program t) → form_at s (place_of v (K c a)) ≡ form_in c.program t
+  variable_exact : (v : Variable) (t : TypeRef) (s : State) (w : World) → StandIn c (K c a) s w → Plain v → DesigOk c a n call b (OfVariable v t) → IsRecordForm (form_in c.program t) → form_at s (place_of v (K c a)) ≡ form_in c.program t
   variable_exact (variable.Module m x) t s w st pl ok is = ok.1
   variable_exact (variable.Local x) t s w st pl ok is = own_exact x (form_in c.program t) s ok.0 ok.1
   variable_exact (variable.Parameter passing.Scalar x) t s w st pl ok is = own_exact x (form_in c.program t) s ok.0 ok.1
@@ -173,11 +173,6 @@ module _ (c : Setting) (a : Activation c) (n : ℕ) (call : Caller) (b : ℕ) wh
 
   -- ELEMENTS OF OPEN ARRAYS
 
-  -- an open array by its address and length
-  abbrev pub LongFollows : Desig → Type 0
-  LongFollows d = (u : Form) (pc at : ℕ) (ops : List ℤ) (os : List AnObject) (s : State) (w : World) → length ops + need_open d ≤ 256 → code.OpenCode (scope c a) d pc at → DesigOk c a n call b d → T d ≡ OpenForm u → Kp os s w →
-      Follows c (go c a pc ops w) (LongTo c a n call b (end_open c.program d pc) ops) (PlaceKept c a n call b (T d) os) (place d (here_in c a n call b) s)
-
   open_element_exact : (z : ℤ) (p : Place) (l : ℕ) (t : Form) (at : Pos) (pc : ℕ) (ops : List ℤ) (os : List AnObject) (s : State) (w : World) → length ops + 1 ≤ 256 → code.HasAt (scope c a) pc (code.with_a op.IndexO (words t)) at → In s p → form_at s p ≡ ArrayForm l t → Kp os s w →
       Follows c (go c a pc (z ∷ pos l ∷ pos (address_at s p) ∷ ops) w) (PlaceTo c a n call b (suc pc) ops) (ExactKept t os) (element_place l p z (here_in c a n call b) at s)
   open_element_exact (negsuc i) p l t at pc ops os s w le has here_p e st =
@@ -198,12 +193,12 @@ module _ (c : Setting) (a : Activation c) (n : ℕ) (call : Caller) (b : ℕ) wh
           (goes c a _ w has.has (rows.index_o_next c.img a.u a.m a.p (fb c a) pc w (pos (address_at s p)) (pos l) (pos i) (pos (words t)) ops f small ∙ ap (λ m. Next (pos m ∷ ops) w) far) (omega (arith, le)))
           ((in_it, form), st)
 
-  pub exact_open_index_case : (d : Desig) (i : Expr) (at : Pos) (t : TypeRef) → LongFollows d → ExprFollows c a n call b i → ExactFollows (Index d None i at t)
+  pub exact_open_index_case : (d : Desig) (i : Expr) (at : Pos) (t : TypeRef) → OpenArrayFollows c a n call b d → ExprFollows c a n call b i → ExactFollows (Index d None i at t)
   exact_open_index_case d i at t ih_d ih_i pc k ops os s w le has ok is st =
       let p1 = end_open c.program d pc in
       let u = form_in c.program t in
       follows_bind c (ih_d u pc k ops os s w (omega (arith, le)) has.0 ok.0 ok.1.1 st) λ p s1 w1 k1.
-      let f = array_below c (form_at s1 p) (T d) u k1.0.1 ok.1.1 (place_form_ok c (K c a) s1 w1 k1.1.all p k1.0.0) in
+      let f = array_below c (form_at s1 p) (T d) u k1.0.1 ok.1.1 (place_ok c (K c a) s1 w1 k1.1.all p k1.0.0) in
       let long : second_word c.program (has_of c) c.img (form_at s1 p) ≡ pos f.0 = ap (λ t. second_word c.program (has_of c) c.img t) f.1 in
       subst (λ y. Follows c (go c a p1 (y ∷ pos (address_at s1 p) ∷ ops) w1) (PlaceTo c a n call b (suc (end_expr c.program i p1)) ops) (ExactKept u os) (bind (value i (here_in c a n call b) s1) (λ v. indexed None p (integer_of v) (here_in c a n call b) at))) (sym long)
       (follows_bind c (ih_i longint p1 _ (pos f.0 ∷ pos (address_at s1 p) ∷ ops) s1.made s1 w1 (omega (arith, le)) has.1.0 ok.1.0 (from_here c a n call b k1.1)) λ v s2 w2 k2.
@@ -223,9 +218,9 @@ module _ (c : Setting) (a : Activation c) (n : ℕ) (call : Caller) (b : ℕ) wh
   abbrev Tagged : State → Place → ℤ
   Tagged s p = second_word c.program (has_of c) c.img (form_at s p)
 
-  tag_goes : (stand : BasesStand c) (t : Form) (p : Place) (pc : ℕ) (ops : List ℤ) (os : List AnObject) (s : State) (w : World) → length ops + 2 ≤ 256 → code.HasType (scope c a) pc op.Tag (code.record_name (scope c a) t) → IsRecordForm c a n call b t → ExactKept t os p s w → Reach c (PlaceTo c a n call b pc ops p s w) (LongTo c a n call b (suc pc) ops p s w)
+  tag_goes : (stand : BasesStand c) (t : Form) (p : Place) (pc : ℕ) (ops : List ℤ) (os : List AnObject) (s : State) (w : World) → length ops + 2 ≤ 256 → code.HasType (scope c a) pc op.Tag (code.record_name (scope c a) t) → IsRecordForm t → ExactKept t os p s w → Reach c (PlaceTo c a n call b pc ops p s w) (LongTo c a n call b (suc pc) ops p s w)
   tag_goes stand t p pc ops os s w le has is k =
-      let r = is_record c (form_at s p) is.0 (fields_of t) (k.0.1 ∙ is.1) (place_form_ok c (K c a) s w k.1.all p k.0.0) in
+      let r = is_record c (form_at s p) is.0 (fields_of t) (k.0.1 ∙ is.1) (place_ok c (K c a) s w k.1.all p k.0.0) in
       let name : code.record_name (scope c a) t ≡ r.name = ap (code.record_name (scope c a)) (sym k.0.1 ∙ r.is) in
       let number : type_number c.img.types (code.record_name (scope c a) t) ≡ type_number c.img.types r.name = ap (type_number c.img.types) name in
       let second : tag (type_number c.img.types r.name) ≡ Tagged s p = sym (ap (λ u. second_word c.program (has_of c) c.img u) r.is) in
@@ -237,7 +232,7 @@ module _ (c : Setting) (a : Activation c) (n : ℕ) (call : Caller) (b : ℕ) wh
   exact_kept t os p s w k = ((k.0.0, subst (λ u. Sub u t) (sym k.0.1) itself), k.1)
 
   -- of a variable whose address is put first
-  pub tagged_exact : (stand : BasesStand c) (v : Variable) (t : TypeRef) → ExactFollows (OfVariable v t) → (pc at : ℕ) (ops : List ℤ) (os : List AnObject) (s : State) (w : World) → length ops + 2 ≤ 256 → code.VariableCode (scope c a) v pc → code.HasType (scope c a) (end_variable v pc) op.Tag (code.record_name (scope c a) (form_in c.program t)) → DesigOk c a n call b (OfVariable v t) → IsRecordForm c a n call b (form_in c.program t) → Kp os s w →
+  pub tagged_exact : (stand : BasesStand c) (v : Variable) (t : TypeRef) → ExactFollows (OfVariable v t) → (pc at : ℕ) (ops : List ℤ) (os : List AnObject) (s : State) (w : World) → length ops + 2 ≤ 256 → code.VariableCode (scope c a) v pc → code.HasType (scope c a) (end_variable v pc) op.Tag (code.record_name (scope c a) (form_in c.program t)) → DesigOk c a n call b (OfVariable v t) → IsRecordForm (form_in c.program t) → Kp os s w →
       Follows c (go c a pc ops w) (LongTo c a n call b (suc (end_variable v pc)) ops) (PlaceKept c a n call b (form_in c.program t) os) (place (OfVariable v t) (here_in c a n call b) s)
   tagged_exact stand v t ih pc at ops os s w le has has2 ok is st =
       follows_map c (ih pc at ops os s w (omega (arith, le)) has ok is st)
@@ -266,14 +261,14 @@ module _ (c : Setting) (a : Activation c) (n : ℕ) (call : Caller) (b : ℕ) wh
       follows_map c (exact_index_case d l i at t ih_d ih_i pc k ops os s w (omega (arith, le)) (has.0, (has.1.0, has.1.1.0)) ok is st)
       (λ p s w k. tag_goes stand (form_in c.program t) p (suc (end_expr c.program i (end_place c.program d pc))) ops os s w (omega (arith, le)) has.1.1.1 is k) (λ p s w k. exact_kept (form_in c.program t) os p s w k)
 
-  pub tagged_open_index_case : (stand : BasesStand c) (d : Desig) (i : Expr) (at : Pos) (t : TypeRef) → LongFollows d → ExprFollows c a n call b i → RecordFollows c a n call b (Index d None i at t)
+  pub tagged_open_index_case : (stand : BasesStand c) (d : Desig) (i : Expr) (at : Pos) (t : TypeRef) → OpenArrayFollows c a n call b d → ExprFollows c a n call b i → RecordFollows c a n call b (Index d None i at t)
   tagged_open_index_case stand d i at t ih_d ih_i pc k ops os s w le has ok is st =
       follows_map c (exact_open_index_case d i at t ih_d ih_i pc k ops os s w (omega (arith, le)) (has.0, (has.1.0, has.1.1.0)) ok is st)
       (λ p s w k. tag_goes stand (form_in c.program t) p (suc (end_expr c.program i (end_open c.program d pc))) ops os s w (omega (arith, le)) has.1.1.1 is k) (λ p s w k. exact_kept (form_in c.program t) os p s w k)
 
   -- TAGS: of an object
 
-  object_follows : (v : Value) (r : TypeRef) (t : Form) (at : Pos) (pc : ℕ) (ops : List ℤ) (os : List AnObject) (s : State) (w : World) → length ops + 2 ≤ 256 → code.HasAt (scope c a) pc (code.plain op.Tagged) at → Fine c.program (has_of c) s.made (PointerForm r) v → form_in c.program r ≡ t → IsRecordForm c a n call b t → Kp os s w →
+  object_follows : (v : Value) (r : TypeRef) (t : Form) (at : Pos) (pc : ℕ) (ops : List ℤ) (os : List AnObject) (s : State) (w : World) → length ops + 2 ≤ 256 → code.HasAt (scope c a) pc (code.plain op.Tagged) at → Fine c.program (has_of c) s.made (PointerForm r) v → form_in c.program r ≡ t → IsRecordForm t → Kp os s w →
       Follows c (go c a pc (word_of c.program (has_of c) c.img s.made v ∷ ops) w) (LongTo c a n call b (suc pc) ops) (PlaceKept c a n call b t os) (pointee v (here_in c a n call b) at s)
   object_follows v r t at pc ops os s w le has fine e is st = ⊎_elim (λ f. nil f) (λ k. object k.0 k.1 k.2 k.3) fine
     where
@@ -286,7 +281,7 @@ module _ (c : Setting) (a : Activation c) (n : ℕ) (call : Caller) (b : ℕ) wh
       object : (k : ℕ) → v ≡ Object k → k < length s.made → Sub (object_at s.made k) (form_in c.program r) → Goal v
       object k f lt sub =
           let p = At (OfObject k) [] in
-          let m = record_below c (object_at s.made k) (form_in c.program r) is.0 (fields_of t) sub (e ∙ is.1) (place_form_ok c (K c a) s w st.all p (lt, tt)) in
+          let m = record_below c (object_at s.made k) (form_in c.program r) is.0 (fields_of t) sub (e ∙ is.1) (place_ok c (K c a) s w st.all p (lt, tt)) in
           let g = object_tag c (K c a) s w st.all k m.name m.line m.fields lt m.is in
           let x = heap_start c.program c.img + object_offset s.made k in
           let far : x ≡ address_at s p = omega arith in

@@ -17,7 +17,7 @@ use Rattle.ob_meaning.specs.Values.{Form, PointerForm, form_in, record_in, is_am
 use Rattle.ob_meaning.specs.Results.{Trapped, Gives, Stops, read, assign, Caller}
 use Rattle.ob_meaning.specs.Meaning.{choose, place, pointee_type, guarded_place, is_extension}
 use Rattle.ob_relation.specs.Layout.{static_held, type_number, has_length_at, object_at, address, place_form}
-use Rattle.ob_relation.specs.Relation.{LengthFits, Fine, IsPointer as PointsTo, word_of, Scalar, PlaceIn, PlaceOf, Sub, itself}
+use Rattle.ob_relation.specs.Relation.{IsStructure, LengthFits, Fine, IsPointer as PointsTo, word_of, Scalar, PlaceIn, PlaceOf, Sub, itself}
 use Rattle.ob_relation.specs.Need.{need_place, need_tagged}
 use Rattle.ob_relation.specs.Ends.{end_place, end_expr}
 use Rattle.ob_relation.specs.Stands as code
@@ -35,10 +35,11 @@ use Rattle.ob_relation.proofs.Exprs.{from_here, since, widen_kept}
 use Rattle.ob_relation.proofs.Pointers.{pointee_follows, made_follows}
 use Rattle.ob_relation.proofs.Stmts.{store_follows, plain_to, plain_kept}
 use Rattle.ob_relation.specs.Linked.{TypesStand}
+use Rattle.ob_relation.proofs.Sources.{place_ok}
 use Rattle.ob_relation.specs.Setting.{Setting, StandIn, has_of}
 use Rattle.ob_records.specs.Bases.{BasesStand}
 use Rattle.ob_records.proofs.Bases.{passes}
-use Rattle.ob_records.proofs.Tags.{one_less, IsRecord, record_below, record_above, sub_sub, place_form_ok, type_at, object_tag, extends_it}
+use Rattle.ob_records.proofs.Tags.{one_less, IsRecord, record_below, record_above, sub_sub, type_at, object_tag, extends_it}
 
 pub tagged_more : (d : Desig) → need_place d ≤ need_tagged d
 tagged_more (OfVariable v t) = omega arith
@@ -59,7 +60,7 @@ module _ (c : Setting) (stand : BasesStand c) (cs : List Active) (s : State) (w 
   pub object_record : (r : TypeRef) (q : QName) (n : ℕ) → TestOk c.program q (form_in c.program r) → n < length s.made → Sub (object_at s.made n) (form_in c.program r) → IsRecord c (object_at s.made n)
   object_record r q n ok lt sub =
       let up = record_above c (record_in c.program q) (form_in c.program r) _ _ ok.1 ok.0.1 in
-      record_below c (object_at s.made n) (form_in c.program r) up.0 _ sub up.1 (place_form_ok c cs s w st (At (OfObject n) []) (lt, tt))
+      record_below c (object_at s.made n) (form_in c.program r) up.0 _ sub up.1 (place_ok c cs s w st (At (OfObject n) []) (lt, tt))
 
   pub pointer_test : (v : Value) (r : TypeRef) (q : QName) → PointsTo c.program s.made r v → TestOk c.program q (form_in c.program r) → pointer_passes c.img.types w.words (word_of c.program (has_of c) c.img s.made v) (type_number c.img.types q) ≡ Some (test v q)
   pointer_test v r q fine ok = ⊎_elim (λ f. subst Goal (sym f) refl) (λ k. subst Goal (sym k.1) (object k.0 k.2 k.3)) fine
@@ -219,7 +220,7 @@ module _ (c : Setting) (a : Activation c) (n : ℕ) (call : Caller) (b : ℕ) wh
       let ex : Ex c [] x ≡ tag (type_number c.img.types q) ∷ [] = ap (λ t. Ex c [] (Whole t)) ok.1.1.1 in
       follows_bind c (ih pc k [] os s w (omega (arith, le)) has.0 ok.0 (subst (λ u. Scalar u) (sym ok.1.0.1) tt) st) λ p s1 w1 k1.
       let own = pointer_of (T d) (form_at s1 p) r k1.0.0.1.1 ok.1.0.1 in
-      follows_bind c (made_follows c a n call b x own.own p ts.descriptor.words (code.with_a op.NewR has.1.type.number) at p1 (pos (address_at s1 p) ∷ []) [] os s1 w1 (omega arith) (record { has = has.1.type.has; place = has.1.place }) ts.ok (own.takes (record_in c.program q) (subst (λ u. Sub u (form_in c.program r)) ok.1.0.2 itself)) (own.fits false (subst (λ u. LengthFits u false) (sym (ok.1.0.2 ∙ ok.1.1.1)) tt)) ts.size (k1.0.0.0, subst (λ u. Sub (form_at s1 p) u) own.is itself)
+      follows_bind c (made_follows c a n call b x own.own p ts.descriptor.words (code.with_a op.NewR has.1.type.number) at p1 (pos (address_at s1 p) ∷ []) [] os s1 w1 (omega arith) (record { has = has.1.type.has; place = has.1.place }) (subst (λ u. IsStructure u) (sym ok.1.1.1) tt, ts.ok) (own.takes (record_in c.program q) (subst (λ u. Sub u (form_in c.program r)) ok.1.0.2 itself)) (own.fits false (subst (λ u. LengthFits u false) (sym (ok.1.0.2 ∙ ok.1.1.1)) tt)) ts.size (k1.0.0.0, subst (λ u. Sub (form_at s1 p) u) own.is itself)
       (λ there. rows.new_r_is c.img a.u a.m a.p (fb c a) p1 w1 (pos (address_at s1 p)) has.1.type.number (type_number c.img.types q) ts.descriptor [] has.1.type.is ts.found there ∙ ap (λ e. made (pos (address_at s1 p)) e ts.descriptor.words [] w1) (sym ex)) k1.1)
       λ u s2 w2 k2. follows_value c w2 (here c _) (tt, k2)
 

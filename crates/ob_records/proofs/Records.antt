@@ -13,7 +13,7 @@ use Rattle.ob_instr.specs.declared.opcode.Opcode.TheVariants as op
 use Rattle.ob_instr.specs.Image.{World}
 use Rattle.ob_instr.specs.Rows.{tag_passes}
 use Rattle.ob_instr.proofs.Goes as rows
-use Rattle.ob_meaning.specs.Values.{Form, RecordForm, fields_of, line_of, form_in, record_in, is_among, type_of, Place, value_at, Active, AnObject, State}
+use Rattle.ob_meaning.specs.Values.{Form, line_of, form_in, record_in, is_among, type_of, Place, value_at, Active, AnObject, State}
 use Rattle.ob_meaning.specs.Results.{Trapped, Gives, Stops, Caller}
 use Rattle.ob_meaning.specs.Meaning.{place, place_of, choose, guarded_place, is_extension}
 use Rattle.ob_relation.specs.Layout.{type_number, slot, static_held, address, place_form}
@@ -21,19 +21,20 @@ use Rattle.ob_relation.specs.Relation.{PlaceOf, Sub, second_word}
 use Rattle.ob_relation.specs.Need.{need_tagged}
 use Rattle.ob_relation.specs.Ends.{end_tagged, end_tag}
 use Rattle.ob_relation.specs.Stands as code
-use Rattle.ob_relation.specs.Typed.{As, IsReferred, boolean, TestOk, IsVariableRecord}
+use Rattle.ob_relation.specs.Typed.{As, IsReferred, boolean, TestOk, IsVariableRecord, IsRecordForm}
 use Rattle.ob_relation.proofs.Steps.{Reach, here, then_reach, Follows, follows_bind, follows_value, follows_stop, follows_map, stands_any}
-use Rattle.ob_relation.proofs.Statements.{Activation, scope, go, fb, K, here_in, Keeps, PlaceTo, PlaceKept, LongTo, PlaceFollows, TagFollows, ExprFollows, DesigOk}
+use Rattle.ob_relation.proofs.Statements.{Activation, scope, go, fb, K, here_in, Keeps, PlaceTo, PlaceKept, LongTo, PlaceFollows, RecordFollows, TagFollows, ExprFollows}
 use Rattle.ob_relation.proofs.Slots.{ref_load}
 use Rattle.ob_relation.proofs.Copied.{referred_second_load}
 use Rattle.ob_relation.proofs.Frames.{referred_fixed, call_alike, same_alike, address_up, form_up, ref_place}
 use Rattle.ob_relation.proofs.Moves.{goes, traps, small_word, all_length}
 use Rattle.ob_relation.proofs.Variables.{got_within, static_slot, ref_of}
 use Rattle.ob_relation.proofs.Exprs.{widen_kept}
+use Rattle.ob_relation.proofs.Sources.{place_ok}
 use Rattle.ob_relation.specs.Setting.{Setting, StandIn, has_of}
 use Rattle.ob_records.specs.Bases.{BasesStand}
 use Rattle.ob_records.proofs.Bases.{passes}
-use Rattle.ob_records.proofs.Tags.{IsRecord, record_below, record_above, place_form_ok, type_at, extends_it}
+use Rattle.ob_records.proofs.Tags.{IsRecord, record_below, record_above, type_at, extends_it}
 
 pub two_tagged : (d : Desig) → 2 ≤ need_tagged d
 two_tagged (OfVariable v t) = omega arith
@@ -57,7 +58,7 @@ module _ (c : Setting) (stand : BasesStand c) (cs : List Active) (s : State) (w 
   pub place_record : (p : Place) (t : Form) (q : QName) → PlaceOf c.program (has_of c) c.img s.made cs t p → TestOk c.program q t → IsRecord c (form_at p)
   place_record p t q k ok =
       let up = record_above c (record_in c.program q) t _ _ ok.1 ok.0.1 in
-      record_below c (form_at p) t up.0 _ k.1 up.1 (place_form_ok c cs s w st p k.0)
+      record_below c (form_at p) t up.0 _ k.1 up.1 (place_ok c cs s w st p k.0)
 
   pub tag_test : (p : Place) (t : Form) (q : QName) → PlaceOf c.program (has_of c) c.img s.made cs t p → TestOk c.program q t → tag_passes c.img.types (second p) (type_number c.img.types q) ≡ Some (is_extension c.program (type_of (value_at s.store p)) q)
   tag_test p t q k ok =
@@ -127,14 +128,7 @@ module _ (c : Setting) (a : Activation c) (n : ℕ) (call : Caller) (b : ℕ) wh
 
   -- RECORDS BY ADDRESS AND TAG
 
-  abbrev pub IsRecordForm : Form → Type 0
-  IsRecordForm t = (line : List QName) × (t ≡ RecordForm line (fields_of t))
-
-  abbrev pub RecordFollows : Desig → Type 0
-  RecordFollows d = (pc at : ℕ) (ops : List ℤ) (os : List AnObject) (s : State) (w : World) → length ops + need_tagged d ≤ 256 → code.TaggedCode (scope c a) d pc at → DesigOk c a n call b d → IsRecordForm (T d) → Kp os s w →
-      Follows c (go c a pc ops w) (LongTo c a n call b (end_tagged c.program d pc) ops) (PKept (T d) os) (place d (here_in c a n call b) s)
-
-  pub tagged_record_case : (x : List ℕ) (t : TypeRef) → RecordFollows (the_record x t)
+  pub tagged_record_case : (x : List ℕ) (t : TypeRef) → RecordFollows c a n call b (the_record x t)
   tagged_record_case x t pc at ops os s w le has ok is st =
       subst (λ k. Follows c (go c a pc ops w) (LongTo c a n call b (suc (suc (suc (suc pc)))) ops) (PKept (form_in c.program t) os) (Gives (place_of (variable.Parameter passing.VariableRecord x) k) s)) (sym st.calls)
       (follows_value c w
@@ -168,12 +162,12 @@ module _ (c : Setting) (a : Activation c) (n : ℕ) (call : Caller) (b : ℕ) wh
   abbrev with_address : List ℤ → Place → State → List ℤ
   with_address ops p s = pos (address c.program c.img s.made (K c a) p) ∷ ops
 
-  pub tagged_guard_case : (stand : BasesStand c) (d : Desig) (q : QName) (at : Pos) (t : TypeRef) → RecordFollows d → RecordFollows (Guard d guarded.Record q at t)
+  pub tagged_guard_case : (stand : BasesStand c) (d : Desig) (q : QName) (at : Pos) (t : TypeRef) → RecordFollows c a n call b d → RecordFollows c a n call b (Guard d guarded.Record q at t)
   tagged_guard_case stand d q at t ih pc k ops os s w le has ok is st =
       follows_bind c (ih pc k ops os s w le has.0 ok.0 (tested_record q (T d) ok.1.1) st) λ p s1 w1 k1.
       on_tag stand (with_address ops) p (T d) (form_in c.program t) q at (end_tagged c.program d pc) os s1 w1 (omega (arith, le, two_tagged d)) has.1 ok.1.1 ok.1.0 k1
 
-  pub guard_record_case : (stand : BasesStand c) (d : Desig) (q : QName) (at : Pos) (t : TypeRef) → RecordFollows d → PlaceFollows c a n call b (Guard d guarded.Record q at t)
+  pub guard_record_case : (stand : BasesStand c) (d : Desig) (q : QName) (at : Pos) (t : TypeRef) → RecordFollows c a n call b d → PlaceFollows c a n call b (Guard d guarded.Record q at t)
   guard_record_case stand d q at t ih pc k ops os s w le has ok st =
       let p1 = end_tagged c.program d pc in
       follows_map c

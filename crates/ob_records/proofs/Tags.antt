@@ -6,15 +6,15 @@ use Rattle.std.specs.Prelude.{◌-ℤ◌, ℤ, pos, Bool, true, false, ◌||◌,
 use Rattle.ob_tree.specs.declared.names.QName.{QName}
 use Rattle.ob_mem.specs.Words.{word_at}
 use Rattle.ob_instr.specs.Image.{World}
-use Rattle.ob_meaning.specs.Values.{same_name, Form, BasicForm, PointerForm, ProcedureForm, ArrayForm, OpenForm, RecordForm, Fields, NoField, AField, joined, line_of, fields_of, record_in, is_among, Value, type_of, value_at, OfModule, OfCall, OfObject, FieldStep, ElementStep, Step, Place, At, Active, AnObject, Whole, Opened, State}
+use Rattle.ob_meaning.specs.Values.{same_name, Form, ArrayForm, OpenForm, RecordForm, Fields, NoField, AField, joined, line_of, fields_of, record_in, is_among, Value, type_of, value_at, Place, Active, AnObject, Whole, Opened, State}
 use Rattle.ob_meaning.specs.Meaning.{costs_of}
-use Rattle.ob_relation.specs.Layout.{field_form, path_form, place_form, object_at, object_form, object_offset, extra_words, heap_start}
-use Rattle.ob_relation.specs.Relation.{FormOk, PathIn, PlaceIn, Sub, itself, extended, opened, Fine, tag_of}
+use Rattle.ob_relation.specs.Layout.{place_form, object_at, object_form, object_offset, extra_words, heap_start}
+use Rattle.ob_relation.specs.Relation.{FormOk, PlaceIn, Sub, itself, extended, opened, Fine, tag_of}
 use Rattle.ob_relation.proofs.Names.{name_true}
-use Rattle.ob_relation.proofs.Parts.{field_ok, W}
+use Rattle.ob_relation.proofs.Parts.{W}
 use Rattle.ob_relation.proofs.Places.{Os, Ex, Cs, objects-length, calls-length}
-use Rattle.ob_relation.proofs.Modules.{Ms, module_known}
-use Rattle.ob_relation.proofs.Located.{located, call_form_ok, object_form_ok}
+use Rattle.ob_relation.proofs.Modules.{Ms}
+use Rattle.ob_relation.proofs.Located.{located}
 use Rattle.ob_relation.proofs.Slots.{WordAt, word_before, word_behind, word_same, word_got}
 use Rattle.ob_relation.specs.Setting.{Setting, StandIn, has_of}
 use Rattle.ob_records.specs.Bases.{BasesStand}
@@ -85,22 +85,6 @@ module _ (c : Setting) where
   array_below _ _ u (extended more gs) e ok = absurd (cc)
   array_below _ _ u (opened n) e ok = (n, ap (λ z. ArrayForm n (element_of_open u z)) e)
 
-  path_ok : (os : List AnObject) (path : List Step) (t : Form) → FormOk c.program t → PathIn t path → FormOk c.program (path_form t path)
-  path_ok os [] t ok h = ok
-  path_ok os (FieldStep o x ∷ path) (BasicForm b) ok h = absurd h
-  path_ok os (FieldStep o x ∷ path) (PointerForm b) ok h = absurd h
-  path_ok os (FieldStep o x ∷ path) (ProcedureForm b) ok h = absurd h
-  path_ok os (FieldStep o x ∷ path) (ArrayForm n t) ok h = absurd h
-  path_ok os (FieldStep o x ∷ path) (OpenForm t) ok h = absurd h
-  path_ok os (FieldStep o x ∷ path) (RecordForm [] fs) ok h = absurd ok
-  path_ok os (FieldStep o x ∷ path) (RecordForm (q ∷ line) fs) ok h = path_ok os path (field_form fs o x) (field_ok c os fs o x h.0 ok.1) h.1
-  path_ok os (ElementStep i ∷ path) (BasicForm b) ok h = absurd h
-  path_ok os (ElementStep i ∷ path) (PointerForm b) ok h = absurd h
-  path_ok os (ElementStep i ∷ path) (ProcedureForm b) ok h = absurd h
-  path_ok os (ElementStep i ∷ path) (OpenForm t) ok h = absurd h
-  path_ok os (ElementStep i ∷ path) (RecordForm line fs) ok h = absurd h
-  path_ok os (ElementStep i ∷ path) (ArrayForm n t) ok h = path_ok os path t ok.1 h.1
-
   -- an object's tag, one word before its first
   pub record TagBefore (all os : List AnObject) (g : ℕ → Value) (n : ℕ) (q : QName) : Type 0 where
     pub at : ℕ
@@ -141,11 +125,6 @@ module _ (c : Setting) where
   module _ (cs : List Active) (s : State) (w : World) (st : StandIn c cs s w) where
     abbrev form_at : Place → Form
     form_at p = place_form c.program c.img s.made cs p
-
-    pub place_form_ok : (p : Place) → PlaceIn c.program (has_of c) c.img s.made cs p → FormOk c.program (form_at p)
-    place_form_ok (At (OfModule m x) path) h = path_ok s.made path _ ((module_known c s.made c.program s.store.globals m x c.ok h.0 st.modules_fine).ok) h.1
-    place_form_ok (At (OfCall k x) path) h = path_ok s.made path _ (call_form_ok c s.made cs s.store.locals k x h.0.1 st.calls_fine) h.1
-    place_form_ok (At (OfObject n) path) h = path_ok s.made path _ (object_form_ok c s.made s.made s.store.objects n h.0 st.objects_fine) h.1
 
     -- the dynamic type of a record's value
     pub type_at : (p : Place) → PlaceIn c.program (has_of c) c.img s.made cs p → (r : IsRecord c (form_at p)) → type_of (value_at s.store p) ≡ Some r.name

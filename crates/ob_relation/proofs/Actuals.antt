@@ -150,11 +150,11 @@ module _ (c : Setting) (a : Activation c) (n : ℕ) (call : Caller) (b : ℕ) wh
   scalar_actual_case t e es ih_e ih_es needs (p ∷ ps) pc at ops os s w le has ok st =
       let p1 = end_expr c.program e pc in
       subst (λ r. FollowsBy c (go c a pc ops w) (To es p1 ops) (Fit (p ∷ ps) os) r) (sym (value_steps (value e (here_in c a n call b) s) (actuals es (here_in c a n call b))))
-      (bind_by c (ih_e (form_in c.program t) pc at ops os s w (omega (arith, le, needs)) has.0 ok.1.1.0.0 st) λ v s1 w1 k1.
+      (bind_by c (ih_e (form_in c.program p.of) pc at ops os s w (omega (arith, le, needs)) has.0 ok.1.1.0.0 st) λ v s1 w1 k1.
       by_bind_by c (ih_es ps p1 _ (W s1.made v ∷ ops) s1.made s1 w1 (omega (arith, le)) has.1 ok.1.1.1 (from_here c a n call b k1.1)) λ ws xs s2 w2 k2.
-      let fine = fine_more c s1.made s2.made k2.1.objects (form_in c.program t) v k1.0 in
-      let same = scalar_word c s1.made s2.made k2.1.objects (form_in c.program t) v ok.1.1.0.1 k1.0 in
-      let arg : ArgumentFits c s2.made (K c a) p (ByValue v) (W s2.made v ∷ []) = rw (sym ok.0) (v, refl, refl, subst (λ u. Scalar (form_in c.program u)) ok.1.0 ok.1.1.0.1, subst (λ u. Fine c.program (has_of c) s2.made (form_in c.program u) v) ok.1.0 fine) in
+      let fine = fine_more c s1.made s2.made k2.1.objects (form_in c.program p.of) v k1.0 in
+      let same = scalar_word c s1.made s2.made k2.1.objects (form_in c.program p.of) v ok.1.1.0.1 k1.0 in
+      let arg : ArgumentFits c s2.made (K c a) p (ByValue v) (W s2.made v ∷ []) = rw (sym ok.0) (v, refl, refl, ok.1.1.0.1, fine) in
       by_value c (W s2.made v ∷ ws) w2 (subst (λ z. Reach c (go c a (end_actuals c.program es p1) (onto ws (W s1.made v ∷ ops)) w2) (go c a (end_actuals c.program es p1) (onto ws (z ∷ ops)) w2)) (sym same) (here c _)) ((W s2.made v ∷ [], ws, refl, arg, k2.0), since c a n call b k1.1.objects k2.1))
 
   pub variable_actual_case : (t : TypeRef) (d : Desig) (es : Actuals) → PlaceFollows c a n call b d → ActualsFollow c a n call b es → ActualsFollow c a n call b (AnActual passing.Variable t (ValueOf d) es)
@@ -167,7 +167,7 @@ module _ (c : Setting) (a : Activation c) (n : ℕ) (call : Caller) (b : ℕ) wh
       let at2 = place_of_more c s1.made s2.made k2.1.objects (K c a) (code.form_of (scope c a) d) x k1.0 in
       let same = address_same c s1.made s2.made k2.1.objects (K c a) x k1.0.0 in
       let word = pos (address c.program c.img s2.made (K c a) x) in
-      let here_it_is : PlaceOf c.program (has_of c) c.img s2.made (K c a) (form_in c.program p.of) x = (at2.0, subst (λ u. Sub (place_form c.program c.img s2.made (K c a) x) (form_in c.program u)) ok.1.0 (ok.1.1.0.1 _ at2.1)) in
+      let here_it_is : PlaceOf c.program (has_of c) c.img s2.made (K c a) (form_in c.program p.of) x = (at2.0, ok.1.1.0.1 _ at2.1) in
       let arg : ArgumentFits c s2.made (K c a) p (ByPlace x) (word ∷ []) = rw (sym ok.0) (x, refl, refl, here_it_is) in
       by_value c (word ∷ ws) w2 (subst (λ z. Reach c (go c a (end_actuals c.program es p1) (onto ws (pos (address c.program c.img s1.made (K c a) x) ∷ ops)) w2) (go c a (end_actuals c.program es p1) (onto ws (pos z ∷ ops)) w2)) (sym same) (here c _)) ((word ∷ [], ws, refl, arg, k2.0), since c a n call b k1.1.objects k2.1))
 
@@ -217,7 +217,7 @@ module _ (c : Setting) (a : Activation c) (n : ℕ) (call : Caller) (b : ℕ) wh
       let p1 = end_place c.program d pc in
       subst (λ r. FollowsBy c (go c a pc ops w) (To es p1 ops) (Fit (p ∷ ps) os) r) (sym (place_steps (place d (here_in c a n call b) s) (actuals es (here_in c a n call b))))
       (short_actual (place d (here_in c a n call b)) (T d) es p ps pc p1 _ ops os s w ih_es (omega (arith, le)) has.1 ok.1.1.1 (ih_d pc at ops os s w (omega (arith, le)) has.0 ok.1.1.0.0 st)
-      (λ os x h. let k : Pl (form_in c.program p.of) os x = (h.0, subst (λ u. Sub (place_form c.program c.img os (K c a) x) (form_in c.program u)) ok.1.0 (sub_on h.1 ok.1.1.0.1)) in rw (sym ok.0) (inl (x, refl, refl, k))))
+      (λ os x h. let k : Pl (form_in c.program p.of) os x = (h.0, sub_on h.1 ok.1.1.0.1) in rw (sym ok.0) (inl (x, refl, refl, k))))
 
   pub variable_record_actual_case : (t : TypeRef) (d : Desig) (es : Actuals) → RecordFollows c a n call b d → ActualsFollow c a n call b es → ActualsFollow c a n call b (AnActual passing.VariableRecord t (ValueOf d) es)
   variable_record_actual_case t d es ih_d ih_es [] pc at ops os s w le has ok st = absurd ok
@@ -225,7 +225,7 @@ module _ (c : Setting) (a : Activation c) (n : ℕ) (call : Caller) (b : ℕ) wh
       let p1 = end_tagged c.program d pc in
       subst (λ r. FollowsBy c (go c a pc ops w) (To es p1 ops) (Fit (p ∷ ps) os) r) (sym (place_steps (place d (here_in c a n call b) s) (actuals es (here_in c a n call b))))
       (long_actual (place d (here_in c a n call b)) (T d) es p ps pc p1 _ ops os s w ih_es (omega (arith, le)) has.1 ok.1.1.1 (ih_d pc at ops os s w (omega (arith, le)) has.0 ok.1.1.0.0 ok.1.1.0.1.0 st)
-      (λ os x h. let k : Pl (form_in c.program p.of) os x = (h.0, subst (λ u. Sub (place_form c.program c.img os (K c a) x) (form_in c.program u)) ok.1.0 (ok.1.1.0.1.1 _ h.1)) in rw (sym ok.0) (x, refl, refl, k)))
+      (λ os x h. let k : Pl (form_in c.program p.of) os x = (h.0, ok.1.1.0.1.1 _ h.1) in rw (sym ok.0) (x, refl, refl, k)))
 
   -- the address and the length of an array
   array_follows : (d : Desig) (u : Form) → PlaceFollows c a n call b d → OpenArrayFollows c a n call b d → typed.IsArrayOf (T d) u → (pc at : ℕ) (ops : List ℤ) (os : List AnObject) (s : State) (w : World) → length ops + max (need_open d) (max 2 (need_place d)) ≤ 256 → code.ArrayCode (scope c a) (ValueOf d) pc at → DesigOk c a n call b d → Keeps c a n call b os s w →
@@ -259,7 +259,7 @@ module _ (c : Setting) (a : Activation c) (n : ℕ) (call : Caller) (b : ℕ) wh
       let p1 = end_array c.program (ValueOf d) pc in
       subst (λ r. FollowsBy c (go c a pc ops w) (To es p1 ops) (Fit (p ∷ ps) os) r) (sym (place_steps (place d (here_in c a n call b) s) (actuals es (here_in c a n call b))))
       (long_actual (place d (here_in c a n call b)) (OpenForm ok.1.1.0.1.0) es p ps pc p1 _ ops os s w ih_es (omega (arith, le)) has.1 ok.1.1.1 (array_follows d ok.1.1.0.1.0 ih_d ih_open ok.1.1.0.1.2 pc at ops os s w (omega (arith, le)) has.0 ok.1.1.0.0 st)
-      (λ os x h. let k : Pl (form_in c.program p.of) os x = (h.0, subst (λ u. Sub (place_form c.program c.img os (K c a) x) u) (sym ok.1.1.0.1.1 ∙ ap (form_in c.program) ok.1.0) h.1) in rw (sym ok.0) (inl (x, refl, refl, k))))
+      (λ os x h. let k : Pl (form_in c.program p.of) os x = (h.0, subst (λ u. Sub (place_form c.program c.img os (K c a) x) u) (sym ok.1.1.0.1.1) h.1) in rw (sym ok.0) (inl (x, refl, refl, k))))
 
   pub variable_open_actual_case : (t : TypeRef) (d : Desig) (es : Actuals) → PlaceFollows c a n call b d → OpenArrayFollows c a n call b d → ActualsFollow c a n call b es → ActualsFollow c a n call b (AnActual passing.VariableOpenArray t (ValueOf d) es)
   variable_open_actual_case t d es ih_d ih_open ih_es [] pc at ops os s w le has ok st = absurd ok
@@ -267,7 +267,7 @@ module _ (c : Setting) (a : Activation c) (n : ℕ) (call : Caller) (b : ℕ) wh
       let p1 = end_array c.program (ValueOf d) pc in
       subst (λ r. FollowsBy c (go c a pc ops w) (To es p1 ops) (Fit (p ∷ ps) os) r) (sym (place_steps (place d (here_in c a n call b) s) (actuals es (here_in c a n call b))))
       (long_actual (place d (here_in c a n call b)) (OpenForm ok.1.1.0.1.0) es p ps pc p1 _ ops os s w ih_es (omega (arith, le)) has.1 ok.1.1.1 (array_follows d ok.1.1.0.1.0 ih_d ih_open ok.1.1.0.1.2 pc at ops os s w (omega (arith, le)) has.0 ok.1.1.0.0 st)
-      (λ os x h. let k : Pl (form_in c.program p.of) os x = (h.0, subst (λ u. Sub (place_form c.program c.img os (K c a) x) u) (sym ok.1.1.0.1.1 ∙ ap (form_in c.program) ok.1.0) h.1) in rw (sym ok.0) (x, refl, refl, k)))
+      (λ os x h. let k : Pl (form_in c.program p.of) os x = (h.0, subst (λ u. Sub (place_form c.program c.img os (K c a) x) u) (sym ok.1.1.0.1.1) h.1) in rw (sym ok.0) (x, refl, refl, k)))
 
   -- STRINGS
 
@@ -302,13 +302,13 @@ module _ (c : Setting) (a : Activation c) (n : ℕ) (call : Caller) (b : ℕ) wh
   string_actual_case t text es ih_es [] pc at ops os s w le has ok st = absurd ok
   string_actual_case t text es ih_es (p ∷ ps) pc at ops os s w le has ok st =
       let m = ok.1.1.0.0 in
-      let form : form_in c.program t ≡ ArrayForm m char = ok.1.1.0.1 in
+      let form : form_in c.program t ≡ ArrayForm m char = ap (form_in c.program) ok.1.0 ∙ ok.1.1.0.1 in
       let size : words (form_in c.program t) ≡ m = ap words form ∙ omega arith in
       let always = always_filled text m at (subst (λ k. code.FilledStands (scope c a) text k at) size has.0.1) in
       let x = pos (a.u.first + at) in
       by_after c (string_goes at (text_words text m) pc ops s w (omega (arith, le)) st.all has.0.0 always)
       (by_bind_by c (ih_es ps (suc pc) _ (x ∷ ops) os s w (omega (arith, le)) has.1 ok.1.1.1 st) λ ws xs s2 w2 k2.
-      let arg : ArgumentFits c s2.made (K c a) p (ByText text) (x ∷ []) = rw (sym ok.0) (inr (text, a.u.first + at, m, refl, refl, subst (λ u. form_in c.program u ≡ ArrayForm m char) ok.1.0 form, ok.1.1.0.3, always)) in
+      let arg : ArgumentFits c s2.made (K c a) p (ByText text) (x ∷ []) = rw (sym ok.0) (inr (text, a.u.first + at, m, refl, refl, ok.1.1.0.1, ok.1.1.0.3, always)) in
       by_value c (x ∷ ws) w2 (here c _) ((x ∷ [], ws, refl, arg, k2.0), k2.1))
 
   pub open_string_actual_case : (t : TypeRef) (text : List ℕ) (es : Actuals) → ActualsFollow c a n call b es → ActualsFollow c a n call b (AnActual passing.OpenArray t (Constant (literal.Str text)) es)
@@ -321,7 +321,7 @@ module _ (c : Setting) (a : Activation c) (n : ℕ) (call : Caller) (b : ℕ) wh
       let second = goes c a _ w has.0.1.1 (rows.int_next c.img a.u a.m a.p (fb c a) (suc pc) w y (x ∷ ops)) (omega (arith, le)) in
       by_after c (then_reach c first second)
       (by_bind_by c (ih_es ps (suc (suc pc)) _ (y ∷ x ∷ ops) os s w (omega (arith, le)) has.1 ok.1.1.1 st) λ ws xs s2 w2 k2.
-      let arg : ArgumentFits c s2.made (K c a) p (ByText text) (x ∷ y ∷ []) = rw (sym ok.0) (inr (text, a.u.first + at, refl, refl, subst (λ u. form_in c.program u ≡ OpenForm char) ok.1.0 ok.1.1.0.0, ok.1.1.0.1, always)) in
+      let arg : ArgumentFits c s2.made (K c a) p (ByText text) (x ∷ y ∷ []) = rw (sym ok.0) (inr (text, a.u.first + at, refl, refl, ok.1.1.0.0, ok.1.1.0.1, always)) in
       by_value c (x ∷ y ∷ ws) w2 (here c _) ((x ∷ y ∷ [], ws, refl, arg, k2.0), k2.1))
 
   -- CALLS

@@ -11,7 +11,7 @@ use Rattle.ob_types.specs.declared.typed.Connective.TheVariants as connective
 use Rattle.ob_types.specs.declared.typed.Unary.{Unary}
 use Rattle.ob_types.specs.declared.typed.Unary.TheVariants as unary
 use Rattle.ob_types.specs.declared.typed.Binary.{Binary}
-use Rattle.ob_types.specs.TypedSyntax.{Desig, OfVariable, Expr, Constant, ValueOf, Monadic, Dyadic, Logical}
+use Rattle.ob_types.specs.TypedSyntax.{Desig, OfVariable, Expr, Constant, ValueOf, Logical}
 use Rattle.ob_instr.specs.declared.instr.Instr.{Instr}
 use Rattle.ob_instr.specs.declared.opcode.Opcode.TheVariants as op
 use Rattle.ob_instr.specs.Image.{World, Point}
@@ -19,27 +19,27 @@ use Rattle.ob_instr.specs.Rows.{truth}
 use Rattle.ob_instr.proofs.Goes as rows
 use Rattle.ob_meaning.specs.Values.{Form, form_in, Value, Truth, Nil, Place, value_at, AnObject, State}
 use Rattle.ob_meaning.specs.Results.{Res, Gives, read, Caller}
-use Rattle.ob_meaning.specs.Operators.{Computed, Is, Traps, compute, compute_both, constant_value}
+use Rattle.ob_meaning.specs.Operators.{Computed, Is, Traps, compute, constant_value}
 use Rattle.ob_meaning.specs.Meaning.{place_of, value, computed, connect}
 use Rattle.ob_relation.specs.Layout.{static_held, address}
 use Rattle.ob_relation.specs.Relation.{Fine, word_of, Scalar}
 use Rattle.ob_relation.specs.Need.{need_expr}
 use Rattle.ob_relation.specs.Ends.{end_variable, end_place, end_expr, end_unary}
 use Rattle.ob_relation.specs.Stands as code
-use Rattle.ob_relation.specs.Stands.{unary_code, binary_code, literal_word}
+use Rattle.ob_relation.specs.Stands.{unary_code, literal_word}
 use Rattle.ob_relation.specs.Typed as typed
-use Rattle.ob_relation.specs.Typed.{integer, longint, boolean, char}
+use Rattle.ob_relation.specs.Typed.{boolean}
 use Rattle.ob_relation.proofs.Steps.{Reach, here, Follows, follows_bind, follows_after, follows_value, follows_stop, follows_map, stands_any}
 use Rattle.ob_relation.proofs.Statements.{Activation, scope, go, fb, K, here_in, Keeps, PlaceTo, PlaceKept, ValueTo, ValueKept, ExprOk, PlaceFollows, ExprFollows}
-use Rattle.ob_relation.proofs.Grow.{G, grows_same, grows_on, scalar_word, fine_more}
+use Rattle.ob_relation.proofs.Grow.{G, grows_same, grows_on}
 use Rattle.ob_relation.proofs.Located.{spot}
 use Rattle.ob_relation.proofs.Needs.{need_one, need_one_e}
 use Rattle.ob_relation.proofs.Behind.{expr_ends}
 use Rattle.ob_relation.proofs.Moves.{goes, jumps, traps, effect}
 use Rattle.ob_relation.proofs.Variables.{variable_of, variable_goes}
-use Rattle.ob_relation.proofs.Values.{sub_scalar, widen, RowIs, UnaryIs, binary_row, unary_row, is_integer}
+use Rattle.ob_relation.proofs.Values.{sub_scalar, widen, RowIs, UnaryIs, is_integer}
 use Rattle.ob_relation.specs.Setting.{Setting, has_of}
-use Rattle.ob_relation.specs.Plain.{Plain, PlainBinary, PlainLiteral, PlainUnary}
+use Rattle.ob_relation.specs.Plain.{Plain, PlainLiteral}
 
 abbrev after : Option Instr → ℕ → ℕ
 after None pc = pc
@@ -142,20 +142,6 @@ module _ (c : Setting) (a : Activation c) (n : ℕ) (call : Caller) (b : ℕ) wh
   binary_scalar _ _ _ _ (typed.pointers r t u q) = tt
   binary_scalar _ _ _ _ (typed.procedures r t u q) = tt
 
-  pub dyadic_case : (o : Binary) (x y : Expr) (at : Pos) → PlainBinary o → E x → E y → E (Dyadic o x y at)
-  dyadic_case o x y at pl ih_x ih_y t pc k ops os s w le has ok st =
-      let p1 = end_expr c.program x pc in
-      follows_map c
-      (follows_bind c (ih_x ok.0 pc k ops os s w (omega (arith, le)) has.0 ok.4 st) λ v s1 w1 k1.
-      follows_bind c (ih_y ok.1 p1 _ (W s1.made v ∷ ops) s1.made s1 w1 (omega (arith, le)) has.1.0 ok.5 (from_here k1.1)) λ u s2 w2 k2.
-      let sc = binary_scalar o ok.0 ok.1 ok.2 ok.3 in
-      let same = scalar_word c s1.made s2.made k2.1.objects ok.0 v sc k1.0 in
-      subst (λ z. Follows c (go c a (end_expr c.program y p1) (W s2.made u ∷ z ∷ ops) w2) (VTo (suc (end_expr c.program y p1)) ops) (VKept ok.2 os) (computed (compute_both o v u) (here_in c a n call b) at s2)) same
-      (row_follows (compute_both o v u) (binary_code o) at (end_expr c.program y p1) (W s2.made u ∷ W s2.made v ∷ ops) ops ok.2 os s2 w2 (omega (arith, le, need_one_e y)) has.1.1
-      (binary_row c s2.made a (end_expr c.program y p1) w2 ops o ok.0 ok.1 ok.2 pl ok.3 v u (fine_more c s1.made s2.made k2.1.objects ok.0 v k1.0) k2.0)
-      (since k1.1.objects k2.1)))
-      (λ v s w k. here c _) (λ v s w k. widen_kept _ t os v s w ok.6 k)
-
   pub unary_follows : (i : Option Instr) (o : Unary) (at : Pos) (pc : ℕ) (ops : List ℤ) (u : Form) (os : List AnObject) (v : Value) (s : State) (w : World) → length ops + 1 ≤ 256 → code.UnaryCode (scope c a) i pc at → UnaryIs c s.made a pc w ops i o u v → Kp os s w → Follows c (go c a pc (W s.made v ∷ ops) w) (VTo (after i pc) ops) (VKept u os) (computed (compute o v) (here_in c a n call b) at s)
   unary_follows None o at pc ops u os v s w le has r st =
       subst (λ q. Follows c (go c a pc (W s.made v ∷ ops) w) (VTo pc ops) (VKept u os) (computed q (here_in c a n call b) at s)) (sym r.1)
@@ -177,15 +163,6 @@ module _ (c : Setting) (a : Activation c) (n : ℕ) (call : Caller) (b : ℕ) wh
 
   abbrev out_form : Unary → Form
   out_form o = typed.unary_out c.program (has_of c) a.unit (static_held c.program a.procedure) a.procedure.result o
-
-  pub monadic_case : (o : Unary) (x : Expr) (at : Pos) → PlainUnary o → E x → E (Monadic o x at)
-  monadic_case o x at pl ih t pc k ops os s w le has ok st =
-      let p1 = end_expr c.program x pc in
-      follows_map c
-      (follows_bind c (ih (typed.unary_in c.program (has_of c) a.unit (static_held c.program a.procedure) a.procedure.result o) pc k ops os s w le has.0 ok.0 st) λ v s1 w1 k1.
-      subst (λ z. Follows c (go c a p1 (W s1.made v ∷ ops) w1) (VTo z ops) (VKept (out_form o) os) (computed (compute o v) (here_in c a n call b) at s1)) (after_is o p1)
-      (unary_follows (unary_code o) o at p1 ops (out_form o) os v s1 w1 (omega (arith, le, need_one_e x)) has.1 (unary_row c s1.made a p1 w1 ops o pl v k1.0) k1.1))
-      (λ v s w k. here c _) (λ v s w k. widen_kept _ t os v s w ok.1 k)
 
   -- & AND OR
 

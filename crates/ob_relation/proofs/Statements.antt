@@ -8,7 +8,7 @@ use Rattle.ob_types.specs.declared.typed.Passing.{Passing}
 use Rattle.ob_types.specs.declared.typed.Passing.TheVariants as passing
 use Rattle.ob_types.specs.declared.typed.TypedParameter.{TypedParameter}
 use Rattle.ob_types.specs.declared.typed.Family.{Family}
-use Rattle.ob_types.specs.TypedSyntax.{Desig, Expr, Actuals, Stmt, Stmts, Branches, Cases, Otherwise, Procedure}
+use Rattle.ob_types.specs.TypedSyntax.{Desig, Expr, Actuals, Stmt, Stmts, Branches, Procedure}
 use Rattle.ob_instr.specs.declared.instr.Instr.{Instr}
 use Rattle.ob_instr.specs.declared.procedure.Procedure as machine_procedure
 use Rattle.ob_instr.specs.Image.{ModuleImage, World, Act, Point, Go, Over}
@@ -17,15 +17,15 @@ use Rattle.ob_instr.specs.Table.{row, position_at, left}
 use Rattle.ob_instr.proofs.Steps as machine
 use Rattle.ob_meaning.specs.Values.{Program, procedure_of, Form, ArrayForm, OpenForm, form_in, Value, Place, Held, Own, Referred, Copied, Active, AnObject, State}
 use Rattle.ob_meaning.specs.Results.{Spent, M, Passed, ByValue, ByPlace, ByText, Caller, Around}
-use Rattle.ob_meaning.specs.Meaning.{Flow, Done, Leaves, Back, Source, Stands, Text, Round, Again, Leave, place, value, source, actuals, exec, execs, exec_branches, exec_cases, exec_else}
+use Rattle.ob_meaning.specs.Meaning.{Flow, Done, Leaves, Back, Round, Again, Leave, place, value, actuals, exec, execs, exec_branches}
 use Rattle.ob_meaning.specs.Calls.{hidden_of_all, hidden_held, held_variable, element_form, around}
 use Rattle.ob_relation.specs.Layout.{static_held, address, place_form, module_number, module_offset}
 use Rattle.ob_relation.specs.Relation.{Fine, word_of, second_word, number_of, PlaceOf, call_start, Scalar, flat_modules}
 use Rattle.ob_relation.specs.Texts.{text_words}
 use Rattle.ob_relation.specs.Ends as ends
 use Rattle.ob_relation.specs.Stands as code
-use Rattle.ob_relation.specs.Stands.{Scope, Has, slots_passed}
-use Rattle.ob_relation.specs.Need.{need_place, need_tagged, need_open, need_expr, need_array, need_passed, need_actuals, need_stmt, need_stmts, need_branches, need_cases, need_else}
+use Rattle.ob_relation.specs.Stands.{Scope}
+use Rattle.ob_relation.specs.Need.{need_place, need_tagged, need_open, need_expr, need_actuals, need_stmt, need_stmts, need_branches}
 use Rattle.ob_relation.specs.Typed as typed
 use Rattle.ob_relation.specs.Typed.{AreCharacters, char}
 use Rattle.ob_relation.proofs.Copies.{WordsAt}
@@ -195,21 +195,13 @@ module _ (c : Setting) where
       PlaceFollows d = (pc at : ℕ) (ops : List ℤ) (os : List AnObject) (s : State) (w : World) → length ops + need_place d ≤ 256 → code.PlaceCode scope d pc at → DesigOk d → Keeps os s w →
           Follows c (go pc ops w) (PlaceTo (ends.end_place c.program d pc) ops) (PlaceKept (code.form_of scope d) os) (place d here_in s)
 
-      abbrev pub TaggedFollows : Desig → Type 0
-      TaggedFollows d = (pc at : ℕ) (ops : List ℤ) (os : List AnObject) (s : State) (w : World) → length ops + need_tagged d ≤ 256 → code.TaggedCode scope d pc at → DesigOk d → Keeps os s w →
-          Follows c (go pc ops w) (LongTo (ends.end_tagged c.program d pc) ops) (PlaceKept (code.form_of scope d) os) (place d here_in s)
-
-      -- the same of a record, and of an open array
+      -- a record with its tag, and an open array with its length
       abbrev pub RecordFollows : Desig → Type 0
       RecordFollows d = (pc at : ℕ) (ops : List ℤ) (os : List AnObject) (s : State) (w : World) → length ops + need_tagged d ≤ 256 → code.TaggedCode scope d pc at → DesigOk d → typed.IsRecordForm (code.form_of scope d) → Keeps os s w →
           Follows c (go pc ops w) (LongTo (ends.end_tagged c.program d pc) ops) (PlaceKept (code.form_of scope d) os) (place d here_in s)
 
       abbrev pub OpenArrayFollows : Desig → Type 0
       OpenArrayFollows d = (u : Form) (pc at : ℕ) (ops : List ℤ) (os : List AnObject) (s : State) (w : World) → length ops + need_open d ≤ 256 → code.OpenCode scope d pc at → DesigOk d → code.form_of scope d ≡ OpenForm u → Keeps os s w →
-          Follows c (go pc ops w) (LongTo (ends.end_open c.program d pc) ops) (PlaceKept (code.form_of scope d) os) (place d here_in s)
-
-      abbrev pub OpenFollows : Desig → Type 0
-      OpenFollows d = (pc at : ℕ) (ops : List ℤ) (os : List AnObject) (s : State) (w : World) → length ops + need_open d ≤ 256 → code.OpenCode scope d pc at → DesigOk d → Keeps os s w →
           Follows c (go pc ops w) (LongTo (ends.end_open c.program d pc) ops) (PlaceKept (code.form_of scope d) os) (place d here_in s)
 
       -- the tag alone, as IS on a parameter by VAR takes it
@@ -221,27 +213,6 @@ module _ (c : Setting) where
       abbrev pub ExprFollows : Expr → Type 0
       ExprFollows e = (t : Form) (pc at : ℕ) (ops : List ℤ) (os : List AnObject) (s : State) (w : World) → length ops + need_expr e ≤ 256 → code.ExprCode scope e pc at → ExprOk e t → Keeps os s w →
           Follows c (go pc ops w) (ValueTo (ends.end_expr c.program e pc) ops) (ValueKept t os) (value e here_in s)
-
-      -- where an array or record stands, or a string at an offset
-      abbrev pub source_words : ℕ → Source → State → List ℤ
-      source_words at (Stands p) s = pos (address c.program c.img s.made K p) ∷ []
-      source_words at (Text text) s = pos (a.u.first + at) ∷ []
-
-      abbrev pub array_words : ℕ → Source → State → List ℤ
-      array_words at (Stands p) s = pos (address c.program c.img s.made K p) ∷ second_word c.program (has_of c) c.img (place_form c.program c.img s.made K p) ∷ []
-      array_words at (Text text) s = pos (a.u.first + at) ∷ pos (suc (length text)) ∷ []
-
-      abbrev pub SourceKept : Form → List AnObject → Source → State → World → Type 0
-      SourceKept t os (Stands p) s w = PlaceKept t os p s w
-      SourceKept t os (Text text) s w = Keeps os s w
-
-      abbrev pub AddressFollows : Expr → Type 0
-      AddressFollows e = (t : Form) (pc at : ℕ) (ops : List ℤ) (os : List AnObject) (s : State) (w : World) → length ops + need_passed e passing.Structure ≤ 256 → code.AddressCode scope e pc at → typed.StructureOk c.program (has_of c) a.unit (static_held c.program a.procedure) a.procedure.result e t → Keeps os s w →
-          Follows c (go pc ops w) (λ x s w. go (ends.end_address c.program e pc) (onto (source_words at x s) ops) w) (SourceKept t os) (source e here_in s)
-
-      abbrev pub ArrayFollows : Expr → Type 0
-      ArrayFollows e = (pc at : ℕ) (ops : List ℤ) (os : List AnObject) (s : State) (w : World) → length ops + need_array e ≤ 256 → code.ArrayCode scope e pc at → typed.TextOk c.program (has_of c) a.unit (static_held c.program a.procedure) a.procedure.result e → Keeps os s w →
-          Follows c (go pc ops w) (λ x s w. go (ends.end_array c.program e pc) (onto (array_words at x s) ops) w) (λ x s w. Keeps os s w) (source e here_in s)
 
       -- ACTUAL PARAMETERS: their words stand in order. The values do not tell them: a string's address is its place in the code's module.
       abbrev pub ActualsFollow : Actuals → Type 0
@@ -281,14 +252,6 @@ module _ (c : Setting) where
       abbrev pub BranchesFollow : Branches → Type 0
       BranchesFollow t = (l : Bool) (end exit pc at : ℕ) (os : List AnObject) (s : State) (w : World) (other : M Flow) → need_branches t ≤ 256 → ends.end_branches c.program t pc ≤ end → end < length a.u.code → ExitLies l end exit → code.BranchesCode scope t end exit pc at → typed.BranchesOk c.program (has_of c) a.unit (static_held c.program a.procedure) a.procedure.result t l → OtherFollows l (ends.end_branches c.program t pc) end exit os other → Keeps os s w →
           Follows c (go pc [] w) (FlowTo end exit) (FlowKept l os) (exec_branches t here_in other s)
-
-      abbrev pub CasesFollow : Cases → Type 0
-      CasesFollow t = (z : ℤ) (p : Pos) (l : Bool) (end exit pc at : ℕ) (os : List AnObject) (s : State) (w : World) (other : M Flow) → need_cases t ≤ 256 → ends.end_cases c.program t pc ≤ end → end < length a.u.code → ExitLies l end exit → code.CasesCode scope t p end exit pc at → typed.CasesOk c.program (has_of c) a.unit (static_held c.program a.procedure) a.procedure.result t l → OtherFollows l (ends.end_cases c.program t pc) end exit os other → Keeps os s w →
-          Follows c (go pc [] w) (FlowTo end exit) (FlowKept l os) (exec_cases t z here_in other s)
-
-      abbrev pub ElseFollows : Otherwise → Type 1
-      ElseFollows t = (trap : Type 0) (l : Bool) (exit pc at : ℕ) (os : List AnObject) (s : State) (w : World) (other : M Flow) → need_else t ≤ 256 → ends.end_else c.program t pc < length a.u.code → ExitLies l (ends.end_else c.program t pc) exit → code.ElseCode scope t trap exit pc at → typed.ElseOk c.program (has_of c) a.unit (static_held c.program a.procedure) a.procedure.result t l → (trap → (s : State) (w : World) → Keeps os s w → Follows c (go pc [] w) (FlowTo (suc pc) exit) (FlowKept l os) (other s)) → Keeps os s w →
-          Follows c (go pc [] w) (FlowTo (ends.end_else c.program t pc) exit) (FlowKept l os) (exec_else t here_in other s)
 
       -- LOOPS: a round goes back to the jump, or leaves
       abbrev pub RoundTo : (World → Point) → ℕ → ℕ → Round → State → World → Point

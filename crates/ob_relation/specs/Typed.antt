@@ -97,6 +97,12 @@ ByPassing passing.Variable A B C D E F = D
 ByPassing passing.VariableRecord A B C D E F = E
 ByPassing passing.VariableOpenArray A B C D E F = F
 
+-- the type of the parameter, as an actual one names it: only that of a record or an array by value must be the parameter's own, since a
+-- receiver names its own type, which may extend the parameter's
+abbrev pub IsFormal : Passing → TypeRef → TypeRef → Type 0
+IsFormal passing.Structure t u = t ≡ u
+IsFormal how t u = Unit {0}
+
 abbrev pub As : (Held → Type 0) → List Held → List ℕ → Type 0
 As Kind [] x = ⊥
 As Kind (h ∷ hs) x = OrElse (bytes_eq x (held_name h)) (Kind h) (As Kind hs x)
@@ -245,7 +251,7 @@ module _ (program : Program) (Has : Signature → QName → Type 0) (unit : List
   abbrev pub CallOk : Callee → Option TypeRef → (List TypedParameter → Type 0) → Type 0 → Type 0
   CallOk (callee.Declared q) r Fits Out = (p : Procedure) × (procedure_of program q ≡ Some p) × (p.result ≡ r) × Fits p.parameters
   CallOk (callee.Bound f k) r Fits Out = (t : QName) × (q : QName) × (p : Procedure) × IsRecordType program t × (nearest program (bases_in program t) f ≡ Some q) × (procedure_of program q ≡ Some p) × ReceiverOk program k t p.parameters × (p.result ≡ r) × Fits p.parameters
-  CallOk (callee.Super base f k) r Fits Out = (q : QName) × (p : Procedure) × (nearest program (bases_in program base) f ≡ Some q) × (procedure_of program q ≡ Some p) × (p.result ≡ r) × Fits p.parameters
+  CallOk (callee.Super base f k) r Fits Out = (q : QName) × (p : Procedure) × IsRecordType program base × (nearest program (bases_in program base) f ≡ Some q) × (procedure_of program q ≡ Some p) × (p.result ≡ r) × Fits p.parameters
   CallOk (callee.Out o) r Fits Out = (r ≡ None) × Out
 
   abbrev mutual
@@ -289,7 +295,7 @@ module _ (program : Program) (Has : Signature → QName → Type 0) (unit : List
     ActualsOk NoActual [] = Unit {0}
     ActualsOk NoActual (p ∷ ps) = ⊥
     ActualsOk (AnActual how t e rest) [] = ⊥
-    ActualsOk (AnActual how t e rest) (p ∷ ps) = (how ≡ p.passing) × ((t ≡ p.of) × (ByPassing how (ExprOk e (form_in program t) × Scalar (form_in program t)) (StructureOk e (form_in program t)) (ArrayOk e (form_in program t)) (ReferredOk e (form_in program t)) (RecordOk e (form_in program t)) (VariableArrayOk e (form_in program t)) × ActualsOk rest ps))
+    ActualsOk (AnActual how t e rest) (p ∷ ps) = (how ≡ p.passing) × (IsFormal how t p.of × (ByPassing how (ExprOk e (form_in program p.of) × Scalar (form_in program p.of)) (StructureOk e (form_in program p.of)) (ArrayOk e (form_in program p.of)) (ReferredOk e (form_in program p.of)) (RecordOk e (form_in program p.of)) (VariableArrayOk e (form_in program p.of)) × ActualsOk rest ps))
 
     -- by a signature alone, as procedure variables are called
     pub SignatureOk : Actuals → List (Mode × TypeRef) → Type 0

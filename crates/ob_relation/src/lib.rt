@@ -1,3 +1,4 @@
-//! How words of the machine stand for a state of the meaning, and that the code of the forms in
-//! `specs/Plain.antt`, and of the statements over them, follows their meaning.
+//! How words of the machine stand for a state of the meaning, what stands in the code, and the first
+//! of what follows its meaning: places, scalars, plain statements, and calls with parameters of every
+//! kind. The crates above have the other forms.
 #![tactic(auto)]

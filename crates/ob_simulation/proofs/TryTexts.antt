@@ -266,7 +266,7 @@ no_match s q p e found = absurd (cc)
 
 -- and no bound procedure
 no_tables : (methods : Family → ℕ) → TablesStand setting methods
-no_tables methods t f q e = absurd (unbound unit (λ t f. refl) (bases_in program t) f q e)
+no_tables methods t f q is e = absurd (unbound unit (λ t f. refl) (bases_in program t) f q e)
 
 no_families : FamiliesStand setting
 no_families t f k q p built near found rk d own sub = absurd (unbound unit (λ t f. refl) (bases_in program t) f q near)

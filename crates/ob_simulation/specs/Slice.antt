@@ -1,4 +1,5 @@
--- The forms for which the law is proved so far.
+-- The forms for which the law is proved: those that a checked module can have. Left out is what the rules refuse, above all a guarded
+-- pointer that is passed by VAR: by another name its variable could then be given what does not extend the guard's type.
 use Rattle.std.specs.Prelude.{◌≡◌, Option, Some, None}
 use Rattle.ob_tree.specs.declared.names.QName.{QName}
 use Rattle.ob_types.specs.declared.types.Basic.TheVariants as basic
@@ -41,7 +42,7 @@ abbrev mutual
   InDesig (Guard d guarded.Record q at t) = InTagged d
   InDesig d = ⊥
 
-  -- what holds a scalar of a type for now: also a guarded pointer
+  -- what holds a scalar of a type, and of a guarded pointer the scalar that it holds for now
   pub InHolder : Desig → Type 0
   InHolder (OfVariable v t) = Unit {0}
   InHolder (Field d o x t) = InDesig d
@@ -168,6 +169,6 @@ abbrev mutual
   InElse NoElse = Unit {0}
   InElse (Else body) = InStmts body
 
--- the bodies of all procedures are of the forms that are proved
+-- the bodies of all procedures are of these forms
 abbrev pub AllIn : Setting → Type 0
 AllIn c = (q : QName) (p : Procedure) → values.procedure_of c.program q ≡ Some p → InStmts p.body

@@ -28,7 +28,7 @@ use Rattle.ob_standing.proofs.Types.{types_fit, types_stay}
 
 -- A MODULE AMONG THOSE OF A PROGRAM
 
-fresh_at : (x : List ℕ) (front : List Module) (m : Module) (back : List Module) → FreshModule x (front ++ m ∷ back) → bytes_eq x m.name ≡ false
+pub fresh_at : (x : List ℕ) (front : List Module) (m : Module) (back : List Module) → FreshModule x (front ++ m ∷ back) → bytes_eq x m.name ≡ false
 fresh_at x [] m back f = f.0
 fresh_at x (k ∷ front) m back f = fresh_at x front m back f.1
 

@@ -12,11 +12,12 @@ use Rattle.ob_meaning.specs.Commands.{body_name, body_procedure}
 use Rattle.ob_code.specs.Procedures.{body_of, all_procedures}
 use Rattle.ob_relation.specs.Layout.{procedure_number}
 use Rattle.ob_relation.specs.Setting.{Setting}
+use Rattle.ob_code.specs.Descriptions.{method_number}
 use Rattle.ob_relation.specs.Linked.{ProcedureStands, Linked}
 use Rattle.ob_relation.proofs.Names.{bytes_true}
 use Rattle.ob_standing.specs.Fits.{IsNamed}
 use Rattle.ob_standing.specs.Compiled.{IsCompiled, IsChecked, ProceduresChecked, AllCompiled}
-use Rattle.ob_standing.proofs.Procedures.{index_named, procedure_stands}
+use Rattle.ob_standing.proofs.Procedures.{index_named, procedure_stands, procedure_methods}
 
 module _ (c : Setting) where
   record Named (types : QName → Option Desc) (md : Module) (ps : List Procedure) (x : List ℕ) (p : Procedure) : Type 0 where
@@ -37,16 +38,24 @@ module _ (c : Setting) where
   abbrev called : List ℕ → List ℕ → QName
   called m x = record { «module» = m; object = x }
 
+  -- it stands, with the numbers of families of its module's descriptions
+  pub record StandsBy (types : QName → Option Desc) (q : QName) (p : Procedure) : Type 0 where
+    pub stands : ProcedureStands c q p
+    pub methods_are : stands.methods ≡ (λ f. method_number types f.owner f.name)
+
+  pub one_stands : (types : QName → Option Desc) (md : Module) (m : ℕ) (u : ModuleImage) → IsCompiled c types md m u → ProceduresChecked c types md md.procedures → (q : QName) (p : Procedure) → bytes_eq q.module md.name ≡ true → procedure_named md.procedures q.object ≡ Some p → StandsBy types q p
+  one_stands types md m u is checked q p t e =
+      let n = named_found types md md.procedures q.object p e checked in
+      let f = subst (λ k. slice_get (all_procedures md) k ≡ Some p) (index_named md.procedures q.object n.named) n.found in
+      subst (λ k. StandsBy types (called k q.object) p) (sym (bytes_true q.module md.name t))
+      (record { stands = procedure_stands types md c m u is q.object p f n.checked; methods_are = procedure_methods types md c m u is q.object p f n.checked })
+
   pub procedures_stand : (ms : List Module) (q : QName) (p : Procedure) → AllCompiled c ms → procedure_of ms q ≡ Some p → ProcedureStands c q p
   procedures_stand [] q p all e = absurd (none-some _ e)
   procedures_stand (md ∷ ms) q p all e = go (bytes_eq q.module md.name) refl e (λ f. procedures_stand ms q p all.1 f)
     where
       go : (b : Bool) → bytes_eq q.module md.name ≡ b → (if b then procedure_named md.procedures q.object else procedure_of ms q) ≡ Some p → (procedure_of ms q ≡ Some p → ProcedureStands c q p) → ProcedureStands c q p
-      go true t e more =
-          let a = all.0 in
-          let n = named_found a.0 md md.procedures q.object p e a.4 in
-          let f = subst (λ k. slice_get (all_procedures md) k ≡ Some p) (index_named md.procedures q.object n.named) n.found in
-          subst (λ k. ProcedureStands c (called k q.object) p) (sym (bytes_true q.module md.name t)) (procedure_stands a.0 md c a.1 a.2 a.3 q.object p f n.checked)
+      go true t e more = let a = all.0 in (one_stands a.0 md a.1 a.2 a.3 a.4 q p t e).stands
       go false t e more = more e
 
   -- THE LINKED PROGRAM, and a module's body
@@ -55,3 +64,7 @@ module _ (c : Setting) where
 
   pub body_stands : (types : QName → Option Desc) (md : Module) (m : ℕ) (u : ModuleImage) → IsCompiled c types md m u → IsChecked c types md (body_of md) → ProcedureStands c (body_name md) (body_procedure md)
   body_stands types md m u k h = procedure_stands types md c m u k [] (body_of md) refl h
+
+  -- with the numbers of families of the module's descriptions
+  pub body_stands_by : (types : QName → Option Desc) (md : Module) (m : ℕ) (u : ModuleImage) → IsCompiled c types md m u → IsChecked c types md (body_of md) → StandsBy types (body_name md) (body_procedure md)
+  body_stands_by types md m u k h = record { stands = procedure_stands types md c m u k [] (body_of md) refl h; methods_are = procedure_methods types md c m u k [] (body_of md) refl h }

@@ -202,3 +202,8 @@ module _ (types : QName → Option Desc) (md : Module) where
           different = h.different;
           forms = h.forms;
         }
+
+    -- its numbers of families are those of the module's descriptions
+    pub procedure_methods : (x : List ℕ) (p : Procedure) (e : slice_get (all_procedures md) (procedure_index md.procedures x) ≡ Some p) (h : IsChecked c types md p) → (procedure_stands x p e h).methods ≡ methods
+    unfolding procedure_stands
+    procedure_methods x p e h = refl

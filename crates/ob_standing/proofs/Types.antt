@@ -19,12 +19,12 @@ use Rattle.ob_relation.proofs.Names.{bytes_true, and_both}
 use Rattle.ob_standing.specs.Descriptors.{named, DescriptorsFit, IsDescriptor, RecordsFit, DescFits, DeclarationsFit, TypesThere}
 
 -- a descriptor that was found, with its words
-record Found (program : Program) (ds : List Descriptor) (q : QName) : Type 0 where
+pub record Found (program : Program) (ds : List Descriptor) (q : QName) : Type 0 where
   pub descriptor : Descriptor
   pub found : slice_get ds (type_number ds q) ≡ Some descriptor
   pub size : descriptor.words ≡ words (record_in program q)
 
-found_in : (program : Program) (ds : List Descriptor) (q : QName) → DescriptorsFit program ds → IsDescriptor ds q → Found program ds q
+pub found_in : (program : Program) (ds : List Descriptor) (q : QName) → DescriptorsFit program ds → IsDescriptor ds q → Found program ds q
 found_in program [] q f i = absurd i
 found_in program (d ∷ ds) q f i = go (bytes_eq q.«module» d.«module» && bytes_eq q.object d.name) refl i (λ j. found_in program ds q f.1 j)
   where

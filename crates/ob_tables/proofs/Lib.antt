@@ -1,0 +1,13 @@
+pub mod Bases
+pub mod Records
+pub mod Added
+pub mod Few
+pub mod Declared
+pub mod Entering
+pub mod Numbered
+pub mod Definitions
+pub mod Families
+pub mod Tables
+pub mod Loaded
+pub mod Redefined
+pub mod Image

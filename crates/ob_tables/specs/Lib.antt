@@ -1,0 +1,5 @@
+pub mod Declared
+pub mod Based
+pub mod Families
+pub mod Redefined
+pub mod Image
