@@ -29,13 +29,13 @@ use Rattle.ob_meaning.specs.Values.{Program, bases_in, procedure_of, State}
 use Rattle.ob_meaning.specs.Commands.{run_first, no_store, first_globals}
 use Rattle.ob_relation.specs.Stands.{instr, plain, with_a, literal_word}
 use Rattle.ob_relation.specs.Typed as typed
-use Rattle.ob_relation.specs.Typed.{longint, boolean, set}
+use Rattle.ob_relation.specs.Typed.{boolean, set}
 use Rattle.ob_relation.proofs.Names.{bytes_true}
 use Rattle.ob_meaning.specs.Results.{Res, Gives, Stops}
 use Rattle.ob_meaning.specs.Meaning.{Flow}
 use Rattle.ob_meaning.specs.Operators.{padded}
 use Rattle.ob_simulation.proofs.Whole.{command_simulates}
-use Rattle.ob_simulation.proofs.Try.{none, none_length}
+use Rattle.ob_simulation.proofs.Nothing.{none, none_length}
 use Rattle.ob_relation.specs.Linked.{Linked, ProcedureStands, TypesStand}
 use Rattle.ob_relation.specs.Setting.{Setting, StandIn}
 use Rattle.ob_operators.specs.Procedures.{ValuesNumbered}
