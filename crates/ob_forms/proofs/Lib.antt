@@ -1,2 +1,5 @@
 pub mod Finds
 pub mod Shapes
+pub mod Extending
+pub mod Members
+pub mod Sorts

@@ -21,7 +21,7 @@ use Rattle.ob_forms.specs.Formed.{IsDeclared, IsRecordOf, Formed}
 use Rattle.ob_forms.proofs.Finds as finds
 
 -- the form of a basic type is itself
-basic_is : (program : Program) (b : Basic) → form_in program (ref.Basic b) ≡ BasicForm b
+pub basic_is : (program : Program) (b : Basic) → form_in program (ref.Basic b) ≡ BasicForm b
 basic_is program b = by (number_of_types program)
   where
     by : (n : ℕ) → form_within (description program) n (ref.Basic b) ≡ BasicForm b
@@ -130,7 +130,7 @@ module _ (map : QName → Option Desc) (program : Program) (formed : Formed map 
 
   -- OPEN ARRAYS
 
-  declared_target : (n : ℕ) (t : TypeRef) → IsDeclared t → IsDeclared (target map n t)
+  pub declared_target : (n : ℕ) (t : TypeRef) → IsDeclared t → IsDeclared (target map n t)
   unfolding target
   declared_target zero t h = h
   declared_target (suc n) t h = by (alias_of map t) refl (λ u k. declared_target n u k)

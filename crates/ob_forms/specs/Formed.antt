@@ -19,7 +19,7 @@ use Rattle.ob_types.specs.TypedSyntax.{Procedure}
 use Rattle.ob_meaning.specs.Values.{Program, procedure_of, PointerForm, ProcedureForm, ArrayForm, OpenForm, RecordForm, Fields, joined, base_line, base_fields, fields_of, form_in, record_in}
 use Rattle.ob_meaning.specs.Meaning.{declared_for}
 use Rattle.ob_relation.specs.Layout.{field_form, form_named, variables_in}
-use Rattle.ob_relation.specs.Relation.{FormOk, FieldIn, ValueIn}
+use Rattle.ob_relation.specs.Relation.{IsLength, FormOk, FieldIn, ValueIn}
 use Rattle.ob_relation.specs.Typed.{passing_for, ReceiverOk, IsRecordForm}
 use Rattle.ob_rules.specs.Shapes.{same_name}
 use Rattle.ob_rules.specs.Names.{out_string}
@@ -84,6 +84,7 @@ pub record IsVariableOf (program : Program) (q : QName) (t : TypeRef) : Type 0 w
 pub record Formed (map : QName → Option Desc) (program : Program) : Type 0 where
   pub aliases : (q : QName) (m : Mark) (t : TypeRef) → map q ≡ Some (desc.Alias m t) → record_in program q ≡ form_in program t
   pub arrays : (q : QName) (m : Mark) (n : ℕ) (t : TypeRef) → map q ≡ Some (desc.Array m n t) → record_in program q ≡ ArrayForm n (form_in program t)
+  pub lengths : (q : QName) (m : Mark) (n : ℕ) (t : TypeRef) → map q ≡ Some (desc.Array m n t) → IsLength n
   pub opens : (q : QName) (m : Mark) (t : TypeRef) → map q ≡ Some (desc.OpenArray m t) → same_name q out_string ≡ false → record_in program q ≡ OpenForm (form_in program t)
   pub pointers : (q : QName) (m : Mark) (t : TypeRef) → map q ≡ Some (desc.Pointer m t) → record_in program q ≡ PointerForm t
   pub procedures : (q : QName) (m : Mark) (s : Signature) → map q ≡ Some (desc.ProcType m s) → record_in program q ≡ ProcedureForm s
