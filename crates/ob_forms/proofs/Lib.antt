@@ -3,3 +3,4 @@ pub mod Shapes
 pub mod Extending
 pub mod Members
 pub mod Sorts
+pub mod Taking

@@ -12,14 +12,15 @@ use Rattle.ob_types.specs.declared.desc.RecordDesc.{RecordDesc}
 use Rattle.ob_types.specs.declared.desc.Field.{Field}
 use Rattle.ob_types.specs.declared.desc.Method.{Method}
 use Rattle.ob_types.specs.Maps.{listed, signature_types}
-use Rattle.ob_meaning.specs.Values.{Program, Form, BasicForm, PointerForm, ProcedureForm, ArrayForm, OpenForm, RecordForm, line_of, fields_of, FieldStep, form_in, record_in, Held}
+use Rattle.ob_meaning.specs.Values.{Program, Form, BasicForm, PointerForm, ProcedureForm, ArrayForm, OpenForm, RecordForm, line_of, fields_of, FieldStep, bases_in, base_line, form_in, record_in, Held}
+use Rattle.ob_meaning.specs.Meaning.{nearest, first_of_both}
 use Rattle.ob_relation.specs.Layout.{field_form}
 use Rattle.ob_relation.specs.Relation.{Sub, FieldIn, PathIn}
 use Rattle.ob_relation.specs.Typed.{FieldOk}
 use Rattle.ob_relation.proofs.Names.{bytes_true}
 use Rattle.ob_relation.proofs.Paths.{Same, sub_field}
 use Rattle.ob_rules.specs.Shapes.{Member, AField, AMethod, field_or, own_member, base_type, base_record, record_if, or_in_base, member_within, member}
-use Rattle.ob_forms.specs.Formed.{IsDeclared, IsRecordOf, IsFieldOf, IsMethodOf, Formed}
+use Rattle.ob_forms.specs.Formed.{IsDeclared, IsRecordOf, IsFieldOf, IsMethodOf, introduced, Formed}
 use Rattle.ob_forms.proofs.Shapes as shapes
 use Rattle.ob_forms.proofs.Extending.{Above, above_same, above_on, base_above}
 
@@ -76,10 +77,14 @@ module _ (map : QName → Option Desc) (program : Program) (formed : Formed map 
   abbrev pub AreDeclared : Signature → Type 0
   AreDeclared s = AllByRecursion IsDeclared (signature_types s)
 
+  -- the map has a record type of that name
+  abbrev pub HasRecord : QName → Type 0
+  HasRecord q = (r : RecordDesc) × (map q ≡ Some (desc.Record r))
+
   -- the field or the bound procedure of that name is there, of a type that the record extends
   abbrev pub MemberIs : QName → List ℕ → Member → Type 0
-  MemberIs q x (AField o f) = Above (record_in program q) (record_in program o) × (IsFieldOf program o f × ((f.name ≡ x) × IsDeclared f.of))
-  MemberIs q x (AMethod o m) = Above (record_in program q) (record_in program o) × (IsMethodOf program o m × ((m.name ≡ x) × AreDeclared m.signature))
+  MemberIs q x (AField o f) = Above (record_in program q) (record_in program o) × (IsFieldOf program o f × ((f.name ≡ x) × (IsDeclared f.of × HasRecord o)))
+  MemberIs q x (AMethod o m) = Above (record_in program q) (record_in program o) × (IsMethodOf program o m × ((m.name ≡ x) × (AreDeclared m.signature × HasRecord o)))
 
   module _ (q : QName) (r : RecordDesc) (is : map q ≡ Some (desc.Record r)) where
     here : Above (record_in program q) (record_in program q)
@@ -99,11 +104,11 @@ module _ (map : QName → Option Desc) (program : Program) (formed : Formed map 
     in_it x m None (Some n) ea eb e =
         let h = found (λ m. IsMethodOf program q m × AreDeclared m.signature) (λ m. bytes_eq m.name x) r.methods n methods eb in
         let g : AMethod q n ≡ m = cc in
-        subst (λ m. MemberIs q x m) g (here, (h.0.0, (bytes_true n.name x h.1, h.0.1)))
+        subst (λ m. MemberIs q x m) g (here, (h.0.0, (bytes_true n.name x h.1, (h.0.1, (r, is)))))
     in_it x m (Some f) b ea eb e =
         let h = found (λ f. IsFieldOf program q f × IsDeclared f.of) (λ f. bytes_eq f.name x) r.fields f fields ea in
         let g : AField q f ≡ m = cc in
-        subst (λ m. MemberIs q x m) g (here, (h.0.0, (bytes_true f.name x h.1, h.0.1)))
+        subst (λ m. MemberIs q x m) g (here, (h.0.0, (bytes_true f.name x h.1, (h.0.1, (r, is)))))
 
   own : (q : QName) (x : List ℕ) (m : Member) → own_member q (map q) x ≡ Some m → MemberIs q x m
   own q x m e = by (map q) refl e
@@ -166,3 +171,10 @@ module _ (map : QName → Option Desc) (program : Program) (formed : Formed map 
         let line = shapes.record_type map program formed q r (formed.records q r has) in
         let g : field_form (fields_of (record_in program o)) o x ≡ form f.of = subst (λ y. field_form (fields_of (record_in program o)) o y ≡ form f.of) name own.form in
         subst (λ t. FieldOk program Has unit held result t o x (form f.of)) (sym is) (q ∷ line.0, line.1, in_fields (record_in program q) o x same.in_it, same.form ∙ g, same.offset)
+
+  -- A BOUND PROCEDURE: the nearest of its family from the record type on that introduces it
+  pub nearest_own : (o : QName) (r : RecordDesc) (m : Method) → map o ≡ Some (desc.Record r) → (k : IsMethodOf program o m) → nearest program (bases_in program o) (introduced o m) ≡ Some k.name
+  nearest_own o r m e k =
+      let line : bases_in program o ≡ o ∷ base_line (form_in program) r.base = ap line_of (formed.records o r e).is in
+      let rest = nearest program (base_line (form_in program) r.base) (introduced o m) in
+      ap (λ ts. nearest program ts (introduced o m)) line ∙ ap (λ x. first_of_both x rest) k.declared

@@ -16,7 +16,7 @@ use Rattle.ob_types.specs.declared.desc.RecordDesc.{RecordDesc}
 use Rattle.ob_types.specs.declared.typed.Passing.{Passing}
 use Rattle.ob_types.specs.Maps.{is_type, stands_on, IsHeld, IsWithin}
 use Rattle.ob_types.specs.Relations as relations
-use Rattle.ob_types.specs.Relations.{is_alias, IsOwn, StandsFor, itself, equated, Is, Keeps, IsGrounded}
+use Rattle.ob_types.specs.Relations.{is_alias, IsOwn, StandsFor, itself, equated, Is, is_structure, Keeps, IsGrounded}
 use Rattle.ob_types.specs.Tests.{target, shape_at}
 use Rattle.ob_types.proofs.Sameness.{at}
 use Rattle.ob_meaning.specs.Values.{Program, Form, BasicForm, PointerForm, ProcedureForm, ArrayForm, OpenForm, RecordForm, fields_of, joined, base_line, base_fields, Fields, form_in, record_in}
@@ -137,6 +137,33 @@ module _ (map : QName → Option Desc) (program : Program) (formed : Formed map 
 
       wrong : (q : QName) (d : Desc) → target map 201 t ≡ ref.Named q → map q ≡ Some d → structured_at (ref.Named q) (Some d) ≡ true → Scalar (form t)
       wrong q d is e s = let bad : true ≡ false = sym s ∙ sym (at_shape structured_at t q d is e) ∙ never in absurd cc
+
+      on : (q : QName) (d : Desc) → target map 201 t ≡ ref.Named q → map q ≡ Some d → is_type d ≡ true → is_alias d ≡ false → Scalar (form t)
+      on q (desc.Const v) is e ty al = absurd cc
+      on q (desc.Var m u) is e ty al = absurd cc
+      on q (desc.Proc s) is e ty al = absurd cc
+      on q (desc.Alias m u) is e ty al = absurd cc
+      on q (desc.Array m n u) is e ty al = wrong q (desc.Array m n u) is e refl
+      on q (desc.OpenArray m u) is e ty al = wrong q (desc.OpenArray m u) is e refl
+      on q (desc.Pointer m u) is e ty al = so (PointerForm u) (named_form t q is ∙ formed.pointers q m u e) tt
+      on q (desc.ProcType m s) is e ty al = so (ProcedureForm s) (named_form t q is ∙ formed.procedures q m s e) tt
+      on q (desc.Record r) is e ty al = wrong q (desc.Record r) is e refl
+
+      by : Sort t → Scalar (form t)
+      by (basic b is) = so (BasicForm b) (basic_form t b is) tt
+      by (named q d is e ty al) = on q d is e ty al
+
+  -- the result of a procedure, which is neither array nor record
+  pub plain_form : (t : TypeRef) → IsHeld map t → (Is map is_structure t → ⊥) → Scalar (form t)
+  plain_form t h never = by (sort t h)
+    where
+      so : (f : Form) → form t ≡ f → Scalar f → Scalar (form t)
+      so f e s = subst Scalar (sym e) s
+
+      wrong : (q : QName) (d : Desc) → target map 201 t ≡ ref.Named q → map q ≡ Some d → is_structure d ≡ true → Scalar (form t)
+      wrong q d is e s =
+          let stands : StandsFor map t (ref.Named q) = subst (λ u. StandsFor map t u) is (at map grounded t h).stands in
+          absurd (never (q, (stands, subst (λ o. MatchOption o ⊥ (λ d. IsTrue (is_structure d))) (sym e) s)))
 
       on : (q : QName) (d : Desc) → target map 201 t ≡ ref.Named q → map q ≡ Some d → is_type d ≡ true → is_alias d ≡ false → Scalar (form t)
       on q (desc.Const v) is e ty al = absurd cc
