@@ -4,3 +4,6 @@ pub mod Extending
 pub mod Members
 pub mod Sorts
 pub mod Taking
+pub mod Within
+pub mod Built
+pub mod Saying
