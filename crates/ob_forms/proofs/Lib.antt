@@ -7,3 +7,4 @@ pub mod Taking
 pub mod Within
 pub mod Built
 pub mod Saying
+pub mod Modules
