@@ -42,7 +42,7 @@ module _ (program : Program) (whole : IsWhole program) where
   named : Module → List ℕ → QName
   named m x = record { «module» = m.name; object = x }
 
-  own : (m : Module) → IsOneOf program m → IsWholeModule program m
+  pub own : (m : Module) → IsOneOf program m → IsWholeModule program m
   own m i = of_all (IsWholeModule program) program m whole.modules i
 
   pub type_there : (m : Module) (t : TypedType) → IsOneOf program m → IsOneOf m.types t → description program (record { «module» = m.name; object = t.name }) ≡ Some t.desc
