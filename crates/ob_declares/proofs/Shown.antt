@@ -136,7 +136,7 @@ part_seen r s e =
     let k : x ≡ r = cc in
     subst (λ r. IsPartOf r s) k (record { base = refl; fields = all_filtered (λ f. IsAmong s.fields f) (λ f. is_shown f.mark) s.fields (among_itself s.fields); methods = all_filtered (λ m. IsBoundAmong s.methods m) (λ m. is_shown m.mark) s.methods (bound_itself s.methods) })
 
-within_type : (types : QName → Option Desc) (n : ℕ) (q : QName) (d : Desc) → types q ≡ Some d → IsWithin types n (ref.Named q) → is_type d ≡ true
+pub within_type : (types : QName → Option Desc) (n : ℕ) (q : QName) (d : Desc) → types q ≡ Some d → IsWithin types n (ref.Named q) → is_type d ≡ true
 unfolding IsWithin
 within_type types zero q d e h = absurd h
 within_type types (suc n) q d e h = (subst (λ (o : Option Desc). MatchOption o ⊥ (λ d. IsTrue (is_type d) × AllByRecursion (λ t. IsWithin types n t) (stands_on d))) e h).0
