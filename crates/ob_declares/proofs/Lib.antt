@@ -1,3 +1,4 @@
 pub mod Shown
 pub mod Laid
 pub mod Views
+pub mod Sized

@@ -41,7 +41,7 @@ and_left true y e = refl
 and_left false y e = absurd cc
 
 -- the rules compare the module first
-same_is : (p q : QName) → rules.same_name p q ≡ true → p ≡ q
+pub same_is : (p q : QName) → rules.same_name p q ≡ true → p ≡ q
 same_is p q e =
     let m : p.module ≡ q.module = bytes_true p.module q.module (and_left (bytes_eq p.module q.module) (bytes_eq p.object q.object) e) in
     let o : p.object ≡ q.object = bytes_true p.object q.object (and_right (bytes_eq p.module q.module) (bytes_eq p.object q.object) e) in
