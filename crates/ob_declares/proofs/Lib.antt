@@ -2,3 +2,4 @@ pub mod Shown
 pub mod Laid
 pub mod Views
 pub mod Sized
+pub mod Placed

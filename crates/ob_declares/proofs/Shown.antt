@@ -77,7 +77,7 @@ one_ordered R (x ∷ xs) z h = ⊎_elim (λ e. inl e) (λ k. inr (one_ordered R 
 
 -- ---- what is found
 
-object_found : (os : List (List ℕ × Desc)) (x : List ℕ) (d : Desc) → object_named os x ≡ Some d → IsOneOf os (x, d)
+pub object_found : (os : List (List ℕ × Desc)) (x : List ℕ) (d : Desc) → object_named os x ≡ Some d → IsOneOf os (x, d)
 object_found [] x d e = absurd cc
 object_found (o ∷ os) x d e = by (bytes_eq x o.0) refl e (λ e. object_found os x d e)
   where
@@ -88,13 +88,13 @@ object_found (o ∷ os) x d e = by (bytes_eq x o.0) refl e (λ e. object_found o
         inl (ap (λ (y : List ℕ). (y, o.1)) (sym n) ∙ ap (λ (y : Desc). (x, y)) k)
     by false t e r = inr (r e)
 
-record FaceFound {K : Type 0} (faces : List (Face K)) (n x : List ℕ) (d : Desc) : Type 0 where
-  f : Face K
-  there : IsOneOf faces f
-  name : n ≡ f.«module»
-  object : object_named f.objects x ≡ Some d
+pub record FaceFound {K : Type 0} (faces : List (Face K)) (n x : List ℕ) (d : Desc) : Type 0 where
+  pub f : Face K
+  pub there : IsOneOf faces f
+  pub name : n ≡ f.«module»
+  pub object : object_named f.objects x ≡ Some d
 
-face_found : {K : Type 0} (faces : List (Face K)) (q : QName) (d : Desc) → described faces q ≡ Some d → FaceFound faces q.«module» q.object d
+pub face_found : {K : Type 0} (faces : List (Face K)) (q : QName) (d : Desc) → described faces q ≡ Some d → FaceFound faces q.«module» q.object d
 face_found [] q d e = absurd cc
 face_found (f ∷ fs) q d e = by (bytes_eq q.«module» f.«module») refl e (λ e. face_found fs q d e)
   where

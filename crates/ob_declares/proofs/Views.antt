@@ -34,13 +34,13 @@ one_each f [] x h = absurd h
 one_each f (y ∷ xs) x (inl e) = inl (ap f e)
 one_each f (y ∷ xs) x (inr k) = inr (one_each f xs x k)
 
-record TypeFound (ts : List TypedType) (x : List ℕ) (d : Desc) : Type 0 where
-  t : TypedType
-  there : IsOneOf ts t
-  name : t.name ≡ x
-  desc : t.desc ≡ d
+pub record TypeFound (ts : List TypedType) (x : List ℕ) (d : Desc) : Type 0 where
+  pub t : TypedType
+  pub there : IsOneOf ts t
+  pub name : t.name ≡ x
+  pub desc : t.desc ≡ d
 
-type_found : (ts : List TypedType) (x : List ℕ) (d : Desc) → type_named ts x ≡ Some d → TypeFound ts x d
+pub type_found : (ts : List TypedType) (x : List ℕ) (d : Desc) → type_named ts x ≡ Some d → TypeFound ts x d
 type_found [] x d e = absurd cc
 type_found (t ∷ ts) x d e = by (bytes_eq x t.name) refl e (λ e. type_found ts x d e)
   where
