@@ -8,3 +8,4 @@ pub mod Within
 pub mod Built
 pub mod Saying
 pub mod Modules
+pub mod Staying

@@ -34,7 +34,7 @@ module _ (f g : TypeRef → Form) where
   fields_agree None h = refl
   fields_agree (Some t) h = ap fields_of h.0
 
-  agree : (q : QName) (d : Desc) → AllByRecursion (λ t. f t ≡ g t) (stands_on d) → described f q (Some d) ≡ described g q (Some d)
+  pub agree : (q : QName) (d : Desc) → AllByRecursion (λ t. f t ≡ g t) (stands_on d) → described f q (Some d) ≡ described g q (Some d)
   agree q (desc.Const v) h = refl
   agree q (desc.Var m t) h = refl
   agree q (desc.Proc s) h = refl
@@ -50,7 +50,7 @@ module _ (f g : TypeRef → Form) where
       ∙ ap (λ k. RecordForm (q ∷ base_line g r.base) (joined k (own_fields f q r.fields))) (fields_agree r.base b)
       ∙ ap (λ k. RecordForm (q ∷ base_line g r.base) (joined (base_fields g r.base) k)) (own_agree q r.fields o)
 
-all_from : (P Q : TypeRef → Type 0) → ((t : TypeRef) → P t → Q t) → (ts : List TypeRef) → AllByRecursion P ts → AllByRecursion Q ts
+pub all_from : (P Q : TypeRef → Type 0) → ((t : TypeRef) → P t → Q t) → (ts : List TypeRef) → AllByRecursion P ts → AllByRecursion Q ts
 all_from P Q f [] h = tt
 all_from P Q f (t ∷ ts) h = (f t h.0, all_from P Q f ts h.1)
 
