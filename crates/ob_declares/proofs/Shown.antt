@@ -36,6 +36,7 @@ use Rattle.ob_counts.specs.Counts.{mode_of, own_name}
 use Rattle.ob_uses.specs.Objects.{formal_of, signature_of, is_exported, constant_object, variable_object, procedure_object, type_object, types_among, reached_types, by_name, objects_of}
 use Rattle.ob_uses.specs.Closed.{is_among}
 use Rattle.ob_forms.specs.Formed.{IsDeclared, AreParameters, IsProcedureOf}
+use Rattle.ob_forms.proofs.Chains.{chains}
 use Rattle.ob_forms.specs.Said.{IsOneOf, IsAmong, IsBoundAmong, IsPartOf, IsSaid, IsSound}
 use Rattle.ob_forms.specs.Whole.{IsPassed, HeadingOk, IsWhole}
 use Rattle.ob_forms.proofs.Modules.{of_all, own, type_there, procedure_there, variable_there}
@@ -174,7 +175,7 @@ parameters_declared program (x ∷ xs) h = (h.0.declared, parameters_declared pr
 module _ (program : Program) (sound : IsSound program) where
   -- a type that the program declares says itself, and what is seen of it
   pub type_said : (q : QName) (d : Desc) → description program q ≡ Some d → IsSaid program q (seen d)
-  type_said q d e = by d e (within_type (description program) (number_of_types program) q d e (sound.chains q d e))
+  type_said q d e = by d e (within_type (description program) (number_of_types program) q d e (chains program sound q d e))
     where
       by : (d : Desc) → description program q ≡ Some d → is_type d ≡ true → IsSaid program q (seen d)
       by (desc.Const v) e t = tt

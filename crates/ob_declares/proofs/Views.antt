@@ -20,6 +20,7 @@ use Rattle.ob_env.specs.Shown.{blank, shown}
 use Rattle.ob_rules.specs.Shapes.{same_name}
 use Rattle.ob_rules.specs.Names.{Around, map_of, type_desc, own_desc, out_string}
 use Rattle.ob_forms.specs.Formed.{Formed}
+use Rattle.ob_forms.proofs.Chains.{chains}
 use Rattle.ob_forms.specs.Said.{IsOneOf, IsSaid, IsSound}
 use Rattle.ob_forms.specs.Whole.{IsWhole}
 use Rattle.ob_forms.proofs.Modules.{of_all, type_there}
@@ -58,7 +59,7 @@ own_found (t ∷ ts) x d e = by (bytes_eq t.name x) refl e (λ e. own_found ts x
 
 module _ (program : Program) (sound : IsSound program) where
   a_type : (q : QName) (d : Desc) → description program q ≡ Some d → is_type d ≡ true
-  a_type q d e = within_type (description program) (number_of_types program) q d e (sound.chains q d e)
+  a_type q d e = within_type (description program) (number_of_types program) q d e (chains program sound q d e)
 
   -- a type that the program declares says itself
   own_said : (q : QName) (d : Desc) → description program q ≡ Some d → IsSaid program q d

@@ -16,6 +16,7 @@ use Rattle.ob_meaning.specs.Values.{same_name, Program, Form, BasicForm, Pointer
 use Rattle.ob_relation.specs.Relation.{OrElse, FormOk, FieldsOk, FreshField}
 use Rattle.ob_relation.specs.Typed.{IsRecordForm}
 use Rattle.ob_relation.proofs.Names.{bytes_true, name_true}
+use Rattle.ob_forms.proofs.Chains.{chains}
 use Rattle.ob_forms.specs.Said.{IsSound, IsFreshName, HaveNames}
 use Rattle.ob_forms.proofs.Within.{form_described, parts_within, nowhere, none_within, all_left, all_right}
 use Rattle.ob_forms.proofs.Shapes.{basic_is}
@@ -183,7 +184,7 @@ module _ (program : Program) (sound : IsSound program) where
       by (Some c) w i k = k (owner_within n c q w.0 i)
 
   pub base_apart : (q : QName) (r : RecordDesc) → types q ≡ Some (desc.Record r) → OwnerIn q (base_fields form r.base) → ⊥
-  base_apart q r e i = no_cycle (number_of_types program) q r e (sound.chains q (desc.Record r) e) i
+  base_apart q r e i = no_cycle (number_of_types program) q r e (chains program sound q (desc.Record r) e) i
 
   -- TYPES ARE BUILT AS TYPES ARE
 

@@ -4,6 +4,7 @@ pub mod Extending
 pub mod Members
 pub mod Sorts
 pub mod Taking
+pub mod Chains
 pub mod Within
 pub mod Built
 pub mod Saying

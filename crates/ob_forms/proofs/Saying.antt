@@ -24,6 +24,7 @@ use Rattle.ob_relation.proofs.Names.{bytes_true, bytes_same, name_true, name_sam
 use Rattle.ob_rules.specs.Shapes as rules
 use Rattle.ob_rules.specs.Names.{out_string}
 use Rattle.ob_forms.specs.Formed.{IsDeclared, IsRecordOf, IsFieldOf, IsMethodOf, introduced, AreParameters, behind, Formed}
+use Rattle.ob_forms.proofs.Chains.{chains}
 use Rattle.ob_forms.specs.Said.{IsOneOf, IsAmong, IsBoundAmong, IsPartOf, IsSaid, IsFreshName, HaveNames, IsSound}
 use Rattle.ob_forms.proofs.Within.{form_described, all_left, all_right}
 use Rattle.ob_forms.proofs.Built.{OwnerIn, base_apart, Found, found, record_base, built}
@@ -137,7 +138,7 @@ module _ (program : Program) (sound : IsSound program) where
       }
 
   record_fits : (q : QName) (s : RecordDesc) → types q ≡ Some (desc.Record s) → FormOk program (record_in program q)
-  record_fits q s e = built program sound (number_of_types program) (ref.Named q) (sound.chains q (desc.Record s) e) (λ h. by (found program sound is_open (ref.Named q) h))
+  record_fits q s e = built program sound (number_of_types program) (ref.Named q) (chains program sound q (desc.Record s) e) (λ h. by (found program sound is_open (ref.Named q) h))
     where
       by : Found program sound is_open (ref.Named q) → ⊥
       by x =

@@ -13,6 +13,7 @@ use Rattle.ob_types.specs.TypedSyntax.{Module}
 use Rattle.ob_meaning.specs.Values.{Program, Form, BasicForm, type_named, described, form_within, form_in, record_in, description, number_of_types, Own, Held}
 use Rattle.ob_meaning.specs.Calls.{held_variable}
 use Rattle.ob_relation.specs.Layout.{module_held}
+use Rattle.ob_forms.proofs.Chains.{chains}
 use Rattle.ob_forms.specs.Said.{IsOneOf, IsSound}
 use Rattle.ob_forms.proofs.Shapes.{basic_is}
 use Rattle.ob_forms.proofs.Within.{all_from, agree, parts_within, nowhere, none_within}
@@ -51,7 +52,7 @@ module _ (m : Module) where
   module _ (program : Program) (sound : IsSound program) where
     -- TYPES THAT A PROGRAM DESCRIBES
     pub record_stays : (q : QName) (d : Desc) → description program q ≡ Some d → record_in (program ++ m ∷ []) q ≡ record_in program q
-    record_stays q d e = form_stays (description program) (description (program ++ m ∷ [])) (more_described program) (number_of_types program) (number_of_types (program ++ m ∷ [])) (ref.Named q) (more_types program) (sound.chains q d e)
+    record_stays q d e = form_stays (description program) (description (program ++ m ∷ [])) (more_described program) (number_of_types program) (number_of_types (program ++ m ∷ [])) (ref.Named q) (more_types program) (chains program sound q d e)
 
     pub held_stays : (t : TypeRef) → IsHeld (description program) t → form_in (program ++ m ∷ []) t ≡ form_in program t
     held_stays (ref.Basic b) h = basic_is (program ++ m ∷ []) b ∙ sym (basic_is program b)

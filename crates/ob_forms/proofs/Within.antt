@@ -10,6 +10,7 @@ use Rattle.ob_types.specs.declared.desc.Desc.TheVariants as desc
 use Rattle.ob_types.specs.declared.desc.Field.{Field}
 use Rattle.ob_types.specs.Maps.{is_type, stands_on, listed, IsWithin}
 use Rattle.ob_meaning.specs.Values.{Program, Form, BasicForm, ArrayForm, OpenForm, RecordForm, Fields, AField, joined, own_fields, base_line, base_fields, line_of, fields_of, described, form_within, form_in, record_in, description, number_of_types}
+use Rattle.ob_forms.proofs.Chains.{chains}
 use Rattle.ob_forms.specs.Said.{IsSound}
 
 pub all_right : {A : Type 0} (P : A → Type 0) (xs ys : List A) → AllByRecursion P (xs ++ ys) → AllByRecursion P ys
@@ -84,4 +85,4 @@ module _ (types : QName → Option Desc) where
 
 -- WHAT A DECLARED TYPE IS
 pub form_described : (program : Program) → IsSound program → (q : QName) (d : Desc) → description program q ≡ Some d → record_in program q ≡ described (form_in program) q (Some d)
-form_described program sound q d e = form_at (description program) (number_of_types program) q d e (sound.chains q d e)
+form_described program sound q d e = form_at (description program) (number_of_types program) q d e (chains program sound q d e)
