@@ -209,14 +209,14 @@ module _ (program : Program) (sound : IsSound program) where
       by (Some (desc.Const v)) e r = so (desc.Const v) e tt
       by (Some (desc.Var m t)) e r = so (desc.Var m t) e tt
       by (Some (desc.Proc s)) e r = so (desc.Proc s) e tt
-      by (Some (desc.Alias m t)) e r = so (desc.Alias m t) e (r t (parts_within types n q (desc.Alias m t) e h).0 (sound.grounded.keeps q (desc.Alias m t) e))
-      by (Some (desc.Array m k t)) e r = so (desc.Array m k t) e (sound.lengths q m k t e, r t (parts_within types n q (desc.Array m k t) e h).0 (sound.grounded.keeps q (desc.Array m k t) e))
+      by (Some (desc.Alias m t)) e r = so (desc.Alias m t) e (r t (parts_within types n q (desc.Alias m t) e h).0 (sound.keeps q (desc.Alias m t) e))
+      by (Some (desc.Array m k t)) e r = so (desc.Array m k t) e (sound.lengths q m k t e, r t (parts_within types n q (desc.Array m k t) e h).0 (sound.keeps q (desc.Array m k t) e))
       by (Some (desc.OpenArray m t)) e r = absurd (never (q, (itself (subst (λ o. MatchOption o (Unit {0}) (λ d. is_alias d ≡ false)) (sym e) refl), subst (λ o. MatchOption o ⊥ (λ d. IsTrue (is_open d))) (sym e) refl)))
       by (Some (desc.Pointer m t)) e r = so (desc.Pointer m t) e tt
       by (Some (desc.ProcType m s)) e r = so (desc.ProcType m s) e tt
       by (Some (desc.Record s)) e r =
           let parts = parts_within types n q (desc.Record s) e h in
-          let keeps = sound.grounded.keeps q (desc.Record s) e in
+          let keeps = sound.keeps q (desc.Record s) e in
           let bases = base_ok n s.base (all_left (λ t. IsWithin types n t) (listed s.base) (each (λ f. f.of) s.fields) parts) keeps.0 r in
           let own = own_ok program q s.fields (sound.fields q s e) (fields_each n s.fields (all_right (λ t. IsWithin types n t) (listed s.base) (each (λ f. f.of) s.fields) parts) keeps.1.0 r) in
           so (desc.Record s) e (form_described program sound q (desc.Record s) e, joined_ok program q (base_fields form s.base) s.fields bases own (base_apart q s e))

@@ -167,4 +167,4 @@ all_named (m ∷ ms) q d e = by (bytes_eq q.«module» m.name) refl e (λ e. all
 
 -- NO TYPE OF A PROGRAM stands on more than all others
 pub chains : (program : Program) → IsSound program → (q : QName) (d : Desc) → description program q ≡ Some d → IsWithin (description program) (number_of_types program) (ref.Named q)
-chains program sound q d e = no_longer (number_of_types program) (description program) (names_of program) (as_many program) (all_named program) 201 (ref.Named q) (sound.grounded.chains (ref.Named q) (subst (λ o. MatchOption o ⊥ (λ d. IsTrue (is_type d))) (sym e) (sound.types q d e)))
+chains program sound q d e = let n = sound.ends q d e in no_longer (number_of_types program) (description program) (names_of program) (as_many program) (all_named program) n.0 (ref.Named q) n.1

@@ -161,7 +161,7 @@ module _ (program : Program) (sound : IsSound program) where
       record {
         own = own;
         is = is ∙ ap (λ b. RecordForm (q ∷ base_line form b) (joined (base_fields form b) own)) (sym h.base);
-        base = subst (λ b. IfSome b (λ t. IsRecordForm (form t))) (sym h.base) (base_record s.base (sound.grounded.keeps q (desc.Record s) e).0);
+        base = subst (λ b. IfSome b (λ t. IsRecordForm (form t))) (sym h.base) (base_record s.base (sound.keeps q (desc.Record s) e).0);
         fits = record_fits q s e;
         fields = all_of (λ f. IsAmong s.fields f) (λ f. IsFieldOf program q f) r.fields (field_of q s e) h.fields;
         methods = all_of (λ m. IsBoundAmong s.methods m) (λ m. IsMethodOf program q m) r.methods (method_of q s e) h.methods;
@@ -177,7 +177,7 @@ module _ (program : Program) (sound : IsSound program) where
   all_declared ts h = all_of (λ t. IsHeld types t) IsDeclared ts held_declared h
 
   held : (q : QName) (d : Desc) → types q ≡ Some d → AllByRecursion IsDeclared (named_by d)
-  held q d e = all_declared (named_by d) (sound.grounded.held q d e)
+  held q d e = all_declared (named_by d) (sound.held q d e)
 
   record_declared : (q : QName) (r s : RecordDesc) → types q ≡ Some (desc.Record s) → IsPartOf r s → AllByRecursion IsDeclared (named_by (desc.Record r))
   record_declared q r s e h =

@@ -11,8 +11,8 @@ use Rattle.ob_types.specs.declared.desc.Desc.TheVariants as desc
 use Rattle.ob_types.specs.declared.desc.RecordDesc.{RecordDesc}
 use Rattle.ob_types.specs.declared.desc.Field.{Field}
 use Rattle.ob_types.specs.declared.desc.Method.{Method}
-use Rattle.ob_types.specs.Maps.{signature_types, is_type}
-use Rattle.ob_types.specs.Relations.{IsGrounded}
+use Rattle.ob_types.specs.Maps.{named_by, signature_types, IsHeld, IsWithin}
+use Rattle.ob_types.specs.Relations.{Keeps}
 use Rattle.ob_meaning.specs.Values.{Program, description}
 use Rattle.ob_relation.specs.Relation.{IsLength}
 use Rattle.ob_rules.specs.Shapes.{same_name}
@@ -67,11 +67,12 @@ abbrev pub HaveNames : List Field → Type 0
 HaveNames [] = Unit {0}
 HaveNames (f ∷ fs) = IsFreshName f.name fs × HaveNames fs
 
--- The types that a program declares are sound: they are types, and grounded; arrays have lengths, the fields of a record differ, its bound
--- procedures are there, and no module is Out.
+-- The types that a program declares are sound: each type that one names is declared, each chain from one on ends, each keeps what it has
+-- to; arrays have lengths, the fields of a record differ, its bound procedures are there, and no module is Out.
 pub record IsSound (program : Program) : Type 0 where
-  pub grounded : IsGrounded (description program)
-  pub types : (q : QName) (d : Desc) → description program q ≡ Some d → is_type d ≡ true
+  pub held : (q : QName) (d : Desc) → description program q ≡ Some d → AllByRecursion (λ t. IsHeld (description program) t) (named_by d)
+  pub ends : (q : QName) (d : Desc) → description program q ≡ Some d → (n : ℕ) × IsWithin (description program) n (ref.Named q)
+  pub keeps : (q : QName) (d : Desc) → description program q ≡ Some d → Keeps (description program) d
   pub lengths : (q : QName) (m : Mark) (n : ℕ) (t : TypeRef) → description program q ≡ Some (desc.Array m n t) → IsLength n
   pub fields : (q : QName) (r : RecordDesc) → description program q ≡ Some (desc.Record r) → HaveNames r.fields
   pub methods : (q : QName) (r : RecordDesc) → description program q ≡ Some (desc.Record r) → AllByRecursion (λ m. IsMethodOf program q m) r.methods
