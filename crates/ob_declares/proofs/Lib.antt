@@ -3,3 +3,4 @@ pub mod Laid
 pub mod Views
 pub mod Sized
 pub mod Placed
+pub mod Ordered

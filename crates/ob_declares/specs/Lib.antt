@@ -1,3 +1,4 @@
 pub mod Ages
 pub mod Views
 pub mod Sized
+pub mod Ordered

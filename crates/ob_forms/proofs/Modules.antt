@@ -21,7 +21,7 @@ pub of_all : {A : Type 0} (P : A → Type 0) (xs : List A) (x : A) → AllByRecu
 of_all P [] x h i = absurd i
 of_all P (y ∷ ys) x h i = ⊎_elim (λ e. subst P e h.0) (λ k. of_all P ys x h.1 k) i
 
-other_name : (x y : List ℕ) → x ≢ y → bytes_eq x y ≡ false
+pub other_name : (x y : List ℕ) → x ≢ y → bytes_eq x y ≡ false
 other_name x y n = by (bytes_eq x y) refl
   where
     by : (b : Bool) → bytes_eq x y ≡ b → b ≡ false
