@@ -3,4 +3,5 @@ pub mod Laid
 pub mod Views
 pub mod Sized
 pub mod Placed
+pub mod Keeping
 pub mod Ordered

@@ -11,6 +11,7 @@ use Rattle.ob_types.specs.declared.desc.Desc.{Desc}
 use Rattle.ob_types.specs.declared.desc.Desc.TheVariants as desc
 use Rattle.ob_types.specs.declared.typed.TypedType.{TypedType}
 use Rattle.ob_types.specs.Maps.{is_type, stands_on, named_by, IsHeld, IsWithin}
+use Rattle.ob_types.specs.Relations.{Keeps}
 use Rattle.ob_types.proofs.Targets.{more}
 use Rattle.ob_types.specs.TypedSyntax.{Module}
 use Rattle.ob_meaning.specs.Values.{Program, type_named, description}
@@ -20,6 +21,7 @@ use Rattle.ob_layout.specs.LaidOut.{type_named as own_named, is_own, viewed}
 use Rattle.ob_forms.proofs.Within.{all_from}
 use Rattle.ob_forms.proofs.Modules.{other_name}
 use Rattle.ob_forms.proofs.Staying.{HasMore, more_described}
+use Rattle.ob_declares.proofs.Keeping.{keeps_larger}
 use Rattle.ob_declares.specs.Ordered.{StandsOver, StandInOrder}
 
 -- ---- more is held by a larger map
@@ -184,6 +186,15 @@ module _ (before : Program) (m : Module) (over : StandsOver before m) where
       (λ k. all_from (λ t. IsHeld view t) (λ t. IsHeld (description all) t) view_held (named_by d) (over.grounded.held q d (own_viewed q d k.0 k.1)))
       (either_there before q d e)
 
+  pub keeps_here : ((q : QName) (d : Desc) → description before q ≡ Some d → AllByRecursion (λ t. IsHeld (description before) t) (named_by d)) → ((q : QName) (d : Desc) → description before q ≡ Some d → Keeps (description before) d) → (q : QName) (d : Desc) → description all q ≡ Some d → Keeps (description all) d
+  keeps_here held keeps q d e =
+      ⊎_elim
+      (λ k. keeps_larger (description before) (description all) (λ p c f t. (c, (has_more p c f, inl refl))) held d (held q d k) (keeps q d k))
+      (λ k.
+      let v = own_viewed q d k.0 k.1 in
+      keeps_larger view (description all) (λ p c f t. let s = sees p c f t in (s.e, (s.there, ⊎_elim (λ x. inl x) (λ x. inr x.1) s.same))) over.grounded.held d (over.grounded.held q d v) (over.grounded.keeps q d v))
+      (either_there before q d e)
+
 -- ALL MODULES
 append_none : (ms : List Module) → ms ++ [] ≡ ms
 append_none [] = refl
@@ -192,12 +203,13 @@ append_none (m ∷ ms) = ap (λ k. m ∷ k) (append_none ms)
 pub record AreSound (program : Program) : Type 0 where
   pub ends : (q : QName) (d : Desc) → description program q ≡ Some d → (n : ℕ) × IsWithin (description program) n (ref.Named q)
   pub held : (q : QName) (d : Desc) → description program q ≡ Some d → AllByRecursion (λ t. IsHeld (description program) t) (named_by d)
+  pub keeps : (q : QName) (d : Desc) → description program q ≡ Some d → Keeps (description program) d
 
 pub in_order_sound : (before : Program) (ms : List Module) → AreSound before → StandInOrder before ms → AreSound (before ++ ms)
 in_order_sound before [] s h = subst AreSound (sym (append_none before)) s
 in_order_sound before (m ∷ ms) s h =
-    let one : AreSound (before ++ m ∷ []) = record { ends = ends_more before m h.0 s.ends; held = held_here before m h.0 s.held } in
+    let one : AreSound (before ++ m ∷ []) = record { ends = ends_more before m h.0 s.ends; held = held_here before m h.0 s.held; keeps = keeps_here before m h.0 s.held s.keeps } in
     subst AreSound (append_assoc before (m ∷ []) ms) (in_order_sound (before ++ m ∷ []) ms one h.1)
 
 pub program_sound : (program : Program) → StandInOrder [] program → AreSound program
-program_sound program h = in_order_sound [] program (record { ends = λ q d e. absurd cc; held = λ q d e. absurd cc }) h
+program_sound program h = in_order_sound [] program (record { ends = λ q d e. absurd cc; held = λ q d e. absurd cc; keeps = λ q d e. absurd cc }) h
