@@ -5,3 +5,4 @@ pub mod Sized
 pub mod Placed
 pub mod Keeping
 pub mod Ordered
+pub mod Sounds

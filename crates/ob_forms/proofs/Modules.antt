@@ -11,7 +11,7 @@ use Rattle.ob_types.specs.TypedSyntax.{Procedure, Module}
 use Rattle.ob_meaning.specs.Values.{Program, Form, form_in, type_named, procedure_named, description, procedure_of, Held, Own}
 use Rattle.ob_meaning.specs.Calls.{held_variable}
 use Rattle.ob_relation.specs.Layout.{form_named, variables_in, module_held}
-use Rattle.ob_relation.specs.Relation.{OrElse, ValueIn}
+use Rattle.ob_relation.specs.Relation.{OrElse, ValueIn, Fresh, AreDifferent, FreshModule, ModulesOk}
 use Rattle.ob_relation.proofs.Names.{bytes_true, bytes_same}
 use Rattle.ob_forms.specs.Formed.{IsVariableOf}
 use Rattle.ob_forms.specs.Said.{IsOneOf}
@@ -72,3 +72,23 @@ module _ (program : Program) (whole : IsWhole program) where
         there = subst (λ hs. ValueIn hs v.name) (sym held) (values_there m.variables v j);
         form = ap (λ hs. form_named hs v.name) held ∙ sought_there (λ v. v.name) (λ vs n. form_named (map (held_variable program) vs) n) (λ v. form_in program v.of) (λ x xs n. refl) m.variables v (own m i).variables j;
       }
+
+  -- MODULES AND THEIR VARIABLES HAVE DIFFERENT NAMES
+  fresh_module : (x : List ℕ) (ms : List Module) → AllByRecursion (λ k. k.name ≢ x) ms → FreshModule x ms
+  fresh_module x [] h = tt
+  fresh_module x (m ∷ ms) h = (other_name x m.name (λ e. h.0 (sym e)), fresh_module x ms h.1)
+
+  fresh_variable : (x : List ℕ) (vs : List TypedVariable) → AllByRecursion (λ v. v.name ≢ x) vs → Fresh x (map (held_variable program) vs)
+  fresh_variable x [] h = tt
+  fresh_variable x (v ∷ vs) h = (other_name x v.name (λ e. h.0 (sym e)), fresh_variable x vs h.1)
+
+  different_variables : (vs : List TypedVariable) → Different (λ v. v.name) vs → AreDifferent (map (held_variable program) vs)
+  different_variables [] h = tt
+  different_variables (v ∷ vs) h = (fresh_variable v.name vs h.0, different_variables vs h.1)
+
+  all_ok : (ms : List Module) → Different (λ m. m.name) ms → AllByRecursion (IsWholeModule program) ms → ModulesOk program ms
+  all_ok [] d h = tt
+  all_ok (m ∷ ms) d h = (fresh_module m.name ms d.0, (different_variables m.variables h.0.variables, all_ok ms d.1 h.1))
+
+  pub modules_ok : ModulesOk program program
+  modules_ok = all_ok program whole.names whole.modules
