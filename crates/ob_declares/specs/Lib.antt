@@ -2,3 +2,4 @@ pub mod Ages
 pub mod Views
 pub mod Sized
 pub mod Ordered
+pub mod Laws
