@@ -37,7 +37,7 @@ bytes_equal (x ∷ xs) (y ∷ ys) e =
     let u = both_equal (nat_cmp x y) (slice_cmp nat_cmp xs ys) e in
     cc (ranked x y order.Equal (sym u.0), bytes_equal xs ys u.1)
 
-place_name : (a b : Field) → by_place a b ≡ order.Equal → a.name ≡ b.name
+pub place_name : (a b : Field) → by_place a b ≡ order.Equal → a.name ≡ b.name
 place_name a b e = bytes_equal a.name b.name (both_equal (nat_cmp a.place b.place) (slice_cmp nat_cmp a.name b.name) e).1
 
 put_itself : (x : Field) (ys : List Field) → ((y : Field) → IsOneOf ys y → x.name ≢ y.name) → IsOneOf (put_in by_place x ys) x
@@ -58,7 +58,7 @@ put_keeps x z (y ∷ ys) h = by (by_place x y) (λ i. put_keeps x z ys i)
     by order.Equal k = h
     by order.Greater k = ⊎_elim (λ e. inl e) (λ i. inr (k i)) h
 
-fresh_other : (x : List ℕ) (fs : List Field) (f : Field) → IsFreshName x fs → IsOneOf fs f → x ≢ f.name
+pub fresh_other : (x : List ℕ) (fs : List Field) (f : Field) → IsFreshName x fs → IsOneOf fs f → x ≢ f.name
 fresh_other x [] f h i = absurd i
 fresh_other x (g ∷ fs) f h i = ⊎_elim (λ e. subst (λ (y : Field). x ≢ y.name) e h.0) (λ k. fresh_other x fs f h.1 k) i
 

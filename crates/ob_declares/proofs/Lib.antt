@@ -6,3 +6,4 @@ pub mod Placed
 pub mod Keeping
 pub mod Ordered
 pub mod Sounds
+pub mod Words

@@ -105,7 +105,7 @@ module _ (before : Program) (m : Module) (over : StandsOver before m) where
       ap (λ (b : Bool). if b then type_named k.types q.object else description (ks ++ m ∷ []) q) f ∙ own_there ks h.1 q d n e
 
   -- what the program has is of before, or the module's own
-  either_there : (ks : List Module) (q : QName) (d : Desc) → description (ks ++ m ∷ []) q ≡ Some d → (description ks q ≡ Some d) ⊎ ((q.«module» ≡ m.name) × (type_named m.types q.object ≡ Some d))
+  pub either_there : (ks : List Module) (q : QName) (d : Desc) → description (ks ++ m ∷ []) q ≡ Some d → (description ks q ≡ Some d) ⊎ ((q.«module» ≡ m.name) × (type_named m.types q.object ≡ Some d))
   either_there [] q d e = by (bytes_eq q.«module» m.name) refl e
     where
       by : (b : Bool) → bytes_eq q.«module» m.name ≡ b → (if b then type_named m.types q.object else None) ≡ Some d → (None ≡ Some d) ⊎ ((q.«module» ≡ m.name) × (type_named m.types q.object ≡ Some d))

@@ -30,7 +30,7 @@ use Rattle.ob_declares.specs.Views.{FieldsDiffer, IsLaid, IsAround}
 use Rattle.ob_declares.proofs.Shown.{within_type, part_itself, described_said}
 use Rattle.ob_declares.proofs.Laid.{part_laid, part_blank}
 
-one_each : {A B : Type 0} (f : A → B) (xs : List A) (x : A) → IsOneOf xs x → IsOneOf (each f xs) (f x)
+pub one_each : {A B : Type 0} (f : A → B) (xs : List A) (x : A) → IsOneOf xs x → IsOneOf (each f xs) (f x)
 one_each f [] x h = absurd h
 one_each f (y ∷ xs) x (inl e) = inl (ap f e)
 one_each f (y ∷ xs) x (inr k) = inr (one_each f xs x k)

@@ -3,3 +3,4 @@ pub mod Views
 pub mod Sized
 pub mod Ordered
 pub mod Laws
+pub mod Words
