@@ -7,3 +7,4 @@ pub mod Keeping
 pub mod Ordered
 pub mod Sounds
 pub mod Words
+pub mod Summed

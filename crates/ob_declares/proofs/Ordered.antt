@@ -79,7 +79,7 @@ named_types (t ∷ ts) x d all e = by (bytes_eq x t.name) e (λ e. named_types t
     by true e r = let k : t.desc ≡ d = cc in (e, sym (ap is_type k) ∙ all.0)
     by false e r = r e
 
-types_named : (ts : List TypedType) (x : List ℕ) → own_named ts x ≡ type_named ts x
+pub types_named : (ts : List TypedType) (x : List ℕ) → own_named ts x ≡ type_named ts x
 types_named [] x = refl
 types_named (t ∷ ts) x = by (bytes_eq x t.name) (types_named ts x)
   where

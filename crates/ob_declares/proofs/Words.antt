@@ -159,7 +159,7 @@ module _ (program : Program) (sound : IsSound program) (whole : IsWhole program)
     other_sum f q (desc.Record r) d e s ty h = subst (λ d. declared_words f false (Some d) ≡ words (record_in program q)) s (known q r e)
 
     -- what the layout sums is the words of the type
-    summed_words : (n : ℕ) (t : TypeRef) → IsWithin (viewed others over.checked) n t → summed others over.checked n t ≡ words (form t)
+    pub summed_words : (n : ℕ) (t : TypeRef) → IsWithin (viewed others over.checked) n t → summed others over.checked n t ≡ words (form t)
     unfolding IsWithin
     summed_words zero (ref.Basic b) h = sym (ap words (basic_is program b))
     summed_words zero (ref.Named q) h = absurd h
