@@ -1,0 +1,10 @@
+pub mod Shown
+pub mod Laid
+pub mod Views
+pub mod Sized
+pub mod Placed
+pub mod Keeping
+pub mod Ordered
+pub mod Sounds
+pub mod Words
+pub mod Summed

@@ -1,0 +1,6 @@
+pub mod Ages
+pub mod Views
+pub mod Sized
+pub mod Ordered
+pub mod Laws
+pub mod Words
