@@ -1,0 +1,4 @@
+pub mod Makes
+pub mod Forms
+pub mod Known
+pub mod Kept

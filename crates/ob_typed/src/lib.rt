@@ -1,0 +1,2 @@
+//! What the rules accept is well typed: constants, operators, designators.
+#![tactic(auto)]
