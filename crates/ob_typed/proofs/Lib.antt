@@ -4,3 +4,6 @@ pub mod Basics
 pub mod Values
 pub mod Operators
 pub mod Designators
+pub mod Relations
+pub mod Sets
+pub mod Types

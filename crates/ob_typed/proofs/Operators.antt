@@ -194,7 +194,7 @@ module _ (program : Program) (Has : Signature → QName → Type 0) (unit : List
         go (Some v) None e f = tt
         go (Some v) (Some w) e f = (width_fits program Has unit held result map forms a v (wider v w) h e (left_within v w), width_fits program Has unit held result map forms b w (wider v w) k f (right_within v w))
 
-    both_are : (o : Basic) (a b : Valued) → width_of (Some o) ≡ None → Is a → Is b → are map o a b ≡ true → Ex (expr_view (tree a)) (BasicForm o) × Ex (expr_view (tree b)) (BasicForm o)
+    pub both_are : (o : Basic) (a b : Valued) → width_of (Some o) ≡ None → Is a → Is b → are map o a b ≡ true → Ex (expr_view (tree a)) (BasicForm o) × Ex (expr_view (tree b)) (BasicForm o)
     both_are o a b n h k e = let f = and_is (is map o a) (is map o b) e in (basic_fits program Has unit held result map forms a o n h f.0, basic_fits program Has unit held result map forms b o n k f.1)
 
     either_there : (P : Binary → Type 0) (o : Option Width) (s : Bool) (f : Width → Binary) (g : Binary) → IfThere (λ w. P (f w)) o → (s ≡ true → P g) → IfThere P (integers_or_sets o s f g)

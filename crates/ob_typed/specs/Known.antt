@@ -8,6 +8,7 @@ use Rattle.ob_types.specs.declared.types.Signature.{Signature}
 use Rattle.ob_types.specs.declared.value.Value.{Value as Literal}
 use Rattle.ob_types.specs.declared.value.Value.TheVariants as literal
 use Rattle.ob_types.specs.declared.desc.Desc.TheVariants as desc
+use Rattle.ob_types.specs.declared.desc.Method.{Method}
 use Rattle.ob_tree.specs.declared.ident.Mark.{Mark}
 use Rattle.ob_types.specs.declared.typed.Width.TheVariants as width
 use Rattle.ob_types.specs.declared.typed.Variable.{Variable}
@@ -21,7 +22,7 @@ use Rattle.ob_relation.specs.Typed as typed
 use Rattle.ob_relation.specs.Typed.{AreCharacters, passing_for}
 use Rattle.ob_rules.specs.declared.entity.Entity.TheVariants as entity
 use Rattle.ob_rules.specs.declared.entity.Known.{Known}
-use Rattle.ob_rules.specs.Shapes.{Map, is_record}
+use Rattle.ob_rules.specs.Shapes.{Map, AMethod, member, is_record}
 use Rattle.ob_rules.specs.Names.{Around, map_of, find_name, is_enclosing}
 use Rattle.ob_rules.specs.Designators.{is_var_record}
 use Rattle.ob_typed.specs.Makes.{IfThere}
@@ -72,3 +73,5 @@ module _ (program : Program) (Has : Signature → QName → Type 0) (unit : List
     pub shown_procedures : (q : QName) (s : Signature) → u.shown q ≡ Some (desc.Proc s) → ProcedureIs (map_of u) q s
     pub types : (x : List ℕ) (k : Known) (t : TypeRef) → find_name u.known x ≡ Some k → k.what ≡ entity.TypeName t → IsDeclared t
     pub guards : AllByRecursion (λ (g : Variable × Option TypeRef). IfThere IsDeclared g.1) u.guards
+    -- no bound procedures, so far
+    pub unbound : (q o : QName) (x : List ℕ) (m : Method) → member (map_of u) q x ≡ Some (AMethod o m) → ⊥

@@ -2,3 +2,4 @@ pub mod Makes
 pub mod Forms
 pub mod Known
 pub mod Kept
+pub mod Meant
