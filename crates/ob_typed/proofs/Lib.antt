@@ -7,3 +7,5 @@ pub mod Designators
 pub mod Relations
 pub mod Sets
 pub mod Types
+pub mod Assignable
+pub mod Actuals

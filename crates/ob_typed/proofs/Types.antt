@@ -147,7 +147,7 @@ module _ (program : Program) (Has : Signature → QName → Type 0) (unit : List
 
     -- what is no pointer to a record is tested as a record parameter by VAR
     record_test_is : (p : Place) (t : TypeRef) → PlaceIs program Has unit held result map p → pointed_record map p.of ≡ None → IfThere Is (record_test p (guard_of map p t))
-    record_test_is p t h n = go (guard_of map p t) (sym (ap (guard_kind map p t) n)) 
+    record_test_is p t h n = go (guard_of map p t) (sym (ap (guard_kind map p t) n))
       where
         on : (b : Bool) (g : Guarded × QName) → p.var_record ≡ b → on_record b map p t ≡ Some g → NodeIs program Has unit held result map (IsRecord (designator_view p.designator.inner) g.1) (of_basic basic.Boolean)
         on false g v f = none_some f

@@ -1,5 +1,5 @@
 -- What the rules know around a part of a text, as it is in a program.
-use Rattle.std.specs.Prelude.{◌≡◌, ℕ, ◌<◌, ◌^◌, List, [], ◌∷◌, length, Option, Some, None, Bool, true, false, is_some}
+use Rattle.std.specs.Prelude.{◌≡◌, ℕ, ◌<◌, ◌^◌, List, [], ◌∷◌, length, Option, Some, None, Bool, true, false, is_some, bytes_eq, codes}
 use Rattle.std.specs.List.{AllByRecursion}
 use Rattle.ob_tree.specs.declared.names.QName.{QName}
 use Rattle.ob_types.specs.declared.types.Mode.{Mode}
@@ -75,3 +75,5 @@ module _ (program : Program) (Has : Signature → QName → Type 0) (unit : List
     pub guards : AllByRecursion (λ (g : Variable × Option TypeRef). IfThere IsDeclared g.1) u.guards
     -- no bound procedures, so far
     pub unbound : (q o : QName) (x : List ℕ) (m : Method) → member (map_of u) q x ≡ Some (AMethod o m) → ⊥
+    -- the module is not Out
+    pub outside : bytes_eq (codes "Out") u.unit ≡ false
