@@ -57,7 +57,7 @@ use Rattle.ob_typed.proofs.Designators.{form_is, some_true}
 use Rattle.ob_typed.proofs.Relations.{or_is, some_of, array_basic, constant_of_basic}
 use Rattle.ob_typed.proofs.Assignable.{scalar_fits, structure_fits, tree_of_place}
 
-actual_seen : (how : Passing) (t : TypeRef) (x : TypedExpr) → actual_view (actual_of how t x) ≡ record { passing = how; formal = t; e = expr_view x }
+pub actual_seen : (how : Passing) (t : TypeRef) (x : TypedExpr) → actual_view (actual_of how t x) ≡ record { passing = how; formal = t; e = expr_view x }
 actual_seen how t x = fold-roll-Actual Desig Expr OneActual designator_layer expr_layer actual_layer (record { passing = how; formal = t; value = x })
 
 -- an open array, as an array

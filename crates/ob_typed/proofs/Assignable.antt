@@ -46,7 +46,7 @@ use Rattle.ob_typed.proofs.Designators.{form_is, some_true}
 use Rattle.ob_typed.proofs.Relations.{or_is, some_of}
 use Rattle.ob_typed.proofs.Sets.{widens_back}
 
-nat_is : (n m : ℕ) → nat_eq n m ≡ true → n ≡ m
+pub nat_is : (n m : ℕ) → nat_eq n m ≡ true → n ≡ m
 nat_is n m e = grind (arith, nat_tests)
 
 less_is : (n m : ℕ) → nat_lt n m ≡ true → n < m

@@ -9,3 +9,4 @@ pub mod Sets
 pub mod Types
 pub mod Assignable
 pub mod Actuals
+pub mod Calls
