@@ -126,8 +126,8 @@ module _ (program : Program) (Has : Signature → QName → Type 0) (unit : List
       go (Some w) f e = width_fits program Has unit held result map forms x w width.LongInt h f (within_long w)
 
   index_of : (d : Desig) (t u : TypeRef) (r : Bool) (n : Option ℕ) (i : Expr) (at : Pos) → Of d t r → ArrayIs program (form_in program t) n u → Fits program Has unit held result i longint → Of (Index d n i at u) u false
-  index_of d t u r None i at h a k = record { fits = (h.fits, (k, form_is d t r h ∙ a.0)); of_type = refl; declared = a.1; is_parameter = λ f. not_true f }
-  index_of d t u r (Some n) i at h a k = record { fits = (h.fits, (k, form_is d t r h ∙ a.0)); of_type = refl; declared = a.1.1; is_parameter = λ f. not_true f }
+  index_of d t u r None i at h a k = record { fits = (h.fits, (k, form_is d t r h ∙ a.0)); of_type = refl; declared = a.1.0; is_parameter = λ f. not_true f }
+  index_of d t u r (Some n) i at h a k = record { fits = (h.fits, (k, form_is d t r h ∙ a.0)); of_type = refl; declared = a.1.1.0; is_parameter = λ f. not_true f }
 
   indexed_is : (p : Place) (at : Pos) (x : Valued) (a : Option ℕ × TypeRef) → P p → array_of map p.of ≡ Some a → Fits program Has unit held result (expr_view (tree x)) longint → P (indexed p at x a)
   indexed_is p at x a h e k = subst (λ d. Of d a.1 false) (sym (view_index p.designator.inner a.0 (tree x) at a.1)) (index_of (designator_view p.designator.inner) p.of a.1 p.var_record a.0 (expr_view (tree x)) at h (forms.arrays p.of a.1 a.0 h.declared e) k)

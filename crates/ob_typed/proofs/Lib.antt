@@ -10,3 +10,5 @@ pub mod Types
 pub mod Assignable
 pub mod Actuals
 pub mod Calls
+pub mod Predeclared
+pub mod Functions

@@ -10,7 +10,7 @@ use Rattle.ob_types.specs.declared.desc.Field.{Field}
 use Rattle.ob_types.specs.AssigningTests.{takes_type}
 use Rattle.ob_types.specs.Tests.{same_at}
 use Rattle.ob_meaning.specs.Values.{Program, Form, BasicForm, PointerForm, ProcedureForm, ArrayForm, OpenForm, form_in, record_in, Held}
-use Rattle.ob_relation.specs.Relation.{IsLength, Sub, Scalar}
+use Rattle.ob_relation.specs.Relation.{IsLength, FormOk, Sub, Scalar}
 use Rattle.ob_relation.specs.Typed as typed
 use Rattle.ob_relation.specs.Typed.{IsRecordType, passing_for}
 use Rattle.ob_rules.specs.Shapes.{Map, Member, AField, same_name, basic_of, pointed, signature_at, array_of, record_of, member, passing_of, extends_record}
@@ -36,10 +36,10 @@ module _ (program : Program) where
     pub params : AreDeclared s.params
     pub result : ResultIs s.result
 
-  -- what an array is, of a length or open
+  -- what an array is, of a length or open; its elements are no open arrays
   abbrev pub ArrayIs : Form → Option ℕ → TypeRef → Type 0
-  ArrayIs t None u = (t ≡ OpenForm (form_in program u)) × IsDeclared u
-  ArrayIs t (Some n) u = (t ≡ ArrayForm n (form_in program u)) × (IsLength n × IsDeclared u)
+  ArrayIs t None u = (t ≡ OpenForm (form_in program u)) × (IsDeclared u × FormOk program (form_in program u))
+  ArrayIs t (Some n) u = (t ≡ ArrayForm n (form_in program u)) × (IsLength n × (IsDeclared u × FormOk program (form_in program u)))
 
   module _ (Has : Signature → QName → Type 0) (unit : List ℕ) (held : List Held) (result : Option TypeRef) where
     -- a value of the type t is one of the scalar type v
