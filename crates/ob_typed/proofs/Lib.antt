@@ -12,3 +12,5 @@ pub mod Actuals
 pub mod Calls
 pub mod Predeclared
 pub mod Functions
+pub mod Selectors
+pub mod Fronts

@@ -17,6 +17,7 @@ use Rattle.ob_rules.specs.Shapes.{Map}
 use Rattle.ob_rules.specs.Names.{Around, map_of}
 use Rattle.ob_rules.specs.Values.{tree}
 use Rattle.ob_rules.specs.Phrases.{Phrase, Behind, Dot, Index, Up, Round}
+use Rattle.ob_rules.specs.Expressions.{Named, Ranged, Tailed}
 use Rattle.ob_typed.specs.Makes.{IfThere, Makes}
 use Rattle.ob_typed.specs.Known.{ConstantIs, ProcedureIs, IsScoped}
 use Rattle.ob_typed.specs.Kept.{PlaceIs, ValuedIs}
@@ -60,3 +61,18 @@ module _ (program : Program) (Has : Signature → QName → Type 0) (unit : List
   abbrev pub AreBehind : List Behind → Type 0
   AreBehind [] = Unit {0}
   AreBehind (b ∷ bs) = BehindIs b × AreBehind bs
+
+  abbrev pub NamedIs : Named → Type 0
+  NamedIs n = AreBehind n.behind
+
+  pub record RangedIs (r : Ranged) : Type 0 where
+    pub low : PhraseIs r.low
+    pub high : IfThere PhraseIs r.high
+
+  abbrev pub AreRanged : List Ranged → Type 0
+  AreRanged [] = Unit {0}
+  AreRanged (r ∷ rs) = RangedIs r × AreRanged rs
+
+  abbrev pub AreTailed : List Tailed → Type 0
+  AreTailed [] = Unit {0}
+  AreTailed (t ∷ ts) = PhraseIs t.operand × AreTailed ts
