@@ -45,7 +45,7 @@ use Rattle.ob_rules.specs.Values.{tree, type, type_in, text_of, text_in, text_tr
 use Rattle.ob_rules.specs.Calls.{actual_of, both_records, takes_variable, unless_guarded, unless_read_only, variable_actual, meant_actual, var_actual, array_takes, takes_value, tree_for, value_actual, actual, actuals}
 use Rattle.ob_rules.specs.Phrases.{Phrase}
 use Rattle.ob_typed.specs.Makes.{IfThere, Makes}
-use Rattle.ob_typed.specs.Forms.{IsDeclared, AreDeclared, ArrayIs, Forms}
+use Rattle.ob_typed.specs.Forms.{IsDeclared, IsKnown, AreKnown, ArrayIs, Forms}
 use Rattle.ob_typed.specs.Known.{IsScoped}
 use Rattle.ob_typed.specs.Kept.{DesignatorIs, PlaceIs, NodeIs, ValuedIs}
 use Rattle.ob_typed.specs.Meant.{MeantIs, MeantBy, PhraseIs, ArePhrases}
@@ -117,7 +117,7 @@ module _ (program : Program) (Has : Signature → QName → Type 0) (unit : List
     abbrev P : Place → Type 0
     P p = PlaceIs program Has unit held result map p
 
-    passed_so : (m : Mode) (t : TypeRef) (x : TypedExpr) → IsDeclared t → Passes (passing_for m (form_in program t)) (expr_view x) (form_in program t) → ActualIs m t (actual_view (actual_of (passing_of map m t) t x))
+    passed_so : (m : Mode) (t : TypeRef) (x : TypedExpr) → IsKnown map t → Passes (passing_for m (form_in program t)) (expr_view x) (form_in program t) → ActualIs m t (actual_view (actual_of (passing_of map m t) t x))
     passed_so m t x d h = subst (ActualIs m t) (sym (actual_seen (passing_of map m t) t x)) (record { how = forms.passings m t d; formal = refl; passes = subst (λ w. Passes w (expr_view x) (form_in program t)) (sym (forms.passings m t d)) h })
 
     element_form : (t u : TypeRef) → IsDeclared t → open_element map t ≡ Some u → form_in program t ≡ OpenForm (form_in program u)
@@ -127,7 +127,7 @@ module _ (program : Program) (Has : Signature → QName → Type 0) (unit : List
     not_open_form t f None d e n g = refl
     not_open_form t f (Some u) d e n g = absurd (n (form_in program u) (sym e ∙ element_form t u d g))
 
-    is_open_by : (t : TypeRef) (u : Form) → IsDeclared t → form_in program t ≡ OpenForm u → is_open map t ≡ true
+    is_open_by : (t : TypeRef) (u : Form) → IsKnown map t → form_in program t ≡ OpenForm u → is_open map t ≡ true
     is_open_by t u d e = open_by_value (is_open map t) (is_structured map t) (forms.passings mode.Value t d ∙ ap (passing_for mode.Value) e)
 
     -- what has elements of that type
@@ -200,22 +200,22 @@ module _ (program : Program) (Has : Signature → QName → Type 0) (unit : List
         no_array None u a = subst Scalar a.0 s
         no_array (Some n) u a = subst Scalar a.0 s
 
-    value_passes : (t : TypeRef) (x : Valued) → IsDeclared t → Is x → takes_value map (open_element map t) t x ≡ true → Passes (passing_for mode.Value (form_in program t)) (expr_view (tree_for (is_array map t) x)) (form_in program t)
+    value_passes : (t : TypeRef) (x : Valued) → IsKnown map t → Is x → takes_value map (open_element map t) t x ≡ true → Passes (passing_for mode.Value (form_in program t)) (expr_view (tree_for (is_array map t) x)) (form_in program t)
     value_passes t x d h e = by (form_in program t) refl
       where
         y : Expr
         y = expr_view (tree_for (is_array map t) x)
 
         taken : (f : Form) → form_in program t ≡ f → ((u : Form) → f ≡ OpenForm u → ⊥) → fits map t x ≡ true
-        taken f g n = subst (λ o. takes_value map o t x ≡ true) (not_open_form t f (open_element map t) d g n refl) e
+        taken f g n = subst (λ o. takes_value map o t x ≡ true) (not_open_form t f (open_element map t) d.0 g n refl) e
 
         scalar : (f : Form) → form_in program t ≡ f → ((u : Form) → f ≡ OpenForm u → ⊥) → Scalar f → Ex y (form_in program t) × Scalar (form_in program t)
         scalar f g n s =
             let k = subst Scalar (sym g) s in
-            (scalar_tree t x (is_array map t) refl d k (scalar_fits program Has unit held result map forms t x d h (taken f g n) k), k)
+            (scalar_tree t x (is_array map t) refl d.0 k (scalar_fits program Has unit held result map forms t x d.0 h (taken f g n) k), k)
 
         structure : (f : Form) → form_in program t ≡ f → ((u : Form) → f ≡ OpenForm u → ⊥) → (Scalar f → ⊥) → typed.StructureOk program Has unit held result y (form_in program t)
-        structure f g n s = structure_fits program Has unit held result map forms t x d h (taken f g n) (λ k. s (subst Scalar g k))
+        structure f g n s = structure_fits program Has unit held result map forms t x d.0 h (taken f g n) (λ k. s (subst Scalar g k))
 
         by : (f : Form) → form_in program t ≡ f → Passes (passing_for mode.Value f) y (form_in program t)
         by (BasicForm b) g = scalar (BasicForm b) g (λ u q. absurd cc) tt
@@ -223,9 +223,9 @@ module _ (program : Program) (Has : Signature → QName → Type 0) (unit : List
         by (ProcedureForm r) g = scalar (ProcedureForm r) g (λ u q. absurd cc) tt
         by (ArrayForm n r) g = structure (ArrayForm n r) g (λ u q. absurd cc) (λ k. k)
         by (RecordForm line fs) g = structure (RecordForm line fs) g (λ u q. absurd cc) (λ k. k)
-        by (OpenForm r) g = open_value t (open_element map t) x d h refl (is_open_by t r d g) e
+        by (OpenForm r) g = open_value t (open_element map t) x d.0 h refl (is_open_by t r d g) e
 
-    value_actual_is : (t : TypeRef) (start : Pos) (x : Valued) → IsDeclared t → Is x → Makes (λ a. ActualIs mode.Value t (actual_view a)) (value_actual map t start x)
+    value_actual_is : (t : TypeRef) (start : Pos) (x : Valued) → IsKnown map t → Is x → Makes (λ a. ActualIs mode.Value t (actual_view a)) (value_actual map t start x)
     value_actual_is t start x d h = makes_wants _ (takes_value map (open_element map t) t x) 25 start (actual_of (passing_of map mode.Value t) t (tree_for (is_array map t) x)) (λ e. passed_so mode.Value t (tree_for (is_array map t) x) d (value_passes t x d h e))
 
     -- BY VAR
@@ -252,7 +252,7 @@ module _ (program : Program) (Has : Signature → QName → Type 0) (unit : List
         by None f g = not_true g
         by (Some a) f g = record_by s a f
 
-    variable_passes : (t : TypeRef) (p : Place) → IsDeclared t → P p → takes_variable map (open_element map t) t p.of ≡ true → Passes (passing_for mode.Var (form_in program t)) (expr_view (e.Designator p.designator.inner)) (form_in program t)
+    variable_passes : (t : TypeRef) (p : Place) → IsKnown map t → P p → takes_variable map (open_element map t) t p.of ≡ true → Passes (passing_for mode.Var (form_in program t)) (expr_view (e.Designator p.designator.inner)) (form_in program t)
     variable_passes t p d h e = subst (λ y. Passes (passing_for mode.Var (form_in program t)) y (form_in program t)) (sym (view_value_of p.designator.inner)) (by (form_in program t) refl)
       where
         dd : Desig
@@ -262,14 +262,14 @@ module _ (program : Program) (Has : Signature → QName → Type 0) (unit : List
         i = form_is program Has unit held result map forms dd p.of p.var_record h
 
         taken : (f : Form) → form_in program t ≡ f → ((u : Form) → f ≡ OpenForm u → ⊥) → takes_variable map None t p.of ≡ true
-        taken f g n = subst (λ o. takes_variable map o t p.of ≡ true) (not_open_form t f (open_element map t) d g n refl) e
+        taken f g n = subst (λ o. takes_variable map o t p.of ≡ true) (not_open_form t f (open_element map t) d.0 g n refl) e
 
         closed : (f : Form) → form_in program t ≡ f → ((u : Form) → f ≡ OpenForm u → ⊥) → Closed (form_in program (variable_type dd)) (form_in program t)
         closed f g n = subst (λ y. Closed y (form_in program t)) (sym i) (closed_by t p.of (taken f g n))
 
         open_by : (o : Option TypeRef) → open_element map t ≡ o → is_some o ≡ true → takes_variable map o t p.of ≡ true → typed.VariableArrayOk program Has unit held result (ValueOf dd) (form_in program t)
         open_by None f g k = not_true g
-        open_by (Some el) f g k = (h.fits, (form_in program el, element_form t el d f, subst (λ y. IsArrayOf y (form_in program el)) (sym i) (array_by p.of el h.declared k)))
+        open_by (Some el) f g k = (h.fits, (form_in program el, element_form t el d.0 f, subst (λ y. IsArrayOf y (form_in program el)) (sym i) (array_by p.of el h.declared k)))
 
         by : (f : Form) → form_in program t ≡ f → Passes (passing_for mode.Var f) (ValueOf dd) (form_in program t)
         by (BasicForm b) g = (h.fits, closed (BasicForm b) g (λ u q. absurd cc))
@@ -281,14 +281,14 @@ module _ (program : Program) (Has : Signature → QName → Type 0) (unit : List
             (h.fits, (subst IsRecordForm (sym i) (record_side p.of t r (taken (RecordForm line fs) g (λ u q. absurd cc))), closed (RecordForm line fs) g (λ u q. absurd cc)))
         by (OpenForm r) g = open_by (open_element map t) refl (is_open_by t r d g) e
 
-    variable_actual_is : (t : TypeRef) (start : Pos) (p : Place) → IsDeclared t → P p → Makes (λ a. ActualIs mode.Var t (actual_view a)) (variable_actual map t start p)
+    variable_actual_is : (t : TypeRef) (start : Pos) (p : Place) → IsKnown map t → P p → Makes (λ a. ActualIs mode.Var t (actual_view a)) (variable_actual map t start p)
     variable_actual_is t start p d h =
         makes_also _ (not (takes_variable map (open_element map t) t p.of)) 25 start (unless_read_only map t start p) λ f.
         makes_also _ p.read_only 26 start (unless_guarded map t start p) λ g.
         makes_also _ p.guarded 38 start (sound (actual_of (passing_of map mode.Var t) t (e.Designator p.designator.inner))) λ k.
         record { node = passed_so mode.Var t (e.Designator p.designator.inner) d (variable_passes t p d h (not_false (takes_variable map (open_element map t) t p.of) f)) }
 
-    meant_actual_is : (t : TypeRef) (start : Pos) (m : Meant) → IsDeclared t → MeantIs program Has unit held result map InExpression m → Makes (λ a. ActualIs mode.Var t (actual_view a)) (meant_actual map t start m)
+    meant_actual_is : (t : TypeRef) (start : Pos) (m : Meant) → IsKnown map t → MeantIs program Has unit held result map InExpression m → Makes (λ a. ActualIs mode.Var t (actual_view a)) (meant_actual map t start m)
     meant_actual_is t start (means.Place p) d h = variable_actual_is t start p d h
     meant_actual_is t start (means.Call x) d h = record { node = tt }
     meant_actual_is t start (means.Constant v) d h = record { node = tt }
@@ -301,11 +301,11 @@ module _ (program : Program) (Has : Signature → QName → Type 0) (unit : List
   -- IN A ROW
 
   module _ (u : Around) (scoped : IsScoped program Has unit held result u) where
-    var_is : (t : TypeRef) (p : Phrase) (o : Option (Around → Judged Meant)) → IsDeclared t → PhraseIs program Has unit held result p → MeantBy program Has unit held result o u → Makes (λ a. ActualIs mode.Var t (actual_view a)) (var_actual u t p o)
+    var_is : (t : TypeRef) (p : Phrase) (o : Option (Around → Judged Meant)) → IsKnown (map_of u) t → PhraseIs program Has unit held result p → MeantBy program Has unit held result o u → Makes (λ a. ActualIs mode.Var t (actual_view a)) (var_actual u t p o)
     var_is t p None d h k = record { node = (makes_then (ValuedIs program Has unit held result (map_of u)) _ (p.value u) (λ x. breaks 25 p.start) (h.value u scoped) (λ x l. record { node = tt })).node }
     var_is t p (Some f) d h k = makes_then (MeantIs program Has unit held result (map_of u) InExpression) _ (f u) (meant_actual (map_of u) t p.start) k (λ m l. meant_actual_is (map_of u) scoped.forms t p.start m d l)
 
-    actual_is : (m : Mode) (t : TypeRef) (p : Phrase) → IsDeclared t → PhraseIs program Has unit held result p → Makes (λ a. ActualIs m t (actual_view a)) (actual u m t p)
+    actual_is : (m : Mode) (t : TypeRef) (p : Phrase) → IsKnown (map_of u) t → PhraseIs program Has unit held result p → Makes (λ a. ActualIs m t (actual_view a)) (actual u m t p)
     actual_is mode.Var t p d h = var_is t p p.meant d h (h.meant u scoped)
     actual_is mode.Value t p d h = makes_then (ValuedIs program Has unit held result (map_of u)) _ (p.value u) (value_actual (map_of u) t p.start) (h.value u scoped) (λ x k. value_actual_is (map_of u) scoped.forms t p.start x d k)
 
@@ -316,7 +316,7 @@ module _ (program : Program) (Has : Signature → QName → Type 0) (unit : List
     one_more f fs a xs h k = (h.how, (h.formal, (subst (λ t. Passes (actual_view a).passing (actual_view a).e (form_in program t)) (sym h.formal) h.passes, k)))
 
     -- each actual parameter fits, where there are as many as formal ones
-    pub actuals_are : (fs : List (Mode × TypeRef)) (ps : List Phrase) → AreDeclared fs → ArePhrases program Has unit held result ps → Makes (λ xs. length ps ≡ length fs → Signed xs fs) (actuals u fs ps)
+    pub actuals_are : (fs : List (Mode × TypeRef)) (ps : List Phrase) → AreKnown (map_of u) fs → ArePhrases program Has unit held result ps → Makes (λ xs. length ps ≡ length fs → Signed xs fs) (actuals u fs ps)
     actuals_are [] [] d h = record { node = λ e. tt }
     actuals_are (f ∷ fs) [] d h = record { node = λ e. absurd (none_of e) }
       where

@@ -48,7 +48,7 @@ use Rattle.ob_rules.specs.Values.{text_tree}
 use Rattle.ob_rules.specs.Calls.{actual_of, array_takes, takes_value, tree_for, value_actual, actual, actuals, misplaced, called_with, called, call_procedure, call_variable, out_signature, call_out}
 use Rattle.ob_rules.specs.Phrases.{Phrase}
 use Rattle.ob_typed.specs.Makes.{IfThere, Makes}
-use Rattle.ob_typed.specs.Forms.{IsDeclared, AreDeclared, ResultIs, SignatureIs, Forms}
+use Rattle.ob_typed.specs.Forms.{IsDeclared, AreKnown, ResultIs, SignatureIs, Forms}
 use Rattle.ob_typed.specs.Known.{AreParameters, ProcedureIs, IsScoped}
 use Rattle.ob_typed.specs.Kept.{DesignatorIs, PlaceIs, NodeIs, ValuedIs}
 use Rattle.ob_typed.specs.Meant.{CalledIs, PhraseIs, ArePhrases}
@@ -74,9 +74,9 @@ abbrev all_basic : List Basic → List (Mode × TypeRef)
 all_basic [] = []
 all_basic (b ∷ bs) = (mode.Value, ref.Basic b) ∷ all_basic bs
 
-all_declared : (bs : List Basic) → AreDeclared (all_basic bs)
-all_declared [] = tt
-all_declared (b ∷ bs) = (tt, all_declared bs)
+all_known : (map : Map) (bs : List Basic) → AreKnown map (all_basic bs)
+all_known map [] = tt
+all_known map (b ∷ bs) = ((tt, tt), all_known map bs)
 
 module _ (program : Program) (Has : Signature → QName → Type 0) (unit : List ℕ) (held : List Held) (result : Option TypeRef) where
   abbrev Ex : Expr → Form → Type 0
@@ -174,7 +174,7 @@ module _ (program : Program) (Has : Signature → QName → Type 0) (unit : List
     out_call o at xs h = by_callee (callee.Out o) xs at None (refl, h)
 
     basic_out : (o : OutProcedure) (bs : List Basic) (w : Where) (at : Pos) (ps : List Phrase) → ArePhrases program Has unit held result ps → Makes (Called w) (called u w at (record { params = all_basic bs; result = None }) ps (λ xs. e.Call (callee.Out o) xs at None))
-    basic_out o bs w at ps k = called_is (λ xs. Signed xs (all_basic bs)) w at (record { params = all_basic bs; result = None }) ps (λ xs. e.Call (callee.Out o) xs at None) tt (actuals_are program Has unit held result u scoped (all_basic bs) ps (all_declared bs) k) (λ xs g. out_call o at xs (basics_out (actuals_view xs) bs g))
+    basic_out o bs w at ps k = called_is (λ xs. Signed xs (all_basic bs)) w at (record { params = all_basic bs; result = None }) ps (λ xs. e.Call (callee.Out o) xs at None) tt (actuals_are program Has unit held result u scoped (all_basic bs) ps (all_known (map_of u) bs) k) (λ xs g. out_call o at xs (basics_out (actuals_view xs) bs g))
 
     -- the type of the parameter of Out.String, as the rules' map has it
     out_desc : map_of u out_string ≡ Some (desc.OpenArray mark.Hidden (ref.Basic basic.Char))

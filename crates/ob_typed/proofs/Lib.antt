@@ -14,3 +14,5 @@ pub mod Predeclared
 pub mod Functions
 pub mod Selectors
 pub mod Fronts
+pub mod Phrases
+pub mod Expressions

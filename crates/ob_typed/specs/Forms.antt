@@ -7,6 +7,7 @@ use Rattle.ob_types.specs.declared.types.TypeRef.{TypeRef}
 use Rattle.ob_types.specs.declared.types.TypeRef.TheVariants as ref
 use Rattle.ob_types.specs.declared.types.Signature.{Signature}
 use Rattle.ob_types.specs.declared.desc.Field.{Field}
+use Rattle.ob_types.specs.Maps.{IsHeld}
 use Rattle.ob_types.specs.AssigningTests.{takes_type}
 use Rattle.ob_types.specs.Tests.{same_at}
 use Rattle.ob_meaning.specs.Values.{Program, Form, BasicForm, PointerForm, ProcedureForm, ArrayForm, OpenForm, form_in, record_in, Held}
@@ -21,9 +22,13 @@ abbrev pub IsDeclared : TypeRef → Type 0
 IsDeclared (ref.Basic b) = Unit {0}
 IsDeclared (ref.Named q) = same_name q out_string ≡ false
 
-abbrev pub AreDeclared : List (Mode × TypeRef) → Type 0
-AreDeclared [] = Unit {0}
-AreDeclared (k ∷ ks) = IsDeclared k.1 × AreDeclared ks
+-- and one that the map holds
+abbrev pub IsKnown : Map → TypeRef → Type 0
+IsKnown map t = IsDeclared t × IsHeld map t
+
+abbrev pub AreKnown : Map → List (Mode × TypeRef) → Type 0
+AreKnown map [] = Unit {0}
+AreKnown map (k ∷ ks) = IsKnown map k.1 × AreKnown map ks
 
 module _ (program : Program) where
   -- a result is no array and no record
@@ -32,8 +37,8 @@ module _ (program : Program) where
   ResultIs (Some t) = IsDeclared t × Scalar (form_in program t)
 
   -- the types of parameters and result are those of the program
-  pub record SignatureIs (s : Signature) : Type 0 where
-    pub params : AreDeclared s.params
+  pub record SignatureIs (map : Map) (s : Signature) : Type 0 where
+    pub params : AreKnown map s.params
     pub result : ResultIs s.result
 
   -- what an array is, of a length or open; its elements are no open arrays
@@ -50,13 +55,13 @@ module _ (program : Program) where
     pub record Forms (map : Map) : Type 0 where
       pub basics : (t : TypeRef) (b : Basic) → basic_of map t ≡ Some b → form_in program t ≡ BasicForm b
       pub pointers : (t u : TypeRef) → pointed map t ≡ Some u → (form_in program t ≡ PointerForm u) × IsDeclared u
-      pub procedures : (t : TypeRef) (s : Signature) → signature_at map t ≡ Some s → (form_in program t ≡ ProcedureForm s) × SignatureIs s
+      pub procedures : (t : TypeRef) (s : Signature) → signature_at map t ≡ Some s → (form_in program t ≡ ProcedureForm s) × SignatureIs map s
       pub arrays : (t u : TypeRef) (n : Option ℕ) → IsDeclared t → array_of map t ≡ Some (n, u) → ArrayIs (form_in program t) n u
       pub records : (t : TypeRef) (q : QName) → record_of map t ≡ Some q → (form_in program t ≡ record_in program q) × IsRecordType program q
       pub same : (t u : TypeRef) → same_at map t u ≡ true → form_in program t ≡ form_in program u
       pub extensions : (a b : QName) → extends_record map a b ≡ true → Sub (record_in program a) (record_in program b)
       pub fields : (q o : QName) (x : List ℕ) (f : Field) → member map q x ≡ Some (AField o f) → typed.FieldOk program Has unit held result (record_in program q) o f.name (form_in program f.of) × IsDeclared f.of
-      pub passings : (m : Mode) (t : TypeRef) → IsDeclared t → passing_of map m t ≡ passing_for m (form_in program t)
+      pub passings : (m : Mode) (t : TypeRef) → IsKnown map t → passing_of map m t ≡ passing_for m (form_in program t)
       -- a variable of the type v takes a value of the type t: a scalar one as it is or widened, another as it is or of an extension
       pub scalars : (v t : TypeRef) → takes_type map v t ≡ true → Scalar (form_in program v) → Scalar (form_in program t) × Widens (form_in program t) (form_in program v)
       pub structures : (v t : TypeRef) → takes_type map v t ≡ true → Sub (form_in program t) (form_in program v) ⊎ Scalar (form_in program v)

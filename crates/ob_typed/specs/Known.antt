@@ -57,7 +57,7 @@ module _ (program : Program) (Has : Signature → QName → Type 0) (unit : List
     pub found : procedure_of program name ≡ Some p
     pub result_is : p.result ≡ s.result
     pub parameters : AreParameters program p.parameters s.params
-    pub signature : SignatureIs program s
+    pub signature : SignatureIs program map s
     pub own : is_value name ≡ true → Has s name
     pub alike : (t : Signature) → is_value name ≡ true → alike_to map s (Some t) ≡ true → Has t name
 

@@ -3,3 +3,4 @@ pub mod Forms
 pub mod Known
 pub mod Kept
 pub mod Meant
+pub mod Spelled
