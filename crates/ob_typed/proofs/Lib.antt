@@ -16,3 +16,4 @@ pub mod Selectors
 pub mod Fronts
 pub mod Phrases
 pub mod Expressions
+pub mod Whole

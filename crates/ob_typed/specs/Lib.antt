@@ -4,3 +4,4 @@ pub mod Known
 pub mod Kept
 pub mod Meant
 pub mod Spelled
+pub mod Laws
