@@ -61,7 +61,7 @@ pub actual_seen : (how : Passing) (t : TypeRef) (x : TypedExpr) → actual_view 
 actual_seen how t x = fold-roll-Actual Desig Expr OneActual designator_layer expr_layer actual_layer (record { passing = how; formal = t; value = x })
 
 -- an open array, as an array
-open_array : (map : Map) (t u : TypeRef) → open_element map t ≡ Some u → array_of map t ≡ Some (None, u)
+pub open_array : (map : Map) (t u : TypeRef) → open_element map t ≡ Some u → array_of map t ≡ Some (None, u)
 open_array map t u e = go (shape map t) refl e
   where
     go : (o : Option Desc) → shape map t ≡ o → open_at o ≡ Some u → array_of map t ≡ Some (None, u)
@@ -134,7 +134,7 @@ module _ (program : Program) (Has : Signature → QName → Type 0) (unit : List
     array_by : (s el : TypeRef) → IsDeclared s → element_is map el (array_of map s) ≡ true → IsArrayOf (form_in program s) (form_in program el)
     array_by s el d e = go (array_of map s) refl e
       where
-        by : (n : Option ℕ) (v : TypeRef) → ArrayIs program (form_in program s) n v → form_in program v ≡ form_in program el → IsArrayOf (form_in program s) (form_in program el)
+        by : (n : Option ℕ) (v : TypeRef) → ArrayIs program map (form_in program s) n v → form_in program v ≡ form_in program el → IsArrayOf (form_in program s) (form_in program el)
         by None v a f = inl (a.0 ∙ ap (λ x. OpenForm x) f)
         by (Some n) v a f = inr (n, a.0 ∙ ap (λ x. ArrayForm n x) f)
 
@@ -155,7 +155,7 @@ module _ (program : Program) (Has : Signature → QName → Type 0) (unit : List
     array_value t el s (valued.Place p) b h e f g =
         let d = designator_view p.designator.inner in
         let i : form_in program (variable_type d) ≡ form_in program s = form_is program Has unit held result map forms d p.of p.var_record h ∙ ap (form_in program) (some_is f) in
-        let a : IsArrayOf (form_in program (variable_type d)) (form_in program el) = subst (λ y. IsArrayOf y (form_in program el)) (sym i) (array_by s el (subst IsDeclared (some_is f) h.declared) g) in
+        let a : IsArrayOf (form_in program (variable_type d)) (form_in program el) = subst (λ y. IsArrayOf y (form_in program el)) (sym i) (array_by s el (subst IsDeclared (some_is f) h.declared.0) g) in
         subst (λ y. Arrays (expr_view y) (form_in program t)) (sym (tree_of_place program Has unit held result map forms b p)) (subst (λ y. Arrays y (form_in program t)) (sym (view_value_of p.designator.inner)) (h.fits, (form_in program el, e, a)))
     array_value t el s (valued.Node n) b h e f g = by n.of h f
       where
@@ -196,7 +196,7 @@ module _ (program : Program) (Has : Signature → QName → Type 0) (unit : List
     scalar_tree t x false e d s h = h
     scalar_tree t x true e d s h = let a = some_of (array_of map t) e in absurd (no_array a.0.0 a.0.1 (forms.arrays t a.0.1 a.0.0 d a.1))
       where
-        no_array : (n : Option ℕ) (u : TypeRef) → ArrayIs program (form_in program t) n u → ⊥
+        no_array : (n : Option ℕ) (u : TypeRef) → ArrayIs program map (form_in program t) n u → ⊥
         no_array None u a = subst Scalar a.0 s
         no_array (Some n) u a = subst Scalar a.0 s
 
@@ -269,7 +269,7 @@ module _ (program : Program) (Has : Signature → QName → Type 0) (unit : List
 
         open_by : (o : Option TypeRef) → open_element map t ≡ o → is_some o ≡ true → takes_variable map o t p.of ≡ true → typed.VariableArrayOk program Has unit held result (ValueOf dd) (form_in program t)
         open_by None f g k = not_true g
-        open_by (Some el) f g k = (h.fits, (form_in program el, element_form t el d.0 f, subst (λ y. IsArrayOf y (form_in program el)) (sym i) (array_by p.of el h.declared k)))
+        open_by (Some el) f g k = (h.fits, (form_in program el, element_form t el d.0 f, subst (λ y. IsArrayOf y (form_in program el)) (sym i) (array_by p.of el h.declared.0 k)))
 
         by : (f : Form) → form_in program t ≡ f → Passes (passing_for mode.Var f) (ValueOf dd) (form_in program t)
         by (BasicForm b) g = (h.fits, closed (BasicForm b) g (λ u q. absurd cc))

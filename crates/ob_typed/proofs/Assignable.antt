@@ -52,7 +52,7 @@ nat_is n m e = grind (arith, nat_tests)
 less_is : (n m : ℕ) → nat_lt n m ≡ true → n < m
 less_is n m e = grind (arith, nat_tests)
 
-basic_there : Form → Option Basic
+pub basic_there : Form → Option Basic
 basic_there (BasicForm b) = Some b
 basic_there t = None
 
@@ -127,7 +127,7 @@ module _ (program : Program) (Has : Signature → QName → Type 0) (unit : List
     basic_taken : (v : TypeRef) (b : Basic) → width_of (Some b) ≡ None → takes_type map v (ref.Basic b) ≡ true → Scalar (form_in program v) → form_in program v ≡ BasicForm b
     basic_taken v b n e s = widens_back program Has unit held result (form_in program (ref.Basic b)) (form_in program v) b (forms.scalars v (ref.Basic b) e s).1 (form_basic program b) n
 
-    constant_scalar : (v : TypeRef) (c : Literal) → IsDeclared v → ConstantIs c → takes_constant map v c ≡ true → Scalar (form_in program v) → typed.ConstantOk program Has unit held result c (form_in program v)
+    pub constant_scalar : (v : TypeRef) (c : Literal) → IsDeclared v → ConstantIs c → takes_constant map v c ≡ true → Scalar (form_in program v) → typed.ConstantOk program Has unit held result c (form_in program v)
     constant_scalar v (literal.Str text) d h e s =
         ⊎_elim (λ f. let r = text_room v (length text) d f in absurd (not_scalar_array r.0 (form_in program v) char r.1 s))
         (λ f. let p = and_is (nat_eq (length text) 1) (takes_type map v (ref.Basic basic.Char)) f in absurd (h.1 (nat_is (length text) 1 p.0))) (or_is (takes_text map v (length text)) (nat_eq (length text) 1 && takes_type map v (ref.Basic basic.Char)) e)
@@ -142,7 +142,7 @@ module _ (program : Program) (Has : Signature → QName → Type 0) (unit : List
     constant_scalar v (literal.Set n) d h e s = (h, basic_taken v basic.Set refl e s)
     constant_scalar v literal.Nil d h e s = has_nil_is v e
 
-    procedure_taken : (x : Expr) (v : TypeRef) (s : Signature) → NodeIs program Has unit held result map x (kind.Procedure s) → alike_to map s (signature_at map v) ≡ true → (t : Signature) × (form_in program v ≡ ProcedureForm t) × Ex x (form_in program v)
+    pub procedure_taken : (x : Expr) (v : TypeRef) (s : Signature) → NodeIs program Has unit held result map x (kind.Procedure s) → alike_to map s (signature_at map v) ≡ true → (t : Signature) × (form_in program v ≡ ProcedureForm t) × Ex x (form_in program v)
     procedure_taken x v s h e = go (signature_at map v) refl e
       where
         go : (o : Option Signature) → signature_at map v ≡ o → alike_to map s o ≡ true → (t : Signature) × (form_in program v ≡ ProcedureForm t) × Ex x (form_in program v)
@@ -201,7 +201,7 @@ module _ (program : Program) (Has : Signature → QName → Type 0) (unit : List
     constant_structure v (literal.Set n) d h e k = no_basic v basic.Set e k
     constant_structure v literal.Nil d h e k = absurd (k (nil_scalar (form_in program v) (has_nil_is v e)))
 
-    node_structure : {B : Type 0} (x : Expr) (k : ExprType) (v : TypeRef) → NodeIs program Has unit held result map x k → takes_value_of map v k ≡ true → Structured (form_in program v) → B
+    pub node_structure : {B : Type 0} (x : Expr) (k : ExprType) (v : TypeRef) → NodeIs program Has unit held result map x k → takes_value_of map v k ≡ true → Structured (form_in program v) → B
     node_structure {B} x (kind.Of t) v h e s = no_structure {B = B} v t e h.1 s
     node_structure {B} x (kind.Procedure t) v h e s = absurd (s (subst Scalar (sym (procedure_taken x v t h e).1) tt))
     node_structure {B} x kind.Str v h e s = absurd h

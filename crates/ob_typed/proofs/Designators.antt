@@ -35,7 +35,7 @@ use Rattle.ob_rules.specs.Values.{is_integer, width as width_at, tree}
 use Rattle.ob_rules.specs.Phrases.{dereferenced}
 use Rattle.ob_rules.specs.Designators.{is_var_record, variable_at, same_variable, if_so, if_extends, on_record, guard_kind, guard_of, guarded_by, with_guard, guard_if, guard_same, with_guards, variable_named, if_so_held, if_held, dereference_of, dereference, through_if, implicitly, indexed, index_into, index_if, index, field_of}
 use Rattle.ob_typed.specs.Makes.{IfThere, Makes}
-use Rattle.ob_typed.specs.Forms.{IsDeclared, ArrayIs, Forms}
+use Rattle.ob_typed.specs.Forms.{IsKnown, ArrayIs, Forms}
 use Rattle.ob_typed.specs.Known.{VariableIs}
 use Rattle.ob_typed.specs.Kept.{DesignatorIs, PlaceIs, ValuedIs}
 use Rattle.ob_typed.proofs.Makes.{makes_then, makes_wants}
@@ -82,14 +82,14 @@ module _ (program : Program) (Has : Signature → QName → Type 0) (unit : List
 
   -- DEREFERENCES
 
-  deref_of : (d : Desig) (t u : TypeRef) (r : Bool) (at : Pos) → Of d t r → pointed map t ≡ Some u → Of (Deref d at u) u false
-  deref_of d t u r at h e = record { fits = (h.fits, (u, form_is d t r h ∙ (forms.pointers t u e).0, refl)); of_type = refl; declared = (forms.pointers t u e).1; is_parameter = λ f. not_true f }
+  deref_of : (d : Desig) (t u : TypeRef) (r : Bool) (at : Pos) → Of d t r → pointed map t ≡ Some u → is_held map u ≡ true → Of (Deref d at u) u false
+  deref_of d t u r at h e k = record { fits = (h.fits, (u, form_is d t r h ∙ (forms.pointers t u e).0, refl)); of_type = refl; declared = ((forms.pointers t u e).1, forms.bases t u e k); is_parameter = λ f. not_true f }
 
-  pub deref_is : (p : Place) (at : Pos) (t : TypeRef) (written : Bool) → P p → pointed map p.of ≡ Some t → P (dereferenced p at t written)
-  deref_is p at t written h e = subst (λ d. Of d t false) (sym (view_deref p.designator.inner at t)) (deref_of (designator_view p.designator.inner) p.of t p.var_record at h e)
+  pub deref_is : (p : Place) (at : Pos) (t : TypeRef) (written : Bool) → P p → pointed map p.of ≡ Some t → is_held map t ≡ true → P (dereferenced p at t written)
+  deref_is p at t written h e k = subst (λ d. Of d t false) (sym (view_deref p.designator.inner at t)) (deref_of (designator_view p.designator.inner) p.of t p.var_record at h e k)
 
-  held_is : (b : Bool) (Q : Place → Type 0) (p : Place) → Q p → Makes Q (if_so_held b p)
-  held_is true Q p h = record { node = h }
+  held_is : (b : Bool) (Q : Place → Type 0) (p : Place) → (b ≡ true → Q p) → Makes Q (if_so_held b p)
+  held_is true Q p h = record { node = h refl }
   held_is false Q p h = record { node = tt }
 
   through_is : (b : Bool) (p q : Place) → P p → P q → P (through_if b p q)
@@ -98,7 +98,7 @@ module _ (program : Program) (Has : Signature → QName → Type 0) (unit : List
 
   pub implicitly_is : (wanted : TypeRef → Bool) (at : Pos) (p : Place) (o : Option TypeRef) → P p → pointed map p.of ≡ o → Makes P (implicitly map wanted at p o)
   implicitly_is wanted at p None h e = record { node = h }
-  implicitly_is wanted at p (Some t) h e = held_is (is_held map t) P (through_if (wanted t) p (dereferenced p at t false)) (through_is (wanted t) p (dereferenced p at t false) h (deref_is p at t false h e))
+  implicitly_is wanted at p (Some t) h e = held_is (is_held map t) P (through_if (wanted t) p (dereferenced p at t false)) (λ k. through_is (wanted t) p (dereferenced p at t false) h (deref_is p at t false h e k))
 
   -- what is selected of: the variable, or what it points to
   abbrev pub pointee : TypeRef → Option TypeRef → TypeRef
@@ -107,14 +107,14 @@ module _ (program : Program) (Has : Signature → QName → Type 0) (unit : List
 
   pub through_pointer : (at : Pos) (p : Place) (o : Option TypeRef) → P p → pointed map p.of ≡ o → Makes (λ q. P q × (q.of ≡ pointee p.of o)) (implicitly map (λ t. true) at p o)
   through_pointer at p None h e = record { node = (h, refl) }
-  through_pointer at p (Some t) h e = held_is (is_held map t) (λ q. P q × (q.of ≡ t)) (dereferenced p at t false) (deref_is p at t false h e, refl)
+  through_pointer at p (Some t) h e = held_is (is_held map t) (λ q. P q × (q.of ≡ t)) (dereferenced p at t false) (λ k. (deref_is p at t false h e k, refl))
 
   pub dereference_is : (at : Pos) (p : Place) → P p → Makes P (dereference map at p)
   dereference_is at p h = go (pointed map p.of) refl
     where
       go : (o : Option TypeRef) → pointed map p.of ≡ o → Makes P (dereference_of map at p o)
       go None e = record { node = tt }
-      go (Some t) e = held_is (is_held map t) P (dereferenced p at t true) (deref_is p at t true h e)
+      go (Some t) e = held_is (is_held map t) P (dereferenced p at t true) (λ k. deref_is p at t true h e k)
 
   -- INDICES
 
@@ -125,12 +125,12 @@ module _ (program : Program) (Has : Signature → QName → Type 0) (unit : List
       go None f e = not_true e
       go (Some w) f e = width_fits program Has unit held result map forms x w width.LongInt h f (within_long w)
 
-  index_of : (d : Desig) (t u : TypeRef) (r : Bool) (n : Option ℕ) (i : Expr) (at : Pos) → Of d t r → ArrayIs program (form_in program t) n u → Fits program Has unit held result i longint → Of (Index d n i at u) u false
+  index_of : (d : Desig) (t u : TypeRef) (r : Bool) (n : Option ℕ) (i : Expr) (at : Pos) → Of d t r → ArrayIs program map (form_in program t) n u → Fits program Has unit held result i longint → Of (Index d n i at u) u false
   index_of d t u r None i at h a k = record { fits = (h.fits, (k, form_is d t r h ∙ a.0)); of_type = refl; declared = a.1.0; is_parameter = λ f. not_true f }
   index_of d t u r (Some n) i at h a k = record { fits = (h.fits, (k, form_is d t r h ∙ a.0)); of_type = refl; declared = a.1.1.0; is_parameter = λ f. not_true f }
 
   indexed_is : (p : Place) (at : Pos) (x : Valued) (a : Option ℕ × TypeRef) → P p → array_of map p.of ≡ Some a → Fits program Has unit held result (expr_view (tree x)) longint → P (indexed p at x a)
-  indexed_is p at x a h e k = subst (λ d. Of d a.1 false) (sym (view_index p.designator.inner a.0 (tree x) at a.1)) (index_of (designator_view p.designator.inner) p.of a.1 p.var_record a.0 (expr_view (tree x)) at h (forms.arrays p.of a.1 a.0 h.declared e) k)
+  indexed_is p at x a h e k = subst (λ d. Of d a.1 false) (sym (view_index p.designator.inner a.0 (tree x) at a.1)) (index_of (designator_view p.designator.inner) p.of a.1 p.var_record a.0 (expr_view (tree x)) at h (forms.arrays p.of a.1 a.0 h.declared.0 e) k)
 
   index_into_is : (at : Pos) (p : Place) (i : Judged Valued) (o : Option (Option ℕ × TypeRef)) → P p → Makes (V program Has unit held result map forms) i → array_of map p.of ≡ o → Makes P (index_into map at p i o)
   index_into_is at p i None h k e = record { node = tt }
@@ -170,7 +170,7 @@ module _ (program : Program) (Has : Signature → QName → Type 0) (unit : List
       go None f k = not_true k
       go (Some q) f k = let x = record_form t q f in not_both (form_in program t) t r x.0 (forms.pointers t r e).0 x.1
 
-  pointer_guard : (d : Desig) (s t : TypeRef) (r : Bool) (at : Pos) (a q : QName) → Of d s r → IsDeclared t → pointed_record map s ≡ Some a → pointed_record map t ≡ Some q → extends_record map q a ≡ true → Of (Guard d guarded.Pointer q at t) t r
+  pointer_guard : (d : Desig) (s t : TypeRef) (r : Bool) (at : Pos) (a q : QName) → Of d s r → IsKnown map t → pointed_record map s ≡ Some a → pointed_record map t ≡ Some q → extends_record map q a ≡ true → Of (Guard d guarded.Pointer q at t) t r
   pointer_guard d s t r at a q h l e f g =
       let i = pointed_is map s a e in
       let j = pointed_is map t q f in
@@ -183,7 +183,7 @@ module _ (program : Program) (Has : Signature → QName → Type 0) (unit : List
         is_parameter = λ x. absurd (no_record s i.0 i.1 (h.is_parameter x).1);
       }
 
-  record_guard : (d : Desig) (s t : TypeRef) (at : Pos) (a q : QName) → Of d s true → IsDeclared t → record_of map s ≡ Some a → record_of map t ≡ Some q → extends_record map q a ≡ true → Of (Guard d guarded.Record q at t) t true
+  record_guard : (d : Desig) (s t : TypeRef) (at : Pos) (a q : QName) → Of d s true → IsKnown map t → record_of map s ≡ Some a → record_of map t ≡ Some q → extends_record map q a ≡ true → Of (Guard d guarded.Record q at t) t true
   record_guard d s t at a q h l e f g =
       let k = forms.records t q f in
       let m = forms.records s a e in
@@ -194,7 +194,7 @@ module _ (program : Program) (Has : Signature → QName → Type 0) (unit : List
         is_parameter = λ x. ((h.is_parameter refl).0, some_true f);
       }
 
-  pub guarded_is : (p : Place) (g : Guarded × QName) (t : TypeRef) (at : Pos) (written : Bool) → P p → IsDeclared t → guard_of map p t ≡ Some g → P (guarded_by p g t at written)
+  pub guarded_is : (p : Place) (g : Guarded × QName) (t : TypeRef) (at : Pos) (written : Bool) → P p → IsKnown map t → guard_of map p t ≡ Some g → P (guarded_by p g t at written)
   guarded_is p g t at written h l e = subst (λ d. Of d t p.var_record) (sym (view_guard p.designator.inner g.0 g.1 at t)) (go (pointed_record map p.of) refl e)
     where
       dd : Desig
@@ -212,19 +212,19 @@ module _ (program : Program) (Has : Signature → QName → Type 0) (unit : List
           let i = extends_is map guarded.Pointer (Some a) (pointed_record map t) g e in
           subst (λ x. Of (Guard dd x g.1 at t) t p.var_record) (sym i.3) (pointer_guard dd p.of t p.var_record at i.0 g.1 h l (f ∙ i.1) i.2 i.4)
 
-  with_guard_is : (at : Pos) (p : Place) (o : Option (Guarded × QName)) (t : TypeRef) → P p → IsDeclared t → guard_of map p t ≡ o → Makes P (with_guard map at p o t)
+  with_guard_is : (at : Pos) (p : Place) (o : Option (Guarded × QName)) (t : TypeRef) → P p → IsKnown map t → guard_of map p t ≡ o → Makes P (with_guard map at p o t)
   with_guard_is at p None t h l e = record { node = tt }
   with_guard_is at p (Some g) t h l e = record { node = guarded_is p g t at false h l e }
 
-  guard_if_is : (at : Pos) (p : Place) (o : Option TypeRef) → P p → IfThere IsDeclared o → Makes P (guard_if map at p o)
+  guard_if_is : (at : Pos) (p : Place) (o : Option TypeRef) → P p → IfThere (IsKnown map) o → Makes P (guard_if map at p o)
   guard_if_is at p None h l = record { node = tt }
   guard_if_is at p (Some t) h l = with_guard_is at p (guard_of map p t) t h l refl
 
-  guard_same_is : (b : Bool) (at : Pos) (p : Judged Place) (o : Option TypeRef) → Makes P p → IfThere IsDeclared o → Makes P (guard_same b map at p o)
+  guard_same_is : (b : Bool) (at : Pos) (p : Judged Place) (o : Option TypeRef) → Makes P p → IfThere (IsKnown map) o → Makes P (guard_same b map at p o)
   guard_same_is true at p o h l = makes_then P P p (λ q. guard_if map at q o) h (λ q k. guard_if_is at q o k l)
   guard_same_is false at p o h l = h
 
-  with_guards_is : (at : Pos) (v : Variable) (gs : List (Variable × Option TypeRef)) (p : Judged Place) → Makes P p → AllByRecursion (λ (g : Variable × Option TypeRef). IfThere IsDeclared g.1) gs → Makes P (with_guards map at v gs p)
+  with_guards_is : (at : Pos) (v : Variable) (gs : List (Variable × Option TypeRef)) (p : Judged Place) → Makes P p → AllByRecursion (λ (g : Variable × Option TypeRef). IfThere (IsKnown map) g.1) gs → Makes P (with_guards map at v gs p)
   with_guards_is at v [] p h l = h
   with_guards_is at v (g ∷ gs) p h l = with_guards_is at v gs (guard_same (same_variable v g.0) map at p g.1) (guard_same_is (same_variable v g.0) at p g.1 h l.0) l.1
 
@@ -244,5 +244,5 @@ module _ (program : Program) (Has : Signature → QName → Type 0) (unit : List
   variable_is v t read_only h = subst (λ d. Of d t (is_var_record v)) (sym (view_variable v t)) (record { fits = h.fits; of_type = refl; declared = h.declared; is_parameter = λ e. (parameter_is v t e, h.var_record e) })
 
   -- a name with the guards of WITH around it
-  pub guards_is : (at : Pos) (v : Variable) (t : TypeRef) (read_only : Bool) (gs : List (Variable × Option TypeRef)) → VariableIs program Has unit held result map v t → AllByRecursion (λ (g : Variable × Option TypeRef). IfThere IsDeclared g.1) gs → Makes P (with_guards map at v gs (sound (variable_at v t read_only)))
+  pub guards_is : (at : Pos) (v : Variable) (t : TypeRef) (read_only : Bool) (gs : List (Variable × Option TypeRef)) → VariableIs program Has unit held result map v t → AllByRecursion (λ (g : Variable × Option TypeRef). IfThere (IsKnown map) g.1) gs → Makes P (with_guards map at v gs (sound (variable_at v t read_only)))
   guards_is at v t read_only gs h l = with_guards_is at v gs (sound (variable_at v t read_only)) (record { node = variable_is v t read_only h }) l

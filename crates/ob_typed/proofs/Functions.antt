@@ -140,7 +140,7 @@ module _ (program : Program) (Has : Signature → QName → Type 0) (unit : List
           let q = k p e in
           let d = designator_view p.designator.inner in
           let g = and_is (is_text map x) (is_chars map y) f in
-          let c : typed.IsText program Has unit held result (form_in program (variable_type d)) = subst (typed.IsText program Has unit held result) (sym (form_is program Has unit held result map forms d p.of p.var_record q)) (char_array_is program Has unit held result map forms p.of q.declared (sym (ap (is_chars map) (place_of y p e)) ∙ g.1)) in
+          let c : typed.IsText program Has unit held result (form_in program (variable_type d)) = subst (typed.IsText program Has unit held result) (sym (form_is program Has unit held result map forms d p.of p.var_record q)) (char_array_is program Has unit held result map forms p.of q.declared.0 (sym (ap (is_chars map) (place_of y p e)) ∙ g.1)) in
           done program Has unit held result map forms w (stmt.Copy (text_tree x) p.designator.inner at) (Copy (expr_view (text_tree x)) d at) (view_copy (text_tree x) p.designator.inner at) (λ l. (text_fits program Has unit held result map forms x h g.0, (q.fits, c)))
 
       two_fit : (f : Predeclared) (at : Pos) (x y : Valued) → misplaced w (is_function f) ≡ false → G (asked_first f) x → G (asked_second f) y → There (fit_two map f at x y)

@@ -6,6 +6,7 @@ pub mod Operators
 pub mod Designators
 pub mod Relations
 pub mod Sets
+pub mod Shown
 pub mod Types
 pub mod Assignable
 pub mod Actuals
@@ -17,3 +18,7 @@ pub mod Fronts
 pub mod Phrases
 pub mod Expressions
 pub mod Whole
+pub mod Bodies
+pub mod Assigning
+pub mod Simple
+pub mod Branching

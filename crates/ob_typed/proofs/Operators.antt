@@ -257,7 +257,7 @@ module _ (program : Program) (Has : Signature → QName → Type 0) (unit : List
     only_value_is (valued.Node n) w h f = h
     only_value_is (valued.Place p) w h f =
         let g = integer_form program Has unit held result map forms p.of w f in
-        (h.declared, subst Scalar (sym g) tt, λ v k. shown_place program Has unit held result map forms p v (place_fits program Has unit held result map forms (designator_view p.designator.inner) p.of p.var_record (integer w) v h g tt (subst (λ f. W program Has unit held result f v) g k)))
+        (h.declared.0, subst Scalar (sym g) tt, λ v k. shown_place program Has unit held result map forms p v (place_fits program Has unit held result map forms (designator_view p.designator.inner) p.of p.var_record (integer w) v h g tt (subst (λ f. W program Has unit held result f v) g k)))
 
     signed_as_is : (s : Sign) (o : Option Width) (x : Bool) (at : Pos) (a : Valued) → Is a → width_at map a ≡ o → (x ≡ true → Ex (expr_view (tree a)) set) → Makes Is (signed_as s o x at a)
     signed_as_is sign.Plus (Some w) x at a h f g = record { node = only_value_is a w h f }

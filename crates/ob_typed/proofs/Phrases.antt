@@ -36,7 +36,7 @@ use Rattle.ob_rules.specs.Phrases.{Phrase, Behind}
 use Rattle.ob_rules.specs.Designators.{designates}
 use Rattle.ob_rules.specs.Expressions.{integer_literal, char_literal, procedure_value, value_meant, Named, meant_by, designator_phrase, testable, test, untestable, type_test, other_test, is_test, phrase, Tailed, combine_all, bracketed, Ranged, value_if, element_value, relation_of, relation_value}
 use Rattle.ob_typed.specs.Makes.{IfThere, Makes}
-use Rattle.ob_typed.specs.Forms.{IsDeclared}
+use Rattle.ob_typed.specs.Forms.{IsKnown}
 use Rattle.ob_typed.specs.Known.{ConstantIs, ProcedureIs, IsScoped}
 use Rattle.ob_typed.specs.Kept.{NodeIs, ValuedIs}
 use Rattle.ob_typed.specs.Meant.{MeantIs, MeantBy, PhraseIs, NamedIs, RangedIs, AreRanged, AreTailed}
@@ -140,8 +140,8 @@ module _ (program : Program) (Has : Signature → QName → Type 0) (unit : List
 
   tested : (u : Around) → Sc u → (at : Pos) (x : Judged Valued) (r : Phrase) (q : Option Qualident) → Makes (Is u) x → Ph r → Makes (Is u) (is_test u at x r q)
   tested u s at x r (Some q) h k =
-      makes_then (λ p. Is u p.0 × IsDeclared p.1) (Is u) (both (untestable (map_of u) at x) (type_named u q)) (λ p. test (map_of u) at p.0 p.1)
-      (makes_both (Is u) IsDeclared (untestable (map_of u) at x) (type_named u q) (makes_then (Is u) (Is u) x (λ v. wants (testable (map_of u) v) 23 at v) h (λ v l. makes_wants (Is u) (testable (map_of u) v) 23 at v (λ e. l))) (type_named_is program Has unit held result u s q))
+      makes_then (λ p. Is u p.0 × IsKnown (map_of u) p.1) (Is u) (both (untestable (map_of u) at x) (type_named u q)) (λ p. test (map_of u) at p.0 p.1)
+      (makes_both (Is u) (IsKnown (map_of u)) (untestable (map_of u) at x) (type_named u q) (makes_then (Is u) (Is u) x (λ v. wants (testable (map_of u) v) 23 at v) h (λ v l. makes_wants (Is u) (testable (map_of u) v) 23 at v (λ e. l))) (type_named_is program Has unit held result u s q))
       (λ p l. test_is program Has unit held result (map_of u) s.forms at p.0 p.1 l.0)
   tested u s at x r None h k =
       makes_then (λ p. Is u p.0 × Is u p.1) (Is u) (both x (r.value u)) (λ p. also (not (testable (map_of u) p.0)) 23 at (breaks 21 at)) (makes_both (Is u) (Is u) x (r.value u) h (k.value u s)) λ p l.

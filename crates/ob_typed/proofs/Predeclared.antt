@@ -154,7 +154,7 @@ module _ (program : Program) (Has : Signature → QName → Type 0) (unit : List
 
       -- A FUNCTION'S VALUE
 
-      length_there : (n : Option ℕ) (u s : TypeRef) (first : Bool) (p : Place) → PlaceIs program Has unit held result map p → ArrayIs program (form_in program s) n u → (first ≡ true → s ≡ p.of) → misplaced w true ≡ false → IfThere (Makes M) (length_of n first p)
+      length_there : (n : Option ℕ) (u s : TypeRef) (first : Bool) (p : Place) → PlaceIs program Has unit held result map p → ArrayIs program map (form_in program s) n u → (first ≡ true → s ≡ p.of) → misplaced w true ≡ false → IfThere (Makes M) (length_of n first p)
       length_there (Some n) u s first p h a f q = record { node = function_there (constant (literal.Int (pos n))) q (length_long n a.1.0) }
       length_there None u s true p h a f q =
           let d = designator_view p.designator.inner in
@@ -164,23 +164,23 @@ module _ (program : Program) (Has : Signature → QName → Type 0) (unit : List
       length_there None u s false p h a f q = tt
 
       -- the type after so many dimensions
-      dimension_is : (n : ℕ) (t : TypeRef) (a : Option ℕ × TypeRef) → IsDeclared t → dimension map n t ≡ Some a → (s : TypeRef) × ArrayIs program (form_in program s) a.0 a.1 × (n ≡ 0 → s ≡ t)
+      dimension_is : (n : ℕ) (t : TypeRef) (a : Option ℕ × TypeRef) → IsDeclared t → dimension map n t ≡ Some a → (s : TypeRef) × ArrayIs program map (form_in program s) a.0 a.1 × (n ≡ 0 → s ≡ t)
       dimension_is zero t a d e = (t, forms.arrays t a.1 a.0 d e, λ k. refl)
       dimension_is (suc n) t a d e = go (array_of map t) refl e (λ v k f. dimension_is n v a k f)
         where
-          element : (m : Option ℕ) (v : TypeRef) → ArrayIs program (form_in program t) m v → IsDeclared v
-          element None v a = a.1.0
-          element (Some m) v a = a.1.1.0
+          element : (m : Option ℕ) (v : TypeRef) → ArrayIs program map (form_in program t) m v → IsDeclared v
+          element None v a = a.1.0.0
+          element (Some m) v a = a.1.1.0.0
 
           no_zero : suc n ≡ 0 → ⊥
           no_zero e = omega (arith, e)
 
-          go : (o : Option (Option ℕ × TypeRef)) → array_of map t ≡ o → and_so o (λ b. dimension map n b.1) ≡ Some a → ((v : TypeRef) → IsDeclared v → dimension map n v ≡ Some a → (s : TypeRef) × ArrayIs program (form_in program s) a.0 a.1 × (n ≡ 0 → s ≡ v)) → (s : TypeRef) × ArrayIs program (form_in program s) a.0 a.1 × (suc n ≡ 0 → s ≡ t)
+          go : (o : Option (Option ℕ × TypeRef)) → array_of map t ≡ o → and_so o (λ b. dimension map n b.1) ≡ Some a → ((v : TypeRef) → IsDeclared v → dimension map n v ≡ Some a → (s : TypeRef) × ArrayIs program map (form_in program s) a.0 a.1 × (n ≡ 0 → s ≡ v)) → (s : TypeRef) × ArrayIs program map (form_in program s) a.0 a.1 × (suc n ≡ 0 → s ≡ t)
           go None f g ih = none_some g
           go (Some b) f g ih = let r = ih b.1 (element b.0 b.1 (forms.arrays t b.1 b.0 d f)) g in (r.0, r.1, λ k. absurd (no_zero k))
 
       pub len_there : (n : ℕ) (p : Place) → PlaceIs program Has unit held result map p → misplaced w true ≡ false → IfThere (Makes M) (len_at map n p)
-      len_there n p h e = so_is (Makes M) (dimension map n p.of) (λ a. length_of a.0 (nat_eq n 0) p) (λ a f. let r = dimension_is n p.of a h.declared f in length_there a.0 a.1 r.0 (nat_eq n 0) p h r.1 (λ g. r.2 (nat_is n 0 g)) e)
+      len_there n p h e = so_is (Makes M) (dimension map n p.of) (λ a. length_of a.0 (nat_eq n 0) p) (λ a f. let r = dimension_is n p.of a h.declared.0 f in length_there a.0 a.1 r.0 (nat_eq n 0) p h r.1 (λ g. r.2 (nat_is n 0 g)) e)
 
       pub place_given : (x : Valued) (p : Place) → Is x → place_in x ≡ Some p → PlaceIs program Has unit held result map p
       place_given x p h e = subst Is (place_of x p e) h
@@ -233,7 +233,7 @@ module _ (program : Program) (Has : Signature → QName → Type 0) (unit : List
       pointing : (p : Place) (base : TypeRef) → PlaceIs program Has unit held result map p → pointed map p.of ≡ Some base → form_in program (variable_type (designator_view p.designator.inner)) ≡ PointerForm base
       pointing p base h e = form_is program Has unit held result map forms (designator_view p.designator.inner) p.of p.var_record h ∙ (forms.pointers p.of base e).0
 
-      array_made : (n : Option ℕ) (v : TypeRef) (p : Place) (base : TypeRef) (at : Pos) → PlaceIs program Has unit held result map p → pointed map p.of ≡ Some base → ArrayIs program (form_in program base) n v → IfThere (Makes M) (new_array n p base at)
+      array_made : (n : Option ℕ) (v : TypeRef) (p : Place) (base : TypeRef) (at : Pos) → PlaceIs program Has unit held result map p → pointed map p.of ≡ Some base → ArrayIs program map (form_in program base) n v → IfThere (Makes M) (new_array n p base at)
       array_made (Some n) v p base at h e a = made_there p base (made_of.Array base) at h ((base, pointing p base h e, refl), (n, form_in program v, a.0, (a.1.0, a.1.1.1)))
       array_made None v p base at h e a = tt
 
@@ -248,7 +248,7 @@ module _ (program : Program) (Has : Signature → QName → Type 0) (unit : List
           so_is (Makes M) (pointed map p.of) (λ base. if_held (is_held map base) (new_fixed (record_of map base) (array_of map base) p base at)) λ base f.
           held_there (is_held map base) (new_fixed (record_of map base) (array_of map base) p base at) (fixed_made (record_of map base) (array_of map base) p base at (h p e) f refl refl)
 
-      elements_made : (k : Option ℕ) (t : TypeRef) (p : Place) (n : Valued) (base : TypeRef) (at : Pos) → PlaceIs program Has unit held result map p → pointed map p.of ≡ Some base → ArrayIs program (form_in program base) k t → Ex (expr_view (tree n)) longint → IfThere (Makes M) (new_elements k t p n at)
+      elements_made : (k : Option ℕ) (t : TypeRef) (p : Place) (n : Valued) (base : TypeRef) (at : Pos) → PlaceIs program Has unit held result map p → pointed map p.of ≡ Some base → ArrayIs program map (form_in program base) k t → Ex (expr_view (tree n)) longint → IfThere (Makes M) (new_elements k t p n at)
       elements_made (Some k) t p n base at h e a g = tt
       elements_made None t p n base at h e a g = done (stmt.NewOpenArray p.designator.inner t (tree n) at) (NewOpenArray (designator_view p.designator.inner) t (expr_view (tree n)) at) (view_new_open_array p.designator.inner t (tree n) at) (λ l. (h.fits, ((base, pointing p base h e, a.0), (a.1.1, g))))
 

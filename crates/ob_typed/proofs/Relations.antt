@@ -235,7 +235,7 @@ module _ (program : Program) (Has : Signature → QName → Type 0) (unit : List
   pub char_array_is : (t : TypeRef) → IsDeclared t → is_char_array map t ≡ true → typed.IsText program Has unit held result (form_in program t)
   char_array_is t d e = go (array_of map t) refl e
     where
-      text_of_array : (n : Option ℕ) (u : TypeRef) → ArrayIs program (form_in program t) n u → form_in program u ≡ char → typed.IsText program Has unit held result (form_in program t)
+      text_of_array : (n : Option ℕ) (u : TypeRef) → ArrayIs program map (form_in program t) n u → form_in program u ≡ char → typed.IsText program Has unit held result (form_in program t)
       text_of_array None u a f = subst (typed.IsText program Has unit held result) (sym a.0) f
       text_of_array (Some n) u a f = subst (typed.IsText program Has unit held result) (sym a.0) f
 
@@ -265,7 +265,7 @@ module _ (program : Program) (Has : Signature → QName → Type 0) (unit : List
   text_fits (valued.Place p) h e =
       let d = designator_view p.designator.inner in
       let f : is_char_array map p.of ≡ true = ⊎_elim (λ f. f) (λ f. not_true f) (or_is (is_char_array map p.of) false e) in
-      subst Text (sym (view_value_of p.designator.inner)) (h.fits, subst (typed.IsText program Has unit held result) (sym (form_is program Has unit held result map forms d p.of p.var_record h)) (char_array_is p.of h.declared f))
+      subst Text (sym (view_value_of p.designator.inner)) (h.fits, subst (typed.IsText program Has unit held result) (sym (form_is program Has unit held result map forms d p.of p.var_record h)) (char_array_is p.of h.declared.0 f))
   text_fits (valued.Node n) h e = by n.of h (⊎_elim (λ f. f) (λ f. not_true f) (or_is (is_chars map (valued.Node n)) false e))
     where
       by : (k : ExprType) → NodeIs program Has unit held result map (expr_view n.tree.inner) k → is_chars map (valued.Node (record n { of = k })) ≡ true → Text (expr_view n.tree.inner)

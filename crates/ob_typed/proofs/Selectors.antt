@@ -23,7 +23,7 @@ use Rattle.ob_rules.specs.Phrases.{Phrase, Behind, Dot, Index, Up, Round}
 use Rattle.ob_rules.specs.Predeclared.{call_predeclared}
 use Rattle.ob_rules.specs.Designators.{comes, guard_of, guarded_by, guard, implicitly, dereference, index, not_there, member_found, member_of, select_of, select_through, select, type_in_round, visited, as_call, place_round, call_meant, takes_type, is_callable, is_guardable, other_round, step_dot, step_index, step_up, step_round, step, where_of, nothing_behind, go_on_with, go_on, all_visited, through}
 use Rattle.ob_typed.specs.Makes.{IfThere, Makes}
-use Rattle.ob_typed.specs.Forms.{IsDeclared}
+use Rattle.ob_typed.specs.Forms.{IsKnown}
 use Rattle.ob_typed.specs.Known.{IsScoped}
 use Rattle.ob_typed.specs.Kept.{PlaceIs, ValuedIs}
 use Rattle.ob_typed.specs.Meant.{CalledIs, MeantIs, PhraseIs, ArePhrases, BehindIs, AreBehind}
@@ -106,12 +106,12 @@ module _ (program : Program) (Has : Signature → QName → Type 0) (unit : List
   as_call_is : (w : Where) (x : Judged Valued) → Makes (CalledIs program Has unit held result (map_of u) w) x → Makes (M w) (as_call x)
   as_call_is w x h = makes_then (CalledIs program Has unit held result (map_of u) w) (M w) x (λ v. sound (means.Call v)) h (λ v k. record { node = k })
 
-  guard_there : (w : Where) (p : Place) (t : TypeRef) (at : Pos) (o : Option (Guarded × QName)) → P p → IsDeclared t → guard_of (map_of u) p t ≡ o → Makes (M w) (found_or 23 at o ▷ λ g. sound (means.Place (guarded_by p g t at true)))
+  guard_there : (w : Where) (p : Place) (t : TypeRef) (at : Pos) (o : Option (Guarded × QName)) → P p → IsKnown (map_of u) t → guard_of (map_of u) p t ≡ o → Makes (M w) (found_or 23 at o ▷ λ g. sound (means.Place (guarded_by p g t at true)))
   guard_there w p t at None h d e = record { node = tt }
   guard_there w p t at (Some g) h d e = record { node = guarded_is program Has unit held result (map_of u) scoped.forms p g t at true h d e }
 
   place_round_is : (w : Where) (start at : Pos) (p : Place) (ps : List Phrase) (q : Option Qualident) (s : Option Signature) → P p → ArePhrases program Has unit held result ps → signature_at (map_of u) p.of ≡ s → Makes (M w) (place_round u w start at p ps q s)
-  place_round_is w start at p ps (Some q) s h k e = makes_then IsDeclared (M w) (type_named u q) (guard (map_of u) at p) (type_named_is program Has unit held result u scoped q) (λ t d. guard_there w p t at (guard_of (map_of u) p t) h d refl)
+  place_round_is w start at p ps (Some q) s h k e = makes_then (IsKnown (map_of u)) (M w) (type_named u q) (guard (map_of u) at p) (type_named_is program Has unit held result u scoped q) (λ t d. guard_there w p t at (guard_of (map_of u) p t) h d refl)
   place_round_is w start at p ps None (Some s) h k e = as_call_is w (call_variable u w start p s ps) (call_variable_is program Has unit held result u scoped w start p s ps h e k)
   place_round_is w start at p ps None None h k e = record { node = tt }
 
@@ -127,7 +127,7 @@ module _ (program : Program) (Has : Signature → QName → Type 0) (unit : List
 
   other_is : (w v : Where) (start at : Pos) (m : Meant) (ps : List Phrase) (q : Option Qualident) (a b c : Bool) → M v m → ArePhrases program Has unit held result ps → Makes (M w) (other_round u w start at m ps q a b c)
   other_is w v start at m ps q true b c h k = call_meant_is w v start m ps h k
-  other_is w v start at m ps (Some q) false true c h k = makes_then IsDeclared (M w) (type_named u q) (λ t. breaks 23 at) (type_named_is program Has unit held result u scoped q) (λ t d. record { node = tt })
+  other_is w v start at m ps (Some q) false true c h k = makes_then (IsKnown (map_of u)) (M w) (type_named u q) (λ t. breaks 23 at) (type_named_is program Has unit held result u scoped q) (λ t d. record { node = tt })
   other_is w v start at m ps (Some q) false false c h k = record { node = tt }
   other_is w v start at m ps None false b true h k = call_meant_is w v start m ps h k
   other_is w v start at m ps None false b false h k = record { node = tt }

@@ -17,7 +17,7 @@ use Rattle.ob_rules.specs.declared.values.Place.{Place}
 use Rattle.ob_rules.specs.declared.values.Valued.{Valued}
 use Rattle.ob_rules.specs.declared.values.Valued.TheVariants as valued
 use Rattle.ob_rules.specs.Shapes.{Map, is_record}
-use Rattle.ob_typed.specs.Forms.{IsDeclared, Widens}
+use Rattle.ob_typed.specs.Forms.{IsDeclared, IsKnown, Widens}
 use Rattle.ob_typed.specs.Known.{ConstantIs}
 
 module _ (program : Program) (Has : Signature → QName → Type 0) (unit : List ℕ) (held : List Held) (result : Option TypeRef) where
@@ -25,7 +25,7 @@ module _ (program : Program) (Has : Signature → QName → Type 0) (unit : List
   pub record DesignatorIs (map : Map) (d : Desig) (t : TypeRef) (var_record : Bool) : Type 0 where
     pub fits : typed.DesigOk program Has unit held result d
     pub of_type : variable_type d ≡ t
-    pub declared : IsDeclared t
+    pub declared : IsKnown map t
     pub is_parameter : var_record ≡ true → IsVariableRecord d × (is_record map t ≡ true)
 
   abbrev pub PlaceIs : Map → Place → Type 0

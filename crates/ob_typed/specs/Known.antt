@@ -26,7 +26,7 @@ use Rattle.ob_rules.specs.Shapes.{Map, AMethod, member, is_record}
 use Rattle.ob_rules.specs.Names.{Around, map_of, find_name, is_enclosing}
 use Rattle.ob_rules.specs.Designators.{is_var_record}
 use Rattle.ob_typed.specs.Makes.{IfThere}
-use Rattle.ob_typed.specs.Forms.{IsDeclared, SignatureIs, Forms}
+use Rattle.ob_typed.specs.Forms.{IsKnown, ResultIs, SignatureIs, Forms}
 
 -- a constant is one of LONGINT or of another basic type, NIL, or a string that is no single character
 abbrev pub ConstantIs : Literal → Type 0
@@ -48,7 +48,7 @@ module _ (program : Program) (Has : Signature → QName → Type 0) (unit : List
   -- a variable by its name, of that type
   pub record VariableIs (map : Map) (v : Variable) (t : TypeRef) : Type 0 where
     pub fits : typed.VariableOk program Has unit held result v (form_in program t)
-    pub declared : IsDeclared t
+    pub declared : IsKnown map t
     pub var_record : is_var_record v ≡ true → is_record map t ≡ true
 
   -- a procedure by its name, of that signature; where it may be a value, it is one of each signature that matches its own
@@ -71,8 +71,12 @@ module _ (program : Program) (Has : Signature → QName → Type 0) (unit : List
     pub shown_variables : (q : QName) (m : Mark) (t : TypeRef) → u.shown q ≡ Some (desc.Var m t) → VariableIs (map_of u) (variable.Module q.«module» q.object) t
     pub shown_constants : (q : QName) (v : Literal) → u.shown q ≡ Some (desc.Const v) → ConstantIs v
     pub shown_procedures : (q : QName) (s : Signature) → u.shown q ≡ Some (desc.Proc s) → ProcedureIs (map_of u) q s
-    pub types : (x : List ℕ) (k : Known) (t : TypeRef) → find_name u.known x ≡ Some k → k.what ≡ entity.TypeName t → IsDeclared t
-    pub guards : AllByRecursion (λ (g : Variable × Option TypeRef). IfThere IsDeclared g.1) u.guards
+    pub types : (x : List ℕ) (k : Known) (t : TypeRef) → find_name u.known x ≡ Some k → k.what ≡ entity.TypeName t → IsKnown (map_of u) t
+    pub guards : AllByRecursion (λ (g : Variable × Option TypeRef). IfThere (IsKnown (map_of u)) g.1) u.guards
+    pub result_is : u.result ≡ result
+    pub result_plain : ResultIs program result
+    -- a module does not import itself
+    pub imports : (x : List ℕ) (k : Known) (m : List ℕ) → find_name u.known x ≡ Some k → k.what ≡ entity.Module m → bytes_eq m u.unit ≡ false
     -- no bound procedures, so far
     pub unbound : (q o : QName) (x : List ℕ) (m : Method) → member (map_of u) q x ≡ Some (AMethod o m) → ⊥
     -- the module is not Out

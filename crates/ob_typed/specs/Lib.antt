@@ -5,3 +5,4 @@ pub mod Kept
 pub mod Meant
 pub mod Spelled
 pub mod Laws
+pub mod Bodies
