@@ -52,7 +52,7 @@ nat_is n m e = grind (arith, nat_tests)
 less_is : (n m : ℕ) → nat_lt n m ≡ true → n < m
 less_is n m e = grind (arith, nat_tests)
 
-pub basic_there : Form → Option Basic
+abbrev pub basic_there : Form → Option Basic
 basic_there (BasicForm b) = Some b
 basic_there t = None
 
@@ -68,7 +68,6 @@ module _ (program : Program) (Has : Signature → QName → Type 0) (unit : List
 
   -- an integer type widens to integer types that include it
   pub widens_integer : (t v : Form) (w : Width) → W program Has unit held result t v → t ≡ integer w → (x : Width) × (v ≡ integer x) × Within w x
-  unfolding basic_there
   widens_integer _ _ w typed.itself e = (w, e, typed.same)
   widens_integer _ _ w (typed.integers k l m) e =
       let f : Some k ≡ Some w = sym (width_back k) ∙ ap width_of (ap basic_there e) ∙ width_back w in

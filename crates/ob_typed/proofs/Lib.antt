@@ -17,8 +17,10 @@ pub mod Selectors
 pub mod Fronts
 pub mod Phrases
 pub mod Expressions
-pub mod Whole
 pub mod Bodies
 pub mod Assigning
 pub mod Simple
 pub mod Branching
+pub mod Looping
+pub mod Statements
+pub mod Whole
