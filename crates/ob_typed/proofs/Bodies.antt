@@ -16,11 +16,11 @@ use Rattle.ob_relation.specs.Typed as typed
 use Rattle.ob_rules.specs.Judged.{Judged, sound, both, made, ◌▷◌}
 use Rattle.ob_rules.specs.Shapes.{Map}
 use Rattle.ob_rules.specs.Names.{Around, map_of, type_desc, out_string}
-use Rattle.ob_rules.specs.Shapes.{same_name, member}
+use Rattle.ob_rules.specs.Shapes.{same_name, member, base_record}
 use Rattle.ob_rules.specs.Statements.{Judging, in_turn, in_turn_if, one}
 use Rattle.ob_typed.specs.Makes.{IfThere, Makes}
 use Rattle.ob_typed.specs.Forms.{IsKnown, Forms}
-use Rattle.ob_typed.specs.Known.{VariableIs, ProcedureIs, IsScoped}
+use Rattle.ob_typed.specs.Known.{VariableIs, ProcedureIs, MethodIs, IsScoped}
 use Rattle.ob_typed.specs.Bodies.{AreStatements, JudgingIs, AreJudging}
 use Rattle.ob_typed.proofs.Makes.{makes_then, makes_made, makes_both}
 
@@ -64,7 +64,8 @@ module _ (program : Program) (Has : Signature → QName → Type 0) (unit : List
         result_is = s.result_is;
         result_plain = s.result_plain;
         imports = s.imports;
-        unbound = λ q o x k e. s.unbound q o x k (ap (λ z. member z q x) m ∙ e);
+        methods = λ q o x k e. let r = s.methods q o x k (ap (λ z. member z q x) m ∙ e) in (subst (λ z. MethodIs program Has unit held result z o k) m r.0, r.1);
+        no_supers = λ r b o x k e f g. s.no_supers r b o x k e (ap (λ z. base_record z r.owner) m ∙ f) (ap (λ z. member z b x) m ∙ g);
         outside = s.outside;
       }
 

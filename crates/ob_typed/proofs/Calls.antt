@@ -120,7 +120,7 @@ module _ (program : Program) (Has : Signature → QName → Type 0) (unit : List
     call_there Elsewhere x r d h e = tt
 
     -- a call of that signature
-    called_is : (Q : List Actual → Type 0) (w : Where) (at : Pos) (s : Signature) (ps : List Phrase) (f : List Actual → TypedExpr) → ResultIs program s.result → Makes (λ xs. length ps ≡ length s.params → Q xs) (actuals u s.params ps) → ((xs : List Actual) → Q xs → CallIs s.result (expr_view (f xs))) → Makes (Called w) (called u w at s ps f)
+    pub called_is : (Q : List Actual → Type 0) (w : Where) (at : Pos) (s : Signature) (ps : List Phrase) (f : List Actual → TypedExpr) → ResultIs program s.result → Makes (λ xs. length ps ≡ length s.params → Q xs) (actuals u s.params ps) → ((xs : List Actual) → Q xs → CallIs s.result (expr_view (f xs))) → Makes (Called w) (called u w at s ps f)
     called_is Q w at s ps f d h k =
         makes_then (λ xs. length ps ≡ length s.params → Q xs) (Called w) (actuals u s.params ps) (called_with w at s (length ps) f) h λ xs g.
         makes_then Q (Called w) (wants (nat_eq (length ps) (length s.params)) 24 at xs) (λ ys. also (misplaced w (is_some s.result)) 27 at (sound (computed (f ys) (result_type s.result)))) (makes_wants Q (nat_eq (length ps) (length s.params)) 24 at xs (λ e. g (nat_is (length ps) (length s.params) e))) λ ys q.
@@ -128,7 +128,7 @@ module _ (program : Program) (Has : Signature → QName → Type 0) (unit : List
         record { node = call_there w (f ys) s.result d (k ys q) e }
 
     -- of a call by its view
-    by_callee : (c : Callee) (xs : List Actual) (at : Pos) (r : Option TypeRef) → typed.CallOk program Has unit held result c r (typed.ActualsOk program Has unit held result (actuals_view xs)) (typed.OutOk program Has unit held result (actuals_view xs)) → CallIs r (expr_view (e.Call c xs at r))
+    pub by_callee : (c : Callee) (xs : List Actual) (at : Pos) (r : Option TypeRef) → typed.CallOk program Has unit held result c r (typed.ActualsOk program Has unit held result (actuals_view xs)) (typed.OutOk program Has unit held result (actuals_view xs)) → CallIs r (expr_view (e.Call c xs at r))
     by_callee c xs at r h = subst (CallIs r) (sym (view_call c xs at r)) (record { value = λ v k. (h, k); proper = λ e. (h, e) })
 
     pub call_procedure_is : (w : Where) (at : Pos) (name : QName) (s : Signature) (ps : List Phrase) → ProcedureIs program Has unit held result (map_of u) name s → ArePhrases program Has unit held result ps → Makes (Called w) (call_procedure u w at name s ps)

@@ -38,6 +38,7 @@ use Rattle.ob_typed.specs.Makes.{IfThere, Makes}
 use Rattle.ob_typed.specs.Forms.{IsKnown, ArrayIs, Forms}
 use Rattle.ob_typed.specs.Known.{VariableIs}
 use Rattle.ob_typed.specs.Kept.{DesignatorIs, PlaceIs, ValuedIs}
+use Rattle.ob_typed.specs.Meant.{pointee}
 use Rattle.ob_typed.proofs.Makes.{makes_then, makes_wants}
 use Rattle.ob_typed.proofs.Basics.{none_some, not_true, some_is, within_long}
 use Rattle.ob_typed.proofs.Values.{Fits, V, width_fits}
@@ -100,14 +101,10 @@ module _ (program : Program) (Has : Signature → QName → Type 0) (unit : List
   implicitly_is wanted at p None h e = record { node = h }
   implicitly_is wanted at p (Some t) h e = held_is (is_held map t) P (through_if (wanted t) p (dereferenced p at t false)) (λ k. through_is (wanted t) p (dereferenced p at t false) h (deref_is p at t false h e k))
 
-  -- what is selected of: the variable, or what it points to
-  abbrev pub pointee : TypeRef → Option TypeRef → TypeRef
-  pointee t None = t
-  pointee t (Some u) = u
-
-  pub through_pointer : (at : Pos) (p : Place) (o : Option TypeRef) → P p → pointed map p.of ≡ o → Makes (λ q. P q × (q.of ≡ pointee p.of o)) (implicitly map (λ t. true) at p o)
-  through_pointer at p None h e = record { node = (h, refl) }
-  through_pointer at p (Some t) h e = held_is (is_held map t) (λ q. P q × (q.of ≡ t)) (dereferenced p at t false) (λ k. (deref_is p at t false h e k, refl))
+  -- what is selected of: the variable, or what it points to, which is there
+  pub through_pointer : (at : Pos) (p : Place) (o : Option TypeRef) → P p → pointed map p.of ≡ o → Makes (λ q. P q × (q.of ≡ pointee p.of o) × ((t : TypeRef) → o ≡ Some t → is_held map t ≡ true)) (implicitly map (λ t. true) at p o)
+  through_pointer at p None h e = record { node = (h, refl, λ t f. none_some f) }
+  through_pointer at p (Some t) h e = held_is (is_held map t) (λ q. P q × (q.of ≡ t) × ((r : TypeRef) → Some t ≡ Some r → is_held map r ≡ true)) (dereferenced p at t false) (λ k. (deref_is p at t false h e k, refl, λ r f. ap (is_held map) (sym (some_is f)) ∙ k))
 
   pub dereference_is : (at : Pos) (p : Place) → P p → Makes P (dereference map at p)
   dereference_is at p h = go (pointed map p.of) refl

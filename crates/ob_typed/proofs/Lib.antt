@@ -13,6 +13,7 @@ pub mod Actuals
 pub mod Calls
 pub mod Predeclared
 pub mod Functions
+pub mod Bound
 pub mod Selectors
 pub mod Fronts
 pub mod Phrases

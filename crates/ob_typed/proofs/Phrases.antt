@@ -106,7 +106,7 @@ module _ (program : Program) (Has : Signature → QName → Type 0) (unit : List
   value_there u at (means.Procedure q s) h = procedure_there u (is_value q) at q s h refl
   value_there u at (means.Call x) h = record { node = h }
   value_there u at (means.Statement s) h = record { node = tt }
-  value_there u at (means.Bound c) h = absurd h
+  value_there u at (means.Bound c) h = record { node = tt }
   value_there u at (means.Out o) h = record { node = tt }
   value_there u at (means.Predeclared f) h = record { node = tt }
 

@@ -108,7 +108,7 @@ module _ (program : Program) (Has : Signature → QName → Type 0) (unit : List
     called_is n (means.Call x) h = called_there x h
     called_is n (means.Statement t) h = record { node = (h u.in_loop, tt) }
     called_is n (means.Procedure q t) h = meant_done n (means.Procedure q t) h
-    called_is n (means.Bound c) h = absurd h
+    called_is n (means.Bound c) h = meant_done n (means.Bound c) h
     called_is n (means.Out o) h = meant_done n (means.Out o) h
     called_is n (means.Predeclared f) h = meant_done n (means.Predeclared f) h
 

@@ -16,13 +16,16 @@ use Rattle.ob_types.specs.declared.typed.Variable.TheVariants as variable
 use Rattle.ob_types.specs.declared.typed.TypedParameter.{TypedParameter}
 use Rattle.ob_types.specs.AssigningTests.{is_value, alike_to}
 use Rattle.ob_types.specs.TypedSyntax.{Procedure}
-use Rattle.ob_meaning.specs.Values.{Program, procedure_of, form_in, Held}
+use Rattle.ob_meaning.specs.Values.{Program, procedure_of, form_in, record_in, bases_in, Held}
+use Rattle.ob_meaning.specs.Meaning.{nearest}
+use Rattle.ob_relation.specs.Relation.{Sub}
 use Rattle.ob_meaning.specs.Operators.{is_in}
 use Rattle.ob_relation.specs.Typed as typed
-use Rattle.ob_relation.specs.Typed.{AreCharacters, passing_for}
+use Rattle.ob_relation.specs.Typed.{AreCharacters, IsRecordType, ReceiverOk, passing_for}
 use Rattle.ob_rules.specs.declared.entity.Entity.TheVariants as entity
 use Rattle.ob_rules.specs.declared.entity.Known.{Known}
-use Rattle.ob_rules.specs.Shapes.{Map, AMethod, member, is_record}
+use Rattle.ob_rules.specs.declared.entity.Received.{Received}
+use Rattle.ob_rules.specs.Shapes.{Map, AMethod, member, base_record, is_record}
 use Rattle.ob_rules.specs.Names.{Around, map_of, find_name, is_enclosing}
 use Rattle.ob_rules.specs.Designators.{is_var_record}
 use Rattle.ob_typed.specs.Makes.{IfThere}
@@ -44,6 +47,10 @@ AreParameters program [] (k ∷ ks) = ⊥
 AreParameters program (p ∷ ps) [] = ⊥
 AreParameters program (p ∷ ps) (k ∷ ks) = (p.of ≡ k.1) × ((p.passing ≡ passing_for k.0 (form_in program k.1)) × AreParameters program ps ks)
 
+abbrev pub behind_first : {A : Type 0} → List A → List A
+behind_first [] = []
+behind_first (x ∷ xs) = xs
+
 module _ (program : Program) (Has : Signature → QName → Type 0) (unit : List ℕ) (held : List Held) (result : Option TypeRef) where
   -- a variable by its name, of that type
   pub record VariableIs (map : Map) (v : Variable) (t : TypeRef) : Type 0 where
@@ -61,6 +68,18 @@ module _ (program : Program) (Has : Signature → QName → Type 0) (unit : List
     pub own : is_value name ≡ true → Has s name
     pub alike : (t : Signature) → is_value name ≡ true → alike_to map s (Some t) ≡ true → Has t name
 
+  -- a bound procedure where it is introduced, with its receiver and then the parameters of its signature
+  pub record MethodIs (map : Map) (o : QName) (m : Method) : Type 0 where
+    pub name : QName
+    pub p : Procedure
+    pub type_is : IsRecordType program o
+    pub near : nearest program (bases_in program o) (record { owner = o; name = m.name }) ≡ Some name
+    pub found : procedure_of program name ≡ Some p
+    pub receives : ReceiverOk program m.receiver o p.parameters
+    pub result_is : p.result ≡ m.signature.result
+    pub parameters : AreParameters program (behind_first p.parameters) m.signature.params
+    pub signature : SignatureIs program map m.signature
+
   -- what is known around is so in the program: in that module, in a procedure with those variables and that result
   pub record IsScoped (u : Around) : Type 0 where
     pub forms : Forms program Has unit held result (map_of u)
@@ -77,7 +96,8 @@ module _ (program : Program) (Has : Signature → QName → Type 0) (unit : List
     pub result_plain : ResultIs program result
     -- a module does not import itself
     pub imports : (x : List ℕ) (k : Known) (m : List ℕ) → find_name u.known x ≡ Some k → k.what ≡ entity.Module m → bytes_eq m u.unit ≡ false
-    -- no bound procedures, so far
-    pub unbound : (q o : QName) (x : List ℕ) (m : Method) → member (map_of u) q x ≡ Some (AMethod o m) → ⊥
+    pub methods : (q o : QName) (x : List ℕ) (m : Method) → member (map_of u) q x ≡ Some (AMethod o m) → MethodIs (map_of u) o m × Sub (record_in program q) (record_in program o)
+    -- no super calls, so far: no base of the receiver's record has bound procedures
+    pub no_supers : (r : Received) (b o : QName) (x : List ℕ) (m : Method) → u.receiver ≡ Some r → base_record (map_of u) r.owner ≡ Some b → member (map_of u) b x ≡ Some (AMethod o m) → ⊥
     -- the module is not Out
     pub outside : bytes_eq (codes "Out") u.unit ≡ false
