@@ -1,0 +1,5 @@
+pub mod Ages
+pub mod Views
+pub mod Sized
+pub mod Ordered
+pub mod Laws

@@ -1,0 +1,37 @@
+-- A module of a program as the rules know it, and as its code knows it.
+use Rattle.std.specs.Prelude.{◌≡◌, List, map as each, Option}
+use Rattle.std.specs.List.{AllByRecursion}
+use Rattle.ob_tree.specs.declared.names.QName.{QName}
+use Rattle.ob_types.specs.declared.desc.Desc.{Desc}
+use Rattle.ob_types.specs.declared.desc.Desc.TheVariants as desc
+use Rattle.ob_types.specs.TypedSyntax.{Module}
+use Rattle.ob_meaning.specs.Values.{Program}
+use Rattle.ob_layout.specs.LaidOut.{laid_type}
+use Rattle.ob_env.specs.Faces.{Face}
+use Rattle.ob_env.specs.Shown.{shown}
+use Rattle.ob_rules.specs.Names.{Around}
+use Rattle.ob_forms.specs.Said.{IsOneOf, HaveNames}
+use Rattle.ob_declares.specs.Ages.{AreShown}
+
+-- the fields of a record differ
+abbrev pub FieldsDiffer : Desc → Type 0
+FieldsDiffer (desc.Record r) = HaveNames r.fields
+FieldsDiffer d = Unit {0}
+
+-- a module is the checked one with its records laid out, as these types say
+pub record IsLaid (types : QName → Option Desc) (checked m : Module) : Type 0 where
+  pub name : m.name ≡ checked.name
+  pub types_are : m.types ≡ each (laid_type types checked) checked.types
+  pub fields : AllByRecursion (λ t. FieldsDiffer t.desc) checked.types
+
+-- What stands around a part of a module of the program: the interfaces of one age, and types of the module as it was checked.
+pub record IsAround {K : Type 0} (program : Program) (faces : List (Face K)) (u : Around) : Type 0 where
+  pub m : Module
+  pub checked : Module
+  pub types : QName → Option Desc
+  pub there : IsOneOf program m
+  pub laid : IsLaid types checked m
+  pub unit : u.unit ≡ m.name
+  pub own : AllByRecursion (λ t. IsOneOf checked.types t) u.own
+  pub interfaces : u.shown ≡ shown faces
+  pub age : AreShown program faces

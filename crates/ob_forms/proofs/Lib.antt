@@ -1,0 +1,12 @@
+pub mod Finds
+pub mod Shapes
+pub mod Extending
+pub mod Members
+pub mod Sorts
+pub mod Taking
+pub mod Chains
+pub mod Within
+pub mod Built
+pub mod Saying
+pub mod Modules
+pub mod Staying
