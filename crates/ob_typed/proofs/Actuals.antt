@@ -236,7 +236,7 @@ module _ (program : Program) (Has : Signature → QName → Type 0) (unit : List
     records_related : (t s : TypeRef) (o q : Option QName) → record_of map s ≡ o → record_of map t ≡ q → both_records map o q ≡ true → Closed (form_in program s) (form_in program t)
     records_related t s None q f g e = not_true e
     records_related t s (Some a) None f g e = not_true e
-    records_related t s (Some a) (Some b) f g e = λ x h. subst (Sub x) (sym (forms.records t b g).0) (sub_on (subst (Sub x) (forms.records s a f).0 h) (forms.extensions a b e))
+    records_related t s (Some a) (Some b) f g e = λ x h. subst (Sub x) (sym (forms.records t b g).0) (sub_on (subst (Sub x) (forms.records s a f).0 h) (forms.extensions a b t g e))
 
     closed_by : (t s : TypeRef) → takes_variable map None t s ≡ true → Closed (form_in program s) (form_in program t)
     closed_by t s e = ⊎_elim (λ f. λ a h. subst (Sub a) (forms.same s t f) h) (λ f. records_related t s (record_of map s) (record_of map t) refl refl f) (or_is (same_at map s t) (both_records map (record_of map s) (record_of map t)) e)

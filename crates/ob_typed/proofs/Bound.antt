@@ -35,7 +35,7 @@ use Rattle.ob_rules.specs.Phrases.{Phrase, record_receiver, receiver_place}
 use Rattle.ob_rules.specs.Calls.{actual_of, actuals, called, family_of, bound_callee, receiver_actual, is_record_receiver, nearest_sound, where_from, call_bound_sound, call_bound}
 use Rattle.ob_typed.specs.Makes.{IfThere, Makes}
 use Rattle.ob_typed.specs.Forms.{Forms}
-use Rattle.ob_typed.specs.Known.{AreParameters, behind_first, MethodIs, IsScoped}
+use Rattle.ob_typed.specs.Known.{AreParameters, behind, MethodIs, IsScoped}
 use Rattle.ob_typed.specs.Kept.{DesignatorIs, PlaceIs}
 use Rattle.ob_typed.specs.Meant.{pointee, ChosenIs, CalledIs, ArePhrases}
 use Rattle.ob_typed.proofs.Makes.{makes_then, makes_also}
@@ -98,7 +98,7 @@ module _ (program : Program) (Has : Signature → QName → Type 0) (unit : List
     abbrev Signed : List Actual → List (Mode × TypeRef) → Type 0
     Signed xs fs = typed.SignatureOk program Has unit held result (actuals_view xs) fs
 
-    all_fit : (c : Chosen) (k : Receiver) (o : QName) (ps : List TypedParameter) (xs : List Actual) (fs : List (Mode × TypeRef)) → ChosenIs program Has unit held result (map_of u) c → c.method.receiver ≡ k → ReceiverOk program k o ps → Sub (record_in program c.owner) (record_in program o) → IsRecordType program o → AreParameters program (behind_first ps) fs → Signed xs fs → typed.ActualsOk program Has unit held result (actuals_view (receiver_actual k c ∷ xs)) ps
+    all_fit : (c : Chosen) (k : Receiver) (o : QName) (ps : List TypedParameter) (xs : List Actual) (fs : List (Mode × TypeRef)) → ChosenIs program Has unit held result (map_of u) c → c.method.receiver ≡ k → ReceiverOk program k o ps → Sub (record_in program c.owner) (record_in program o) → IsRecordType program o → AreParameters program (behind ps) fs → Signed xs fs → typed.ActualsOk program Has unit held result (actuals_view (receiver_actual k c ∷ xs)) ps
     all_fit c k o [] xs fs h e r s y a g = absurd (none k r)
       where
         none : (k : Receiver) → ReceiverOk program k o [] → ⊥

@@ -148,7 +148,7 @@ module _ (program : Program) (Has : Signature → QName → Type 0) (unit : List
   pub field_is : (u : Around) (p : Place) (q o : QName) (x : List ℕ) (f : described.Field) → P p → record_of map p.of ≡ Some q → member map q x ≡ Some (AField o f) → P (field_of u p o f)
   field_is u p q o x f h e k =
       let d = designator_view p.designator.inner in
-      let g = forms.fields q o x f k in
+      let g = forms.fields q o x f p.of e k in
       let i : form_in program (variable_type d) ≡ record_in program q = form_is d p.of p.var_record h ∙ (forms.records p.of q e).0 in
       let fits : typed.FieldOk program Has unit held result (form_in program (variable_type d)) o f.name (form_in program f.of) = subst (λ t. typed.FieldOk program Has unit held result t o f.name (form_in program f.of)) (sym i) g.0 in
       subst (λ d. Of d f.of false) (sym (view_field p.designator.inner o f.name f.of)) (record { fits = (h.fits, fits); of_type = refl; declared = g.1; is_parameter = λ f. not_true f })
@@ -174,7 +174,7 @@ module _ (program : Program) (Has : Signature → QName → Type 0) (unit : List
       let k = forms.records j.0 q j.2 in
       let m = forms.records i.0 a i.2 in
       record {
-        fits = (h.fits, ((j.0, (forms.pointers t j.0 j.1).0, k.0), (i.0, form_is d s r h ∙ (forms.pointers s i.0 i.1).0, (k.1, subst (λ x. Sub (record_in program q) x) (sym m.0) (forms.extensions q a g)))));
+        fits = (h.fits, ((j.0, (forms.pointers t j.0 j.1).0, k.0), (i.0, form_is d s r h ∙ (forms.pointers s i.0 i.1).0, (k.1, subst (λ x. Sub (record_in program q) x) (sym m.0) (forms.extensions q a i.0 i.2 g)))));
         of_type = refl;
         declared = l;
         is_parameter = λ x. absurd (no_record s i.0 i.1 (h.is_parameter x).1);
@@ -185,7 +185,7 @@ module _ (program : Program) (Has : Signature → QName → Type 0) (unit : List
       let k = forms.records t q f in
       let m = forms.records s a e in
       record {
-        fits = (h.fits, (k.0, (k.1, subst (λ x. Sub (record_in program q) x) (sym (form_is d s true h ∙ m.0)) (forms.extensions q a g))));
+        fits = (h.fits, (k.0, (k.1, subst (λ x. Sub (record_in program q) x) (sym (form_is d s true h ∙ m.0)) (forms.extensions q a s e g))));
         of_type = refl;
         declared = l;
         is_parameter = λ x. ((h.is_parameter refl).0, some_true f);

@@ -24,4 +24,5 @@ pub mod Simple
 pub mod Branching
 pub mod Looping
 pub mod Statements
+pub mod Basis
 pub mod Whole

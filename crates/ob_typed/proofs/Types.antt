@@ -134,7 +134,7 @@ module _ (program : Program) (Has : Signature → QName → Type 0) (unit : List
 
     -- a record type that extends another, as what a pointer points to
     pub test_ok : (t u : TypeRef) (a q : QName) → record_of map t ≡ Some a → record_of map u ≡ Some q → extends_record map q a ≡ true → TestOk program q (form_in program t)
-    test_ok t u a q e f g = let k = forms.records u q f in (k.1, subst (λ x. Sub (record_in program q) x) (sym (forms.records t a e).0) (forms.extensions q a g))
+    test_ok t u a q e f g = let k = forms.records u q f in (k.1, subst (λ x. Sub (record_in program q) x) (sym (forms.records t a e).0) (forms.extensions q a t e g))
 
     pointer_node : (x : Valued) (s r : TypeRef) (q : QName) → Is x → values.type_in (type x) ≡ Some s → pointed map s ≡ Some r → TestOk program q (form_in program r) → NodeIs program Has unit held result map (expr_view (e.IsPointer (tree x) q)) (of_basic basic.Boolean)
     pointer_node x s r q h f g k =

@@ -15,14 +15,9 @@ use Rattle.ob_relation.specs.Relation.{IsLength, FormOk, Sub, Scalar}
 use Rattle.ob_relation.specs.Typed as typed
 use Rattle.ob_relation.specs.Typed.{IsRecordType, passing_for}
 use Rattle.ob_rules.specs.Shapes.{Map, Member, AField, same_name, basic_of, pointed, signature_at, array_of, record_of, member, passing_of, extends_record, is_held}
-use Rattle.ob_rules.specs.Names.{out_string}
+pub use Rattle.ob_forms.specs.Formed.{IsDeclared}
 
--- a type of a program: not that of the parameter of Out.String, which no module declares
-abbrev pub IsDeclared : TypeRef → Type 0
-IsDeclared (ref.Basic b) = Unit {0}
-IsDeclared (ref.Named q) = same_name q out_string ≡ false
-
--- and one that the map holds
+-- a type of the program that the map holds
 abbrev pub IsKnown : Map → TypeRef → Type 0
 IsKnown map t = IsDeclared t × IsHeld map t
 
@@ -60,8 +55,8 @@ module _ (program : Program) where
       pub arrays : (t u : TypeRef) (n : Option ℕ) → IsDeclared t → array_of map t ≡ Some (n, u) → ArrayIs map (form_in program t) n u
       pub records : (t : TypeRef) (q : QName) → record_of map t ≡ Some q → (form_in program t ≡ record_in program q) × IsRecordType program q
       pub same : (t u : TypeRef) → same_at map t u ≡ true → form_in program t ≡ form_in program u
-      pub extensions : (a b : QName) → extends_record map a b ≡ true → Sub (record_in program a) (record_in program b)
-      pub fields : (q o : QName) (x : List ℕ) (f : Field) → member map q x ≡ Some (AField o f) → typed.FieldOk program Has unit held result (record_in program q) o f.name (form_in program f.of) × IsKnown map f.of
+      pub extensions : (a b : QName) (t : TypeRef) → record_of map t ≡ Some b → extends_record map a b ≡ true → Sub (record_in program a) (record_in program b)
+      pub fields : (q o : QName) (x : List ℕ) (f : Field) (t : TypeRef) → record_of map t ≡ Some q → member map q x ≡ Some (AField o f) → typed.FieldOk program Has unit held result (record_in program q) o f.name (form_in program f.of) × IsKnown map f.of
       pub passings : (m : Mode) (t : TypeRef) → IsKnown map t → passing_of map m t ≡ passing_for m (form_in program t)
       -- a variable of the type v takes a value of the type t: a scalar one as it is or widened, another as it is or of an extension
       pub scalars : (v t : TypeRef) → takes_type map v t ≡ true → Scalar (form_in program v) → Scalar (form_in program t) × Widens (form_in program t) (form_in program v)

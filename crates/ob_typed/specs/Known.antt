@@ -28,6 +28,7 @@ use Rattle.ob_rules.specs.declared.entity.Received.{Received}
 use Rattle.ob_rules.specs.Shapes.{Map, AMethod, member, base_record, is_record}
 use Rattle.ob_rules.specs.Names.{Around, map_of, find_name, is_enclosing}
 use Rattle.ob_rules.specs.Designators.{is_var_record}
+pub use Rattle.ob_forms.specs.Formed.{AreParameters, behind}
 use Rattle.ob_typed.specs.Makes.{IfThere}
 use Rattle.ob_typed.specs.Forms.{IsKnown, ResultIs, SignatureIs, Forms}
 
@@ -39,17 +40,6 @@ ConstantIs (literal.Int z) = is_in width.LongInt z ≡ true
 ConstantIs (literal.Set n) = n < 2 ^ 32
 ConstantIs (literal.Str text) = AreCharacters text × (length text ≡ 1 → ⊥)
 ConstantIs literal.Nil = Unit {0}
-
--- the parameters of a procedure are those of a signature
-abbrev pub AreParameters : Program → List TypedParameter → List (Mode × TypeRef) → Type 0
-AreParameters program [] [] = Unit {0}
-AreParameters program [] (k ∷ ks) = ⊥
-AreParameters program (p ∷ ps) [] = ⊥
-AreParameters program (p ∷ ps) (k ∷ ks) = (p.of ≡ k.1) × ((p.passing ≡ passing_for k.0 (form_in program k.1)) × AreParameters program ps ks)
-
-abbrev pub behind_first : {A : Type 0} → List A → List A
-behind_first [] = []
-behind_first (x ∷ xs) = xs
 
 module _ (program : Program) (Has : Signature → QName → Type 0) (unit : List ℕ) (held : List Held) (result : Option TypeRef) where
   -- a variable by its name, of that type
@@ -77,7 +67,7 @@ module _ (program : Program) (Has : Signature → QName → Type 0) (unit : List
     pub found : procedure_of program name ≡ Some p
     pub receives : ReceiverOk program m.receiver o p.parameters
     pub result_is : p.result ≡ m.signature.result
-    pub parameters : AreParameters program (behind_first p.parameters) m.signature.params
+    pub parameters : AreParameters program (behind p.parameters) m.signature.params
     pub signature : SignatureIs program map m.signature
 
   -- what is known around is so in the program: in that module, in a procedure with those variables and that result
