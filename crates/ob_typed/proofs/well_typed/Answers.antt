@@ -1,0 +1,11 @@
+use Rattle.ob_typed.proofs.Whole.{expressions_fit, designators_fit, statements_fit}
+use Rattle.ob_typed.proofs.well_typed.Goals as goal
+
+pub returns-clause-expressions : goal.returns-clause-expressions
+returns-clause-expressions c = expressions_fit
+
+pub returns-clause-designators : goal.returns-clause-designators
+returns-clause-designators c = designators_fit
+
+pub returns-clause-statements : goal.returns-clause-statements
+returns-clause-statements c = statements_fit

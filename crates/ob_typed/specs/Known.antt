@@ -1,0 +1,93 @@
+-- What the rules know around a part of a text, as it is in a program.
+use Rattle.std.specs.Prelude.{◌≡◌, ℕ, ◌<◌, ◌^◌, List, [], ◌∷◌, length, Option, Some, None, Bool, true, false, is_some, bytes_eq, codes}
+use Rattle.std.specs.List.{AllByRecursion}
+use Rattle.ob_tree.specs.declared.names.QName.{QName}
+use Rattle.ob_types.specs.declared.types.Mode.{Mode}
+use Rattle.ob_types.specs.declared.types.TypeRef.{TypeRef}
+use Rattle.ob_types.specs.declared.types.Signature.{Signature}
+use Rattle.ob_types.specs.declared.value.Value.{Value as Literal}
+use Rattle.ob_types.specs.declared.value.Value.TheVariants as literal
+use Rattle.ob_types.specs.declared.desc.Desc.TheVariants as desc
+use Rattle.ob_types.specs.declared.desc.Method.{Method}
+use Rattle.ob_tree.specs.declared.ident.Mark.{Mark}
+use Rattle.ob_types.specs.declared.typed.Width.TheVariants as width
+use Rattle.ob_types.specs.declared.typed.Variable.{Variable}
+use Rattle.ob_types.specs.declared.typed.Variable.TheVariants as variable
+use Rattle.ob_types.specs.declared.typed.TypedParameter.{TypedParameter}
+use Rattle.ob_types.specs.AssigningTests.{is_value, alike_to}
+use Rattle.ob_types.specs.TypedSyntax.{Procedure}
+use Rattle.ob_meaning.specs.Values.{Program, procedure_of, form_in, record_in, bases_in, Held}
+use Rattle.ob_meaning.specs.Meaning.{nearest}
+use Rattle.ob_relation.specs.Relation.{Sub}
+use Rattle.ob_meaning.specs.Operators.{is_in}
+use Rattle.ob_relation.specs.Typed as typed
+use Rattle.ob_relation.specs.Typed.{AreCharacters, IsRecordType, ReceiverOk, passing_for}
+use Rattle.ob_rules.specs.declared.entity.Entity.TheVariants as entity
+use Rattle.ob_rules.specs.declared.entity.Known.{Known}
+use Rattle.ob_rules.specs.declared.entity.Received.{Received}
+use Rattle.ob_rules.specs.Shapes.{Map, AMethod, member, base_record, is_record}
+use Rattle.ob_rules.specs.Names.{Around, map_of, find_name, is_enclosing}
+use Rattle.ob_rules.specs.Designators.{is_var_record}
+pub use Rattle.ob_forms.specs.Formed.{AreParameters, behind}
+use Rattle.ob_typed.specs.Makes.{IfThere}
+use Rattle.ob_typed.specs.Forms.{IsKnown, ResultIs, SignatureIs, Forms}
+
+-- a constant is one of LONGINT or of another basic type, NIL, or a string that is no single character
+abbrev pub ConstantIs : Literal → Type 0
+ConstantIs (literal.Bool b) = Unit {0}
+ConstantIs (literal.Char c) = c < 256
+ConstantIs (literal.Int z) = is_in width.LongInt z ≡ true
+ConstantIs (literal.Set n) = n < 2 ^ 32
+ConstantIs (literal.Str text) = AreCharacters text × (length text ≡ 1 → ⊥)
+ConstantIs literal.Nil = Unit {0}
+
+module _ (program : Program) (Has : Signature → QName → Type 0) (unit : List ℕ) (held : List Held) (result : Option TypeRef) where
+  -- a variable by its name, of that type
+  pub record VariableIs (map : Map) (v : Variable) (t : TypeRef) : Type 0 where
+    pub fits : typed.VariableOk program Has unit held result v (form_in program t)
+    pub declared : IsKnown map t
+    pub var_record : is_var_record v ≡ true → is_record map t ≡ true
+
+  -- a procedure by its name, of that signature; where it may be a value, it is one of each signature that matches its own
+  pub record ProcedureIs (map : Map) (name : QName) (s : Signature) : Type 0 where
+    pub p : Procedure
+    pub found : procedure_of program name ≡ Some p
+    pub result_is : p.result ≡ s.result
+    pub parameters : AreParameters program p.parameters s.params
+    pub signature : SignatureIs program map s
+    pub own : is_value name ≡ true → Has s name
+    pub alike : (t : Signature) → is_value name ≡ true → alike_to map s (Some t) ≡ true → Has t name
+
+  -- a bound procedure where it is introduced, with its receiver and then the parameters of its signature
+  pub record MethodIs (map : Map) (o : QName) (m : Method) : Type 0 where
+    pub name : QName
+    pub p : Procedure
+    pub type_is : IsRecordType program o
+    pub near : nearest program (bases_in program o) (record { owner = o; name = m.name }) ≡ Some name
+    pub found : procedure_of program name ≡ Some p
+    pub receives : ReceiverOk program m.receiver o p.parameters
+    pub result_is : p.result ≡ m.signature.result
+    pub parameters : AreParameters program (behind p.parameters) m.signature.params
+    pub signature : SignatureIs program map m.signature
+
+  -- what is known around is so in the program: in that module, in a procedure with those variables and that result
+  pub record IsScoped (u : Around) : Type 0 where
+    pub forms : Forms program Has unit held result (map_of u)
+    pub variables : (x : List ℕ) (k : Known) (v : Variable) (t : TypeRef) → find_name u.known x ≡ Some k → k.what ≡ entity.Variable v t → is_enclosing u k.scope ≡ false → VariableIs (map_of u) v t
+    pub constants : (x : List ℕ) (k : Known) (v : Literal) → find_name u.known x ≡ Some k → k.what ≡ entity.Constant v → ConstantIs v
+    pub procedures : (x : List ℕ) (k : Known) (q : QName) (s : Signature) → find_name u.known x ≡ Some k → k.what ≡ entity.Procedure q s → ProcedureIs (map_of u) q s
+    pub forwards : (x : List ℕ) (k : Known) (q : QName) (s : Signature) → find_name u.known x ≡ Some k → k.what ≡ entity.Forward q s → ProcedureIs (map_of u) q s
+    pub shown_variables : (q : QName) (m : Mark) (t : TypeRef) → u.shown q ≡ Some (desc.Var m t) → VariableIs (map_of u) (variable.Module q.«module» q.object) t
+    pub shown_constants : (q : QName) (v : Literal) → u.shown q ≡ Some (desc.Const v) → ConstantIs v
+    pub shown_procedures : (q : QName) (s : Signature) → u.shown q ≡ Some (desc.Proc s) → ProcedureIs (map_of u) q s
+    pub types : (x : List ℕ) (k : Known) (t : TypeRef) → find_name u.known x ≡ Some k → k.what ≡ entity.TypeName t → IsKnown (map_of u) t
+    pub guards : AllByRecursion (λ (g : Variable × Option TypeRef). IfThere (IsKnown (map_of u)) g.1) u.guards
+    pub result_is : u.result ≡ result
+    pub result_plain : ResultIs program result
+    -- a module does not import itself
+    pub imports : (x : List ℕ) (k : Known) (m : List ℕ) → find_name u.known x ≡ Some k → k.what ≡ entity.Module m → bytes_eq m u.unit ≡ false
+    pub methods : (q o : QName) (x : List ℕ) (m : Method) → member (map_of u) q x ≡ Some (AMethod o m) → MethodIs (map_of u) o m × Sub (record_in program q) (record_in program o)
+    -- no super calls, so far: no base of the receiver's record has bound procedures
+    pub no_supers : (r : Received) (b o : QName) (x : List ℕ) (m : Method) → u.receiver ≡ Some r → base_record (map_of u) r.owner ≡ Some b → member (map_of u) b x ≡ Some (AMethod o m) → ⊥
+    -- the module is not Out
+    pub outside : bytes_eq (codes "Out") u.unit ≡ false
