@@ -200,7 +200,7 @@ fn do_all<F: Folder, I: Source, O: Sink>(
 ///
 /// Beside what it does by the bytes of files, `headline` says what that means: over files that any
 /// earlier runs have left, so that some library of builds keeps them, the bytes written are those
-/// that the Report's meaning gives the loaded modules' sources, taken afresh together. It takes for
+/// that the language's meaning gives the loaded modules' sources, taken afresh together. It takes for
 /// granted, as premises in one record (`Promises`), that a build is the same against all interfaces
 /// that have the texts of its uses, that commands by the machine's table are those of the meaning,
 /// that what is written of a build has a spelling, and that the procedures of a module that
