@@ -1,16 +1,14 @@
 -- Declarations in their order, procedures, and modules: the types that they add are types, and their procedures are marked in full or
 -- not at all.
-use Rattle.std.proofs.Common.{◌≡◌, ℕ, Bool, true, false, List, [], ◌∷◌, ◌++◌, map, Option, Some, None, refl, sym, ap, subst}
+use Rattle.std.proofs.Common.{◌≡◌, ℕ, Bool, true, false, List, [], ◌∷◌, ◌++◌, map, Option, Some, None, refl, sym, subst}
 use Rattle.std.specs.Prelude.{bytes_eq, cond}
 use Rattle.std.specs.List.{AllByRecursion, cons_option, find, filter_map}
-use Rattle.ob_tree.specs.declared.pos.Pos.{Pos}
 use Rattle.ob_tree.specs.declared.names.QName.{QName}
 use Rattle.ob_tree.specs.declared.ident.Ident.{Ident}
 use Rattle.ob_tree.specs.declared.ident.IdentDef.{IdentDef}
 use Rattle.ob_tree.specs.declared.ident.Import.{Import}
 use Rattle.ob_tree.specs.declared.ident.Mark.{Mark}
 use Rattle.ob_tree.specs.declared.ident.Qualident.{Qualident}
-use Rattle.ob_tree.specs.declared.decl.Heading.{Heading}
 use Rattle.ob_tree.specs.declared.decl.Decl.{Decl, roll-Decl, map-Decl}
 use Rattle.ob_tree.specs.declared.decl.Decl.TheOpen.{Decl-F}
 use Rattle.ob_tree.specs.declared.decl.Decl.TheFolds.{ind-Decl, fold-roll-Decl}
@@ -18,25 +16,23 @@ use Rattle.ob_tree.specs.declared.decl.Module.{Module as Tree}
 use Rattle.ob_types.specs.declared.value.Value.{Value}
 use Rattle.ob_types.specs.declared.desc.Desc.{Desc}
 use Rattle.ob_types.specs.declared.typed.TypedType.{TypedType}
-use Rattle.ob_types.specs.declared.typed.TypedProcedure.{TypedProcedure}
-use Rattle.ob_types.specs.declared.typed.TypedStmt.{TypedStmt}
 use Rattle.ob_types.specs.declared.typed.TypedModule.{TypedModule}
 use Rattle.ob_types.specs.Maps.{is_type}
 use Rattle.ob_rules.specs.declared.entity.Entity.{Entity}
 use Rattle.ob_rules.specs.declared.entity.Known.{Known}
 use Rattle.ob_rules.specs.declared.broken.Broken.{Broken}
 use Rattle.ob_rules.specs.declared.notes.Later.{Later}
-use Rattle.ob_rules.specs.Judged.{Judged, Notes, sound, both, made, paired, ◌▷◌}
+use Rattle.ob_rules.specs.Judged.{Judged, sound, both, ◌▷◌}
 use Rattle.ob_rules.specs.Shapes.{Map}
 use Rattle.ob_rules.specs.Names.{Around, map_of, found_in_scope}
 use Rattle.ob_rules.specs.Expressions.{phrase_of, constant_value}
 use Rattle.ob_rules.specs.Phrases.{Phrase}
 use Rattle.ob_rules.specs.Types.{Parameters, Typing, Written, written, is_module_level, marked, with_types}
-use Rattle.ob_rules.specs.Statements.{Judging, judging, in_turn}
-use Rattle.ob_rules.specs.Headings.{WrittenHeading, heading_of, Head, Heads, Binding, add_heading, reversed, mark_or_hidden}
-use Rattle.ob_rules.specs.Declarations.{Contents, no_contents, together, Part, with_part, Declared, declare_if, declare, constant_contents, no_nil, constant_declared, equated, typing_as, types_made, type_with, type_declared, variable_contents, paired_typing, variable_with, behind_part, then_declared, variables_with, made_in, variables_typed, variables_declared, first_name, Written_procedure, Declaration, Plain, Procedure, plain_of, procedure_of, type_name_of, in_order, headings_in_order, around_body, typed_procedure, types_of_head, procedure_contents, procedure_judged, procedures_judged, block_inside, with_bound, binding_at, block_bound, heads_later, block_headed, block_declared, block, decl_rule, declaration, import_declared, target_of, imports_declared, around_module, module_from, module_of, described, all_described, typed_module, if_unbroken, checked_part, checked}
+use Rattle.ob_rules.specs.Statements.{Judging, judging}
+use Rattle.ob_rules.specs.Headings.{Head, Heads, Binding, add_heading, reversed, mark_or_hidden}
+use Rattle.ob_rules.specs.Declarations.{Contents, no_contents, together, Part, Declared, declare_if, declare, constant_contents, no_nil, constant_declared, equated, typing_as, types_made, type_declared, variable_contents, paired_typing, variables_with, made_in, variables_typed, variables_declared, Written_procedure, Declaration, Plain, Procedure, plain_of, procedure_of, type_name_of, in_order, headings_in_order, around_body, typed_procedure, types_of_head, procedure_contents, procedure_judged, procedures_judged, block_inside, with_bound, binding_at, block_bound, heads_later, block_headed, block_declared, block, decl_rule, declaration, import_declared, target_of, imports_declared, around_module, module_of, described, all_described, typed_module, if_unbroken}
 use Rattle.ob_described.specs.Described.{AreTypes, AreWhole, is_whole, TypesAreDescribed, ProceduresAreMarked}
-use Rattle.ob_described.proofs.Nodes.{IfThere, Has, all_both, then_has, paired_has, second_has}
+use Rattle.ob_described.proofs.Nodes.{IfThere, Has, all_both, then_has, second_has}
 use Rattle.ob_described.proofs.Typings.{IsGood, AreGoodSections, MakesTypes, MakeTypes}
 use Rattle.ob_described.proofs.Written.{written_good, written_parameters_good}
 use Rattle.ob_described.proofs.Heads.{GoodAround, typed_around, GoodHead, AreGoodHeads, GoodHeads, add_good, reversed_good, bindings_good}

@@ -1,6 +1,6 @@
 -- Headings, and what is bound, leave types what they are.
-use Rattle.std.proofs.Common.{◌≡◌, ℕ, Bool, true, false, List, [], ◌∷◌, ◌++◌, Option, Some, None, refl}
-use Rattle.std.specs.Prelude.{bytes_eq, is_some, ◌&&◌, not}
+use Rattle.std.proofs.Common.{◌≡◌, ℕ, Bool, true, false, List, [], ◌∷◌, Option, Some, None, refl}
+use Rattle.std.specs.Prelude.{bytes_eq}
 use Rattle.std.specs.List.{AllByRecursion, filter}
 use Rattle.ob_tree.specs.declared.pos.Pos.{Pos}
 use Rattle.ob_tree.specs.declared.names.QName.{QName}
@@ -12,13 +12,13 @@ use Rattle.ob_types.specs.declared.desc.RecordDesc.{RecordDesc}
 use Rattle.ob_types.specs.declared.desc.Method.{Method}
 use Rattle.ob_types.specs.declared.typed.TypedType.{TypedType}
 use Rattle.ob_types.specs.Maps.{is_type}
-use Rattle.ob_rules.specs.Judged.{Judged, both}
+use Rattle.ob_rules.specs.Judged.{both}
 use Rattle.ob_rules.specs.Shapes.{Map, Member, AField, AMethod, member}
 use Rattle.ob_rules.specs.Names.{Around, map_of}
-use Rattle.ob_rules.specs.Types.{Parameters, with_types, mark_of, is_module_level, marked, parameters_in, inner}
-use Rattle.ob_rules.specs.Headings.{WrittenHeading, Head, BoundAs, Heads, Binding, mark_or_hidden, as_parameters, owner_if, heading_parameters, path_by, forward_name, knows_receiver, head_of, declared_head, knows_procedure, known_behind, name_twice, types_of, add_heading, counted, change_desc, changed_if, change_type, with_method, new_method, introduce, redefined, bind_method, introduced_sound, bind_by, bind_in, bind_one, bind_all, of_record, bind_records, reversed, bindings}
+use Rattle.ob_rules.specs.Types.{Parameters, with_types, mark_of, is_module_level, marked, inner}
+use Rattle.ob_rules.specs.Headings.{WrittenHeading, Head, BoundAs, Heads, Binding, mark_or_hidden, as_parameters, owner_if, heading_parameters, knows_receiver, head_of, declared_head, knows_procedure, known_behind, name_twice, types_of, add_heading, counted, change_desc, changed_if, change_type, with_method, new_method, redefined, bind_method, bind_by, bind_one, bind_all, of_record, bind_records, reversed, bindings}
 use Rattle.ob_described.specs.Described.{AreTypes, is_whole}
-use Rattle.ob_described.proofs.Nodes.{IfThere, Has, all_both, second_has}
+use Rattle.ob_described.proofs.Nodes.{IfThere, all_both, second_has}
 use Rattle.ob_described.proofs.Typings.{AreGoodSections, MakeTypes, parameters_good}
 
 abbrev pub GoodAround : Around → Type 0

@@ -1,9 +1,9 @@
 -- What holds of the node that is judged.
-use Rattle.std.proofs.Common.{◌≡◌, ℕ, Bool, true, false, List, [], ◌∷◌, ◌++◌, Option, Some, None, refl}
+use Rattle.std.proofs.Common.{ℕ, Bool, true, false, List, [], ◌∷◌, ◌++◌, Option, Some, None}
 use Rattle.std.specs.List.{AllByRecursion}
 use Rattle.ob_tree.specs.declared.pos.Pos.{Pos}
 use Rattle.ob_rules.specs.declared.notes.Later.{Later}
-use Rattle.ob_rules.specs.Judged.{Judged, sound, if_sound, paired, both, made, unless, wants, also, judge_later, ◌▷◌}
+use Rattle.ob_rules.specs.Judged.{Judged, if_sound, paired, both, unless, also, judge_later, ◌▷◌}
 
 abbrev pub IfThere : {A : Type 0} → (A → Type 0) → Option A → Type 0
 IfThere P None = Unit {0}

@@ -1,5 +1,5 @@
 -- The types that a written type makes are described as types.
-use Rattle.std.proofs.Common.{◌≡◌, ℕ, ◌+◌, Bool, true, false, List, [], ◌∷◌, ◌++◌, length, map, Option, Some, None, refl}
+use Rattle.std.proofs.Common.{◌≡◌, ℕ, ◌+◌, Bool, true, false, List, [], ◌∷◌, length, Option, Some, None, refl}
 use Rattle.std.specs.Prelude.{is_none}
 use Rattle.std.specs.List.{AllByRecursion}
 use Rattle.ob_tree.specs.declared.pos.Pos.{Pos}
@@ -9,18 +9,15 @@ use Rattle.ob_tree.specs.declared.ident.Mark.{Mark}
 use Rattle.ob_tree.specs.declared.ident.Mark.TheVariants as mark
 use Rattle.ob_tree.specs.declared.ident.Qualident.{Qualident}
 use Rattle.ob_types.specs.declared.types.TypeRef.{TypeRef}
-use Rattle.ob_types.specs.declared.desc.Desc.{Desc}
 use Rattle.ob_types.specs.declared.desc.Desc.TheVariants as desc
-use Rattle.ob_types.specs.declared.typed.TypedType.{TypedType}
 use Rattle.ob_types.specs.Maps.{is_type}
-use Rattle.ob_rules.specs.declared.entity.Known.{Known}
-use Rattle.ob_rules.specs.Judged.{Judged, Notes, sound, both, made, noted, ◌▷◌}
+use Rattle.ob_rules.specs.Judged.{Judged, sound, both, made, noted, ◌▷◌}
 use Rattle.ob_rules.specs.Names.{Around, map_of, type_named}
 use Rattle.ob_rules.specs.Phrases.{Phrase}
 use Rattle.ob_rules.specs.Shapes.{is_structured, is_pointer}
-use Rattle.ob_rules.specs.Types.{Typing, Written, typed_as, with_types, base_name, element_name, field_name, section_name, named_typing, array_length, fixed_array, open_array, array, first_of, base_if, names_behind, WrittenFields, first_name, Fields, fields_of, with_fields, field_lists, record_with, record_desc, pointer_to, base_judged, pointer_base, is_later, pointer_by, pointer, Parameters, WrittenSection, WrittenParameters, Sections, mode_of, Named, declare_all, parameters_of, behind_section, with_made, section_named, section, sections, result_of, behind_sections, parameters_in, inner, procedure_type}
+use Rattle.ob_rules.specs.Types.{Typing, Written, typed_as, with_types, base_name, element_name, field_name, section_name, named_typing, array_length, fixed_array, array, first_of, names_behind, WrittenFields, first_name, Fields, fields_of, with_fields, field_lists, record_with, record_desc, pointer_to, base_judged, pointer_base, pointer_by, Parameters, WrittenSection, WrittenParameters, mode_of, declare_all, parameters_of, with_made, sections, result_of, parameters_in, inner, procedure_type}
 use Rattle.ob_described.specs.Described.{AreTypes}
-use Rattle.ob_described.proofs.Nodes.{IfThere, Has, all_both, then_has, any_then, both_have, first_has, second_has, also_has, unless_has, later_has}
+use Rattle.ob_described.proofs.Nodes.{Has, all_both, then_has, any_then, both_have, first_has, second_has, also_has, unless_has}
 use Rattle.ob_rules.specs.Judged.{each_sound}
 
 abbrev pub MakesTypes : Typing → Type 0

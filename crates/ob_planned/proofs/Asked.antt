@@ -1,5 +1,5 @@
 -- What is asked of modules is told alike of lists of them.
-use Rattle.std.proofs.Common.{◌≡◌, ℕ, ◌+◌, Bool, true, false, List, [], ◌∷◌, ◌++◌, length, map, Option, Some, None, Result, Ok, Err, refl, sym, ap, subst, ◌∙◌}
+use Rattle.std.proofs.Common.{◌≡◌, ℕ, ◌+◌, Bool, true, false, List, [], ◌∷◌, ◌++◌, length, map, Option, Some, None, refl, ap, ◌∙◌}
 use Rattle.std.specs.Prelude.{if◌then◌else◌, bytes_eq, nat_le}
 use Rattle.std.specs.Option.{option_map}
 use Rattle.std.specs.List.{AllByRecursion}
@@ -8,7 +8,7 @@ use Rattle.ob_tree.specs.declared.names.QName.{QName}
 use Rattle.ob_types.specs.declared.face.Aspect.{Aspect}
 use Rattle.ob_env.specs.Faces.{Wanted}
 use Rattle.ob_link.specs.Walk.{first_of, or_first}
-use Rattle.ob_link.specs.Plan.{Asks, Refusal, Absent, Changed, TooMany, named, is_there, kept_by, present, use_against, use_fails, absent, most_modules, too_many, fails, words_of, has_command}
+use Rattle.ob_link.specs.Plan.{Asks, Refusal, Changed, TooMany, named, is_there, kept_by, present, use_against, use_fails, absent, most_modules, too_many, fails, words_of, has_command}
 use Rattle.ob_planned.specs.Alike.{wanted_as, refusal_as, FindsAlike, AreMet, AreAskedAlike}
 
 abbrev pub IfSome : {A : Type 0} → (A → Type 0) → Option A → Type 0

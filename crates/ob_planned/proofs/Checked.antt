@@ -1,5 +1,5 @@
 -- What the rules say of a module that compiles.
-use Rattle.std.proofs.Common.{◌≡◌, ℕ, Bool, true, false, List, [], ◌∷◌, length, map, Option, Some, None, Result, Ok, Err, refl, sym, ap, subst, ◌∙◌}
+use Rattle.std.proofs.Common.{◌≡◌, ℕ, Bool, true, false, List, [], ◌∷◌, length, map, Option, Some, None, Result, Ok, Err, refl, subst}
 use Rattle.std.specs.Prelude.{not, nat_le}
 use Rattle.std.specs.List.{AllByRecursion}
 use Rattle.std.proofs.lemmas.Bool.{false≢true}
@@ -15,7 +15,7 @@ use Rattle.ob_types.specs.declared.typed.TypedType.{TypedType}
 use Rattle.ob_types.specs.declared.typed.TypedProcedure.{TypedProcedure}
 use Rattle.ob_types.specs.declared.typed.TypedModule.{TypedModule}
 use Rattle.ob_types.specs.Maps.{is_type}
-use Rattle.ob_types.specs.TypedSyntax.{Procedure, Module}
+use Rattle.ob_types.specs.TypedSyntax.{Module}
 use Rattle.ob_types.specs.TypedView.{procedure_view, module_view}
 use Rattle.ob_meaning.specs.Commands.{is_hidden}
 use Rattle.ob_rules.specs.declared.broken.Broken.{Broken as BrokenRule}
@@ -28,7 +28,7 @@ use Rattle.ob_walk.specs.Walk.{Entry}
 use Rattle.ob_walk.specs.Answer.{Reached, Stopped, Whole, env_answer}
 use Rattle.ob_reading.specs.Reading.{NoModule, reading}
 use Rattle.ob_code.specs.Object.{is_full}
-use Rattle.ob_compile.specs.Compiling.{texts, Refusal, Compiled, exceeds, within, made, of_checked, of_break, by_rules, and_limits, is_deep, unless_deep, of_faces, of_standing, of_reached, most_imports, of_few, imported, of_tree, of_reading, most_source, of_short, compiled}
+use Rattle.ob_compile.specs.Compiling.{texts, Refusal, Compiled, exceeds, within, made, of_checked, of_break, by_rules, and_limits, is_deep, unless_deep, of_standing, of_reached, most_imports, of_few, imported, of_reading, most_source, of_short, compiled}
 use Rattle.ob_described.specs.Described.{AreTypes, is_whole, AreWhole}
 use Rattle.ob_described.proofs.Blocks.{types_described, procedures_marked}
 use Rattle.ob_planned.specs.Compiled.{Text}

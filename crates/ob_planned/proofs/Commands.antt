@@ -1,5 +1,5 @@
 -- The commands of an object file are those of the module.
-use Rattle.std.proofs.Common.{◌≡◌, ℕ, zero, suc, ◌+◌, Bool, true, false, List, [], ◌∷◌, ◌++◌, length, map, Option, Some, None, refl, sym, ap, subst, ◌∙◌, arith}
+use Rattle.std.proofs.Common.{◌≡◌, ℕ, zero, suc, Bool, true, false, List, [], ◌∷◌, length, map, Option, Some, None, refl, sym, ap, subst, ◌∙◌, arith}
 use Rattle.std.specs.Prelude.{if◌then◌else◌, bytes_eq, ◌&&◌, not, nat_eq, slice_get, is_none}
 use Rattle.std.specs.List.{AllByRecursion, IsDistinct}
 use Rattle.std.specs.Ordering.{is_eq}
@@ -18,7 +18,6 @@ use Rattle.ob_types.specs.TypedSyntax.{Procedure, Module}
 use Rattle.ob_format.specs.Names.{is_identifier}
 use Rattle.ob_instr.specs.declared.procedure.Procedure.{Procedure as Row}
 use Rattle.ob_obj.specs.declared.parts.Command.{Command}
-use Rattle.ob_obj.specs.declared.file.ObjFile.{ObjFile}
 use Rattle.ob_obj.specs.Grammar.{by_name}
 use Rattle.ob_meaning.specs.Values.{procedure_named}
 use Rattle.ob_meaning.specs.Commands.{is_hidden, is_none_of, is_command, when_command}
@@ -26,10 +25,9 @@ use Rattle.ob_layout.specs.Lists.{put_before, put_in, in_order}
 use Rattle.ob_code.specs.Procedures.{has_result, body_of, all_procedures, end_procedure, row_of, rows_of, module_rows}
 use Rattle.ob_code.specs.Object.{is_full, is_free, commands_among}
 use Rattle.ob_link.specs.Plan.{is_there}
-use Rattle.ob_link.specs.Files.{command_number, is_plain, numbered}
+use Rattle.ob_link.specs.Files.{command_number, is_plain}
 use Rattle.ob_planned.specs.Compiled.{AreProceduresNamed}
 use Rattle.ob_planned.proofs.Orders.{all_in_order}
-use Rattle.ob_planned.proofs.Turns.{bytes_back}
 
 abbrev pub in_their_order : List Command → List Command
 in_their_order cs = in_order (λ a b. by_name a.name b.name) cs

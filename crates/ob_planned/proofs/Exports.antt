@@ -5,10 +5,8 @@ use Rattle.std.specs.Option.{option_map}
 use Rattle.std.specs.List.{AllByRecursion, filter, flat_map}
 use Rattle.std.specs.List.Sorted.{IsStrictlySortedBy}
 use Rattle.std.specs.Ordering.{is_eq}
-use Rattle.std.specs.declared.cmp.Ordering.{Ordering}
-use Rattle.std.specs.declared.cmp.Ordering.TheVariants.{Less, Equal, Greater}
+use Rattle.std.specs.declared.cmp.Ordering.TheVariants.{Less}
 use Rattle.std.proofs.lemmas.Cmp.{nat_list_cmp_total, on_total}
-use Rattle.std.proofs.lemmas.Bool.{false≢true}
 use Rattle.std.proofs.lemmas.Slice.Eq.{bytes_eq-Decides}
 use Rattle.std.proofs.lemmas.Map.Text.{is_eq-slice_cmp}
 use Rattle.ob_tree.specs.declared.names.QName.{QName}
@@ -16,16 +14,12 @@ use Rattle.ob_tree.specs.declared.print.Print.{Print}
 use Rattle.ob_types.specs.declared.desc.Desc.{Desc}
 use Rattle.ob_types.specs.declared.face.Aspect.{Aspect}
 use Rattle.ob_types.specs.declared.face.Aspect.TheVariants as aspect
-use Rattle.ob_types.specs.declared.typed.TypedConstant.{TypedConstant}
-use Rattle.ob_types.specs.declared.typed.TypedType.{TypedType}
-use Rattle.ob_types.specs.declared.typed.TypedVariable.{TypedVariable}
-use Rattle.ob_types.specs.TypedSyntax.{Procedure, Module}
+use Rattle.ob_types.specs.TypedSyntax.{Module}
 use Rattle.ob_format.specs.Format.{◌>>=◌}
 use Rattle.ob_desc.specs.Grammar.{is_shown, seen, shape_text, layout_text, text_of}
 use Rattle.ob_fprint.specs.Print.{print_from}
 use Rattle.ob_obj.specs.declared.parts.Export.{Export}
-use Rattle.ob_layout.specs.Lists.{put_before, put_in, in_order}
-use Rattle.ob_env.specs.Faces.{Face, object_named, face_named, object_of, interface_of, printed}
+use Rattle.ob_env.specs.Faces.{Face, object_named, object_of, interface_of, printed}
 use Rattle.ob_uses.specs.Objects.{by_name, is_exported, constant_object, variable_object, procedure_object, type_object, types_among, reached_types, objects_of}
 use Rattle.ob_planned.proofs.Orders.{all_in_order, order_strict}
 use Rattle.ob_uses.proofs.Objecting.{seen_twice}

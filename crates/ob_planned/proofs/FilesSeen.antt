@@ -1,9 +1,9 @@
 -- What a load of object files has seen to.
-use Rattle.std.proofs.Common.{◌≡◌, ℕ, Bool, true, false, List, [], ◌∷◌, length, Option, Some, None, Result, Ok, refl, sym, ap, subst, ◌∙◌}
+use Rattle.std.proofs.Common.{◌≡◌, ℕ, Bool, true, false, List, length, Option, Some, None, Ok, refl, subst}
 use Rattle.std.specs.Prelude.{if◌then◌else◌, bytes_eq, nat_lt}
 use Rattle.std.proofs.lemmas.Slice.Eq.{bytes_eq-Decides}
 use Rattle.ob_obj.specs.declared.file.ObjFile.{ObjFile}
-use Rattle.ob_link.specs.Plan.{Entry, Missing, TooLong, Junk, Holds}
+use Rattle.ob_link.specs.Plan.{TooLong, Junk, Holds}
 use Rattle.ob_link.specs.Files.{Files, asks, decoded, decoded_as, entry_of, most_bytes, object_file_name, object_entry, file_plan}
 use Rattle.ob_planned.specs.Seen.{IsSeenTo}
 use Rattle.ob_planned.proofs.Seen.{plan_sees}

@@ -1,6 +1,5 @@
 -- The words of an object file's globals are those of the layout.
-use Rattle.std.proofs.Common.{◌≡◌, ℕ, suc, ◌+◌, ◌<◌, ◌≤◌, List, [], ◌∷◌, ◌++◌, Option, Some, None, refl, sym, ap, subst, ◌∙◌, arith}
-use Rattle.std.specs.Prelude.{min}
+use Rattle.std.proofs.Common.{◌≡◌, ℕ, ◌+◌, ◌<◌, ◌≤◌, List, [], ◌∷◌, ◌++◌, Option, Some, None, refl, arith}
 use Rattle.std.specs.List.{flat_map}
 use Rattle.ob_tree.specs.declared.pos.Pos.{Pos}
 use Rattle.ob_tree.specs.declared.names.QName.{QName}
@@ -20,9 +19,9 @@ use Rattle.ob_code.specs.Lines.{Operand, Number, StringHere, OtherVariable, Othe
 use Rattle.ob_code.specs.Numbers.{Named, nothing_named, with_operand, with_line, with_lines}
 use Rattle.ob_code.specs.Context.{first_hidden}
 use Rattle.ob_code.specs.Statements.{stmts_code}
-use Rattle.ob_code.specs.Procedures.{body_of, all_procedures, closing, within, end_procedure, procedure_code, procedures_code, module_code}
+use Rattle.ob_code.specs.Procedures.{all_procedures, closing, within, end_procedure, procedure_code, procedures_code, module_code}
 use Rattle.ob_code.specs.Object.{own_words, object_file}
-use Rattle.ob_planned.proofs.Texts.{operand_words, line_words, laid, used, laid_both, used_both}
+use Rattle.ob_planned.proofs.Texts.{operand_words, laid, used, laid_both, used_both}
 use Rattle.ob_planned.proofs.TextsOf.{stmts_laid}
 use Rattle.ob_planned.proofs.Counting.{close_words, module_close}
 

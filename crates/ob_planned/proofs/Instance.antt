@@ -1,5 +1,5 @@
 -- What is asked of compiled modules is told alike of their object files.
-use Rattle.std.proofs.Common.{◌≡◌, ℕ, Bool, true, false, List, [], ◌∷◌, ◌++◌, map, Option, Some, None, refl, sym, ap, subst, ◌∙◌}
+use Rattle.std.proofs.Common.{◌≡◌, ℕ, Bool, true, false, List, [], ◌∷◌, map, refl, sym, ap, ◌∙◌}
 use Rattle.std.specs.Prelude.{bytes_eq}
 use Rattle.std.specs.List.{AllByRecursion}
 use Rattle.std.proofs.lemmas.Bool.{false≢true}
@@ -8,9 +8,8 @@ use Rattle.ob_tree.specs.declared.print.Print.{Print}
 use Rattle.ob_fprint.specs.Print.{print_from}
 use Rattle.ob_obj.specs.declared.file.ObjFile.{ObjFile}
 use Rattle.ob_layout.specs.LaidOut.{viewed}
-use Rattle.ob_env.specs.Faces.{Face, Wanted, wanted_of, use_of, described, printed}
+use Rattle.ob_env.specs.Faces.{Wanted, wanted_of, use_of, described}
 use Rattle.ob_compile.specs.Compiling.{Compiled, texts, exports_of, interface_by}
-use Rattle.ob_link.specs.Plan.{Asks}
 use Rattle.ob_link.specs.Files as files
 use Rattle.ob_link.specs.Files.{agrees}
 use Rattle.ob_planned.specs.Alike.{wanted_as, FindsAlike, AreAskedAlike}

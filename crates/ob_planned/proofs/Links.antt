@@ -1,5 +1,5 @@
 -- The links of object files name something wherever the uses of their modules are met.
-use Rattle.std.proofs.Common.{◌≡◌, ℕ, zero, suc, ◌<◌, Bool, true, false, cond, List, [], ◌∷◌, ◌++◌, length, map, Option, Some, None, refl, sym, ap, subst, ◌∙◌, arith}
+use Rattle.std.proofs.Common.{◌≡◌, ℕ, zero, suc, ◌<◌, Bool, true, false, cond, List, [], ◌∷◌, length, map, Option, Some, None, refl, sym, ap, subst, ◌∙◌, arith}
 use Rattle.std.specs.Prelude.{if◌then◌else◌, bytes_eq, Contains, slice_index_or}
 use Rattle.std.specs.Option.{option_map}
 use Rattle.std.specs.List.{AllByRecursion}
@@ -9,16 +9,15 @@ use Rattle.ob_types.specs.declared.desc.Desc.{Desc}
 use Rattle.ob_types.specs.declared.face.Aspect.TheVariants as aspect
 use Rattle.ob_format.specs.Format.{◌>>=◌}
 use Rattle.ob_desc.specs.Grammar.{seen, shape_text, text_of}
-use Rattle.ob_obj.specs.declared.parts.Link.{Link}
 use Rattle.ob_obj.specs.declared.file.ObjFile.{ObjFile}
 use Rattle.ob_layout.specs.LaidOut.{viewed}
-use Rattle.ob_env.specs.Faces.{Face, Wanted, object_named, face_named, described}
+use Rattle.ob_env.specs.Faces.{Face, Wanted, object_named, described}
 use Rattle.ob_uses.specs.Objects.{objects_of}
-use Rattle.ob_code.specs.Object.{variables, commands, records_in, type_links}
+use Rattle.ob_code.specs.Object.{type_links}
 use Rattle.ob_compile.specs.Compiling.{Compiled}
 use Rattle.ob_link.specs.Walk.{first_of, or_first}
-use Rattle.ob_link.specs.Plan.{Asks, named, kept_by, present}
-use Rattle.ob_link.specs.Files.{has_variable, has_procedure, has_type, file_named, holds, unless, linked, unlinked_variable, unlinked_procedure, unlinked_type, unlinked}
+use Rattle.ob_link.specs.Plan.{named, kept_by, present}
+use Rattle.ob_link.specs.Files.{has_variable, has_procedure, has_type, file_named, holds, unless, linked, unlinked_variable, unlinked_procedure, unlinked_type}
 use Rattle.ob_planned.specs.Alike.{AreMet}
 use Rattle.ob_planned.specs.Seen.{IsMet}
 use Rattle.ob_planned.specs.Compiled.{Text, text_shown, IsKnown, file_of, asks_by, AreLinked, is_variable, is_procedure, is_record, IsUsedAs, AreLinksUsed}

@@ -1,22 +1,19 @@
 -- The command of a name has the number of its procedure.
-use Rattle.std.proofs.Common.{◌≡◌, ℕ, zero, suc, ◌+◌, Bool, true, false, List, [], ◌∷◌, Option, Some, None, refl, sym, ap, subst, ◌∙◌, arith}
+use Rattle.std.proofs.Common.{◌≡◌, ℕ, suc, ◌+◌, Bool, true, false, List, [], ◌∷◌, Option, Some, None, refl, sym, ap, ◌∙◌, arith}
 use Rattle.std.specs.Prelude.{if◌then◌else◌, bytes_eq, ◌&&◌, not, slice_get}
 use Rattle.std.specs.List.{AllByRecursion}
 use Rattle.std.proofs.lemmas.Bool.{false≢true}
 use Rattle.ob_tree.specs.declared.names.QName.{QName}
 use Rattle.ob_types.specs.declared.desc.Desc.{Desc}
-use Rattle.ob_types.specs.declared.face.Use.{Use}
 use Rattle.ob_types.specs.TypedSyntax.{Procedure, Module}
 use Rattle.ob_format.specs.Names.{is_identifier}
 use Rattle.ob_obj.specs.declared.parts.Command.{Command}
-use Rattle.ob_obj.specs.declared.parts.Export.{Export}
 use Rattle.ob_meaning.specs.Values.{procedure_named}
-use Rattle.ob_meaning.specs.Commands.{is_hidden, is_command, when_command, command_named}
-use Rattle.ob_code.specs.Context.{before, procedure_index}
+use Rattle.ob_meaning.specs.Commands.{is_hidden, is_command, when_command}
+use Rattle.ob_code.specs.Context.{before}
 use Rattle.ob_code.specs.Procedures.{body_of, all_procedures, rows_of, module_rows}
-use Rattle.ob_code.specs.Object.{is_full, is_free, own, commands_among, commands, object_file}
-use Rattle.ob_link.specs.Files.{command_number, is_plain, command_in}
-use Rattle.ob_planned.specs.Compiled.{AreProceduresNamed}
+use Rattle.ob_code.specs.Object.{is_full, is_free, commands_among}
+use Rattle.ob_link.specs.Files.{command_number, is_plain}
 use Rattle.ob_planned.specs.Laws.{CommandsAreNumbered}
 use Rattle.ob_planned.proofs.Commands.{plain_procedure, plain_at, rows_plain, StandFrom, one_further, from_start, numbered_by, command_told, order_found, apart_among, distinct_from, first_or}
 

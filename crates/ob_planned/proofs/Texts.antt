@@ -1,5 +1,5 @@
 -- The words of the strings that code lays down are those of the strings that its tree uses as arrays: expressions.
-use Rattle.std.proofs.Common.{◌≡◌, ℕ, suc, ◌+◌, Bool, true, false, List, [], ◌∷◌, ◌++◌, length, Option, Some, None, refl, sym, ap, subst, ◌∙◌, arith}
+use Rattle.std.proofs.Common.{◌≡◌, ℕ, suc, ◌+◌, Bool, true, false, List, [], ◌∷◌, ◌++◌, length, Option, Some, None, refl, ◌∙◌, arith}
 use Rattle.std.specs.Prelude.{if◌then◌else◌}
 use Rattle.ob_tree.specs.declared.pos.Pos.{Pos}
 use Rattle.ob_tree.specs.declared.names.QName.{QName}
@@ -26,11 +26,11 @@ use Rattle.ob_layout.specs.Lists.{sum_of}
 use Rattle.ob_layout.specs.Texts.{AText, texts_of_value, passed_texts, texts_of_designator, texts_of_expr, texts_of_actuals}
 use Rattle.ob_code.specs.declared.want.Want.{Want}
 use Rattle.ob_code.specs.declared.want.Want.TheVariants as want
-use Rattle.ob_code.specs.Lines.{Operand, Number, StringHere, OtherVariable, OtherProcedure, OtherType, Line, plain, placed, placed_two, count, bare, jump, jump_if_false}
-use Rattle.ob_code.specs.Operations.{unary_code, binary_line, relation_number, out_number}
-use Rattle.ob_code.specs.Context.{Context, words, is_own, variable_place, procedure_index, type_index, own_types, type_operand, named_operand, record_operand, local_slot, parameter_slot}
+use Rattle.ob_code.specs.Lines.{Operand, StringHere, OtherVariable, OtherProcedure, OtherType, Line, plain, placed, count, jump, jump_if_false}
+use Rattle.ob_code.specs.Operations.{unary_code, binary_line, relation_number}
+use Rattle.ob_code.specs.Context.{Context, words, is_own, variable_place, procedure_index, type_index, own_types, type_operand, named_operand, parameter_slot}
 use Rattle.ob_code.specs.Descriptions.{own_name, elements_of}
-use Rattle.ob_code.specs.Expressions.{wanted, length_operand, words_of_actuals, words_behind_receiver, family_number, constant_code, text_code, pair_code, behind_guard, measured_behind, index_want, guard_want, from_place, from_pointer, index_line, guard_line, from_guard, own_place, held_place, parameter_code, module_line, variable_code, procedure_line, declared_line, call_line, end_desig, end_expr, desig_code, expr_code, actuals_code}
+use Rattle.ob_code.specs.Expressions.{wanted, length_operand, words_of_actuals, constant_code, text_code, pair_code, behind_guard, measured_behind, index_want, guard_want, from_place, from_pointer, index_line, guard_line, from_guard, parameter_code, module_line, variable_code, procedure_line, call_line, end_desig, end_expr, desig_code, expr_code, actuals_code}
 
 -- ---- the words of strings
 

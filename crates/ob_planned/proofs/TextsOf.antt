@@ -1,14 +1,10 @@
 -- The words of the strings that code lays down are those of the strings that its tree uses as arrays: statements and modules.
-use Rattle.std.proofs.Common.{◌≡◌, ℕ, zero, suc, ◌+◌, ◌≤◌, Bool, true, false, List, [], ◌∷◌, ◌++◌, length, Option, Some, None, refl, sym, ap, subst, ◌∙◌, arith}
-use Rattle.std.specs.Prelude.{if◌then◌else◌, pos, negsuc}
-use Rattle.std.specs.List.{flat_map}
+use Rattle.std.proofs.Common.{◌≡◌, ℕ, suc, Bool, true, false, List, [], ◌∷◌, ◌++◌, Option, Some, None, refl, arith}
 use Rattle.ob_tree.specs.declared.pos.Pos.{Pos}
 use Rattle.ob_tree.specs.declared.names.QName.{QName}
 use Rattle.ob_types.specs.declared.types.TypeRef.{TypeRef}
 use Rattle.ob_types.specs.declared.types.TypeRef.TheVariants as ref
 use Rattle.ob_types.specs.declared.types.Basic.TheVariants as basic
-use Rattle.ob_types.specs.declared.desc.Desc.{Desc}
-use Rattle.ob_types.specs.declared.typed.Variable.{Variable}
 use Rattle.ob_types.specs.declared.typed.Assigned.{Assigned}
 use Rattle.ob_types.specs.declared.typed.Assigned.TheVariants as assigned
 use Rattle.ob_types.specs.declared.typed.Made.{Made}
@@ -16,18 +12,16 @@ use Rattle.ob_types.specs.declared.typed.Made.TheVariants as made
 use Rattle.ob_types.specs.declared.typed.Update.{Update}
 use Rattle.ob_types.specs.declared.typed.Update.TheVariants as update
 use Rattle.ob_types.specs.declared.typed.Label.{Label}
-use Rattle.ob_types.specs.TypedSyntax.{Desig, Expr, Stmt, Assign, CallProper, Updated, Copy, New, NewOpenArray, Assert, Halt, If, Case, While, Repeat, For, Loop, Exit, Return, With, Stmts, Nothing, Then, Branches, NoBranch, Branch, Cases, NoCase, OneCase, Otherwise, NoElse, Else, Procedure, Module}
+use Rattle.ob_types.specs.TypedSyntax.{Desig, Expr, Stmt, Assign, CallProper, Updated, Copy, New, NewOpenArray, Assert, Halt, If, Case, While, Repeat, For, Loop, Exit, Return, With, Stmts, Nothing, Then, Branches, NoBranch, Branch, Cases, NoCase, OneCase, Otherwise, NoElse, Else}
 use Rattle.ob_instr.specs.declared.opcode.Opcode.TheVariants as op
-use Rattle.ob_layout.specs.Words.{words_of}
-use Rattle.ob_layout.specs.Texts.{AText, texts_of_designator, texts_of_expr, texts_of_optional, texts_of, texts_of_all, texts_of_branches, texts_of_cases, texts_of_else, texts_of_module}
-use Rattle.ob_code.specs.declared.want.Want.{Want}
+use Rattle.ob_layout.specs.Texts.{texts_of_designator, texts_of_expr, texts_of_optional, texts_of, texts_of_all, texts_of_branches, texts_of_cases, texts_of_else}
 use Rattle.ob_code.specs.declared.want.Want.TheVariants as want
-use Rattle.ob_code.specs.Lines.{Number, Line, plain, placed, placed_two, count, bare, bare_at, jump, jump_if_false, jump_back, jump_back_if_false, behind}
+use Rattle.ob_code.specs.Lines.{Number, plain, placed, count, bare, bare_at, jump, jump_if_false, jump_back, jump_back_if_false, behind}
 use Rattle.ob_code.specs.Operations.{bytes_of, update_line}
-use Rattle.ob_code.specs.Context.{Context, words, local_words, first_hidden}
-use Rattle.ob_code.specs.Expressions.{variable_code, end_desig, end_expr, desig_code, expr_code}
-use Rattle.ob_code.specs.Statements.{has_tag, record_want, target_want, source_want, copy_record, assign_line, new_line, for_place, for_value, within, end_for_test, end_for_step, end_label, label_code, end_labels, labels_code, result_code, end_stmt, end_stmts, end_branches, end_cases, end_else, next_stmt, next_stmts, next_branches, next_cases, stmt_code, stmts_code, branches_code, cases_code, else_code}
-use Rattle.ob_planned.proofs.Texts.{line_words, laid, used, laid_both, used_both, laid_one, laid_two, is_room, line_if, type_laid, variable_laid, desig_laid, expr_laid, value_laid}
+use Rattle.ob_code.specs.Context.{Context, words}
+use Rattle.ob_code.specs.Expressions.{end_desig, end_expr, desig_code, expr_code}
+use Rattle.ob_code.specs.Statements.{has_tag, target_want, source_want, copy_record, assign_line, new_line, for_place, for_value, within, end_for_test, end_for_step, end_label, label_code, end_labels, labels_code, result_code, end_stmt, end_stmts, end_branches, end_cases, end_else, next_stmt, next_stmts, next_branches, next_cases, stmt_code, stmts_code, branches_code, cases_code, else_code}
+use Rattle.ob_planned.proofs.Texts.{line_words, laid, used, laid_both, used_both, laid_one, laid_two, is_room, type_laid, variable_laid, desig_laid, value_laid}
 
 module _ (c : Context) where
   abbrev W : TypeRef → ℕ

@@ -6,7 +6,7 @@ use Rattle.std.specs.List.{AllByRecursion}
 use Rattle.std.proofs.lemmas.List.{map-append}
 use Rattle.ob_link.specs.Walk.{has, and_then, all_in_turn, leaves, enters, visit, most_deep}
 use Rattle.ob_link.specs.Plan.{Entry, Missing, TooLong, Junk, Holds, Asks, Refusal, NoObject, Cycle, NoRoom, NoCommand, named, is_there, fails, newest, entered, steps, most_globals, words_of, has_command, planned, plan}
-use Rattle.ob_planned.specs.Alike.{entry_as, refusal_as, answer_as, AreAskedAlike, EntryHas, AreEntriesAlike, AreKnown, Agrees}
+use Rattle.ob_planned.specs.Alike.{entry_as, refusal_as, AreAskedAlike, EntryHas, AreEntriesAlike, Agrees}
 use Rattle.ob_planned.proofs.Asked.{all_joined, fails_as, words_as, command_as, there_as}
 
 module _ {A B K L : Type 0} (asks : Asks A K) (others : Asks B L) (twin : A → B) (short : K → L) (IsKnown : A → Type 0) (alike : AreAskedAlike asks others twin short IsKnown) where

@@ -1,8 +1,7 @@
 -- Modules of which a load is told alike: one kind of modules, and another that stand for them.
-use Rattle.std.specs.Prelude.{◌≡◌, ℕ, List, [], ◌∷◌, map, Option, Some, None, Result, Ok, Err}
+use Rattle.std.specs.Prelude.{◌≡◌, ℕ, List, map, Some, None, Result, Ok, Err}
 use Rattle.std.specs.Option.{option_map}
 use Rattle.std.specs.List.{AllByRecursion}
-use Rattle.ob_tree.specs.declared.names.QName.{QName}
 use Rattle.ob_types.specs.declared.face.Aspect.{Aspect}
 use Rattle.ob_env.specs.Faces.{Wanted}
 use Rattle.ob_link.specs.Walk.{first_of}

@@ -7,7 +7,7 @@ use Rattle.ob_types.specs.declared.desc.Desc.{Desc}
 use Rattle.ob_types.specs.declared.desc.Desc.TheVariants as desc
 use Rattle.ob_types.specs.declared.face.Aspect.TheVariants as aspect
 use Rattle.ob_types.specs.Maps.{is_type}
-use Rattle.ob_types.specs.TypedSyntax.{Procedure, Module}
+use Rattle.ob_types.specs.TypedSyntax.{Procedure}
 use Rattle.ob_format.specs.Names.{is_identifier}
 use Rattle.ob_fprint.specs.Print.{print_from}
 use Rattle.ob_desc.specs.Grammar.{seen, shape_text}

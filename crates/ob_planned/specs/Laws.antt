@@ -1,7 +1,6 @@
 -- The laws of plans.
-use Rattle.std.specs.Prelude.{◌≡◌, ℕ, ◌≤◌, true, not, List, map, Option, Some, Result, Ok}
+use Rattle.std.specs.Prelude.{◌≡◌, ℕ, ◌≤◌, true, not, List, map, Option, Some, Ok}
 use Rattle.std.specs.List.{AllByRecursion}
-use Rattle.ob_tree.specs.declared.print.Print.{Print}
 use Rattle.ob_tree.specs.declared.names.QName.{QName}
 use Rattle.ob_types.specs.declared.desc.Desc.{Desc}
 use Rattle.ob_types.specs.declared.face.Use.{Use}

@@ -1,5 +1,5 @@
 -- What a plan that is not refused has seen to.
-use Rattle.std.specs.Prelude.{◌≡◌, ℕ, suc, ◌+◌, ◌≤◌, List, [], ◌∷◌, ◌++◌, Bool, true, false, ◌||◌, length, Option, Some, None, Result, Ok, bytes_eq, codes}
+use Rattle.std.specs.Prelude.{◌≡◌, ℕ, suc, ◌+◌, ◌≤◌, List, [], ◌∷◌, ◌++◌, Bool, true, false, ◌||◌, length, Some, None, bytes_eq, codes}
 use Rattle.std.specs.List.{AllByRecursion}
 use Rattle.ob_env.specs.Faces.{Wanted}
 use Rattle.ob_link.specs.Plan.{Entry, Holds, Asks, is_there, named, present, most_modules, most_globals, words_of, has_command}
