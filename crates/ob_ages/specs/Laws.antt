@@ -144,6 +144,13 @@ StandFor (suc commands) s bs system words heap =
     let e : Ended = ended s system new m name in
     IsSameRun (bs ++ new) r e × StandFor commands s (joined (bs ++ new) e) e.system r.words r.heap
 
+-- settings as words can say them
+pub record AreSettings (s : Settings) : Type 0 where
+  pub some_turns : 1 ≤ s.turns
+  pub most_turns : s.turns ≤ 1000000000
+  pub some_heap : 1 ≤ s.heap
+  pub most_heap : s.heap ≤ 4194304
+
 -- All commands behind one another, from the first, are the same by the table and by the meaning.
 abbrev pub Simulation : Type 0
-Simulation = (commands : ℕ) (s : Settings) → StandFor commands s [] nothing_loaded (made s.heap).words (made s.heap).heap
+Simulation = (commands : ℕ) (s : Settings) → AreSettings s → StandFor commands s [] nothing_loaded (made s.heap).words (made s.heap).heap

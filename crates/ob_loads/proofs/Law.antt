@@ -25,7 +25,7 @@ use Rattle.ob_ages.specs.Composing.{IsTextIn, SameBuilds, SamePlan}
 use Rattle.ob_ages.proofs.Members.{In, of_in, to_in}
 use Rattle.ob_ages.proofs.Stood.{of_is}
 use Rattle.ob_ages.proofs.Spelled.{AreIdentifiers, imports_named}
-use Rattle.ob_loads.specs.Loads.{ModulesAreSaid, LoadsAlike}
+use Rattle.ob_loads.specs.Loads.{BuildsAreSaid, LoadsAlike}
 use Rattle.ob_loads.proofs.Entries.{entries_same}
 use Rattle.ob_loads.proofs.Known.{IsFit, fit, asked_alike}
 use Rattle.ob_loads.proofs.Gone.{go_together, all_valid, words_both}
@@ -42,7 +42,7 @@ same_refusal m (load.TooMany count) = refl
 same_refusal m (load.NoCommand n command) = refl
 same_refusal m (load.Long n) = refl
 
-module _ (written : BuildsAreWritten) (said : ModulesAreSaid) (folder : Files) (l : Library) (loaded : List Build) (library : IsLibrary l) (kept : Kept folder l) (together : AreTogether [] loaded) (apart : Apart (IsTextIn l loaded)) where
+module _ (written : BuildsAreWritten) (said : BuildsAreSaid) (folder : Files) (l : Library) (loaded : List Build) (library : IsLibrary l) (kept : Kept folder l) (together : AreTogether [] loaded) (apart : Apart (IsTextIn l loaded)) where
   abbrev One : Build → Type 0
   One b = IsFit l loaded b
 

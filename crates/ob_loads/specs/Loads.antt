@@ -1,11 +1,11 @@
 -- A load over files that keep a library is a load over the library.
-use Rattle.std.specs.Prelude.{◌≡◌, ℕ, true, ◌&&◌, List, map, Some, Ok, bytes_eq}
+use Rattle.std.specs.Prelude.{◌≡◌, ℕ, true, ◌&&◌, List, map, bytes_eq}
 use Rattle.std.specs.List.{AllByRecursion, IsDistinct}
 use Rattle.ob_format.specs.Names.{is_identifier}
 use Rattle.ob_code.specs.Object.{is_full, is_free}
-use Rattle.ob_walk.specs.Walk.{Entry}
-use Rattle.ob_compile.specs.Compiling.{Compiled, compiled, texts}
+use Rattle.ob_compile.specs.Compiling.{Compiled}
 use Rattle.ob_planned.specs.Compiled.{Text, AreLinksUsed}
+use Rattle.ob_ages.specs.Builds.{Build, IsValid}
 use Rattle.ob_ages.specs.Laws.{BuildsAreWritten}
 use Rattle.ob_ages.specs.Composing.{PlansAlike}
 
@@ -16,9 +16,9 @@ pub record IsSaid (c : Compiled Text) : Type 0 where
   pub identifiers : AllByRecursion (λ p. (is_full p.mark && is_free p.binding) ≡ true → is_identifier p.name ≡ true) c.tree.procedures
   pub links : AreLinksUsed c
 
-abbrev pub ModulesAreSaid : Type 0
-ModulesAreSaid = (entry : List ℕ → Entry Text) (source : List ℕ) (c : Compiled Text) → compiled texts entry (Some source) ≡ Ok c → IsSaid c
+abbrev pub BuildsAreSaid : Type 0
+BuildsAreSaid = (b : Build) (c : Compiled Text) → IsValid b c → IsSaid c
 
 -- THE LAW, where all builds can be written
 abbrev pub LoadsAlike : Type 0
-LoadsAlike = BuildsAreWritten → ModulesAreSaid → PlansAlike
+LoadsAlike = BuildsAreWritten → BuildsAreSaid → PlansAlike
