@@ -22,7 +22,7 @@ use Rattle.ob_planned.proofs.Numbered.{commands_numbered}
 use Rattle.ob_ages.specs.Builds.{Text, Build, IsValid, of, tree_of, name_of, file_of, asks}
 use Rattle.ob_ages.proofs.Compiled.{Comes, comes}
 use Rattle.ob_ages.proofs.Stood.{of_is}
-use Rattle.ob_loads.specs.Loads.{IsSaid, ModulesAreSaid}
+use Rattle.ob_loads.specs.Loads.{IsSaid, BuildsAreSaid}
 use Rattle.ob_filed.specs.Filed.{HasOfFile, FilesHave}
 use Rattle.ob_filed.proofs.Limits.{room_kept, code_kept}
 
@@ -77,7 +77,7 @@ pub files_have : FilesHave
 files_have said b c v =
     let o : of b ≡ c = of_is b c v in
     let h : Comes texts c = comes texts _ (Some b.source) c v.is in
-    let s : IsSaid c = said _ b.source c v.is in
+    let s : IsSaid c = said b c v in
     let k : IsMarked c = compiled_marked _ (Some b.source) c v.is in
     record {
       name = subst (λ (x : Compiled Text). x.tree.name ≡ x.shows.«module») (sym (o ∙ h.is)) refl;

@@ -7,7 +7,7 @@ use Rattle.ob_relation.specs.Layout.{procedure_index}
 use Rattle.ob_compile.specs.Compiling.{Compiled}
 use Rattle.ob_link.specs.Files.{command_in}
 use Rattle.ob_ages.specs.Builds.{Text, Build, IsValid, tree_of, name_of, file_of, asks}
-use Rattle.ob_loads.specs.Loads.{ModulesAreSaid}
+use Rattle.ob_loads.specs.Loads.{BuildsAreSaid}
 
 -- its name, the words of its globals, not too much code, and the commands at the numbers of their procedures
 pub record HasOfFile (b : Build) : Type 0 where
@@ -18,4 +18,4 @@ pub record HasOfFile (b : Build) : Type 0 where
 
 -- so it is of each valid build
 abbrev pub FilesHave : Type 0
-FilesHave = ModulesAreSaid → (b : Build) (c : Compiled Text) → IsValid b c → HasOfFile b
+FilesHave = BuildsAreSaid → (b : Build) (c : Compiled Text) → IsValid b c → HasOfFile b

@@ -2,11 +2,18 @@
 #![tactic(auto)]
 
 ghost use Rattle.ob_filed.specs.Filed.{FilesHave};
+ghost use Rattle.ob_filed.specs.Strings.{StringsFit};
 
 /// A law, with nothing to run: the object file of a valid build is of the module of its name, with
 /// the words of globals that a load is told of and with no more code than a module may have; its
 /// command of a name is the procedure of that name, by its number. (Taken for granted of modules that
-/// compile: `ModulesAreSaid`.)
+/// compile: `BuildsAreSaid`.)
 pub fn files_have()
     ensures { FilesHave }
+{}
+
+/// A law, with nothing to run: no string in the object file of a valid build is longer than its
+/// words, where all builds can be written.
+pub fn strings_fit()
+    ensures { StringsFit }
 {}

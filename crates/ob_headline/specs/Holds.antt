@@ -3,6 +3,7 @@ use Rattle.std.specs.Prelude.{◌≡◌, ℕ, ◌≤◌, List, ◌++◌}
 use Rattle.ob_link.specs.Files.{Files}
 use Rattle.ob_lines.specs.Lines.{done_lines}
 use Rattle.ob_words.specs.declared.asked.Settings.{Settings}
+use Rattle.ob_pieces.specs.Reading.{ended}
 use Rattle.ob_bytes.specs.Folds.{text_from}
 use Rattle.ob_bytes.specs.Bytes as bytes
 use Rattle.ob_bytes.specs.Session as session
@@ -30,6 +31,12 @@ HeadlineHolds = Promises →
     (s : Settings) (l : Library) (before now : List ℕ) (old new : Files) (script : List ℕ) (status : ℕ) → AreSettings s → Stands s old l script →
     (status ≡ 2 → ⊥) → status ≤ 7 →
     Ends (session.bytes s old) before now old new script status → Headline s before now old new l script status
+
+-- What a session that a failed read cut short has written: the meaning's text of exactly the lines whose byte 10 was taken.
+pub record WritesPieces (s : Settings) (before now : List ℕ) (old : Files) (l : Library) (script left : List ℕ) : Type 0 where
+  pub got : List ℕ
+  pub parts : script ≡ got ++ left
+  pub written : now ≡ before ++ text_from (answer s) (start old l) 1 (ended got)
 
 -- the texts of the first lines, and of no others
 abbrev pub LinesHold : Type 0

@@ -17,3 +17,4 @@ pub mod Shown
 pub mod Links
 pub mod Checked
 pub mod Numbered
+pub mod Fitting

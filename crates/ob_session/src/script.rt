@@ -10,7 +10,7 @@ ghost use Rattle.ob_session.specs.Does.{Shows, LineDoes, Cause};
 ghost use Rattle.ob_bytes.specs.Session.{bytes, Ends};
 ghost use Rattle.ob_ages.specs.Library.{Library};
 ghost use Rattle.ob_ages.specs.Headline.{Headline, Stands};
-ghost use Rattle.ob_headline.specs.Holds.{Promises};
+ghost use Rattle.ob_headline.specs.Holds.{Promises, WritesPieces};
 ghost use Rattle.ob_session.specs.Stand.{Pieces};
 ghost use Rattle.ob_session.specs.Session.{Causes, StatusIs};
 
@@ -229,6 +229,8 @@ pub fn session<F: Folder, I: Source, O: Sink>(
     // taken afresh together, are a well formed program at each line. Laws of builds are taken for
     // granted here.
     ensures headline { (s : TheSettings) → settings_of (map (λ w. w.bytes.items) words.now) ≡ Some s → I.tells script.old ≡ true → F.tells folder.old ≡ true → O.tells out.old ≡ true → (l : Library) → Promises → Stands s (F.files folder.old) l (I.left script.old) → Headline s (O.taken out.old) (O.taken out.new) (F.files folder.old) (F.files folder.new) l (I.left script.old) result }
+    // So are the lines done with status 3.
+    ensures headline_pieces { (s : TheSettings) → settings_of (map (λ w. w.bytes.items) words.now) ≡ Some s → I.tells script.old ≡ true → F.tells folder.old ≡ true → O.tells out.old ≡ true → (l : Library) → Promises → Stands s (F.files folder.old) l (I.left script.old) → result ≡ 3 → WritesPieces s (O.taken out.old) (O.taken out.new) (F.files folder.old) l (I.left script.old) (I.left script.new) }
 {
     do_all(alloc, words, folder, script, out)
 }
