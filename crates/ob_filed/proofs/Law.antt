@@ -18,7 +18,7 @@ use Rattle.ob_link.specs.Files.{command_in}
 use Rattle.ob_planned.specs.Laws.{IsMarked}
 use Rattle.ob_planned.proofs.Checked.{compiled_marked}
 use Rattle.ob_planned.proofs.Globals.{globals_are}
-use Rattle.ob_planned.proofs.Numbered.{commands_numbered}
+use Rattle.ob_planned.proofs.Numbered.{numbered_by_names}
 use Rattle.ob_ages.specs.Builds.{Text, Build, IsValid, of, tree_of, name_of, file_of, asks}
 use Rattle.ob_ages.proofs.Compiled.{Comes, comes}
 use Rattle.ob_ages.proofs.Stood.{of_is}
@@ -70,7 +70,7 @@ index_same m (c ∷ x) p e = ap suc (number_same m.procedures (c ∷ x))
 
 compiled_has : (c : Compiled Text) → IsSaid c → IsMarked c → (x : List ℕ) (p : Procedure) → command_named c.tree x ≡ Some p → command_in (object_by texts c) x ≡ Some (procedure_index c.tree.procedures x)
 compiled_has c s k x p e =
-    commands_numbered (viewed (described c.against) c.tree) c.tree (exports_of (interface_by texts c)) (interface_by texts c).uses (record { names = s.names; identifiers = s.identifiers; marks = k.marks }) x p e
+    numbered_by_names (viewed (described c.against) c.tree) c.tree (exports_of (interface_by texts c)) (interface_by texts c).uses s.names k.marks x p e
     ∙ ap (λ i. Some i) (index_same c.tree x p e)
 
 pub files_have : FilesHave

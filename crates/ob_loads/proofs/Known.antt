@@ -17,17 +17,18 @@ use Rattle.ob_link.specs.Walk as walk
 use Rattle.ob_link.specs.Walk.{first_of as first_refusal}
 use Rattle.ob_link.specs.Plan.{Asks, most_globals, named, kept_by, present, use_against, use_fails}
 use Rattle.ob_link.specs.Files as files
-use Rattle.ob_compile.specs.Compiling.{Compiled, Refusal, texts, or_first, limit_of_operands, exceeds}
+use Rattle.ob_compile.specs.Compiling.{Compiled, Refusal, texts, or_first, limit_of_operands, exceeds, exports_of, interface_by}
 use Rattle.ob_planned.specs.Alike.{FindsAlike, AreMet, AreAskedAlike}
 use Rattle.ob_types.specs.Maps.{is_type}
 use Rattle.ob_planned.specs.Compiled.{AreApart, IsKnown, AreLinksUsed, AreProceduresNamed, asks_by, text_shown}
 use Rattle.ob_planned.specs.Laws.{IsMarked}
 use Rattle.ob_planned.proofs.Checked.{compiled_marked}
+use Rattle.ob_planned.proofs.Fitting.{names_spelled}
 use Rattle.ob_planned.proofs.Instance.{compiled_alike}
 use Rattle.ob_planned.proofs.Links.{links_named}
 use Rattle.ob_ages.specs.Builds.{Text, Build, IsValid, compiled_of, or_none, of, shows_of, name_of, file_of, asks}
 use Rattle.ob_ages.specs.Library.{Library}
-use Rattle.ob_ages.specs.Laws.{Apart, IsTextOfBuild, AreAsWanted}
+use Rattle.ob_ages.specs.Laws.{Apart, IsTextOfBuild, AreAsWanted, BuildsAreWritten}
 use Rattle.ob_ages.specs.Headline.{IsIn}
 use Rattle.ob_ages.specs.Composing.{IsTextIn}
 use Rattle.ob_ages.proofs.Compiled.{Comes, comes}
@@ -65,16 +66,17 @@ all_texts : (l : Library) (loaded : List Build) (b : Build) (c : Compiled Text) 
 all_texts l loaded b c v i [] h = tt
 all_texts l loaded b c v i (u ∷ us) h = ((b, i, kept_text b c v u h.0), all_texts l loaded b c v i us h.1)
 
-known : BuildsAreSaid → (l : Library) (loaded : List Build) (b : Build) (c : Compiled Text) → IsValid b c → IsIn l b ⊎ Contains loaded b → IsKnown (IsTextIn l loaded) (of b)
-known said l loaded b c v i =
+known : BuildsAreWritten → BuildsAreSaid → (l : Library) (loaded : List Build) (b : Build) (c : Compiled Text) → IsValid b c → IsIn l b ⊎ Contains loaded b → IsKnown (IsTextIn l loaded) (of b)
+known written said l loaded b c v i =
     let o : of b ≡ c = of_is b c v in
     let h : Comes texts c = comes texts _ (Some b.source) c v.is in
     let s : IsSaid c = said b c v in
     let m : IsMarked c = compiled_marked _ (Some b.source) c v.is in
+    let spelled = names_spelled (viewed (described c.against) c.tree) c.tree (exports_of (interface_by texts c)) (interface_by texts c).uses s.names (written b c v).object in
     record {
       shows = subst (λ (x : Compiled Text). x.shows ≡ face_of_laid (text_in x.against) x.against x.tree) (sym (o ∙ h.is)) refl;
       room = subst (λ (x : Compiled Text). globals_words (viewed (described x.against) x.tree) x.tree ≤ most_globals) (sym o) (has_room c h.limits);
-      procedures = subst (λ (x : Compiled Text). AreProceduresNamed x.tree.procedures) (sym o) (record { names = s.names; identifiers = s.identifiers; marks = m.marks });
+      procedures = subst (λ (x : Compiled Text). AreProceduresNamed x.tree.procedures) (sym o) (record { names = s.names; identifiers = spelled; marks = m.marks });
       types = subst (λ (x : Compiled Text). AllByRecursion (λ t. is_type t.desc ≡ true) x.tree.types) (sym o) m.types;
       has = λ name aspect t e. (b, i, inl (record { «module» = name_of b; object = name }, aspect, e));
       uses = subst (λ (x : Compiled Text). AllByRecursion (λ u. IsTextIn l loaded u.kept) x.shows.uses) (sym o) (all_texts l loaded b c v i c.shows.uses (uses_kept b c v));
@@ -85,8 +87,8 @@ pub record IsFit (l : Library) (loaded : List Build) (b : Build) : Type 0 where
   pub known : IsKnown (IsTextIn l loaded) (of b)
   pub valid : (c : Compiled Text) × IsValid b c
 
-pub fit : BuildsAreSaid → (l : Library) (loaded : List Build) (b : Build) (c : Compiled Text) → IsValid b c → IsIn l b ⊎ Contains loaded b → IsFit l loaded b
-fit said l loaded b c v i = record { known = known said l loaded b c v i; valid = (c, v) }
+pub fit : BuildsAreWritten → BuildsAreSaid → (l : Library) (loaded : List Build) (b : Build) (c : Compiled Text) → IsValid b c → IsIn l b ⊎ Contains loaded b → IsFit l loaded b
+fit written said l loaded b c v i = record { known = known written said l loaded b c v i; valid = (c, v) }
 
 -- ---- the builds that a load may meet, and no others
 

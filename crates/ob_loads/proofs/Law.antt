@@ -53,7 +53,7 @@ module _ (written : BuildsAreWritten) (said : BuildsAreSaid) (folder : Files) (l
   entry_fit n Missing e i = tt
   entry_fit n TooLong e i = tt
   entry_fit n Junk e i = tt
-  entry_fit n (Holds b) e i = fit said l loaded b i.0 i.1 (inl (n, inl e))
+  entry_fit n (Holds b) e i = fit written said l loaded b i.0 i.1 (inl (n, inl e))
 
   imports_asked : (b : Build) → One b → AllByRecursion IsAsked (shows_of b).imports
   imports_asked b k =
@@ -69,7 +69,7 @@ module _ (written : BuildsAreWritten) (said : BuildsAreSaid) (folder : Files) (l
 
   loaded_fit : (bs : List Build) → ((b : Build) → In bs b → Contains loaded b) → AllByRecursion (λ b. (c : Compiled Text) × IsValid b c) bs → AllByRecursion One bs
   loaded_fit [] i v = tt
-  loaded_fit (b ∷ bs) i v = (fit said l loaded b v.0.0 v.0.1 (inr (i b (inl refl))), loaded_fit bs (λ x j. i x (inr j)) v.1)
+  loaded_fit (b ∷ bs) i v = (fit written said l loaded b v.0.0 v.0.1 (inr (i b (inl refl))), loaded_fit bs (λ x j. i x (inr j)) v.1)
 
   -- what a plan brings in
   abbrev IsFound : Build → Type 0

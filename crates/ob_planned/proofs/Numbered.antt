@@ -1,19 +1,21 @@
 -- The command of a name has the number of its procedure.
-use Rattle.std.proofs.Common.{◌≡◌, ℕ, suc, ◌+◌, Bool, true, false, List, [], ◌∷◌, Option, Some, None, refl, sym, ap, ◌∙◌, arith}
+use Rattle.std.proofs.Common.{◌≡◌, ℕ, suc, ◌+◌, Bool, true, false, List, [], ◌∷◌, map, Option, Some, None, refl, sym, ap, ◌∙◌, arith}
 use Rattle.std.specs.Prelude.{if◌then◌else◌, bytes_eq, ◌&&◌, not, slice_get}
-use Rattle.std.specs.List.{AllByRecursion}
+use Rattle.std.specs.List.{AllByRecursion, IsDistinct}
 use Rattle.std.proofs.lemmas.Bool.{false≢true}
 use Rattle.ob_tree.specs.declared.names.QName.{QName}
 use Rattle.ob_types.specs.declared.desc.Desc.{Desc}
+use Rattle.ob_types.specs.declared.face.Use.{Use}
+use Rattle.ob_obj.specs.declared.parts.Export.{Export}
 use Rattle.ob_types.specs.TypedSyntax.{Procedure, Module}
 use Rattle.ob_format.specs.Names.{is_identifier}
 use Rattle.ob_obj.specs.declared.parts.Command.{Command}
 use Rattle.ob_meaning.specs.Values.{procedure_named}
-use Rattle.ob_meaning.specs.Commands.{is_hidden, is_command, when_command}
-use Rattle.ob_code.specs.Context.{before}
+use Rattle.ob_meaning.specs.Commands.{is_hidden, is_command, when_command, command_named}
+use Rattle.ob_code.specs.Context.{before, procedure_index}
 use Rattle.ob_code.specs.Procedures.{body_of, all_procedures, rows_of, module_rows}
-use Rattle.ob_code.specs.Object.{is_full, is_free, commands_among}
-use Rattle.ob_link.specs.Files.{command_number, is_plain}
+use Rattle.ob_code.specs.Object.{is_full, is_free, commands_among, own, object_file}
+use Rattle.ob_link.specs.Files.{command_number, is_plain, command_in}
 use Rattle.ob_planned.specs.Laws.{CommandsAreNumbered}
 use Rattle.ob_planned.proofs.Commands.{plain_procedure, plain_at, rows_plain, StandFrom, one_further, from_start, numbered_by, command_told, order_found, apart_among, distinct_from, first_or}
 
@@ -70,8 +72,12 @@ module _ (types : QName → Option Desc) (m : Module) where
   among all n [] k q st h e = absurd cc
   among all n (p ∷ ps) k q st h e = step all n p k ps q st.0 h.0 (λ i. among all n ps (suc k) q st.1 h.1 i) (bytes_eq n p.name) refl e
 
-pub commands_numbered : CommandsAreNumbered
-commands_numbered types m exports uses named x p e =
-    ap (numbered_by types m (module_rows types m)) (order_found x (commands_among types m m.procedures 1) (apart_among types m m.procedures 1 (distinct_from m.procedures named.names)))
-    ∙ among types m (all_procedures m) x m.procedures 1 p (one_further (body_of m) m.procedures 0 m.procedures (from_start m.procedures)) named.marks e
+-- so it is by the names and the marks of procedures
+pub numbered_by_names : (types : QName → Option Desc) (m : Module) (exports : List Export) (uses : List Use) → IsDistinct bytes_eq (map (λ p. p.name) m.procedures) → AreMarked m.procedures → (x : List ℕ) (p : Procedure) → command_named m x ≡ Some p → command_in (object_file types m exports uses) x ≡ Some (procedure_index (own types m) x)
+numbered_by_names types m exports uses names marks x p e =
+    ap (numbered_by types m (module_rows types m)) (order_found x (commands_among types m m.procedures 1) (apart_among types m m.procedures 1 (distinct_from m.procedures names)))
+    ∙ among types m (all_procedures m) x m.procedures 1 p (one_further (body_of m) m.procedures 0 m.procedures (from_start m.procedures)) marks e
     ∙ ap (λ i. Some i) (omega arith)
+
+pub commands_numbered : CommandsAreNumbered
+commands_numbered types m exports uses named x p e = numbered_by_names types m exports uses named.names named.marks x p e
