@@ -11,3 +11,4 @@ pub mod Tables
 pub mod Loaded
 pub mod Redefined
 pub mod Image
+pub mod Settled

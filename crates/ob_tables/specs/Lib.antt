@@ -3,3 +3,4 @@ pub mod Based
 pub mod Families
 pub mod Redefined
 pub mod Image
+pub mod Settled
