@@ -12,3 +12,4 @@ pub mod Loaded
 pub mod Redefined
 pub mod Image
 pub mod Settled
+pub mod Counted

@@ -43,7 +43,7 @@ no_line types (suc n) (ref.Named q) fs e = go (types q) e (λ t f. no_line types
     go o e more = absurd (cc)
 
 -- what is declared for a module of the program stands in it
-description_here : (front : List Module) (m : Module) (back : List Module) (program : Program) (x : List ℕ) → ModulesOk program (front ++ m ∷ back) → description (front ++ m ∷ back) (typed m.name x) ≡ type_named m.types x
+pub description_here : (front : List Module) (m : Module) (back : List Module) (program : Program) (x : List ℕ) → ModulesOk program (front ++ m ∷ back) → description (front ++ m ∷ back) (typed m.name x) ≡ type_named m.types x
 description_here [] m back program x ok = ap (λ b. if b then type_named m.types x else description back (typed m.name x)) (bytes_same m.name)
 description_here (k ∷ front) m back program x ok =
     ap (λ b. if b then type_named k.types x else description (front ++ m ∷ back) (typed m.name x)) (bytes_sym m.name k.name ∙ fresh_at k.name front m back ok.0)
@@ -51,11 +51,11 @@ description_here (k ∷ front) m back program x ok =
 
 -- DIFFERENT NAMES
 
-abbrev NoneNamed : List ℕ → List TypedType → Type 0
+abbrev pub NoneNamed : List ℕ → List TypedType → Type 0
 NoneNamed x [] = Unit {0}
 NoneNamed x (t ∷ ts) = (bytes_eq x t.name ≡ false) × NoneNamed x ts
 
-abbrev TypesDiffer : List TypedType → Type 0
+abbrev pub TypesDiffer : List TypedType → Type 0
 TypesDiffer [] = Unit {0}
 TypesDiffer (t ∷ ts) = NoneNamed t.name ts × TypesDiffer ts
 
@@ -63,7 +63,7 @@ none_named : (x : List ℕ) (ts : List TypedType) → AllByRecursion (λ y. byte
 none_named x [] h = tt
 none_named x (t ∷ ts) h = (h.0, none_named x ts h.1)
 
-types_differ : (ts : List TypedType) → IsDistinct bytes_eq (map (λ t. t.name) ts) → TypesDiffer ts
+pub types_differ : (ts : List TypedType) → IsDistinct bytes_eq (map (λ t. t.name) ts) → TypesDiffer ts
 types_differ [] h = tt
 types_differ (t ∷ ts) h = (none_named t.name ts (IsDistinct-head bytes_eq t.name (map (λ t. t.name) ts) h), types_differ ts (IsDistinct-tail bytes_eq t.name (map (λ t. t.name) ts) h))
 
@@ -71,7 +71,7 @@ none_at : (x : List ℕ) (front : List TypedType) (t : TypedType) (ts : List Typ
 none_at x [] t ts h = h.0
 none_at x (k ∷ front) t ts h = none_at x front t ts h.1
 
-named_here : (front : List TypedType) (t : TypedType) (ts : List TypedType) → TypesDiffer (front ++ t ∷ ts) → type_named (front ++ t ∷ ts) t.name ≡ Some t.desc
+pub named_here : (front : List TypedType) (t : TypedType) (ts : List TypedType) → TypesDiffer (front ++ t ∷ ts) → type_named (front ++ t ∷ ts) t.name ≡ Some t.desc
 named_here [] t ts d = ap (λ b. if b then Some t.desc else type_named ts t.name) (bytes_same t.name)
 named_here (k ∷ front) t ts d = ap (λ b. if b then Some k.desc else type_named (front ++ t ∷ ts) t.name) (bytes_sym t.name k.name ∙ none_at k.name front t ts d.0) ∙ named_here front t ts d.1
 

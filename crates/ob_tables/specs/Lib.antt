@@ -4,3 +4,4 @@ pub mod Families
 pub mod Redefined
 pub mod Image
 pub mod Settled
+pub mod Counted
