@@ -69,7 +69,7 @@ module _ (c : Setting) (a : Activation c) (n : ℕ) (call : Caller) (b : ℕ) wh
       by (pos zero) e = follows_stop c w (traps c a 16 (pos 0) w has none) (stands_any c st)
       by (negsuc l) e = follows_stop c w (traps c a 16 (pos 0) w has (below l)) (stands_any c st)
       by (pos (suc l)) e =
-          rw (positive l) (made_follows c a n call b (Opened (suc l) u) r p (suc l * words u) (code.with_a op.NewO (words u)) at pc (pos (suc l) ∷ x ∷ []) [] os s w (omega arith) has (long_is l e, ok) (subst (λ v. Sub (ArrayForm (suc l) u) v) (sym is) (opened (suc l))) (subst (λ v. LengthFits v true) (sym is) refl) refl here_p
+          rw (positive l) (made_follows c a n call b (Opened (suc l) u) r p (suc l * words u) (code.with_a op.NewO (words u)) at pc (pos (suc l) ∷ x ∷ []) [] os s w (omega arith) has (tt, (long_is l e, ok)) (subst (λ v. Sub (ArrayForm (suc l) u) v) (sym is) (opened (suc l))) (subst (λ v. LengthFits v true) (sym is) refl) refl here_p
           (λ there. rows.new_o_is c.img a.u a.m a.p (fb c a) pc w x (words u) l [] there) st)
 
   pub new_open_array_case : (d : Desig) (t : TypeRef) (e : Expr) (at : Pos) → PlaceFollows c a n call b d → ExprFollows c a n call b e → StmtFollows c a n call b (NewOpenArray d t e at)

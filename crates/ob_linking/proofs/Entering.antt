@@ -24,10 +24,11 @@ use Rattle.ob_standing.specs.Described.{IsDescribed}
 use Rattle.ob_standing.specs.Fits.{AmongTypes}
 use Rattle.ob_standing.proofs.Words.{local_sum}
 use Rattle.ob_standing.proofs.Entered.{variables_here}
+use Rattle.ob_linking.specs.Files.{Build, file_of}
 use Rattle.ob_linking.proofs.Lines.{lines_words, strings_stand}
 use Rattle.ob_linking.proofs.Statements.{module_words}
-use Rattle.ob_linking.proofs.Lookup.{IsAmong, among_more, all_at, map_at}
-use Rattle.ob_linking.proofs.TypeNumbers.{typed, NotOf, not_two, AreOf, others_not, none_counted, all_counted, none_at_all, past_others, own_number, numbers_at, numbers_past, added, linked_is, names_of, records_named, named_place, is_named, ones, length_named, bases_stay}
+use Rattle.ob_linking.proofs.Lookup.{IsAmong, among_more, among_last, none_in_front, none_at_last, all_at, map_at}
+use Rattle.ob_linking.proofs.TypeNumbers.{typed, AreMade, NotOf, not_two, AreOf, others_not, none_counted, all_counted, none_at_all, past_others, own_number, numbers_at, numbers_past, added, linked_is, names_of, records_named, named_place, is_named, ones, length_named, bases_stay}
 
 -- DESCRIPTORS OF LATER FILES are of other modules
 
@@ -56,7 +57,43 @@ later name img (f ∷ files) among h =
       others = not_two name a.descriptors r.descriptors (others_not name f.head.«module» (map (λ t. t.name) f.body.types) a.descriptors other a.are) r.others;
     }
 
--- THE TYPES OF A FILE in an image: those before it, its own and later ones
+-- THE TYPES OF A FILE in an image, which was so before it was entered
+
+-- no descriptor is of a module that is not there
+abbrev pub IsApart : Image → Type 0
+IsApart img = (name : List ℕ) → module_from 0 img.modules name ≡ None → NotOf name img.types
+
+pub apart_more : (img : Image) (f : ObjFile) → IsApart img → IsApart (entered img f)
+apart_more img f apart name e =
+    let u = module_of img f in
+    let a = added f.head.«module» (length img.types) (type_links img f) (length img.modules) img.types f.body.types in
+    subst (NotOf name) (sym a.is) (not_two name img.types a.descriptors (apart name (none_in_front 0 img.modules (u ∷ []) name e)) (others_not name f.head.«module» (map (λ t. t.name) f.body.types) a.descriptors (none_at_last 0 img.modules u name e) a.are))
+
+pub record TypesIn (b : Build) (img : Image) (all : List Descriptor) : Type 0 where
+  pub own : List Descriptor
+  pub behind : List Descriptor
+  pub is : all ≡ img.types ++ (own ++ behind)
+  pub none : NotOf b.unit.name img.types
+  pub are : AreOf b.unit.name (names_of b.unit.types) own
+  pub made : AreMade (length img.types) (type_links img (file_of b)) (file_of b).body.types own
+  pub others : NotOf b.unit.name behind
+
+pub types_in : (b : Build) (img : Image) (files : List ObjFile) → IsApart img → AreEnterable img (file_of b ∷ files) → TypesIn b img (image_of (entered img (file_of b)) files).types
+types_in b img files apart can =
+    let f = file_of b in
+    let a = added b.unit.name (length img.types) (type_links img f) (length img.modules) img.types f.body.types in
+    let l = later b.unit.name (entered img f) files (among_last img.modules (module_of img f)) can.1 in
+    record {
+      own = a.descriptors;
+      behind = l.descriptors;
+      is = l.is ∙ ap (λ t. t ++ l.descriptors) a.is ∙ append_assoc img.types a.descriptors l.descriptors;
+      none = apart b.unit.name can.0.new;
+      are = subst (λ n. AreOf b.unit.name n a.descriptors) (records_named b.types b.unit f.links.types b.unit.types) a.are;
+      made = a.made;
+      others = l.others;
+    }
+
+-- THEIR NUMBERS
 
 module _ (types : QName → Option Desc) (md : Module) (links : List QName) (before own behind all : List Descriptor) (is : all ≡ before ++ (own ++ behind)) (none : NotOf md.name before) (are : AreOf md.name (names_of md.types) own) (others : NotOf md.name behind) where
   pub own_is : own_types (within types md (body_of md)) ≡ own_types_in all md.name

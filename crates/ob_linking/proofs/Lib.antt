@@ -6,3 +6,15 @@ pub mod TypeNumbers
 pub mod Modules
 pub mod Entering
 pub mod Whole
+pub mod Described
+pub mod Made
+pub mod Linked
+pub mod Records
+pub mod Extends
+pub mod Few
+pub mod Standing
+pub mod Contents
+pub mod Commands
+pub mod SameCode
+pub mod SameStatements
+pub mod SameFile

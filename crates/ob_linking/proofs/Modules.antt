@@ -54,19 +54,23 @@ pub number_here : (front : List Procedure) (p : Procedure) (ps : List Procedure)
 number_here [] p ps d = ap (λ b. if b then 0 else suc (procedure_number ps p.name)) (bytes_same p.name)
 number_here (k ∷ front) p ps d = ap (λ b. if b then 0 else suc (procedure_number (front ++ p ∷ ps) p.name)) (bytes_sym p.name k.name ∙ none_at k.name front p ps d.0) ∙ ap suc (number_here front p ps d.1)
 
-module _ (c : Setting) (types : QName → Option Desc) (md : Module) where
-  commands_numbered : (front ps : List Procedure) (n : ℕ) → n ≡ suc (length front) → ProceduresDiffer (front ++ ps) → ProceduresChecked c types md ps → Numbered (λ x. x.name) (λ x. x.procedure) (procedure_index (front ++ ps)) (commands_among types md ps n)
-  commands_numbered front [] n e d h = tt
-  commands_numbered front (p ∷ ps) n e d h =
+module _ (types : QName → Option Desc) (md : Module) where
+  pub commands_all_numbered : (front ps : List Procedure) (n : ℕ) → n ≡ suc (length front) → ProceduresDiffer (front ++ ps) → AllByRecursion (λ p. IsNamed p.name) ps → Numbered (λ x. x.name) (λ x. x.procedure) (procedure_index (front ++ ps)) (commands_among types md ps n)
+  commands_all_numbered front [] n e d h = tt
+  commands_all_numbered front (p ∷ ps) n e d h =
       let is = append_assoc front (p ∷ []) ps in
-      let rest = commands_numbered (front ++ p ∷ []) ps (suc n) (ap suc (e ∙ sym (length_one front p))) (subst ProceduresDiffer (sym is) d) h.1 in
+      let rest = commands_all_numbered (front ++ p ∷ []) ps (suc n) (ap suc (e ∙ sym (length_one front p))) (subst ProceduresDiffer (sym is) d) h.1 in
       go (is_full p.mark && is_free p.binding)
-      (e ∙ ap suc (sym (number_here front p ps d)) ∙ index_named (front ++ p ∷ ps) p.name h.0.0)
+      (e ∙ ap suc (sym (number_here front p ps d)) ∙ index_named (front ++ p ∷ ps) p.name h.0)
       (subst (λ l. Numbered (λ x. x.name) (λ x. x.procedure) (procedure_index l) (commands_among types md ps (suc n))) is rest)
     where
       go : (b : Bool) → n ≡ procedure_index (front ++ p ∷ ps) p.name → Numbered (λ x. x.name) (λ x. x.procedure) (procedure_index (front ++ p ∷ ps)) (commands_among types md ps (suc n)) → Numbered (λ x. x.name) (λ x. x.procedure) (procedure_index (front ++ p ∷ ps)) (if b then record { name = p.name; procedure = n } ∷ commands_among types md ps (suc n) else commands_among types md ps (suc n))
       go true here more = (here, more)
       go false here more = more
+
+  all_named : (c : Setting) (ps : List Procedure) → ProceduresChecked c types md ps → AllByRecursion (λ p. IsNamed p.name) ps
+  all_named c [] h = tt
+  all_named c (p ∷ ps) h = (h.0.0, all_named c ps h.1)
 
   seen_numbered : (vs : List TypedVariable) → Numbered (λ x. x.name) (λ x. x.place) (variable_place (own types md)) (seen_variables types md vs)
   seen_numbered [] = tt
@@ -164,7 +168,7 @@ module _ (c : Setting) where
         let b = f.build in
         let u = f.module_image in
         let here : image.variables_in (module_at us (module_from 0 us l.«module»)) ≡ map (λ v. (v.name, u.first + v.place)) (variables b.types b.unit) = ap image.variables_in (found us l.«module» ∙ f.there) ∙ f.is.variables in
-        let numbered = order_numbered (λ v. v.name) (λ v. v.place) (variable_place (own b.types b.unit)) (λ a d. by_name a.name d.name) (seen_variables b.types b.unit b.unit.variables) (seen_numbered c b.types b.unit b.unit.variables) in
+        let numbered = order_numbered (λ v. v.name) (λ v. v.place) (variable_place (own b.types b.unit)) (λ a d. by_name a.name d.name) (seen_variables b.types b.unit b.unit.variables) (seen_numbered b.types b.unit b.unit.variables) in
         let is = named_is (λ v. v.name) (λ v. v.place) (variable_place (own b.types b.unit)) (λ n. u.first + n) (variables b.types b.unit) l.name numbered (subst (λ t. IsSome (named t l.name)) here s) in
         let place = globals_before b.types c.program f.rules.described b.unit.variables l.name in
         let first = f.is.first ∙ ap (λ x. suc (module_offset c.program c.program x)) f.named in
@@ -181,7 +185,7 @@ module _ (c : Setting) where
         let f = find_module 0 bs us rest l.«module» are rules some.0 in
         let b = f.build in
         let here : commands_in (module_at us (module_from 0 us l.«module»)) ≡ map (λ x. (x.name, x.procedure)) (commands b.types b.unit) = ap commands_in (found us l.«module» ∙ f.there) ∙ f.is.commands in
-        let numbered = order_numbered (λ x. x.name) (λ x. x.procedure) (procedure_index b.unit.procedures) (λ a d. by_name a.name d.name) (commands_among b.types b.unit b.unit.procedures 1) (commands_numbered c b.types b.unit [] b.unit.procedures 1 refl (procedures_differ b.unit.procedures f.rules.different) f.rules.checked) in
+        let numbered = order_numbered (λ x. x.name) (λ x. x.procedure) (procedure_index b.unit.procedures) (λ a d. by_name a.name d.name) (commands_among b.types b.unit b.unit.procedures 1) (commands_all_numbered b.types b.unit [] b.unit.procedures 1 refl (procedures_differ b.unit.procedures f.rules.different) (all_named b.types b.unit c b.unit.procedures f.rules.checked)) in
         let is = named_is (λ x. x.name) (λ x. x.procedure) (procedure_index b.unit.procedures) (λ n. n) (commands b.types b.unit) l.name numbered (subst (λ t. IsSome (named t l.name)) here some.1) in
         let number : module_from 0 us l.«module» ≡ Some (module_number c.program l.«module») = f.number ∙ ap (λ k. Some k) (let z : 0 + module_number (units bs ++ rest) l.«module» ≡ module_number (units bs ++ rest) l.«module» = omega arith in z) ∙ ap (λ p. Some (module_number p l.«module»)) (sym whole) in
         let held = ap (λ p. procedures_in p l.«module») whole ∙ f.procedures in

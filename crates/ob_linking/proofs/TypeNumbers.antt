@@ -1,6 +1,6 @@
 -- The descriptors of a file's record types: how many they are, and their numbers by their names.
 use Rattle.std.proofs.Common.{◌≡◌, ℕ, zero, suc, ◌+◌, List, [], ◌∷◌, ◌++◌, length, map, refl, sym, ap, ◌∙◌, arith, append_assoc, append-nil, Option, Some, None}
-use Rattle.std.specs.Prelude.{Bool, true, false, bytes_eq, ◌&&◌, slice_get, IsSome, if◌then◌else◌}
+use Rattle.std.specs.Prelude.{◌<◌, unwrap_or, Bool, true, false, bytes_eq, ◌&&◌, slice_get, IsSome, if◌then◌else◌}
 use Rattle.std.proofs.lemmas.Option.{none-some}
 use Rattle.ob_tree.specs.declared.names.QName.{QName}
 use Rattle.ob_types.specs.declared.desc.Desc.{Desc}
@@ -9,7 +9,7 @@ use Rattle.ob_types.specs.declared.typed.TypedType.{TypedType}
 use Rattle.ob_types.specs.TypedSyntax.{Module}
 use Rattle.ob_tdesc.specs.declared.descriptor.Descriptor.{Descriptor}
 use Rattle.ob_obj.specs.declared.parts.RecordType.{RecordType}
-use Rattle.ob_obj.specs.Images.{same, type_from, linked_type, or_zero, descriptor_of, with_types, numbers}
+use Rattle.ob_obj.specs.Images.{same, type_from, linked_type, or_zero, base_number, descriptor_of, with_types, numbers}
 use Rattle.ob_layout.specs.Lists.{sum_of}
 use Rattle.ob_code.specs.Context.{before, is_record, records_among}
 use Rattle.ob_code.specs.Numbers.{same_type, with_one}
@@ -105,19 +105,25 @@ pub numbers_past : (n j : ℕ) (l : List ℕ) (k : ℕ) → slice_get (numbers n
 numbers_past n zero l k = ap (slice_get l) (let e : 0 + k ≡ k = omega arith in e)
 numbers_past n (suc j) l k = ap (slice_get (n ∷ (numbers (suc n) j ++ l))) (let e : suc j + k ≡ suc (j + k) = omega arith in e) ∙ numbers_past (suc n) j l k
 
--- THE DESCRIPTORS OF A FILE
+-- THE DESCRIPTORS OF A FILE, with the words and the bases of its record types
 
-pub record Added (m : List ℕ) (types all : List Descriptor) (own : List RecordType) : Type 0 where
+abbrev pub AreMade : ℕ → List ℕ → List RecordType → List Descriptor → Type 0
+AreMade first links [] ds = Unit {0}
+AreMade first links (t ∷ ts) [] = ⊥
+AreMade first links (t ∷ ts) (d ∷ ds) = ((d.words ≡ t.words) × (d.base ≡ base_number first links t.base)) × AreMade first links ts ds
+
+pub record Added (m : List ℕ) (first : ℕ) (links : List ℕ) (types all : List Descriptor) (own : List RecordType) : Type 0 where
   pub descriptors : List Descriptor
   pub is : all ≡ types ++ descriptors
   pub are : AreOf m (map (λ t. t.name) own) descriptors
+  pub made : AreMade first links own descriptors
 
-pub added : (m : List ℕ) (first : ℕ) (links : List ℕ) (k : ℕ) (types : List Descriptor) (own : List RecordType) → Added m types (with_types m first links k types own) own
-added m first links k types [] = record { descriptors = []; is = sym (append-nil types); are = tt }
+pub added : (m : List ℕ) (first : ℕ) (links : List ℕ) (k : ℕ) (types : List Descriptor) (own : List RecordType) → Added m first links types (with_types m first links k types own) own
+added m first links k types [] = record { descriptors = []; is = sym (append-nil types); are = tt; made = tt }
 added m first links k types (t ∷ own) =
     let d = descriptor_of m first links types k t in
     let r = added m first links k (types ++ d ∷ []) own in
-    record { descriptors = d ∷ r.descriptors; is = r.is ∙ append_assoc types (d ∷ []) r.descriptors; are = (refl, (refl, r.are)) }
+    record { descriptors = d ∷ r.descriptors; is = r.is ∙ append_assoc types (d ∷ []) r.descriptors; are = (refl, (refl, r.are)); made = ((refl, refl), r.made) }
 
 -- LINKED TYPES
 
@@ -135,6 +141,21 @@ from_is n (d ∷ ds) es q s =
 
 pub linked_is : (ds es : List Descriptor) (q : QName) → IsSome (linked_type ds q) → or_zero (linked_type ds q) ≡ type_number (ds ++ es) q
 linked_is ds es q s = ap or_zero (from_is 0 ds es q s) ∙ (let e : 0 + type_number (ds ++ es) q ≡ type_number (ds ++ es) q = omega arith in e)
+
+-- and its descriptor is there
+from_below : (n : ℕ) (ds : List Descriptor) (q : QName) (k : ℕ) → type_from n ds q ≡ Some k → k < n + length ds
+from_below n [] q k e = absurd (none-some _ e)
+from_below n (d ∷ ds) q k e = go (same q.«module» d.«module» && same q.object d.name) e (λ f. from_below (suc n) ds q k f)
+  where
+    inside : (a b : ℕ) → Some a ≡ Some b → a ≡ b
+    inside a b f = ap (λ o. unwrap_or o a) f
+
+    go : (b : Bool) → (if b then Some n else type_from (suc n) ds q) ≡ Some k → (type_from (suc n) ds q ≡ Some k → k < suc n + length ds) → k < n + suc (length ds)
+    go true e more = let i = inside n k e in omega (arith, i)
+    go false e more = let m = more e in omega (arith, m)
+
+pub linked_below : (ds es : List Descriptor) (q : QName) → IsSome (linked_type ds q) → type_number (ds ++ es) q < length ds
+linked_below ds es q s = let b = from_below 0 ds q (0 + type_number (ds ++ es) q) (from_is 0 ds es q s) in omega (arith, b)
 
 -- THE RECORD TYPES OF A MODULE
 

@@ -14,7 +14,8 @@ use Rattle.ob_relation.specs.Setting.{Setting}
 use Rattle.ob_standing.specs.Described.{IsDescribed}
 use Rattle.ob_standing.specs.Compiled.{ProceduresChecked, AllCompiled}
 
--- a module as it was compiled: by these descriptions of types, to a file with these exports and uses
+-- A module as it was compiled, to a file with these exports and uses. The descriptions are of all types of the program, those too that the
+-- module does not know: where they say the same of what it names as those that it was compiled with, its file is the same.
 pub record Build : Type 0 where
   pub types : QName → Option Desc
   pub unit : Module
@@ -31,9 +32,10 @@ empty room = record { modules = []; types = []; next = 1; room = room }
 -- The modules of the program have become the first files of the image, in their order, and each file could be entered behind those
 -- before it: its module was new, and each of its links named what a module before it exports. This is what an accepted plan gives.
 pub record AreFiles (c : Setting) (builds : List Build) (more : List ObjFile) : Type 0 where
+  pub room : Room
   pub program : c.program ≡ map (λ b. b.unit) builds
-  pub image : c.img ≡ image_of (empty c.img.room) (map file_of builds ++ more)
-  pub enterable : AreEnterable (empty c.img.room) (map file_of builds ++ more)
+  pub image : c.img ≡ image_of (empty room) (map file_of builds ++ more)
+  pub enterable : AreEnterable (empty room) (map file_of builds ++ more)
 
 -- what the rules owe of each module: its descriptions say what types are, its procedures are checked, and their names differ
 pub record KeepsRules (c : Setting) (b : Build) : Type 0 where

@@ -17,7 +17,7 @@ use Rattle.ob_meaning.specs.Values.{Form, PointerForm, form_in, record_in, is_am
 use Rattle.ob_meaning.specs.Results.{Trapped, Gives, Stops, read, assign, Caller}
 use Rattle.ob_meaning.specs.Meaning.{choose, place, pointee_type, guarded_place, is_extension}
 use Rattle.ob_relation.specs.Layout.{static_held, type_number, has_length_at, object_at, address, place_form}
-use Rattle.ob_relation.specs.Relation.{LengthFits, Fine, IsPointer as PointsTo, word_of, Scalar, PlaceIn, PlaceOf, Sub, itself}
+use Rattle.ob_relation.specs.Relation.{IsStructure, LengthFits, Fine, IsPointer as PointsTo, word_of, Scalar, PlaceIn, PlaceOf, Sub, itself}
 use Rattle.ob_relation.specs.Need.{need_place, need_tagged}
 use Rattle.ob_relation.specs.Ends.{end_place, end_expr}
 use Rattle.ob_relation.specs.Stands as code
@@ -220,7 +220,7 @@ module _ (c : Setting) (a : Activation c) (n : ℕ) (call : Caller) (b : ℕ) wh
       let ex : Ex c [] x ≡ tag (type_number c.img.types q) ∷ [] = ap (λ t. Ex c [] (Whole t)) ok.1.1.1 in
       follows_bind c (ih pc k [] os s w (omega (arith, le)) has.0 ok.0 (subst (λ u. Scalar u) (sym ok.1.0.1) tt) st) λ p s1 w1 k1.
       let own = pointer_of (T d) (form_at s1 p) r k1.0.0.1.1 ok.1.0.1 in
-      follows_bind c (made_follows c a n call b x own.own p ts.descriptor.words (code.with_a op.NewR has.1.type.number) at p1 (pos (address_at s1 p) ∷ []) [] os s1 w1 (omega arith) (record { has = has.1.type.has; place = has.1.place }) ts.ok (own.takes (record_in c.program q) (subst (λ u. Sub u (form_in c.program r)) ok.1.0.2 itself)) (own.fits false (subst (λ u. LengthFits u false) (sym (ok.1.0.2 ∙ ok.1.1.1)) tt)) ts.size (k1.0.0.0, subst (λ u. Sub (form_at s1 p) u) own.is itself)
+      follows_bind c (made_follows c a n call b x own.own p ts.descriptor.words (code.with_a op.NewR has.1.type.number) at p1 (pos (address_at s1 p) ∷ []) [] os s1 w1 (omega arith) (record { has = has.1.type.has; place = has.1.place }) (subst (λ u. IsStructure u) (sym ok.1.1.1) tt, ts.ok) (own.takes (record_in c.program q) (subst (λ u. Sub u (form_in c.program r)) ok.1.0.2 itself)) (own.fits false (subst (λ u. LengthFits u false) (sym (ok.1.0.2 ∙ ok.1.1.1)) tt)) ts.size (k1.0.0.0, subst (λ u. Sub (form_at s1 p) u) own.is itself)
       (λ there. rows.new_r_is c.img a.u a.m a.p (fb c a) p1 w1 (pos (address_at s1 p)) has.1.type.number (type_number c.img.types q) ts.descriptor [] has.1.type.is ts.found there ∙ ap (λ e. made (pos (address_at s1 p)) e ts.descriptor.words [] w1) (sym ex)) k1.1)
       λ u s2 w2 k2. follows_value c w2 (here c _) (tt, k2)
 

@@ -8,7 +8,7 @@ use Rattle.ob_instr.specs.Image.{World}
 use Rattle.ob_meaning.specs.Values.{changed_at, first, words, Active, AnObject, Whole, Opened, State}
 use Rattle.ob_meaning.specs.Meaning.{cost_of, costs_of, first_object}
 use Rattle.ob_relation.specs.Layout.{object_form, extra_words, object_at, object_offset, has_length, has_length_at}
-use Rattle.ob_relation.specs.Relation.{FormOk}
+use Rattle.ob_relation.specs.Relation.{ObjectOk}
 use Rattle.ob_relation.proofs.Names.{nat_same}
 use Rattle.ob_relation.proofs.Parts.{F, W}
 use Rattle.ob_relation.proofs.Places.{Cs, Os, Ex, extra-length, cost_is, calls-length, objects-length, other_objects, other_objects_fine}
@@ -38,7 +38,7 @@ module _ (c : Setting) where
   abbrev pub taken_words : AnObject → World → List ℤ
   taken_words x w = with_words (with_words w.words (pos w.heap) (replicate (cost_of x) (pos 0))) (pos w.heap) (Ex c [] x)
 
-  pub object_stands : (cs : List Active) (x : AnObject) (s : State) (w : World) → StandIn c cs s w → FormOk c.program (object_form x) → costs_of (x ∷ s.made) ≤ c.heap → StandIn c cs (with_it x s) (record w { words = taken_words x w; heap = w.heap + cost_of x })
+  pub object_stands : (cs : List Active) (x : AnObject) (s : State) (w : World) → StandIn c cs s w → ObjectOk c.program (object_form x) → costs_of (x ∷ s.made) ≤ c.heap → StandIn c cs (with_it x s) (record w { words = taken_words x w; heap = w.heap + cost_of x })
   object_stands cs x s w st ok fits =
       let gr = grown s.made x in
       let all = x ∷ s.made in
@@ -68,7 +68,7 @@ module _ (c : Setting) where
       let e = nat_same (length s.made) in
       let top : objects2 (length s.made) ≡ first t = ap (λ b. if b then first_object x else s.store.objects (length s.made)) e ∙ first_is x in
       let old : Os c all s.made objects2 ≡ O = other_objects c all s.made s.store.objects (length s.made) (first_object x) (omega arith) ∙ objects_same c s.made all gr s.made s.store.objects st.objects_fine in
-      let heap_words : Os c all all objects2 ≡ O ++ (ex ++ zeros (words t)) = ap (λ l. l ++ (Ex c all x ++ W c all t (objects2 (length s.made)))) old ∙ ap (λ v. O ++ (ex ++ W c all t v)) top ∙ ap (λ l. O ++ (ex ++ l)) (first_words c all t ok) in
+      let heap_words : Os c all all objects2 ≡ O ++ (ex ++ zeros (words t)) = ap (λ l. l ++ (Ex c all x ++ W c all t (objects2 (length s.made)))) old ∙ ap (λ v. O ++ (ex ++ W c all t v)) top ∙ ap (λ l. O ++ (ex ++ l)) (first_words c all t ok.1) in
       let m_same = modules_same c s.made all gr c.program s.store.globals st.modules_fine in
       let c_same = calls_same c s.made all gr s.store.locals cs st.calls_fine in
       let whole : front ++ (ex ++ (zeros (words t) ++ free)) ≡ A ++ (c.behind ++ (K ++ (st.stack_free ++ ((O ++ (ex ++ zeros (words t))) ++ free)))) = simp append_assoc in
@@ -85,5 +85,5 @@ module _ (c : Setting) where
         out = st.out;
         modules_fine = modules_more c s.made all gr c.program s.store.globals st.modules_fine;
         calls_fine = calls_more c s.made all gr s.store.locals cs st.calls_fine;
-        objects_fine = (other_objects_fine c all s.made s.store.objects (length s.made) (first_object x) (omega arith) (objects_more c s.made all gr s.made s.store.objects st.objects_fine), (ok, subst (λ v. F c all t v) (sym top) (first_fine c all t ok)));
+        objects_fine = (other_objects_fine c all s.made s.store.objects (length s.made) (first_object x) (omega arith) (objects_more c s.made all gr s.made s.store.objects st.objects_fine), (ok, subst (λ v. F c all t v) (sym top) (first_fine c all t ok.1)));
       }

@@ -31,7 +31,7 @@ module _ (c : Setting) where
   object_form_ok all (x ∷ xs) g n lt fine = go (nat_eq n (length xs)) refl (λ l. object_form_ok all xs g n l fine.0)
     where
       go : (b : Bool) → nat_eq n (length xs) ≡ b → (n < length xs → FormOk c.program (object_at xs n)) → FormOk c.program (if b then object_form x else object_at xs n)
-      go true e rest = fine.1.0
+      go true e rest = fine.1.0.1
       go false e rest = rest (grind (arith, nat_tests))
 
   module _ (cs : List Active) (s : State) (w : World) (st : StandIn c cs s w) where

@@ -18,7 +18,7 @@ use Rattle.ob_meaning.specs.Values.{Form, PointerForm, form_in, record_in, words
 use Rattle.ob_meaning.specs.Results.{Trapped, Stops, Caller}
 use Rattle.ob_meaning.specs.Meaning.{pointee, choose, cost_of, costs_of, make, with_object}
 use Rattle.ob_relation.specs.Layout.{type_number, object_form, extra_words, object_at, object_offset, has_length, has_length_at, address, place_form, heap_start}
-use Rattle.ob_relation.specs.Relation.{Fine, FormOk, LengthFits, word_of, Scalar, PlaceOf, Sub, itself}
+use Rattle.ob_relation.specs.Relation.{IsStructure, ObjectOk, Fine, FormOk, LengthFits, word_of, Scalar, PlaceOf, Sub, itself}
 use Rattle.ob_relation.specs.Ends.{end_place}
 use Rattle.ob_relation.specs.Stands as code
 use Rattle.ob_relation.proofs.Names.{nat_same}
@@ -72,7 +72,7 @@ module _ (c : Setting) (a : Activation c) (n : ℕ) (call : Caller) (b : ℕ) wh
 
   -- NEW
 
-  pub made_follows : (x : AnObject) (r : TypeRef) (p : Place) (size : ℕ) (i : Instr) (at : Pos) (pc : ℕ) (before ops : List ℤ) (os : List AnObject) (s : State) (w : World) → length ops ≤ 256 → code.HasAt (scope c a) pc i at → FormOk c.program (object_form x) → Sub (object_form x) (form_in c.program r) → LengthFits (form_in c.program r) (has_length x) → size ≡ words (object_form x) → PlaceOf c.program (has_of c) c.img s.made (K c a) (PointerForm r) p → (are_there (length w.words) (pos (address c.program c.img s.made (K c a) p)) 1 ≡ true → effect c a pc before w i ≡ made (pos (address c.program c.img s.made (K c a) p)) (Ex c [] x) size ops w) → Kp os s w →
+  pub made_follows : (x : AnObject) (r : TypeRef) (p : Place) (size : ℕ) (i : Instr) (at : Pos) (pc : ℕ) (before ops : List ℤ) (os : List AnObject) (s : State) (w : World) → length ops ≤ 256 → code.HasAt (scope c a) pc i at → ObjectOk c.program (object_form x) → Sub (object_form x) (form_in c.program r) → LengthFits (form_in c.program r) (has_length x) → size ≡ words (object_form x) → PlaceOf c.program (has_of c) c.img s.made (K c a) (PointerForm r) p → (are_there (length w.words) (pos (address c.program c.img s.made (K c a) p)) 1 ≡ true → effect c a pc before w i ≡ made (pos (address c.program c.img s.made (K c a) p)) (Ex c [] x) size ops w) → Kp os s w →
       Follows c (go c a pc before w) (λ u s w. go c a (suc pc) ops w) (λ u s w. Kp os s w) (make x p (here_in c a n call b) at s)
   made_follows x r p size i at pc before ops os s w le has ok is fits words_are here_p row st = by (nat_le (costs_of (x ∷ s.made)) c.heap) refl
     where
@@ -130,7 +130,7 @@ module _ (c : Setting) (a : Activation c) (n : ℕ) (call : Caller) (b : ℕ) wh
       let no_length : LengthFits (form_in c.program r) false = subst (λ u. LengthFits u false) (sym (ok.1.0.2 ∙ ok.1.1.2)) tt in
       follows_bind c (ih pc k [] os s w (omega (arith, le)) has.0 ok.0 st) λ p s1 w1 k1.
       let x = pos (address c.program c.img s1.made (K c a) p) in
-      follows_bind c (made_follows (Whole u) r p (words u) (code.with_a op.NewA (words u)) at p1 (x ∷ []) [] os s1 w1 (omega arith) has.1 (subst (λ u. FormOk c.program u) (sym ok.1.1.2) ok.1.1.3) (subst (λ v. Sub u v) (sym ok.1.0.2) itself) no_length refl (subst (λ u. PlaceOf c.program (has_of c) c.img s1.made (K c a) u p) ok.1.0.1 k1.0)
+      follows_bind c (made_follows (Whole u) r p (words u) (code.with_a op.NewA (words u)) at p1 (x ∷ []) [] os s1 w1 (omega arith) has.1 (subst (λ u. ObjectOk c.program u) (sym ok.1.1.2) (tt, ok.1.1.3)) (subst (λ v. Sub u v) (sym ok.1.0.2) itself) no_length refl (subst (λ u. PlaceOf c.program (has_of c) c.img s1.made (K c a) u p) ok.1.0.1 k1.0)
       (λ there. rows.new_a_is c.img a.u a.m a.p (fb c a) p1 w1 x (words u) [] there ∙ ap (λ e. made x e (words u) [] w1) (sym no_tag)) k1.1)
       λ u s2 w2 k2. follows_value c w2 (here c _) (tt, k2)
 
@@ -143,6 +143,6 @@ module _ (c : Setting) (a : Activation c) (n : ℕ) (call : Caller) (b : ℕ) wh
       let ex : Ex c [] x ≡ tag (type_number c.img.types q) ∷ [] = ap (λ t. Ex c [] (Whole t)) ok.1.1.1 in
       let no_length : LengthFits (form_in c.program r) false = subst (λ u. LengthFits u false) (sym (ok.1.0.2 ∙ ok.1.1.1)) tt in
       follows_bind c (ih pc k [] os s w (omega (arith, le)) has.0 ok.0 st) λ p s1 w1 k1.
-      follows_bind c (made_follows x r p ts.descriptor.words (code.with_a op.NewR has.1.type.number) at p1 (pos (address c.program c.img s1.made (K c a) p) ∷ []) [] os s1 w1 (omega arith) (record { has = has.1.type.has; place = has.1.place }) ts.ok (subst (λ v. Sub (record_in c.program q) v) (sym ok.1.0.2) itself) no_length ts.size (subst (λ u. PlaceOf c.program (has_of c) c.img s1.made (K c a) u p) ok.1.0.1 k1.0)
+      follows_bind c (made_follows x r p ts.descriptor.words (code.with_a op.NewR has.1.type.number) at p1 (pos (address c.program c.img s1.made (K c a) p) ∷ []) [] os s1 w1 (omega arith) (record { has = has.1.type.has; place = has.1.place }) (subst (λ u. IsStructure u) (sym ok.1.1.1) tt, ts.ok) (subst (λ v. Sub (record_in c.program q) v) (sym ok.1.0.2) itself) no_length ts.size (subst (λ u. PlaceOf c.program (has_of c) c.img s1.made (K c a) u p) ok.1.0.1 k1.0)
       (λ there. rows.new_r_is c.img a.u a.m a.p (fb c a) p1 w1 (pos (address c.program c.img s1.made (K c a) p)) has.1.type.number (type_number c.img.types q) ts.descriptor [] has.1.type.is ts.found there ∙ ap (λ e. made (pos (address c.program c.img s1.made (K c a) p)) e ts.descriptor.words [] w1) (sym ex)) k1.1)
       λ u s2 w2 k2. follows_value c w2 (here c _) (tt, k2)

@@ -39,6 +39,15 @@ Scalar (ArrayForm n t) = ⊥
 Scalar (OpenForm t) = ⊥
 Scalar (RecordForm line fs) = ⊥
 
+-- what objects are made as: arrays and records
+abbrev pub IsStructure : Form → Type 0
+IsStructure (BasicForm b) = ⊥
+IsStructure (PointerForm t) = ⊥
+IsStructure (ProcedureForm sig) = ⊥
+IsStructure (ArrayForm n t) = Unit {0}
+IsStructure (OpenForm t) = ⊥
+IsStructure (RecordForm line fs) = Unit {0}
+
 abbrev pub FieldIn : Fields → QName → List ℕ → Type 0
 FieldIn NoField o x = ⊥
 FieldIn (AField owner name t fs) o x = OrElse (bytes_eq x name && same_name o owner) (Unit {0}) (FieldIn fs o x)
@@ -143,6 +152,9 @@ module _ (program : Program) where
     pub FieldsOk : Fields → Type 0
     FieldsOk NoField = Unit {0}
     FieldsOk (AField owner name t fs) = FreshField owner name fs × (FormOk t × FieldsOk fs)
+
+  abbrev pub ObjectOk : Form → Type 0
+  ObjectOk t = IsStructure t × FormOk t
 
   -- a procedure that is there, of a signature (its declared one is compared by the program's own rules)
   abbrev pub IsProcedure : (Signature → QName → Type 0) → Signature → Value → Type 0
@@ -286,7 +298,7 @@ module _ (program : Program) where
 
       abbrev pub ObjectsFine : List AnObject → List AnObject → (ℕ → Value) → Type 0
       ObjectsFine all [] g = Unit {0}
-      ObjectsFine all (x ∷ xs) g = ObjectsFine all xs g × (FormOk (object_form x) × Fine all (object_form x) (g (length xs)))
+      ObjectsFine all (x ∷ xs) g = ObjectsFine all xs g × (ObjectOk (object_form x) × Fine all (object_form x) (g (length xs)))
 
       -- MODULES, each with its variables and the strings behind them
 

@@ -1,8 +1,5 @@
-pub mod Folds
-pub mod Files
 pub mod Found
 pub mod Counting
-pub mod Bytes
 pub mod Does
 pub mod Running
 pub mod Session

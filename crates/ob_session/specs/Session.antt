@@ -1,49 +1,11 @@
 -- The words of the session's contract.
-use Rattle.std.specs.Prelude.{◌≡◌, ℕ, ◌+◌, ◌≤◌, List, [], ◌∷◌, ◌++◌, Bool, true, false, ◌||◌, nat_lt, nat_eq, length, take, ◌⊎◌}
+use Rattle.std.specs.Prelude.{◌≡◌, ℕ, ◌+◌, ◌≤◌, List, ◌++◌, Bool, false, length}
 use Rattle.ob_io.specs.Io.{Rose, SameFiles}
 use Rattle.ob_link.specs.Files.{Files}
 use Rattle.ob_printing.specs.declared.stop.Stop.{Stop}
 use Rattle.ob_printing.specs.declared.stop.Stop.TheVariants.{Sink, Folder, Memory}
-use Rattle.ob_lines.specs.Lines.{done_lines, line_of}
-use Rattle.ob_session.specs.Folds.{Answer, Answers, text_from, changes_from, world_from, refused_from, session_text, session_status, session_changes}
-
--- the statuses of a session that was not cut short
-abbrev pub is_whole : ℕ → Bool
-is_whole status = nat_lt status 2 || nat_eq status 7
-
--- A kind of session, seen from outside: its answers, its first world, and what its changes make of files.
-pub record Kind (W C : Type 0) : Type 0 where
-  pub answer : Answers W C
-  pub first : W
-  pub make : Files → List C → Files
-
--- the answer to the next of some lines; where there is none, nothing is done
-abbrev pub next_of : {W C : Type 0} → Answers W C → W → ℕ → List (List ℕ) → Answer W C
-next_of answer w n [] = record { world = w; changes = []; opening = []; text = []; refused = false }
-next_of answer w n (l ∷ ls) = answer w n (line_of l)
-
--- Of the lines that are done these were done whole, and of the next one a piece of its text was written and the first of its
--- changes were made. Where memory was wanting none was made, and the piece is at most the first line of a demo; where the folder
--- failed nothing of it was written; where the sink failed all its changes were made; where the script failed nothing of it was done.
-pub record IsCut {W C : Type 0} (kind : Kind W C) (before now : List ℕ) (old new : Files) (lines : List (List ℕ)) (status : ℕ) : Type 0 where
-  pub past : List (List ℕ)
-  pub rest : List (List ℕ)
-  pub piece : List ℕ
-  pub left : List ℕ
-  pub made : ℕ
-  pub split : lines ≡ past ++ rest
-  pub written : now ≡ before ++ (text_from kind.answer kind.first 1 past ++ piece)
-  pub front : (next_of kind.answer (world_from kind.answer kind.first 1 past) (1 + length past) rest).text ≡ piece ++ left
-  pub files : SameFiles new (kind.make old (changes_from kind.answer kind.first 1 past ++ take made (next_of kind.answer (world_from kind.answer kind.first 1 past) (1 + length past) rest).changes))
-  pub sink : status ≡ 4 → length (next_of kind.answer (world_from kind.answer kind.first 1 past) (1 + length past) rest).changes ≤ made
-  pub memory : status ≡ 5 → (made ≡ 0) × ((piece ≡ []) ⊎ (piece ≡ (next_of kind.answer (world_from kind.answer kind.first 1 past) (1 + length past) rest).opening))
-  pub folder : status ≡ 6 → piece ≡ []
-  pub read : status ≡ 3 → (made ≡ 0) × (piece ≡ [])
-
--- How a session of a kind ends over this script: whole, or cut short.
-pub record Ends {W C : Type 0} (kind : Kind W C) (before now : List ℕ) (old new : Files) (script : List ℕ) (status : ℕ) : Type 0 where
-  pub whole : is_whole status ≡ true → (now ≡ before ++ session_text kind.answer kind.first script) × (status ≡ session_status kind.answer kind.first script) × SameFiles new (kind.make old (session_changes kind.answer kind.first script))
-  pub cut : 3 ≤ status → status ≤ 6 → IsCut kind before now old new (done_lines script) status
+use Rattle.ob_bytes.specs.Folds.{text_from, changes_from, world_from, refused_from}
+use Rattle.ob_bytes.specs.Session.{Kind}
 
 -- which status comes only where a count of faults rose
 pub record Causes (script script_now sink sink_now folder folder_now status : ℕ) : Type 0 where

@@ -4,15 +4,12 @@ use Rattle.ob_link.specs.Files.{Files}
 use Rattle.ob_load.specs.Standing.{Standing}
 use Rattle.ob_lines.specs.Lines.{lines_of, within, exceeds, done_lines}
 use Rattle.ob_words.specs.declared.asked.Settings.{Settings}
-use Rattle.ob_session.specs.Folds.{text_from}
-use Rattle.ob_session.specs.Bytes.{World, Change, answer, start, changed}
+use Rattle.ob_bytes.specs.Folds.{text_from}
+use Rattle.ob_bytes.specs.Bytes.{World, answer, start}
 use Rattle.ob_session.specs.Does.{Shows}
 use Rattle.ob_pieces.specs.Reading.{ended}
-use Rattle.ob_session.specs.Session.{Kind, Going}
-
--- the session over bytes, with these settings and over these files
-abbrev pub bytes : Settings → Files → Kind World Change
-bytes s files = record { answer = answer s; first = start s files; make = changed }
+use Rattle.ob_bytes.specs.Session.{bytes}
+use Rattle.ob_session.specs.Session.{Going}
 
 -- The session stands behind so many bytes of a script, with these left: behind whole lines that ended, but where it is behind the last.
 pub record Goes (s : Settings) (before now : List ℕ) (old there : Files) (script : List ℕ) (system : Standing) (n at : ℕ) (left : List ℕ) (refused last : Bool) : Type 0 where

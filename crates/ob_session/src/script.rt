@@ -5,10 +5,11 @@ ghost use Rattle.ob_link.specs.Files.{Files};
 ghost use Rattle.ob_lines.specs.Lines.{line_of};
 ghost use Rattle.ob_words.specs.declared.asked.Settings.{Settings as TheSettings};
 ghost use Rattle.ob_words.specs.Settings.{settings_of};
-ghost use Rattle.ob_session.specs.Bytes.{World, answer, start};
+ghost use Rattle.ob_bytes.specs.Bytes.{World, answer, start};
 ghost use Rattle.ob_session.specs.Does.{Shows, LineDoes, Cause};
-ghost use Rattle.ob_session.specs.Stand.{bytes, Pieces};
-ghost use Rattle.ob_session.specs.Session.{Ends, Causes, StatusIs};
+ghost use Rattle.ob_bytes.specs.Session.{bytes, Ends};
+ghost use Rattle.ob_session.specs.Stand.{Pieces};
+ghost use Rattle.ob_session.specs.Session.{Causes, StatusIs};
 
 use crate::line::do_line;
 use ob_io::{Folder, Sink, Source};

@@ -91,5 +91,5 @@ module _ (c : Setting) where
 -- THE LAW
 pub bases_from_files : BasesFromFiles
 bases_from_files c builds more files built declared =
-    bases_stand c built (found_from c [] (empty c.img.room) builds more (record { none = λ name e. tt; based = tt; there = λ q r e. absurd (cc) }) files.program files.image files.enterable declared)
-    (subst (λ (i : Image). length i.types < 2147483648) (sym files.image) (few_enough _ (few_from (empty c.img.room) _ (record { modules = omega arith; types = omega arith }) files.enterable)))
+    bases_stand c built (found_from c [] (empty files.room) builds more (record { none = λ name e. tt; based = tt; there = λ q r e. absurd (cc) }) files.program files.image files.enterable declared)
+    (subst (λ (i : Image). length i.types < 2147483648) (sym files.image) (few_enough _ (few_from (empty files.room) _ (record { modules = omega arith; types = omega arith }) files.enterable)))

@@ -83,12 +83,12 @@ program_from_files c builds more files rules = record {
   image = record {
     linked = λ q p e. (procedures q p e).stands;
     types = λ q line e.
-        let t = size_from c [] (empty c.img.room) builds more (record { none = λ name e. tt; based = tt; there = λ q r e. absurd (cc) }) tt files.program files.image files.enterable rules.bases rules.sizes q (line, e) in
+        let t = size_from c [] (empty files.room) builds more (record { none = λ name e. tt; based = tt; there = λ q r e. absurd (cc) }) tt files.program files.image files.enterable rules.bases rules.sizes q (line, e) in
         record { ok = rules.forms q (line, e); descriptor = t.descriptor; found = t.found; size = t.size };
     bases = bases_from_files c builds more files rules.built rules.bases;
     numbered = λ s q has.
         let v = rules.values s q has in
-        numbered c few builds compiled (all_few (empty c.img.room) builds more files.enterable) q v.0 v.1 (ap (λ l. procedure_of l q) (sym files.program) ∙ v.1);
+        numbered c few builds compiled (all_few (empty files.room) builds more files.enterable) q v.0 v.1 (ap (λ l. procedure_of l q) (sym files.program) ∙ v.1);
     match = rules.match;
     tables = λ q p e. (procedures q p e).tables;
     families = families_stand c rules.built rules.redefinitions;
@@ -100,7 +100,7 @@ program_from_files c builds more files rules = record {
     compiled = builds_compiled c builds more files rules.modules
 
     few : Few c.img
-    few = subst Few (sym files.image) (few_from (empty c.img.room) (map file_of builds ++ more) (record { modules = omega arith; types = omega arith }) files.enterable)
+    few = subst Few (sym files.image) (few_from (empty files.room) (map file_of builds ++ more) (record { modules = omega arith; types = omega arith }) files.enterable)
 
     all_tables : (bs : List Build) → AllFamiliesDeclared c.program rules.number bs → ((types : QName → Option Desc) → NumbersAgree c.program rules.number types → TablesStand c (λ f. method_number types f.owner f.name)) → AllTables c bs
     all_tables [] h t = tt

@@ -97,7 +97,7 @@ module _ (c : Setting) (built : BasesBuilt c.program) (number : Family → ℕ) 
 -- THE LAW
 pub tables_from_files : TablesFromFiles
 tables_from_files c builds more files rules built declared number differ families types agree t f q is e =
-    let r = table_from c built number differ [] (empty c.img.room) builds more (record { front = record { none = λ name e. tt; based = tt; there = λ q r e. absurd (cc) }; tables = tt; number_is = refl }) files.program files.image files.enterable rules declared families t is in
+    let r = table_from c built number differ [] (empty files.room) builds more (record { front = record { none = λ name e. tt; based = tt; there = λ q r e. absurd (cc) }; tables = tt; number_is = refl }) files.program files.image files.enterable rules declared families t is in
     ap (λ d. method_at d (pos (method_number types f.owner f.name))) r.found
     ∙ ap (λ n. method_in (slice_get r.descriptor.methods n)) (agree t f is (q, e))
     ∙ ap method_in (r.table f q e)

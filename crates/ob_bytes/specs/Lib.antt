@@ -1,0 +1,4 @@
+pub mod Folds
+pub mod Files
+pub mod Bytes
+pub mod Session

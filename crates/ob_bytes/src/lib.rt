@@ -1,0 +1,2 @@
+//! The session by the bytes of files, and the ways a session ends; definitions alone.
+#![tactic(auto)]

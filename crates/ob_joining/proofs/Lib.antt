@@ -1,0 +1,5 @@
+mod Carried
+mod Joins
+mod Shifts
+mod Stops
+mod Images
