@@ -11,3 +11,5 @@ pub mod Tables
 pub mod Loaded
 pub mod Redefined
 pub mod Image
+pub mod Settled
+pub mod Counted

@@ -3,3 +3,5 @@ pub mod Based
 pub mod Families
 pub mod Redefined
 pub mod Image
+pub mod Settled
+pub mod Counted

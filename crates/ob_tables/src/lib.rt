@@ -5,6 +5,8 @@
 ghost use Rattle.ob_tables.specs.Based.{BasesFromFiles};
 ghost use Rattle.ob_tables.specs.Families.{TablesFromFiles};
 ghost use Rattle.ob_tables.specs.Image.{ProgramFromFiles};
+ghost use Rattle.ob_tables.specs.Settled.{TypesFromDeclarations};
+ghost use Rattle.ob_tables.specs.Counted.{FamiliesFromDeclarations};
 
 /// A law, with nothing to run. Where the object files of a program's modules are the first of an
 /// image (`AreFiles`), each record type has a descriptor with the number of its base's, which stands
@@ -32,4 +34,21 @@ pub fn tables_from_files()
 /// variables may have as values. So are the bodies of the modules.
 pub fn program_from_files()
     ensures { ProgramFromFiles }
+{}
+
+/// A law, with nothing to run. Where each record type of a program is what its declaration says
+/// (`TypesSettled`), and the descriptions that its modules were compiled with are those of the
+/// program, with own bases declared before (`IsDeclared`), the premises of `program_from_files` on
+/// record types hold (`TypesFit`): they are well built, of their bases, and have the words and the
+/// bases of their descriptions.
+pub fn types_from_declarations()
+    ensures { TypesFromDeclarations }
+{}
+
+/// A law, with nothing to run. Where the methods that a record type introduces have different
+/// numbers, from the count of its base up to its own, and each family of a type is introduced by one
+/// that it extends (`FamiliesNumbered`), the premises of `program_from_files` on the numbers of
+/// families hold.
+pub fn families_from_declarations()
+    ensures { FamiliesFromDeclarations }
 {}
