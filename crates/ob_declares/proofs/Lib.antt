@@ -8,3 +8,4 @@ pub mod Ordered
 pub mod Sounds
 pub mod Words
 pub mod Summed
+pub mod Whole

@@ -4,3 +4,4 @@ pub mod Sized
 pub mod Ordered
 pub mod Laws
 pub mod Words
+pub mod Shallow
