@@ -9,3 +9,4 @@ pub mod Sounds
 pub mod Words
 pub mod Summed
 pub mod Whole
+pub mod Shallows
