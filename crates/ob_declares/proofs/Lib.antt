@@ -10,3 +10,4 @@ pub mod Words
 pub mod Summed
 pub mod Whole
 pub mod Shallows
+pub mod Places

@@ -5,3 +5,4 @@ pub mod Ordered
 pub mod Laws
 pub mod Words
 pub mod Shallow
+pub mod Filled
