@@ -11,3 +11,4 @@ pub mod Summed
 pub mod Whole
 pub mod Shallows
 pub mod Places
+pub mod Sizing
