@@ -72,7 +72,7 @@ order_keeps (g ∷ fs) f h i =
 
 -- ---- fields with their places
 
-placed_fresh : (words : TypeRef → ℕ) (n : ℕ) (x : List ℕ) (fs : List Field) → IsFreshName x fs → IsFreshName x (placed words n fs)
+pub placed_fresh : (words : TypeRef → ℕ) (n : ℕ) (x : List ℕ) (fs : List Field) → IsFreshName x fs → IsFreshName x (placed words n fs)
 placed_fresh words n x [] h = tt
 placed_fresh words n x (f ∷ fs) h = (h.0, placed_fresh words (n + words f.of) x fs h.1)
 

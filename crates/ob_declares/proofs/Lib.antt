@@ -8,3 +8,7 @@ pub mod Ordered
 pub mod Sounds
 pub mod Words
 pub mod Summed
+pub mod Whole
+pub mod Shallows
+pub mod Places
+pub mod Sizing

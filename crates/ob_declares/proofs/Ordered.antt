@@ -58,7 +58,7 @@ all_end types (t ∷ ts) h =
     let a : IsWithin types (h.0.0 + r.0) t = subst (λ n. IsWithin types n t) (omega arith) (within_plus types r.0 h.0.0 t h.0.1) in
     (h.0.0 + r.0, (a, all_from (λ t. IsWithin types r.0 t) (λ t. IsWithin types (h.0.0 + r.0) t) (λ t w. within_plus types h.0.0 r.0 t w) ts r.1))
 
-type_seen : (d : Desc) → is_type (seen d) ≡ is_type d
+pub type_seen : (d : Desc) → is_type (seen d) ≡ is_type d
 type_seen (desc.Const v) = refl
 type_seen (desc.Var m t) = refl
 type_seen (desc.Proc s) = refl
@@ -88,13 +88,13 @@ types_named (t ∷ ts) x = by (bytes_eq x t.name) (types_named ts x)
     by false e = e
 
 module _ (before : Program) (m : Module) (over : StandsOver before m) where
-  abbrev all : Program
+  abbrev pub all : Program
   all = before ++ m ∷ []
 
-  abbrev view : QName → Option Desc
+  abbrev pub view : QName → Option Desc
   view = viewed over.others m
 
-  has_more : HasMore (description before) (description all)
+  pub has_more : HasMore (description before) (description all)
   has_more = more_described m before
 
   -- a module's own type is in the program
@@ -117,7 +117,7 @@ module _ (before : Program) (m : Module) (over : StandsOver before m) where
       by true e r = inl e
       by false e r = r e
 
-  own_viewed : (q : QName) (d : Desc) → q.«module» ≡ m.name → type_named m.types q.object ≡ Some d → view q ≡ Some d
+  pub own_viewed : (q : QName) (d : Desc) → q.«module» ≡ m.name → type_named m.types q.object ≡ Some d → view q ≡ Some d
   own_viewed q d n e = ap (λ (b : Bool). cond b (own_named m.types q.object) (over.others q)) (ap (λ (x : List ℕ). bytes_eq x m.name) n ∙ bytes_same m.name) ∙ types_named m.types q.object ∙ e
 
   -- WHAT THE MODULE SEES is in the program, itself or with more
@@ -168,7 +168,7 @@ module _ (before : Program) (m : Module) (over : StandsOver before m) where
           let t : is_type s.e ≡ true = ⊎_elim (λ k. ap is_type k ∙ h) (λ k. sym (type_seen s.e) ∙ ap is_type k.1 ∙ h) s.same in
           subst (λ o. MatchOption o ⊥ (λ d. IsTrue (is_type d))) (sym s.there) t
 
-  own_type : (q : QName) (d : Desc) → type_named m.types q.object ≡ Some d → is_type d ≡ true
+  pub own_type : (q : QName) (d : Desc) → type_named m.types q.object ≡ Some d → is_type d ≡ true
   own_type q d e = (named_types m.types q.object d over.types (types_named m.types q.object ∙ e)).1
 
   -- ONE MODULE MORE

@@ -31,7 +31,7 @@ use Rattle.ob_forms.proofs.Shapes.{basic_is, target_form}
 use Rattle.ob_forms.proofs.Sorts.{Sort, basic, named, sort}
 use Rattle.ob_declares.specs.Sized.{Describes}
 
-field_found : (fs : List Field) (x : List ℕ) (f : Field) → field_named x fs ≡ Some f → IsOneOf fs f × (x ≡ f.name)
+pub field_found : (fs : List Field) (x : List ℕ) (f : Field) → field_named x fs ≡ Some f → IsOneOf fs f × (x ≡ f.name)
 field_found [] x f e = absurd cc
 field_found (g ∷ fs) x f e = by (bytes_eq x g.name) refl e (λ e. field_found fs x f e)
   where

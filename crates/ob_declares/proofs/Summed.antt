@@ -25,13 +25,13 @@ use Rattle.ob_declares.proofs.Ordered.{either_there, types_named}
 use Rattle.ob_declares.proofs.Words.{HaveWords, summed_words}
 
 -- a type that is found among those laid out was found before
-record LaidFound (types : QName → Option Desc) (c : Module) (ts : List TypedType) (x : List ℕ) (d : Desc) : Type 0 where
-  t : TypedType
-  name : t.name ≡ x
-  has : own_named ts x ≡ Some t.desc
-  laid : laid_desc (words_in types c) (procedures_in types c) (let p : QName = record { «module» = c.name; object = t.name } in p) t.desc ≡ d
+pub record LaidFound (types : QName → Option Desc) (c : Module) (ts : List TypedType) (x : List ℕ) (d : Desc) : Type 0 where
+  pub t : TypedType
+  pub name : t.name ≡ x
+  pub has : own_named ts x ≡ Some t.desc
+  pub laid : laid_desc (words_in types c) (procedures_in types c) (let p : QName = record { «module» = c.name; object = t.name } in p) t.desc ≡ d
 
-laid_found : (types : QName → Option Desc) (c : Module) (ts : List TypedType) (x : List ℕ) (d : Desc) → own_named (each (laid_type types c) ts) x ≡ Some d → LaidFound types c ts x d
+pub laid_found : (types : QName → Option Desc) (c : Module) (ts : List TypedType) (x : List ℕ) (d : Desc) → own_named (each (laid_type types c) ts) x ≡ Some d → LaidFound types c ts x d
 laid_found types c [] x d e = absurd cc
 laid_found types c (t ∷ ts) x d e = by (bytes_eq x t.name) refl e (λ e. laid_found types c ts x d e)
   where
@@ -42,7 +42,7 @@ laid_found types c (t ∷ ts) x d e = by (bytes_eq x t.name) refl e (λ e. laid_
 kept_small : (n s : ℕ) → s ≡ kept n → s ≤ most_words → s ≡ n
 kept_small n s e le = omega (arith, e, le)
 
-laid_words : (w p : TypeRef → ℕ) (q : QName) (d : Desc) (s : RecordDesc) → laid_desc w p q d ≡ desc.Record s → (is_type d ≡ true) × (s.words ≡ kept (w (ref.Named q)))
+pub laid_words : (w p : TypeRef → ℕ) (q : QName) (d : Desc) (s : RecordDesc) → laid_desc w p q d ≡ desc.Record s → (is_type d ≡ true) × (s.words ≡ kept (w (ref.Named q)))
 laid_words w p q (desc.Const v) s e = absurd cc
 laid_words w p q (desc.Var m t) s e = absurd cc
 laid_words w p q (desc.Proc g) s e = absurd cc
@@ -55,7 +55,7 @@ laid_words w p q (desc.Record r) s e = let k : laid_record w p q r ≡ s = cc in
 
 module _ (program : Program) (sound : IsSound program) (whole : IsWhole program) where
   -- one module more
-  words_more : (before : Program) (m : Module) → IsOneOf program m → HasMore (description before) (description program) → HaveWords program sound whole before → IsLaidOver before m → HaveWords program sound whole (before ++ m ∷ [])
+  pub words_more : (before : Program) (m : Module) → IsOneOf program m → HasMore (description before) (description program) → HaveWords program sound whole before → IsLaidOver before m → HaveWords program sound whole (before ++ m ∷ [])
   words_more before m i more known over q s e =
       ⊎_elim
       (λ k. known q s k)
@@ -75,7 +75,7 @@ module _ (program : Program) (sound : IsSound program) (whole : IsWhole program)
       kept_small (words_in types c (ref.Named q)) s.words (laid.1 ∙ ap (λ p. kept (words_in types c (ref.Named p))) named) small ∙ sum)
       (either_there before m over.over before q (desc.Record s) e)
 
-  has_more : (before : Program) (m : Module) → IsOneOf program m → HasMore (description before) (description program) → IsLaidOver before m → HasMore (description (before ++ m ∷ [])) (description program)
+  pub has_more : (before : Program) (m : Module) → IsOneOf program m → HasMore (description before) (description program) → IsLaidOver before m → HasMore (description (before ++ m ∷ [])) (description program)
   has_more before m i more over q d e =
       ⊎_elim
       (λ k. more q d k)

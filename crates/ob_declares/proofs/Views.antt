@@ -62,7 +62,7 @@ module _ (program : Program) (sound : IsSound program) where
   a_type q d e = within_type (description program) (number_of_types program) q d e (chains program sound q d e)
 
   -- a type that the program declares says itself
-  own_said : (q : QName) (d : Desc) → description program q ≡ Some d → IsSaid program q d
+  pub own_said : (q : QName) (d : Desc) → description program q ≡ Some d → IsSaid program q d
   own_said q d e = by d e (a_type q d e)
     where
       by : (d : Desc) → description program q ≡ Some d → is_type d ≡ true → IsSaid program q d

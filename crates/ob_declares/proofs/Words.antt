@@ -85,16 +85,16 @@ module _ (program : Program) (sound : IsSound program) (whole : IsWhole program)
   abbrev pub HaveWords : Program → Type 0
   HaveWords ms = (q : QName) (s : RecordDesc) → description ms q ≡ Some (desc.Record s) → s.words ≡ words (record_in program q)
 
-  based_words : (f : TypeRef → ℕ) (o : Option TypeRef) → AllByRecursion (λ t. f t ≡ words (form t)) (listed o) → IfSome o (λ t. IsRecordForm (form t)) → base_of f o ≡ fields_words (base_fields form o)
+  pub based_words : (f : TypeRef → ℕ) (o : Option TypeRef) → AllByRecursion (λ t. f t ≡ words (form t)) (listed o) → IfSome o (λ t. IsRecordForm (form t)) → base_of f o ≡ fields_words (base_fields form o)
   based_words f None h k = refl
   based_words f (Some t) h k = h.0 ∙ words_record (form t) k
 
-  base_records : (o : Option TypeRef) → IfSome o (Is (description program) is_record) → IfSome o (λ t. IsRecordForm (form t))
+  pub base_records : (o : Option TypeRef) → IfSome o (Is (description program) is_record) → IfSome o (λ t. IsRecordForm (form t))
   base_records None h = tt
   base_records (Some t) h = record_base program sound t h
 
   -- a record as it was checked, and its type as it is laid out
-  record_sum : (f w p : TypeRef → ℕ) (q : QName) (r : RecordDesc) → HaveNames r.fields → description program q ≡ Some (desc.Record (laid_record w p q r)) → AllByRecursion (λ t. f t ≡ words (form t)) (listed r.base ++ each (λ x. x.of) r.fields) → base_of f r.base + sum_of (λ x. f x.of) r.fields ≡ words (record_in program q)
+  pub record_sum : (f w p : TypeRef → ℕ) (q : QName) (r : RecordDesc) → HaveNames r.fields → description program q ≡ Some (desc.Record (laid_record w p q r)) → AllByRecursion (λ t. f t ≡ words (form t)) (listed r.base ++ each (λ x. x.of) r.fields) → base_of f r.base + sum_of (λ x. f x.of) r.fields ≡ words (record_in program q)
   record_sum f w p q r names e h =
       let laid = placed w (base_of w r.base) r.fields in
       let b = all_left (λ t. f t ≡ words (form t)) (listed r.base) (each (λ x. x.of) r.fields) h in

@@ -4,3 +4,5 @@ pub mod Sized
 pub mod Ordered
 pub mod Laws
 pub mod Words
+pub mod Shallow
+pub mod Filled

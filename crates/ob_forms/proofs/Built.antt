@@ -3,6 +3,7 @@ use Rattle.std.proofs.Common.{◌≡◌, ◌≢◌, ◌⊎◌, ⊎_elim, inl, in
 use Rattle.std.specs.Prelude.{Bool, true, false, ◌&&◌, bytes_eq, MatchOption, IfSome, IsTrue}
 use Rattle.std.specs.List.{AllByRecursion}
 use Rattle.ob_tree.specs.declared.names.QName.{QName}
+use Rattle.ob_tree.specs.declared.ident.Mark.{Mark}
 use Rattle.ob_types.specs.declared.types.TypeRef.{TypeRef}
 use Rattle.ob_types.specs.declared.types.TypeRef.TheVariants as ref
 use Rattle.ob_types.specs.declared.desc.Desc.{Desc}
@@ -185,6 +186,14 @@ module _ (program : Program) (sound : IsSound program) where
 
   pub base_apart : (q : QName) (r : RecordDesc) → types q ≡ Some (desc.Record r) → OwnerIn q (base_fields form r.base) → ⊥
   base_apart q r e i = no_cycle (number_of_types program) q r e (chains program sound q (desc.Record r) e) i
+
+  -- an alias is no owner of fields
+  alias_cycle : (n : ℕ) (q : QName) (m : Mark) (t : TypeRef) → types q ≡ Some (desc.Alias m t) → IsWithin types n (ref.Named q) → OwnerIn q (fields_of (form t)) → ⊥
+  alias_cycle zero q m t e h i = nowhere types q h
+  alias_cycle (suc n) q m t e h i = alias_cycle n q m t e (owner_within n t q (parts_within types n q (desc.Alias m t) e h).0 i) i
+
+  pub alias_apart : (q : QName) (m : Mark) (t : TypeRef) → types q ≡ Some (desc.Alias m t) → OwnerIn q (fields_of (form t)) → ⊥
+  alias_apart q m t e i = alias_cycle (number_of_types program) q m t e (chains program sound q (desc.Alias m t) e) i
 
   -- TYPES ARE BUILT AS TYPES ARE
 

@@ -1,0 +1,81 @@
+-- The places of the fields of a filled record.
+use Rattle.std.proofs.Common.{◌≡◌, ◌≢◌, ◌⊎◌, ⊎_elim, inl, inr, ℕ, zero, suc, ◌+◌, ◌≤◌, ◌<◌, List, [], ◌∷◌, ◌++◌, map as each, Option, Some, None, refl, sym, ap, subst, ◌∙◌, arith, append_assoc}
+use Rattle.std.proofs.lemmas.Bool.Decides.{nat_tests}
+use Rattle.std.specs.Prelude.{Bool, true, false, ◌&&◌, ◌==◌, nat_lt, bytes_eq, cond, min, MatchOption, IsTrue, if◌then◌else◌}
+use Rattle.std.specs.List.{AllByRecursion}
+use Rattle.std.specs.Ordering.{nat_cmp, ordering_then}
+use Rattle.std.specs.Cmp.Lexicographic.{slice_cmp}
+use Rattle.std.specs.declared.cmp.Ordering.{Ordering}
+use Rattle.std.specs.declared.cmp.Ordering.TheVariants as order
+use Rattle.ob_tree.specs.declared.names.QName.{QName}
+use Rattle.ob_types.specs.declared.types.TypeRef.{TypeRef}
+use Rattle.ob_types.specs.declared.types.TypeRef.TheVariants as ref
+use Rattle.ob_types.specs.declared.desc.Desc.{Desc}
+use Rattle.ob_types.specs.declared.desc.Desc.TheVariants as desc
+use Rattle.ob_types.specs.declared.desc.RecordDesc.{RecordDesc}
+use Rattle.ob_types.specs.declared.desc.Field.{Field}
+use Rattle.ob_meaning.specs.Values.{same_name, Program, Form, RecordForm, Fields, NoField, AField, joined, own_fields, base_line, base_fields, fields_of, form_in, record_in, words, fields_words}
+use Rattle.ob_relation.specs.Layout.{field_offset}
+use Rattle.ob_relation.proofs.Names.{bytes_true, name_true, field_same}
+use Rattle.ob_desc.specs.Grammar.{by_place}
+use Rattle.ob_layout.specs.Lists.{put_before, put_in, in_order, sum_of}
+use Rattle.ob_layout.specs.Words.{most_words}
+use Rattle.ob_layout.specs.LaidOut.{kept, placed}
+use Rattle.ob_forms.specs.Said.{IsOneOf, IsFreshName, HaveNames}
+use Rattle.ob_forms.proofs.Built.{OwnerIn}
+use Rattle.ob_declares.proofs.Laid.{fresh_other, placed_fresh, placed_names}
+
+less_first : (a b : ℕ) (x y : List ℕ) → a < b → ordering_then (nat_cmp a b) (slice_cmp nat_cmp x y) ≡ order.Less
+less_first a b x y lt =
+    let t : nat_lt a b ≡ true = grind (arith, nat_tests) in
+    ap (λ c. ordering_then (cond c order.Less (cond (a == b) order.Equal order.Greater)) (slice_cmp nat_cmp x y)) t
+
+kept_few : (n : ℕ) → n ≤ most_words → kept n ≡ n
+kept_few n le = omega (arith, le)
+
+-- fields with words stand in their order as the text has them
+pub stays_placed : (w : TypeRef → ℕ) (n : ℕ) (fs : List Field) → AllByRecursion (λ f. 1 ≤ w f.of) fs → n + sum_of (λ f. w f.of) fs ≤ most_words → in_order by_place (placed w n fs) ≡ placed w n fs
+stays_placed w n [] h le = refl
+stays_placed w n (f ∷ fs) h le =
+    let r = stays_placed w (n + w f.of) fs h.1 (omega (arith, le)) in
+    ap (put_in by_place (record f { place = kept n })) r ∙ first fs h.1 le
+  where
+    first : (fs : List Field) → AllByRecursion (λ f. 1 ≤ w f.of) fs → n + (w f.of + sum_of (λ f. w f.of) fs) ≤ most_words → put_in by_place (record f { place = kept n }) (placed w (n + w f.of) fs) ≡ record f { place = kept n } ∷ placed w (n + w f.of) fs
+    first [] k le = refl
+    first (g ∷ gs) k le =
+        let a : kept n ≡ n = kept_few n (omega (arith, le)) in
+        let b : kept (n + w f.of) ≡ n + w f.of = kept_few (n + w f.of) (omega (arith, le)) in
+        let one : 1 ≤ w f.of = h.0 in
+        let lt : kept n < kept (n + w f.of) = omega (arith, a, b, one) in
+        ap (λ o. put_before o (record f { place = kept n }) (record g { place = kept (n + w f.of) }) (placed w (n + w f.of + w g.of) gs) (put_in by_place (record f { place = kept n }) (placed w (n + w f.of + w g.of) gs))) (less_first (kept n) (kept (n + w f.of)) f.name g.name lt)
+
+and_left : (x y : Bool) → (x && y) ≡ true → x ≡ true
+and_left true y e = refl
+and_left false y e = absurd cc
+
+-- their places are the sums of what stands before
+pub places_sum : (form : TypeRef → Form) (q : QName) (w : TypeRef → ℕ) (n : ℕ) (fs : List Field) (g : Field) → HaveNames fs → AllByRecursion (λ f. w f.of ≡ words (form f.of)) fs → n + sum_of (λ f. w f.of) fs ≤ most_words → IsOneOf (placed w n fs) g → g.place ≡ n + field_offset (own_fields form q (placed w n fs)) q g.name
+places_sum form q w n [] g names h le i = absurd i
+places_sum form q w n (f ∷ fs) g names h le i = by (bytes_eq g.name f.name && same_name q q) refl i (λ i. places_sum form q w (n + w f.of) fs g names.1 h.1 (omega (arith, le)) i)
+  where
+    by : (b : Bool) → (bytes_eq g.name f.name && same_name q q) ≡ b → (record f { place = kept n } ≡ g) ⊎ IsOneOf (placed w (n + w f.of) fs) g → (IsOneOf (placed w (n + w f.of) fs) g → g.place ≡ n + w f.of + field_offset (own_fields form q (placed w (n + w f.of) fs)) q g.name) → g.place ≡ n + (if b then 0 else words (form f.of) + field_offset (own_fields form q (placed w (n + w f.of) fs)) q g.name)
+    by true e (inl k) r =
+        let a : kept n ≡ n = kept_few n (omega (arith, le)) in
+        let p : g.place ≡ kept n = sym (ap (λ (y : Field). y.place) k) in
+        omega (arith, a, p)
+    by true e (inr k) r = absurd (fresh_other f.name (placed w (n + w f.of) fs) g (placed_fresh w (n + w f.of) f.name fs names.0) k (sym (bytes_true g.name f.name (and_left (bytes_eq g.name f.name) (same_name q q) e))))
+    by false e (inl k) r = let bad : true ≡ false = sym (field_same q g.name) ∙ ap (λ (y : Field). bytes_eq g.name y.name && same_name q q) (sym k) ∙ e in absurd cc
+    by false e (inr k) r =
+        let s = r k in
+        let x : w f.of ≡ words (form f.of) = h.0 in
+        omega (arith, s, x)
+
+-- behind the fields of a base
+pub offset_behind : (q : QName) (x : List ℕ) (bs gs : Fields) → (OwnerIn q bs → ⊥) → field_offset (joined bs gs) q x ≡ fields_words bs + field_offset gs q x
+offset_behind q x NoField gs never = omega arith
+offset_behind q x (AField p y t bs) gs never = by (bytes_eq x y) (same_name q p) refl (offset_behind q x bs gs (λ i. never (inr i)))
+  where
+    by : (a b : Bool) → same_name q p ≡ b → field_offset (joined bs gs) q x ≡ fields_words bs + field_offset gs q x → (if a && b then 0 else words t + field_offset (joined bs gs) q x) ≡ words t + fields_words bs + field_offset gs q x
+    by true true e r = absurd (never (inl (name_true q p e)))
+    by true false e r = omega (arith, r)
+    by false b e r = omega (arith, r)
