@@ -103,13 +103,13 @@ module _ (c : Setting) (a : Activation c) (n : ℕ) (call : Caller) (b : ℕ) wh
   inc_case w d e at ih_d ih_e l exit pc k os s m le inside lies has ok st =
       let p1 = end_place c.program d pc in
       follows_bind c (ih_d pc k [] os s m (omega (arith, le)) has.0 ok.0 st) λ p s1 m1 k1.
-      follows_bind c (ih_e (integer w) p1 _ (pos (address c.program c.img s1.made (K c a) p) ∷ []) s1.made s1 m1 (omega (arith, le)) has.1.0 ok.1.0 (from_here c a n call b k1.1)) λ v s2 m2 k2.
+      follows_bind c (ih_e longint p1 _ (pos (address c.program c.img s1.made (K c a) p) ∷ []) s1.made s1 m1 (omega (arith, le)) has.1.0 ok.1.0 (from_here c a n call b k1.1)) λ v s2 m2 k2.
       let same = address_same c s1.made s2.made k2.1.objects (K c a) p k1.0.0 in
       let kept = place_of_more c s1.made s2.made k2.1.objects (K c a) (code.form_of (scope c a) d) p k1.0 in
       let here_p : PlaceOf c.program (has_of c) c.img s2.made (K c a) (integer w) p = subst (λ u. PlaceOf c.program (has_of c) c.img s2.made (K c a) u p) ok.1.1 kept in
       let form = sub_scalar _ _ here_p.1 (scalar_integer w) in
       let old = integer_is c s2.made w (value_at s2.store p) (subst (λ u. Fine c.program (has_of c) s2.made u (value_at s2.store p)) form ((spot c (K c a) s2 m2 k2.1.all p (subst (λ u. Scalar u) (sym form) (scalar_integer w)) here_p.0).fine)) in
-      let new = integer_is c s2.made w v k2.0 in
+      let new = integer_is c s2.made width.LongInt v k2.0 in
       follows_bind c
       (subst (λ x. Follows c (go c a (end_expr c.program e p1) (word_of c.program (has_of c) c.img s2.made x ∷ pos (address c.program c.img s1.made (K c a) p) ∷ []) m2) (λ u s m. go c a (suc (end_expr c.program e p1)) [] m) (λ u s m. Kp os s m) (bind (computed (updated (update.Inc w) (value_at s2.store p) x) (here_in c a n call b) at s2) (λ v s. assign p v s))) (sym new.2)
       (subst (λ x. Follows c (go c a (end_expr c.program e p1) (new.0 ∷ pos (address c.program c.img s1.made (K c a) p) ∷ []) m2) (λ u s m. go c a (suc (end_expr c.program e p1)) [] m) (λ u s m. Kp os s m) (bind (computed (updated (update.Inc w) x (Integer new.0)) (here_in c a n call b) at s2) (λ v s. assign p v s))) (sym old.2)
@@ -142,13 +142,13 @@ module _ (c : Setting) (a : Activation c) (n : ℕ) (call : Caller) (b : ℕ) wh
   dec_case w d e at ih_d ih_e l exit pc k os s m le inside lies has ok st =
       let p1 = end_place c.program d pc in
       follows_bind c (ih_d pc k [] os s m (omega (arith, le)) has.0 ok.0 st) λ p s1 m1 k1.
-      follows_bind c (ih_e (integer w) p1 _ (pos (address c.program c.img s1.made (K c a) p) ∷ []) s1.made s1 m1 (omega (arith, le)) has.1.0 ok.1.0 (from_here c a n call b k1.1)) λ v s2 m2 k2.
+      follows_bind c (ih_e longint p1 _ (pos (address c.program c.img s1.made (K c a) p) ∷ []) s1.made s1 m1 (omega (arith, le)) has.1.0 ok.1.0 (from_here c a n call b k1.1)) λ v s2 m2 k2.
       let same = address_same c s1.made s2.made k2.1.objects (K c a) p k1.0.0 in
       let kept = place_of_more c s1.made s2.made k2.1.objects (K c a) (code.form_of (scope c a) d) p k1.0 in
       let here_p : PlaceOf c.program (has_of c) c.img s2.made (K c a) (integer w) p = subst (λ u. PlaceOf c.program (has_of c) c.img s2.made (K c a) u p) ok.1.1 kept in
       let form = sub_scalar _ _ here_p.1 (scalar_integer w) in
       let old = integer_is c s2.made w (value_at s2.store p) (subst (λ u. Fine c.program (has_of c) s2.made u (value_at s2.store p)) form ((spot c (K c a) s2 m2 k2.1.all p (subst (λ u. Scalar u) (sym form) (scalar_integer w)) here_p.0).fine)) in
-      let new = integer_is c s2.made w v k2.0 in
+      let new = integer_is c s2.made width.LongInt v k2.0 in
       follows_bind c
       (subst (λ x. Follows c (go c a (end_expr c.program e p1) (word_of c.program (has_of c) c.img s2.made x ∷ pos (address c.program c.img s1.made (K c a) p) ∷ []) m2) (λ u s m. go c a (suc (end_expr c.program e p1)) [] m) (λ u s m. Kp os s m) (bind (computed (updated (update.Dec w) (value_at s2.store p) x) (here_in c a n call b) at s2) (λ v s. assign p v s))) (sym new.2)
       (subst (λ x. Follows c (go c a (end_expr c.program e p1) (new.0 ∷ pos (address c.program c.img s1.made (K c a) p) ∷ []) m2) (λ u s m. go c a (suc (end_expr c.program e p1)) [] m) (λ u s m. Kp os s m) (bind (computed (updated (update.Dec w) x (Integer new.0)) (here_in c a n call b) at s2) (λ v s. assign p v s))) (sym old.2)

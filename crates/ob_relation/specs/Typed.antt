@@ -333,8 +333,8 @@ module _ (program : Program) (Has : Signature → QName → Type 0) (unit : List
   AssignedOk (assigned.Record q) d e = (form_of d ≡ record_in program q) × (IsRecordType program q × StructureOk e (form_of d))
 
   abbrev pub UpdateOk : Update → Desig → Expr → Type 0
-  UpdateOk (update.Inc w) d e = ExprOk e (integer w) × (form_of d ≡ integer w)
-  UpdateOk (update.Dec w) d e = ExprOk e (integer w) × (form_of d ≡ integer w)
+  UpdateOk (update.Inc w) d e = ExprOk e longint × (form_of d ≡ integer w)
+  UpdateOk (update.Dec w) d e = ExprOk e longint × (form_of d ≡ integer w)
   UpdateOk update.Incl d e = ExprOk e longint × (form_of d ≡ set)
   UpdateOk update.Excl d e = ExprOk e longint × (form_of d ≡ set)
 
@@ -355,8 +355,9 @@ module _ (program : Program) (Has : Signature → QName → Type 0) (unit : List
   abbrev pub HiddenOk : Pos → Type 0
   HiddenOk at = As IsOwn held (hidden at) × (form_named held (hidden at) ≡ longint)
 
+  -- any step, also one that the variable's type has not: the addition then traps
   abbrev pub StepOk : ℤ → Width → Type 0
-  StepOk step w = is_in w step ≡ true
+  StepOk step w = is_in width.LongInt step ≡ true
 
   -- a call of a proper procedure
   abbrev pub ProperOk : Expr → Type 0

@@ -32,6 +32,7 @@ use Rattle.ob_relation.specs.Relation.{Scalar, Sub}
 use Rattle.ob_relation.specs.Typed as typed
 use Rattle.ob_relation.specs.Typed.{ByPassing, passing_for, char, IsArrayOf, IsRecordForm, IsRecordType}
 use Rattle.ob_relation.proofs.Actuals.{sub_on}
+use Rattle.ob_rules.specs.declared.entity.Received.{Received}
 use Rattle.ob_rules.specs.declared.meant.Meant.{Meant}
 use Rattle.ob_rules.specs.declared.meant.Meant.TheVariants as means
 use Rattle.ob_rules.specs.declared.meant.Where.TheVariants.{InExpression}
@@ -288,22 +289,22 @@ module _ (program : Program) (Has : Signature → QName → Type 0) (unit : List
         makes_also _ p.guarded 38 start (sound (actual_of (passing_of map mode.Var t) t (e.Designator p.designator.inner))) λ k.
         record { node = passed_so mode.Var t (e.Designator p.designator.inner) d (variable_passes t p d h (not_false (takes_variable map (open_element map t) t p.of) f)) }
 
-    meant_actual_is : (t : TypeRef) (start : Pos) (m : Meant) → IsKnown map t → MeantIs program Has unit held result map InExpression m → Makes (λ a. ActualIs mode.Var t (actual_view a)) (meant_actual map t start m)
-    meant_actual_is t start (means.Place p) d h = variable_actual_is t start p d h
-    meant_actual_is t start (means.Call x) d h = record { node = tt }
-    meant_actual_is t start (means.Constant v) d h = record { node = tt }
-    meant_actual_is t start (means.Procedure q s) d h = record { node = tt }
-    meant_actual_is t start (means.Bound c) d h = record { node = tt }
-    meant_actual_is t start (means.Out o) d h = record { node = tt }
-    meant_actual_is t start (means.Predeclared f) d h = record { node = tt }
-    meant_actual_is t start (means.Statement s) d h = record { node = tt }
+    meant_actual_is : (o : Option Received) (t : TypeRef) (start : Pos) (m : Meant) → IsKnown map t → MeantIs program Has unit held result map o InExpression m → Makes (λ a. ActualIs mode.Var t (actual_view a)) (meant_actual map t start m)
+    meant_actual_is z t start (means.Place p) d h = variable_actual_is t start p d h.0
+    meant_actual_is z t start (means.Call x) d h = record { node = tt }
+    meant_actual_is z t start (means.Constant v) d h = record { node = tt }
+    meant_actual_is z t start (means.Procedure q s) d h = record { node = tt }
+    meant_actual_is z t start (means.Bound c) d h = record { node = tt }
+    meant_actual_is z t start (means.Out o) d h = record { node = tt }
+    meant_actual_is z t start (means.Predeclared f) d h = record { node = tt }
+    meant_actual_is z t start (means.Statement s) d h = record { node = tt }
 
   -- IN A ROW
 
   module _ (u : Around) (scoped : IsScoped program Has unit held result u) where
     var_is : (t : TypeRef) (p : Phrase) (o : Option (Around → Judged Meant)) → IsKnown (map_of u) t → PhraseIs program Has unit held result p → MeantBy program Has unit held result o u → Makes (λ a. ActualIs mode.Var t (actual_view a)) (var_actual u t p o)
     var_is t p None d h k = record { node = (makes_then (ValuedIs program Has unit held result (map_of u)) _ (p.value u) (λ x. breaks 25 p.start) (h.value u scoped) (λ x l. record { node = tt })).node }
-    var_is t p (Some f) d h k = makes_then (MeantIs program Has unit held result (map_of u) InExpression) _ (f u) (meant_actual (map_of u) t p.start) k (λ m l. meant_actual_is (map_of u) scoped.forms t p.start m d l)
+    var_is t p (Some f) d h k = makes_then (MeantIs program Has unit held result (map_of u) u.receiver InExpression) _ (f u) (meant_actual (map_of u) t p.start) k (λ m l. meant_actual_is (map_of u) scoped.forms u.receiver t p.start m d l)
 
     actual_is : (m : Mode) (t : TypeRef) (p : Phrase) → IsKnown (map_of u) t → PhraseIs program Has unit held result p → Makes (λ a. ActualIs m t (actual_view a)) (actual u m t p)
     actual_is mode.Var t p d h = var_is t p p.meant d h (h.meant u scoped)

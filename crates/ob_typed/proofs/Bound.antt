@@ -24,6 +24,7 @@ use Rattle.ob_relation.specs.Relation.{LengthFits, Sub, Scalar}
 use Rattle.ob_relation.specs.Typed as typed
 use Rattle.ob_relation.specs.Typed.{IsFormal, IsRecordForm, IsRecordType, ReceiverOk}
 use Rattle.ob_relation.proofs.Actuals.{sub_on}
+use Rattle.ob_rules.specs.declared.entity.Received.{Received}
 use Rattle.ob_rules.specs.declared.meant.Chosen.{Chosen}
 use Rattle.ob_rules.specs.declared.meant.Where.{Where}
 use Rattle.ob_rules.specs.declared.values.Place.{Place}
@@ -34,10 +35,10 @@ use Rattle.ob_rules.specs.Names.{Around, map_of}
 use Rattle.ob_rules.specs.Phrases.{Phrase, record_receiver, receiver_place}
 use Rattle.ob_rules.specs.Calls.{actual_of, actuals, called, family_of, bound_callee, receiver_actual, is_record_receiver, nearest_sound, where_from, call_bound_sound, call_bound}
 use Rattle.ob_typed.specs.Makes.{IfThere, Makes}
-use Rattle.ob_typed.specs.Forms.{Forms}
-use Rattle.ob_typed.specs.Known.{AreParameters, behind, MethodIs, IsScoped}
+use Rattle.ob_typed.specs.Forms.{SignatureIs, Forms}
+use Rattle.ob_typed.specs.Known.{pointee, AreParameters, behind, MethodIs, SuperIs, IsScoped}
 use Rattle.ob_typed.specs.Kept.{DesignatorIs, PlaceIs}
-use Rattle.ob_typed.specs.Meant.{pointee, ChosenIs, CalledIs, ArePhrases}
+use Rattle.ob_typed.specs.Meant.{ChosenIs, CallsAt, CalledIs, ArePhrases}
 use Rattle.ob_typed.proofs.Makes.{makes_then, makes_also}
 use Rattle.ob_typed.proofs.Basics.{none_some, some_is}
 use Rattle.ob_typed.proofs.Values.{Fits, W, place_fits}
@@ -79,13 +80,13 @@ module _ (program : Program) (Has : Signature → QName → Type 0) (unit : List
         let w : W program Has unit held result (PointerForm r) (PointerForm v) = typed.pointers r v (λ a x. subst (Sub a) (sym l) (sub_on (subst (Sub a) m.0 x) s)) (λ has x. record_length o has (form_in program v) y l) in
         (subst (λ y. Fits program Has unit held result y t) (sym (view_value_of p.designator.inner)) (place_fits program Has unit held result map forms d p.of p.var_record (PointerForm r) t h (forms.pointers p.of r f).0 tt (subst (λ z. W program Has unit held result (PointerForm r) z) (sym k) w)), subst Scalar (sym k) tt)
 
-    receiver_fits : (c : Chosen) (k : Receiver) (o : QName) (p1 : TypedParameter) (ps : List TypedParameter) → ChosenIs program Has unit held result map c → c.method.receiver ≡ k → ReceiverOk program k o (p1 ∷ ps) → Sub (record_in program c.owner) (record_in program o) → IsRecordType program o → OneFits (actual_view (receiver_actual k c)) p1
-    receiver_fits c receiver.Record o p1 ps h w r s y =
+    receiver_fits : (z : Option Received) (c : Chosen) (k : Receiver) (o : QName) (p1 : TypedParameter) (ps : List TypedParameter) → ChosenIs program Has unit held result map z c → c.method.receiver ≡ k → ReceiverOk program k o (p1 ∷ ps) → Sub (record_in program c.owner) (record_in program o) → IsRecordType program o → OneFits (actual_view (receiver_actual k c)) p1
+    receiver_fits z c receiver.Record o p1 ps h w r s y =
         let q = place_there c.start c.receiver c.pointed h.receiver h.pointed_is h.held_is in
         let g = ap (record_of map) q.1 ∙ h.owner_is in
         subst (λ x. OneFits x p1) (sym (actual_seen passing.VariableRecord (ref.Named c.owner) (e.Designator (receiver_place c).designator.inner)))
         (sym r.0, tt, record_passes (receiver_place c) c.owner o (form_in program p1.of) q.0 g s r.1)
-    receiver_fits c receiver.Pointer o p1 ps h w r s y =
+    receiver_fits z c receiver.Pointer o p1 ps h w r s y =
         let t = some_of c.pointed (h.by_pointer w) in
         let g : record_of map t.0 ≡ Some c.owner = ap (λ z. record_of map (pointee c.receiver.of z)) (sym t.1) ∙ h.owner_is in
         subst (λ x. OneFits x p1) (sym (actual_seen passing.Scalar c.receiver.of (e.Designator c.receiver.designator.inner)))
@@ -98,31 +99,41 @@ module _ (program : Program) (Has : Signature → QName → Type 0) (unit : List
     abbrev Signed : List Actual → List (Mode × TypeRef) → Type 0
     Signed xs fs = typed.SignatureOk program Has unit held result (actuals_view xs) fs
 
-    all_fit : (c : Chosen) (k : Receiver) (o : QName) (ps : List TypedParameter) (xs : List Actual) (fs : List (Mode × TypeRef)) → ChosenIs program Has unit held result (map_of u) c → c.method.receiver ≡ k → ReceiverOk program k o ps → Sub (record_in program c.owner) (record_in program o) → IsRecordType program o → AreParameters program (behind ps) fs → Signed xs fs → typed.ActualsOk program Has unit held result (actuals_view (receiver_actual k c ∷ xs)) ps
+    all_fit : (c : Chosen) (k : Receiver) (o : QName) (ps : List TypedParameter) (xs : List Actual) (fs : List (Mode × TypeRef)) → ChosenIs program Has unit held result (map_of u) u.receiver c → c.method.receiver ≡ k → ReceiverOk program k o ps → Sub (record_in program c.owner) (record_in program o) → IsRecordType program o → AreParameters program (behind ps) fs → Signed xs fs → typed.ActualsOk program Has unit held result (actuals_view (receiver_actual k c ∷ xs)) ps
     all_fit c k o [] xs fs h e r s y a g = absurd (none k r)
       where
         none : (k : Receiver) → ReceiverOk program k o [] → ⊥
         none receiver.Record r = r
         none receiver.Pointer r = r
     all_fit c k o (p1 ∷ ps) xs fs h e r s y a g =
-        let one = receiver_fits (map_of u) scoped.forms c k o p1 ps h e r s y in
+        let one = receiver_fits (map_of u) scoped.forms u.receiver c k o p1 ps h e r s y in
         (one.0, (one.1, (one.2, declared_actuals program Has unit held result (actuals_view xs) ps fs a g)))
 
-    bound_tree : (at : Pos) (c : Chosen) (xs : List Actual) → ChosenIs program Has unit held result (map_of u) c → Signed xs c.method.signature.params → CallIs program Has unit held result c.method.signature.result (expr_view (e.Call (bound_callee c c.base) (receiver_actual c.method.receiver c ∷ xs) at c.method.signature.result))
-    bound_tree at c xs h g =
-        let m = scoped.methods c.owner c.introduced h.x c.method h.found in
-        let k = m.0 in
-        subst (λ b. CallIs program Has unit held result c.method.signature.result (expr_view (e.Call (bound_callee c b) (receiver_actual c.method.receiver c ∷ xs) at c.method.signature.result))) (sym h.plain)
-        (by_callee program Has unit held result u scoped (callee.Bound (family_of c) c.method.receiver) (receiver_actual c.method.receiver c ∷ xs) at c.method.signature.result
-        (c.introduced, k.name, k.p, k.type_is, k.near, k.found, k.receives, k.result_is, all_fit c c.method.receiver c.introduced k.p.parameters xs c.method.signature.params h refl k.receives m.1 k.type_is k.parameters g))
+    abbrev Tree : Pos → Chosen → List Actual → Option QName → Type 0
+    Tree at c xs b = CallIs program Has unit held result c.method.signature.result (expr_view (e.Call (bound_callee c b) (receiver_actual c.method.receiver c ∷ xs) at c.method.signature.result))
 
-    sound_is : (b : Bool) (w : Where) (at : Pos) (c : Chosen) (ps : List Phrase) → ChosenIs program Has unit held result (map_of u) c → ArePhrases program Has unit held result ps → Makes (Called w) (call_bound_sound b u w at c ps)
+    tree_at : (at : Pos) (c : Chosen) (xs : List Actual) (b : Option QName) → ChosenIs program Has unit held result (map_of u) u.receiver c → CallsAt program Has unit held result (map_of u) c b → Signed xs c.method.signature.params → Tree at c xs b
+    tree_at at c xs None h x g =
+        let m = scoped.methods c.owner c.introduced x.0 c.method x.1 in
+        let k = m.0 in
+        by_callee program Has unit held result u scoped (callee.Bound (family_of c) c.method.receiver) (receiver_actual c.method.receiver c ∷ xs) at c.method.signature.result
+        (c.introduced, k.name, k.p, k.type_is, k.near, k.found, k.receives, k.result_is, all_fit c c.method.receiver c.introduced k.p.parameters xs c.method.signature.params h refl k.receives m.1 k.type_is k.parameters g)
+    tree_at at c xs (Some b) h x g =
+        let k = x.1 in
+        by_callee program Has unit held result u scoped (callee.Super b (family_of c) c.method.receiver) (receiver_actual c.method.receiver c ∷ xs) at c.method.signature.result
+        (k.name, k.p, k.base_is, k.near, k.found, k.result_is, all_fit c c.method.receiver k.t k.p.parameters xs c.method.signature.params h refl k.receives (sub_on x.2 k.above) k.type_is k.parameters g)
+
+    signature_at_call : (c : Chosen) (b : Option QName) → CallsAt program Has unit held result (map_of u) c b → SignatureIs program (map_of u) c.method.signature
+    signature_at_call c None x = (scoped.methods c.owner c.introduced x.0 c.method x.1).0.signature
+    signature_at_call c (Some b) x = x.1.signature
+
+    sound_is : (b : Bool) (w : Where) (at : Pos) (c : Chosen) (ps : List Phrase) → ChosenIs program Has unit held result (map_of u) u.receiver c → ArePhrases program Has unit held result ps → Makes (Called w) (call_bound_sound b u w at c ps)
     sound_is false w at c ps h k = makes_then (λ xs. Unit {0}) (Called w) (actuals u [] ps) (λ xs. silent) (makes_any (actuals u [] ps)) (λ xs l. record { node = tt })
     sound_is true w at c ps h k =
-        let g = (scoped.methods c.owner c.introduced h.x c.method h.found).0.signature in
+        let g = signature_at_call c c.base h.calls in
         makes_also (Called w) (is_record_receiver c.method.receiver && ((receiver_place c).read_only && is_none c.base)) 26 at (called u w at c.method.signature ps (λ xs. e.Call (bound_callee c c.base) (receiver_actual c.method.receiver c ∷ xs) at c.method.signature.result)) λ q.
         called_is program Has unit held result u scoped (λ xs. Signed xs c.method.signature.params) w at c.method.signature ps (λ xs. e.Call (bound_callee c c.base) (receiver_actual c.method.receiver c ∷ xs) at c.method.signature.result) g.result
-        (actuals_are program Has unit held result u scoped c.method.signature.params ps g.params k) (λ xs l. bound_tree at c xs h l)
+        (actuals_are program Has unit held result u scoped c.method.signature.params ps g.params k) (λ xs l. tree_at at c xs c.base h h.calls l)
 
-    pub call_bound_is : (w : Where) (at : Pos) (c : Chosen) (ps : List Phrase) → ChosenIs program Has unit held result (map_of u) c → ArePhrases program Has unit held result ps → Makes (Called w) (call_bound u w at c ps)
+    pub call_bound_is : (w : Where) (at : Pos) (c : Chosen) (ps : List Phrase) → ChosenIs program Has unit held result (map_of u) u.receiver c → ArePhrases program Has unit held result ps → Makes (Called w) (call_bound u w at c ps)
     call_bound_is w at c ps h k = sound_is (nearest_sound u 201 (where_from c c.base) c.method.name) w at c ps h k

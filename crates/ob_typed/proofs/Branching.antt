@@ -166,7 +166,7 @@ module _ (program : Program) (Has : Signature → QName → Type 0) (unit : List
     -- WITH
 
     abbrev M : Meant → Type 0
-    M m = MeantIs program Has unit held result (map_of u) InExpression m
+    M m = MeantIs program Has unit held result (map_of u) u.receiver InExpression m
 
     abbrev P : Place → Type 0
     P p = PlaceIs program Has unit held result (map_of u) p
@@ -205,7 +205,7 @@ module _ (program : Program) (Has : Signature → QName → Type 0) (unit : List
     meant_is (Some m) x = by_known m x (find_name u.known m.name)
 
     place_is : (at : Pos) (m : Meant) → M m → Makes P (with_place (map_of u) at m)
-    place_is at (means.Place p) h = makes_wants P (is_pointer (map_of u) p.of || p.var_record) 37 at p (λ e. h)
+    place_is at (means.Place p) h = makes_wants P (is_pointer (map_of u) p.of || p.var_record) 37 at p (λ e. h.0)
     place_is at (means.Constant c) h = record { node = tt }
     place_is at (means.Procedure q t) h = record { node = tt }
     place_is at (means.Bound c) h = record { node = tt }

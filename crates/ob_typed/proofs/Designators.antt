@@ -38,7 +38,7 @@ use Rattle.ob_typed.specs.Makes.{IfThere, Makes}
 use Rattle.ob_typed.specs.Forms.{IsKnown, ArrayIs, Forms}
 use Rattle.ob_typed.specs.Known.{VariableIs}
 use Rattle.ob_typed.specs.Kept.{DesignatorIs, PlaceIs, ValuedIs}
-use Rattle.ob_typed.specs.Meant.{pointee}
+use Rattle.ob_typed.specs.Known.{pointee}
 use Rattle.ob_typed.proofs.Makes.{makes_then, makes_wants}
 use Rattle.ob_typed.proofs.Basics.{none_some, not_true, some_is, within_long}
 use Rattle.ob_typed.proofs.Values.{Fits, V, width_fits}
@@ -60,6 +60,10 @@ extends_is map g (Some p) (Some q) h e = go (extends_record map q p) refl e
     go : (x : Bool) → extends_record map q p ≡ x → if_so x (g, q) ≡ Some h → (r : QName) × (Some p ≡ Some r) × (Some q ≡ Some h.1) × (h.0 ≡ g) × (extends_record map h.1 r ≡ true)
     go true f e = let i = some_is e in (p, refl, ap (λ (k : Guarded × QName). Some k.1) i, sym (ap (λ (k : Guarded × QName). k.0) i), ap (λ (k : Guarded × QName). extends_record map k.1 p) (sym i) ∙ f)
     go false f e = none_some e
+
+pub or_true : (b : Bool) → b || true ≡ true
+or_true true = refl
+or_true false = refl
 
 pub some_true : {A : Type 0} {o : Option A} {x : A} → o ≡ Some x → is_some o ≡ true
 some_true {A} {o} {x} e = ap is_some e
@@ -106,12 +110,12 @@ module _ (program : Program) (Has : Signature → QName → Type 0) (unit : List
   through_pointer at p None h e = record { node = (h, refl, λ t f. none_some f) }
   through_pointer at p (Some t) h e = held_is (is_held map t) (λ q. P q × (q.of ≡ t) × ((r : TypeRef) → Some t ≡ Some r → is_held map r ≡ true)) (dereferenced p at t false) (λ k. (deref_is p at t false h e k, refl, λ r f. ap (is_held map) (sym (some_is f)) ∙ k))
 
-  pub dereference_is : (at : Pos) (p : Place) → P p → Makes P (dereference map at p)
+  pub dereference_is : (at : Pos) (p : Place) → P p → Makes (λ q. P q × (q.selected ≡ true)) (dereference map at p)
   dereference_is at p h = go (pointed map p.of) refl
     where
-      go : (o : Option TypeRef) → pointed map p.of ≡ o → Makes P (dereference_of map at p o)
+      go : (o : Option TypeRef) → pointed map p.of ≡ o → Makes (λ q. P q × (q.selected ≡ true)) (dereference_of map at p o)
       go None e = record { node = tt }
-      go (Some t) e = held_is (is_held map t) P (dereferenced p at t true) (λ k. deref_is p at t true h e k)
+      go (Some t) e = held_is (is_held map t) (λ q. P q × (q.selected ≡ true)) (dereferenced p at t true) (λ k. (deref_is p at t true h e k, or_true p.selected))
 
   -- INDICES
 
@@ -129,17 +133,17 @@ module _ (program : Program) (Has : Signature → QName → Type 0) (unit : List
   indexed_is : (p : Place) (at : Pos) (x : Valued) (a : Option ℕ × TypeRef) → P p → array_of map p.of ≡ Some a → Fits program Has unit held result (expr_view (tree x)) longint → P (indexed p at x a)
   indexed_is p at x a h e k = subst (λ d. Of d a.1 false) (sym (view_index p.designator.inner a.0 (tree x) at a.1)) (index_of (designator_view p.designator.inner) p.of a.1 p.var_record a.0 (expr_view (tree x)) at h (forms.arrays p.of a.1 a.0 h.declared.0 e) k)
 
-  index_into_is : (at : Pos) (p : Place) (i : Judged Valued) (o : Option (Option ℕ × TypeRef)) → P p → Makes (V program Has unit held result map forms) i → array_of map p.of ≡ o → Makes P (index_into map at p i o)
+  index_into_is : (at : Pos) (p : Place) (i : Judged Valued) (o : Option (Option ℕ × TypeRef)) → P p → Makes (V program Has unit held result map forms) i → array_of map p.of ≡ o → Makes (λ q. P q × (q.selected ≡ true)) (index_into map at p i o)
   index_into_is at p i None h k e = record { node = tt }
-  index_into_is at p i (Some a) h k e = makes_then (V program Has unit held result map forms) P i (λ x. wants (is_integer map x) 22 at (indexed p at x a)) k (λ x v. makes_wants P (is_integer map x) 22 at (indexed p at x a) (λ f. indexed_is p at x a h e (long_fits x v f)))
+  index_into_is at p i (Some a) h k e = makes_then (V program Has unit held result map forms) (λ q. P q × (q.selected ≡ true)) i (λ x. wants (is_integer map x) 22 at (indexed p at x a)) k (λ x v. makes_wants (λ q. P q × (q.selected ≡ true)) (is_integer map x) 22 at (indexed p at x a) (λ f. (indexed_is p at x a h e (long_fits x v f), refl)))
 
-  pub index_is : (at : Pos) (p : Place) (i : Judged Valued) → P p → Makes (V program Has unit held result map forms) i → Makes P (index map at p i)
+  pub index_is : (at : Pos) (p : Place) (i : Judged Valued) → P p → Makes (V program Has unit held result map forms) i → Makes (λ q. P q × (q.selected ≡ true)) (index map at p i)
   index_is at p i h k = go (implicitly map is_array_at at p (pointed map p.of)).node (implicitly_is is_array_at at p (pointed map p.of) h refl).node
     where
       is_array_at : TypeRef → Bool
       is_array_at t = is_array map t
 
-      go : (o : Option Place) → IfThere P o → Makes P (index_if o i (λ q. index_into map at q i (array_of map q.of)))
+      go : (o : Option Place) → IfThere P o → Makes (λ q. P q × (q.selected ≡ true)) (index_if o i (λ q. index_into map at q i (array_of map q.of)))
       go None f = record { node = tt }
       go (Some q) f = index_into_is at q i (array_of map q.of) f k refl
 
@@ -155,12 +159,12 @@ module _ (program : Program) (Has : Signature → QName → Type 0) (unit : List
 
   -- GUARDS
 
-  record_form : (t : TypeRef) (q : QName) → record_of map t ≡ Some q → (line : List QName) × (form_in program t ≡ RecordForm line (fields_of (form_in program t)))
+  pub record_form : (t : TypeRef) (q : QName) → record_of map t ≡ Some q → (line : List QName) × (form_in program t ≡ RecordForm line (fields_of (form_in program t)))
   record_form t q e =
       let r = forms.records t q e in
       (q ∷ r.1.0, r.0 ∙ r.1.1 ∙ ap (λ f. RecordForm (q ∷ r.1.0) (fields_of f)) (sym r.0))
 
-  no_record : (t r : TypeRef) → pointed map t ≡ Some r → is_record map t ≡ true → ⊥
+  pub no_record : (t r : TypeRef) → pointed map t ≡ Some r → is_record map t ≡ true → ⊥
   no_record t r e k = go (record_of map t) refl k
     where
       go : (o : Option QName) → record_of map t ≡ o → is_some o ≡ true → ⊥

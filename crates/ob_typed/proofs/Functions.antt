@@ -38,6 +38,7 @@ use Rattle.ob_rules.specs.declared.broken.Predeclared.{Predeclared}
 use Rattle.ob_rules.specs.declared.broken.Predeclared.TheVariants as pre
 use Rattle.ob_rules.specs.declared.meant.Asked.{Asked}
 use Rattle.ob_rules.specs.declared.meant.Asked.TheVariants as asked
+use Rattle.ob_rules.specs.declared.entity.Received.{Received}
 use Rattle.ob_rules.specs.declared.meant.Meant.{Meant}
 use Rattle.ob_rules.specs.declared.meant.Meant.TheVariants as means
 use Rattle.ob_rules.specs.declared.meant.Where.{Where}
@@ -85,15 +86,15 @@ module _ (program : Program) (Has : Signature → QName → Type 0) (unit : List
     AreGiven f (x ∷ []) = G (asked_first f) x
     AreGiven f (x ∷ y ∷ ys) = G (asked_first f) x × G (asked_second f) y
 
-    module _ (w : Where) where
+    module _ (o : Option Received) (w : Where) where
       abbrev M : Meant → Type 0
-      M m = MeantIs program Has unit held result map w m
+      M m = MeantIs program Has unit held result map o w m
 
       abbrev There : Option (Judged Meant) → Type 0
       There o = IfThere (Makes M) o
 
       abbrev say : (j : Judged Valued) → misplaced w true ≡ false → Makes Is j → Makes M (made (λ v. means.Call v) j)
-      say = said program Has unit held result map forms w
+      say = said program Has unit held result map forms o w
 
       abbrev monad : (o : Unary) (at : Pos) (x : Valued) → Is x → Ex (expr_view (tree x)) (typed.unary_in program Has unit held result o) → Makes Is (monadic o at x)
       monad = monadic_is program Has unit held result map forms
@@ -119,12 +120,12 @@ module _ (program : Program) (Has : Signature → QName → Type 0) (unit : List
           so_is (Makes M) (shorter v) (λ l. value (monadic (unary.Short l) at x)) λ l g. say (monadic (unary.Short l) at x) e (monad (unary.Short l) at x h (wide x v width.LongInt h f (within_long v)))
       one_fits pre.Odd at x e h = when_is (Makes M) (is_integer map x) unary.Odd (λ o. value (monadic o at x)) (λ f. say (monadic unary.Odd at x) e (monad unary.Odd at x h (long x h f)))
       one_fits pre.Ord at x e h = when_is (Makes M) (is map basic.Char x) unary.Ord (λ o. value (monadic o at x)) (λ f. say (monadic unary.Ord at x) e (monad unary.Ord at x h (simple x basic.Char refl h f)))
-      one_fits pre.Len at x e h = so_is (Makes M) (place_in x) (λ p. len_at map 0 p) (λ p f. len_there program Has unit held result map forms w 0 p (place_given program Has unit held result map forms w x p h f) e)
-      one_fits pre.Assert at x e h = if_so (Makes M) (is map basic.Boolean x) (sound (means.Statement (record { inner = stmt.Assert (tree x) (pos 0) at }))) (asserted program Has unit held result map forms w x (pos 0) at h)
-      one_fits pre.Halt at x e h = so_is (Makes M) (number_in (constant_in x)) (λ z. does (stmt.Halt z at)) (λ z f. done program Has unit held result map forms w (stmt.Halt z at) (Halt z at) (view_halt z at) (λ l. tt))
-      one_fits pre.Inc at x e h = stepped program Has unit held result map forms w update.Inc at x one (inc_ok program Has unit held result map forms w) h (one_is program Has unit held result map forms w)
-      one_fits pre.Dec at x e h = stepped program Has unit held result map forms w update.Dec at x one (dec_ok program Has unit held result map forms w) h (one_is program Has unit held result map forms w)
-      one_fits pre.New at x e h = new_there program Has unit held result map forms w at x h
+      one_fits pre.Len at x e h = so_is (Makes M) (place_in x) (λ p. len_at map 0 p) (λ p f. len_there program Has unit held result map forms o w 0 p (place_given program Has unit held result map forms o w x p h f) e)
+      one_fits pre.Assert at x e h = if_so (Makes M) (is map basic.Boolean x) (sound (means.Statement (record { inner = stmt.Assert (tree x) (pos 0) at }))) (asserted program Has unit held result map forms o w x (pos 0) at h)
+      one_fits pre.Halt at x e h = so_is (Makes M) (number_in (constant_in x)) (λ z. does (stmt.Halt z at)) (λ z f. done program Has unit held result map forms o w (stmt.Halt z at) (Halt z at) (view_halt z at) (λ l. tt))
+      one_fits pre.Inc at x e h = stepped program Has unit held result map forms o w update.Inc at x one (inc_ok program Has unit held result map forms o w) h (one_is program Has unit held result map forms o w)
+      one_fits pre.Dec at x e h = stepped program Has unit held result map forms o w update.Dec at x one (dec_ok program Has unit held result map forms o w) h (one_is program Has unit held result map forms o w)
+      one_fits pre.New at x e h = new_there program Has unit held result map forms o w at x h
       one_fits pre.Ash at x e h = tt
       one_fits pre.Max at x e h = tt
       one_fits pre.Min at x e h = tt
@@ -141,22 +142,22 @@ module _ (program : Program) (Has : Signature → QName → Type 0) (unit : List
           let d = designator_view p.designator.inner in
           let g = and_is (is_text map x) (is_chars map y) f in
           let c : typed.IsText program Has unit held result (form_in program (variable_type d)) = subst (typed.IsText program Has unit held result) (sym (form_is program Has unit held result map forms d p.of p.var_record q)) (char_array_is program Has unit held result map forms p.of q.declared.0 (sym (ap (is_chars map) (place_of y p e)) ∙ g.1)) in
-          done program Has unit held result map forms w (stmt.Copy (text_tree x) p.designator.inner at) (Copy (expr_view (text_tree x)) d at) (view_copy (text_tree x) p.designator.inner at) (λ l. (text_fits program Has unit held result map forms x h g.0, (q.fits, c)))
+          done program Has unit held result map forms o w (stmt.Copy (text_tree x) p.designator.inner at) (Copy (expr_view (text_tree x)) d at) (view_copy (text_tree x) p.designator.inner at) (λ l. (text_fits program Has unit held result map forms x h g.0, (q.fits, c)))
 
       two_fit : (f : Predeclared) (at : Pos) (x y : Valued) → misplaced w (is_function f) ≡ false → G (asked_first f) x → G (asked_second f) y → There (fit_two map f at x y)
       two_fit pre.Ash at x y e h k = when_is (Makes M) (is_integer map x && is_integer map y) binary.Ash (λ o. value (dyadic o at x y)) (λ f. let g = and_is (is_integer map x) (is_integer map y) f in say (dyadic binary.Ash at x y) e (dyadic_is program Has unit held result map forms binary.Ash at x y h k (record { u = longint; v = longint; ok = typed.ash; left = long x h g.0; right = long y k g.1 })))
       two_fit pre.Len at x y e h k =
           so_is (Makes M) (place_in x) (λ p. and_so (number_in (constant_in y)) (λ z. len_of map z p)) λ p f.
-          so_is (Makes M) (number_in (constant_in y)) (λ z. len_of map z p) λ z g. len_number program Has unit held result map forms w z p (place_given program Has unit held result map forms w x p h f) e
+          so_is (Makes M) (number_in (constant_in y)) (λ z. len_of map z p) λ z g. len_number program Has unit held result map forms o w z p (place_given program Has unit held result map forms o w x p h f) e
       two_fit pre.Assert at x y e h k =
           so_is (Makes M) (number_in (constant_in y)) (λ z. if_is (is map basic.Boolean x) (sound (means.Statement (record { inner = stmt.Assert (tree x) z at })))) λ z g.
-          if_so (Makes M) (is map basic.Boolean x) (sound (means.Statement (record { inner = stmt.Assert (tree x) z at }))) (asserted program Has unit held result map forms w x z at h)
-      two_fit pre.Inc at x y e h k = stepped program Has unit held result map forms w update.Inc at x y (inc_ok program Has unit held result map forms w) h k
-      two_fit pre.Dec at x y e h k = stepped program Has unit held result map forms w update.Dec at x y (dec_ok program Has unit held result map forms w) h k
-      two_fit pre.Incl at x y e h k = element_stepped program Has unit held result map forms w update.Incl at x y (λ d z i j. (i, j)) h k
-      two_fit pre.Excl at x y e h k = element_stepped program Has unit held result map forms w update.Excl at x y (λ d z i j. (i, j)) h k
+          if_so (Makes M) (is map basic.Boolean x) (sound (means.Statement (record { inner = stmt.Assert (tree x) z at }))) (asserted program Has unit held result map forms o w x z at h)
+      two_fit pre.Inc at x y e h k = stepped program Has unit held result map forms o w update.Inc at x y (inc_ok program Has unit held result map forms o w) h k
+      two_fit pre.Dec at x y e h k = stepped program Has unit held result map forms o w update.Dec at x y (dec_ok program Has unit held result map forms o w) h k
+      two_fit pre.Incl at x y e h k = element_stepped program Has unit held result map forms o w update.Incl at x y (λ d z i j. (i, j)) h k
+      two_fit pre.Excl at x y e h k = element_stepped program Has unit held result map forms o w update.Excl at x y (λ d z i j. (i, j)) h k
       two_fit pre.Copy at x y e h k = copied at x y h k
-      two_fit pre.New at x y e h k = many_there program Has unit held result map forms w at x y h k
+      two_fit pre.New at x y e h k = many_there program Has unit held result map forms o w at x y h k
       two_fit pre.Abs at x y e h k = tt
       two_fit pre.Cap at x y e h k = tt
       two_fit pre.Chr at x y e h k = tt
@@ -179,7 +180,7 @@ module _ (program : Program) (Has : Signature → QName → Type 0) (unit : List
       fit_is at (Some m) h = h
 
       extreme_there : (max : Bool) (at : Pos) (t : Option TypeRef) (b : Option Basic) → misplaced w true ≡ false → Makes M (extreme_of max at t b)
-      extreme_there max at (Some t) (Some b) e = record { node = function_there program Has unit held result map forms w (constant (extreme max b)) e (extreme_is max b) }
+      extreme_there max at (Some t) (Some b) e = record { node = function_there program Has unit held result map forms o w (constant (extreme max b)) e (extreme_is max b) }
       extreme_there max at (Some t) None e = record { node = tt }
       extreme_there max at None b e = record { node = tt }
 
@@ -187,13 +188,13 @@ module _ (program : Program) (Has : Signature → QName → Type 0) (unit : List
 
   module _ (u : Around) (scoped : IsScoped program Has unit held result u) (w : Where) where
     abbrev N : Meant → Type 0
-    N m = MeantIs program Has unit held result (map_of u) w m
+    N m = MeantIs program Has unit held result (map_of u) u.receiver w m
 
     abbrev Giv : Asked → Valued → Type 0
     Giv a x = Given program Has unit held result (map_of u) scoped.forms a x
 
-    changed_place : (start : Pos) (m : Meant) → MeantIs program Has unit held result (map_of u) InExpression m → Makes (Giv asked.Changed) (changed_meant start m)
-    changed_place start (means.Place p) h = makes_unless (Giv asked.Changed) p.read_only 26 start (value_at p) (λ e q f. subst (PlaceIs program Has unit held result (map_of u)) (some_is f) h)
+    changed_place : (start : Pos) (m : Meant) → MeantIs program Has unit held result (map_of u) u.receiver InExpression m → Makes (Giv asked.Changed) (changed_meant start m)
+    changed_place start (means.Place p) h = makes_unless (Giv asked.Changed) p.read_only 26 start (value_at p) (λ e q f. subst (PlaceIs program Has unit held result (map_of u)) (some_is f) h.0)
     changed_place start (means.Call x) h = record { node = λ p e. none_some (sym (no_place x) ∙ e) }
     changed_place start (means.Constant v) h = record { node = tt }
     changed_place start (means.Procedure q s) h = record { node = tt }
@@ -204,7 +205,7 @@ module _ (program : Program) (Has : Signature → QName → Type 0) (unit : List
 
     changed_is : (p : Phrase) (o : Option (Around → Judged Meant)) → PhraseIs program Has unit held result p → MeantBy program Has unit held result o u → Makes (Giv asked.Changed) (changed_as u p o)
     changed_is p None h k = makes_made (ValuedIs program Has unit held result (map_of u)) (Giv asked.Changed) (p.value u) only_value (h.value u scoped) (λ x l q e. none_some (sym (no_place x) ∙ e))
-    changed_is p (Some f) h k = makes_then (MeantIs program Has unit held result (map_of u) InExpression) (Giv asked.Changed) (f u) (changed_meant p.start) k (λ m l. changed_place p.start m l)
+    changed_is p (Some f) h k = makes_then (MeantIs program Has unit held result (map_of u) u.receiver InExpression) (Giv asked.Changed) (f u) (changed_meant p.start) k (λ m l. changed_place p.start m l)
 
     parameter_is : (a : Asked) (p : Phrase) → PhraseIs program Has unit held result p → Makes (Giv a) (parameter u a p)
     parameter_is asked.Value p h = record { node = (h.value u scoped).node }
@@ -237,13 +238,13 @@ module _ (program : Program) (Has : Signature → QName → Type 0) (unit : List
     fitted at f ps h =
         makes_then (AreGiven (map_of u) scoped.forms f) N (each_sound (parameters u f ps)) (call_fit u w f at) (given_all f ps h) λ xs k.
         makes_also N (misplaced w (is_function f)) 27 at (if_fit at (fit (map_of u) f at xs)) λ e.
-        fit_is (map_of u) scoped.forms w at (fit (map_of u) f at xs) (fit_there (map_of u) scoped.forms w f at xs e k)
+        fit_is (map_of u) scoped.forms u.receiver w at (fit (map_of u) f at xs) (fit_there (map_of u) scoped.forms u.receiver w f at xs e k)
 
     extreme_call_is : (max : Bool) (at : Pos) (ps : List Phrase) → Makes N (extreme_call max u w at ps)
     extreme_call_is max at [] = makes_also N (misplaced w true) 27 at (breaks 28 at) (λ e. record { node = tt })
     extreme_call_is max at (p ∷ []) =
         makes_then (λ t. Unit {0}) N (type_parameter u p p.name) (λ t. also (misplaced w true) 27 at (extreme_of max at t (basic_if (map_of u) t))) (makes_any (type_parameter u p p.name)) λ t k.
-        makes_also N (misplaced w true) 27 at (extreme_of max at t (basic_if (map_of u) t)) (λ e. extreme_there (map_of u) scoped.forms w max at t (basic_if (map_of u) t) e)
+        makes_also N (misplaced w true) 27 at (extreme_of max at t (basic_if (map_of u) t)) (λ e. extreme_there (map_of u) scoped.forms u.receiver w max at t (basic_if (map_of u) t) e)
     extreme_call_is max at (p ∷ q ∷ qs) =
         makes_then (λ t. Unit {0}) N (type_parameter u p p.name) (λ t. each_sound (values u (q ∷ qs)) ▷ λ xs. also (misplaced w true) 27 at (breaks 28 at)) (makes_any (type_parameter u p p.name)) λ t k.
         makes_then (λ xs. Unit {0}) N (each_sound (values u (q ∷ qs))) (λ xs. also (misplaced w true) 27 at (breaks 28 at)) (makes_any (each_sound (values u (q ∷ qs)))) λ xs l.

@@ -5,6 +5,7 @@ pub mod Values
 pub mod Operators
 pub mod Designators
 pub mod Relations
+pub mod Roots
 pub mod Sets
 pub mod Shown
 pub mod Types

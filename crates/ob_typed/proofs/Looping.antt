@@ -52,28 +52,12 @@ use Rattle.ob_typed.specs.Bodies.{AreStatements, JudgingIs, AreJudging}
 use Rattle.ob_typed.proofs.Makes.{makes_then, makes_both, makes_wants, makes_unless}
 use Rattle.ob_typed.proofs.Basics.{none_some, not_true, some_is, width_back, width_basic, within_long}
 use Rattle.ob_typed.proofs.Values.{Fits, W, place_fits, shown_place, shown_constant, integer_form}
+use Rattle.ob_typed.proofs.Roots.{guards_keep}
 use Rattle.ob_typed.proofs.Designators.{pointed_is, extends_is, variable_is, guarded_is}
 use Rattle.ob_typed.proofs.Assignable.{basic_there, constant_scalar, procedure_taken, scalar_fits}
 use Rattle.ob_typed.proofs.Fronts.{EntityIs, named_is}
 use Rattle.ob_typed.proofs.Bodies.{scoped_with, stmts_ok, in_turn_is}
 use Rattle.ob_typed.proofs.Simple.{IsCondition, condition_is}
-
--- what the guards of WITH add to a name has what each of them keeps
-guards_keep : (map : Map) (Q : Place → Type 0) (K : TypeRef → Type 0) → ((p : Place) (t : TypeRef) (g : Guarded × QName) (at : Pos) → Q p → K t → guard_of map p t ≡ Some g → Q (guarded_by p g t at false)) → (at : Pos) (v : Variable) (gs : List (Variable × Option TypeRef)) (j : Judged Place) → Makes Q j → AllByRecursion (λ (g : Variable × Option TypeRef). IfThere K g.1) gs → Makes Q (with_guards map at v gs j)
-guards_keep map Q K step at v [] j h k = h
-guards_keep map Q K step at v (g ∷ gs) j h k = guards_keep map Q K step at v gs (guard_same (same_variable v g.0) map at j g.1) (one_more (same_variable v g.0) g.1 k.0) k.1
-  where
-    guard_there : (p : Place) (t : TypeRef) (o : Option (Guarded × QName)) → Q p → K t → guard_of map p t ≡ o → Makes Q (with_guard map at p o t)
-    guard_there p t None h k e = record { node = tt }
-    guard_there p t (Some g) h k e = record { node = step p t g at h k e }
-
-    if_there : (p : Place) (o : Option TypeRef) → Q p → IfThere K o → Makes Q (guard_if map at p o)
-    if_there p None h k = record { node = tt }
-    if_there p (Some t) h k = guard_there p t (guard_of map p t) h k refl
-
-    one_more : (b : Bool) (o : Option TypeRef) → IfThere K o → Makes Q (guard_same b map at j o)
-    one_more true o k = makes_then Q Q j (λ q. guard_if map at q o) h (λ q l. if_there q o l k)
-    one_more false o k = h
 
 module _ (program : Program) (Has : Signature → QName → Type 0) (unit : List ℕ) (held : List Held) (result : Option TypeRef) where
   abbrev Ss : Bool → List TypedStmt → Type 0

@@ -100,8 +100,8 @@ module _ (program : Program) (Has : Signature → QName → Type 0) (unit : List
   procedure_there u true at q s h k = record { node = procedure_node (map_of u) q s h k }
   procedure_there u false at q s h k = record { node = tt }
 
-  pub value_there : (u : Around) (at : Pos) (m : Meant) → MeantIs program Has unit held result (map_of u) InExpression m → Makes (Is u) (value_meant at m)
-  value_there u at (means.Place p) h = record { node = h }
+  pub value_there : (u : Around) (at : Pos) (m : Meant) → MeantIs program Has unit held result (map_of u) u.receiver InExpression m → Makes (Is u) (value_meant at m)
+  value_there u at (means.Place p) h = record { node = h.0 }
   value_there u at (means.Constant c) h = record { node = h }
   value_there u at (means.Procedure q s) h = procedure_there u (is_value q) at q s h refl
   value_there u at (means.Call x) h = record { node = h }
@@ -112,7 +112,7 @@ module _ (program : Program) (Has : Signature → QName → Type 0) (unit : List
 
   pub designator_is : (n : Named) → NamedIs program Has unit held result n → Ph (designator_phrase n)
   designator_is n h = record {
-    value = λ u s. makes_then (MeantIs program Has unit held result (map_of u) InExpression) (Is u) (meant_by InExpression n u) (value_meant n.ident.pos) (designates_is program Has unit held result u s InExpression n.ident n.behind h) (λ m k. value_there u n.ident.pos m k);
+    value = λ u s. makes_then (MeantIs program Has unit held result (map_of u) u.receiver InExpression) (Is u) (meant_by InExpression n u) (value_meant n.ident.pos) (designates_is program Has unit held result u s InExpression n.ident n.behind h) (λ m k. value_there u n.ident.pos m k);
     meant = λ u s. designates_is program Has unit held result u s InExpression n.ident n.behind h;
   }
 

@@ -38,6 +38,7 @@ use Rattle.ob_rules.specs.declared.broken.Predeclared.{Predeclared}
 use Rattle.ob_rules.specs.declared.broken.Predeclared.TheVariants as pre
 use Rattle.ob_rules.specs.declared.meant.Asked.{Asked}
 use Rattle.ob_rules.specs.declared.meant.Asked.TheVariants as asked
+use Rattle.ob_rules.specs.declared.entity.Received.{Received}
 use Rattle.ob_rules.specs.declared.meant.Meant.{Meant}
 use Rattle.ob_rules.specs.declared.meant.Meant.TheVariants as means
 use Rattle.ob_rules.specs.declared.meant.Where.{Where}
@@ -134,9 +135,9 @@ module _ (program : Program) (Has : Signature → QName → Type 0) (unit : List
     Given asked.Changed x = (p : Place) → place_in x ≡ Some p → PlaceIs program Has unit held result map p
     Given asked.Constant x = Is x
 
-    module _ (w : Where) where
+    module _ (o : Option Received) (w : Where) where
       abbrev M : Meant → Type 0
-      M m = MeantIs program Has unit held result map w m
+      M m = MeantIs program Has unit held result map o w m
 
       pub function_there : (x : Valued) → misplaced w true ≡ false → Is x → CalledIs program Has unit held result map w x
       function_there x e h = by w e

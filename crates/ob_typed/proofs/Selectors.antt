@@ -28,11 +28,15 @@ use Rattle.ob_rules.specs.Predeclared.{call_predeclared}
 use Rattle.ob_rules.specs.Designators.{chosen, with_receiver, same_variable, super_of, super_in, super_if, super, comes, guard_of, guarded_by, guard, implicitly, dereference, index, not_there, member_found, member_of, select_of, select_through, select, type_in_round, visited, as_call, place_round, call_meant, takes_type, is_callable, is_guardable, other_round, step_dot, step_index, step_up, step_round, step, where_of, nothing_behind, go_on_with, go_on, all_visited, through}
 use Rattle.ob_typed.specs.Makes.{IfThere, Makes}
 use Rattle.ob_typed.specs.Forms.{IsKnown}
-use Rattle.ob_typed.specs.Known.{IsScoped}
+use Rattle.ob_typed.specs.Known.{pointee, IsScoped}
 use Rattle.ob_typed.specs.Kept.{PlaceIs, ValuedIs}
-use Rattle.ob_typed.specs.Meant.{pointee, ChosenIs, CalledIs, MeantIs, PhraseIs, ArePhrases, BehindIs, AreBehind}
+use Rattle.ob_typed.specs.Meant.{RootIs, ChosenIs, CalledIs, MeantIs, PhraseIs, ArePhrases, BehindIs, AreBehind}
+use Rattle.ob_relation.proofs.Actuals.{sub_on}
+use Rattle.ob_typed.proofs.Basics.{not_true}
+use Rattle.ob_typed.proofs.Operators.{and_is}
+use Rattle.ob_typed.proofs.Actuals.{not_false}
 use Rattle.ob_typed.proofs.Makes.{makes_then, makes_found}
-use Rattle.ob_typed.proofs.Designators.{through_pointer, dereference_is, index_is, field_is, guarded_is}
+use Rattle.ob_typed.proofs.Designators.{or_true, through_pointer, dereference_is, index_is, field_is, guarded_is}
 use Rattle.ob_typed.proofs.Types.{type_named_is}
 use Rattle.ob_typed.proofs.Calls.{call_procedure_is, call_variable_is, call_out_is}
 use Rattle.ob_typed.proofs.Bound.{call_bound_is}
@@ -44,7 +48,7 @@ go_on_there P Q u bs f (Some m) h k = (k m h).node
 
 module _ (program : Program) (Has : Signature → QName → Type 0) (unit : List ℕ) (held : List Held) (result : Option TypeRef) (u : Around) (scoped : IsScoped program Has unit held result u) where
   abbrev M : Where → Meant → Type 0
-  M w m = MeantIs program Has unit held result (map_of u) w m
+  M w m = MeantIs program Has unit held result (map_of u) u.receiver w m
 
   abbrev P : Place → Type 0
   P p = PlaceIs program Has unit held result (map_of u) p
@@ -59,13 +63,14 @@ module _ (program : Program) (Has : Signature → QName → Type 0) (unit : List
   -- what a member is selected of
   pub record SelectedOf (p q : Place) (o : Option TypeRef) (rec : QName) : Type 0 where
     pub variable : P p
+    pub rooted : RootIs program Has unit held result (map_of u) u.receiver p
     pub pointed_is : pointed (map_of u) p.of ≡ o
     pub held_is : (t : TypeRef) → o ≡ Some t → is_held (map_of u) t ≡ true
     pub place : P q
     pub same_type : q.of ≡ pointee p.of o
     pub record_is : record_of (map_of u) q.of ≡ Some rec
 
-  bound_there : (w : Where) (at : Pos) (c : Chosen) (k : Receiver) (b : Bool) → c.method.receiver ≡ k → is_some c.pointed ≡ b → ((c.method.receiver ≡ receiver.Pointer → is_some c.pointed ≡ true) → ChosenIs program Has unit held result (map_of u) c) → Makes (M w) (with_receiver k b at c)
+  bound_there : (w : Where) (at : Pos) (c : Chosen) (k : Receiver) (b : Bool) → c.method.receiver ≡ k → is_some c.pointed ≡ b → ((c.method.receiver ≡ receiver.Pointer → is_some c.pointed ≡ true) → ChosenIs program Has unit held result (map_of u) u.receiver c) → Makes (M w) (with_receiver k b at c)
   bound_there w at c receiver.Pointer false e f h = record { node = tt }
   bound_there w at c receiver.Pointer true e f h = record { node = h (λ g. f) }
   bound_there w at c receiver.Record b e f h = record { node = h (λ g. absurd (different (sym e ∙ g))) }
@@ -74,10 +79,10 @@ module _ (program : Program) (Has : Signature → QName → Type 0) (unit : List
       different e = absurd cc
 
   found : (w : Where) (start at : Pos) (x : Ident) (p q : Place) (o : Option TypeRef) (rec : QName) (m : Member) → SelectedOf p q o rec → member (map_of u) rec x.name ≡ Some m → Makes (M w) (member_found u start at p q o rec m)
-  found w start at x p q o rec (AField owner f) h k = record { node = field_is program Has unit held result (map_of u) scoped.forms u q rec owner x.name f h.place h.record_is k }
+  found w start at x p q o rec (AField owner f) h k = record { node = (field_is program Has unit held result (map_of u) scoped.forms u q rec owner x.name f h.place h.record_is k, λ r e f g. not_true (sym g)) }
   found w start at x p q o rec (AMethod owner m) h k =
       bound_there w at (chosen start p o rec owner m) m.receiver (is_some o) refl refl λ g.
-      record { receiver = h.variable; pointed_is = h.pointed_is; held_is = h.held_is; owner_is = ap (record_of (map_of u)) (sym h.same_type) ∙ h.record_is; by_pointer = g; x = x.name; found = k; plain = refl }
+      record { receiver = h.variable; rooted = h.rooted; pointed_is = h.pointed_is; held_is = h.held_is; owner_is = ap (record_of (map_of u)) (sym h.same_type) ∙ h.record_is; by_pointer = g; calls = (x.name, k) }
 
   member_is : (w : Where) (start at : Pos) (x : Ident) (p q : Place) (o : Option TypeRef) (rec : QName) (last : Bool) (m : Option Member) → SelectedOf p q o rec → member (map_of u) rec x.name ≡ m → Makes (M w) (member_of u start at x p q o rec last m)
   member_is w start at x p q o rec last None h k = missing w (comes u rec x.name) last start x
@@ -87,12 +92,12 @@ module _ (program : Program) (Has : Signature → QName → Type 0) (unit : List
   selected w start at x p q o last None e h = record { node = tt }
   selected w start at x p q o last (Some rec) e h = member_is w start at x p q o rec last (member (map_of u) rec x.name) (h rec e) refl
 
-  select_is : (w : Where) (start at : Pos) (x : Ident) (p : Place) (last : Bool) → P p → Makes (M w) (select u start at x p last)
+  select_is : (w : Where) (start at : Pos) (x : Ident) (p : Place) (last : Bool) → P p × RootIs program Has unit held result (map_of u) u.receiver p → Makes (M w) (select u start at x p last)
   select_is w start at x p last h =
       let o = pointed (map_of u) p.of in
       makes_then (λ q. P q × (q.of ≡ pointee p.of o) × ((t : TypeRef) → o ≡ Some t → is_held (map_of u) t ≡ true)) (M w) (implicitly (map_of u) (λ t. true) at p o) (λ q. select_of u start at x p q o last (record_of (map_of u) q.of))
-      (through_pointer program Has unit held result (map_of u) scoped.forms at p o h refl)
-      (λ q k. selected w start at x p q o last (record_of (map_of u) q.of) refl (λ rec e. record { variable = h; pointed_is = refl; held_is = k.2; place = k.0; same_type = k.1; record_is = e }))
+      (through_pointer program Has unit held result (map_of u) scoped.forms at p o h.0 refl)
+      (λ q k. selected w start at x p q o last (record_of (map_of u) q.of) refl (λ rec e. record { variable = h.0; rooted = h.1; pointed_is = refl; held_is = k.2; place = k.0; same_type = k.1; record_is = e }))
 
   dot_is : (w v : Where) (start at : Pos) (x : Ident) (last : Bool) (m : Meant) → M v m → Makes (M w) (step_dot u start at x last m)
   dot_is w v start at x last (means.Place p) h = select_is w start at x p last h
@@ -107,7 +112,7 @@ module _ (program : Program) (Has : Signature → QName → Type 0) (unit : List
   -- INDICES AND DEREFERENCES
 
   index_step : (w v : Where) (at : Pos) (i : Judged Valued) (m : Meant) → M v m → Makes (ValuedIs program Has unit held result (map_of u)) i → Makes (M w) (step_index (map_of u) at i m)
-  index_step w v at i (means.Place p) h k = makes_then P (M w) (index (map_of u) at p i) (λ q. sound (means.Place q)) (index_is program Has unit held result (map_of u) scoped.forms at p i h k) (λ q l. record { node = l })
+  index_step w v at i (means.Place p) h k = makes_then (λ q. P q × (q.selected ≡ true)) (M w) (index (map_of u) at p i) (λ q. sound (means.Place q)) (index_is program Has unit held result (map_of u) scoped.forms at p i h.0 k) (λ q l. record { node = (l.0, λ r e f g. not_true (sym g ∙ l.1)) })
   index_step w v at i (means.Constant c) h k = record { node = tt }
   index_step w v at i (means.Procedure q s) h k = record { node = tt }
   index_step w v at i (means.Bound c) h k = record { node = tt }
@@ -116,26 +121,47 @@ module _ (program : Program) (Has : Signature → QName → Type 0) (unit : List
   index_step w v at i (means.Call c) h k = record { node = tt }
   index_step w v at i (means.Statement s) h k = record { node = tt }
 
-  super_there : (w : Where) (at : Pos) (c : Chosen) (r : Received) (b : QName) (m : Option Member) → u.receiver ≡ Some r → base_record (map_of u) r.owner ≡ Some b → member (map_of u) b c.method.name ≡ m → Makes (M w) (super_of at c b m)
-  super_there w at c r b (Some (AMethod o m)) e f g = absurd (scoped.no_supers r b o c.method.name m e f g)
-  super_there w at c r b (Some (AField o f)) e g k = record { node = tt }
-  super_there w at c r b None e f g = record { node = tt }
+  off : (b : Bool) → not b ≡ true → b ≡ false
+  off true e = not_true e
+  off false e = refl
 
-  super_from : (w : Where) (at : Pos) (c : Chosen) (r : Received) (b : Option QName) → u.receiver ≡ Some r → base_record (map_of u) r.owner ≡ b → Makes (M w) (super_in (map_of u) at c b)
-  super_from w at c r None e f = record { node = tt }
-  super_from w at c r (Some b) e f = super_there w at c r b (member (map_of u) b c.method.name) e f refl
+  abbrev Ch : Chosen → Type 0
+  Ch c = ChosenIs program Has unit held result (map_of u) u.receiver c
 
-  super_by : (w : Where) (at : Pos) (c : Chosen) (r : Received) (x : Bool) → u.receiver ≡ Some r → Makes (M w) (super_if x (map_of u) at c r.owner)
-  super_by w at c r true e = super_from w at c r (base_record (map_of u) r.owner) e refl
-  super_by w at c r false e = record { node = tt }
+  super_there : (w : Where) (at : Pos) (c : Chosen) (r : Received) (b : QName) (m : Option Member) → Ch c → same_variable c.receiver.root r.variable && not c.receiver.selected ≡ true → u.receiver ≡ Some r → base_record (map_of u) r.owner ≡ Some b → member (map_of u) b c.method.name ≡ m → Makes (M w) (super_of at c b m)
+  super_there w at c r b (Some (AMethod o m)) h x e f g =
+      let p = and_is (same_variable c.receiver.root r.variable) (not c.receiver.selected) x in
+      let root = h.rooted r e p.0 (off c.receiver.selected p.1) in
+      let s = scoped.supers r b o c.method.name m e f g in
+      record {
+        node = record {
+          receiver = h.receiver;
+          rooted = h.rooted;
+          pointed_is = h.pointed_is;
+          held_is = h.held_is;
+          owner_is = h.owner_is;
+          by_pointer = λ k. sym (ap is_some h.pointed_is) ∙ root.pointer (s.0.kind k);
+          calls = (r.variable, s.0, sub_on (root.below c.owner (ap (λ z. record_of (map_of u) (pointee c.receiver.of z)) h.pointed_is ∙ h.owner_is)) s.1);
+        };
+      }
+  super_there w at c r b (Some (AField o f)) h x e g k = record { node = tt }
+  super_there w at c r b None h x e f g = record { node = tt }
 
-  super_is : (w : Where) (at : Pos) (c : Chosen) (o : Option Received) → u.receiver ≡ o → Makes (M w) (super (map_of u) at c o)
-  super_is w at c None e = record { node = tt }
-  super_is w at c (Some r) e = super_by w at c r (same_variable c.receiver.root r.variable && not c.receiver.selected) e
+  super_from : (w : Where) (at : Pos) (c : Chosen) (r : Received) (b : Option QName) → Ch c → same_variable c.receiver.root r.variable && not c.receiver.selected ≡ true → u.receiver ≡ Some r → base_record (map_of u) r.owner ≡ b → Makes (M w) (super_in (map_of u) at c b)
+  super_from w at c r None h x e f = record { node = tt }
+  super_from w at c r (Some b) h x e f = super_there w at c r b (member (map_of u) b c.method.name) h x e f refl
+
+  super_by : (w : Where) (at : Pos) (c : Chosen) (r : Received) (b : Bool) → Ch c → same_variable c.receiver.root r.variable && not c.receiver.selected ≡ b → u.receiver ≡ Some r → Makes (M w) (super_if b (map_of u) at c r.owner)
+  super_by w at c r true h x e = super_from w at c r (base_record (map_of u) r.owner) h x e refl
+  super_by w at c r false h x e = record { node = tt }
+
+  super_is : (w : Where) (at : Pos) (c : Chosen) (o : Option Received) → Ch c → u.receiver ≡ o → Makes (M w) (super (map_of u) at c o)
+  super_is w at c None h e = record { node = tt }
+  super_is w at c (Some r) h e = super_by w at c r (same_variable c.receiver.root r.variable && not c.receiver.selected) h refl e
 
   up_is : (w v : Where) (at : Pos) (m : Meant) → M v m → Makes (M w) (step_up u at m)
-  up_is w v at (means.Place p) h = makes_then P (M w) (dereference (map_of u) at p) (λ q. sound (means.Place q)) (dereference_is program Has unit held result (map_of u) scoped.forms at p h) (λ q l. record { node = l })
-  up_is w v at (means.Bound c) h = super_is w at c u.receiver refl
+  up_is w v at (means.Place p) h = makes_then (λ q. P q × (q.selected ≡ true)) (M w) (dereference (map_of u) at p) (λ q. sound (means.Place q)) (dereference_is program Has unit held result (map_of u) scoped.forms at p h.0) (λ q l. record { node = (l.0, λ r e f g. not_true (sym g ∙ l.1)) })
+  up_is w v at (means.Bound c) h = super_is w at c u.receiver h refl
   up_is w v at (means.Constant c) h = record { node = tt }
   up_is w v at (means.Procedure q s) h = record { node = tt }
   up_is w v at (means.Out o) h = record { node = tt }
@@ -150,7 +176,7 @@ module _ (program : Program) (Has : Signature → QName → Type 0) (unit : List
 
   guard_there : (w : Where) (p : Place) (t : TypeRef) (at : Pos) (o : Option (Guarded × QName)) → P p → IsKnown (map_of u) t → guard_of (map_of u) p t ≡ o → Makes (M w) (found_or 23 at o ▷ λ g. sound (means.Place (guarded_by p g t at true)))
   guard_there w p t at None h d e = record { node = tt }
-  guard_there w p t at (Some g) h d e = record { node = guarded_is program Has unit held result (map_of u) scoped.forms p g t at true h d e }
+  guard_there w p t at (Some g) h d e = record { node = (guarded_is program Has unit held result (map_of u) scoped.forms p g t at true h d e, λ r x f k. not_true (sym k ∙ or_true p.selected)) }
 
   place_round_is : (w : Where) (start at : Pos) (p : Place) (ps : List Phrase) (q : Option Qualident) (s : Option Signature) → P p → ArePhrases program Has unit held result ps → signature_at (map_of u) p.of ≡ s → Makes (M w) (place_round u w start at p ps q s)
   place_round_is w start at p ps (Some q) s h k e = makes_then (IsKnown (map_of u)) (M w) (type_named u q) (guard (map_of u) at p) (type_named_is program Has unit held result u scoped q) (λ t d. guard_there w p t at (guard_of (map_of u) p t) h d refl)
@@ -175,7 +201,7 @@ module _ (program : Program) (Has : Signature → QName → Type 0) (unit : List
   other_is w v start at m ps None false b false h k = record { node = tt }
 
   round_is : (w v : Where) (start at : Pos) (ps : List Phrase) (m : Meant) → M v m → ArePhrases program Has unit held result ps → Makes (M w) (step_round u w start at ps m)
-  round_is w v start at ps (means.Place p) h k = place_round_is w start at p ps (type_in_round u ps) (signature_at (map_of u) p.of) h k refl
+  round_is w v start at ps (means.Place p) h k = place_round_is w start at p ps (type_in_round u ps) (signature_at (map_of u) p.of) h.0 k refl
   round_is w v start at ps (means.Constant c) h k = other_is w v start at (means.Constant c) ps (type_in_round u ps) (takes_type (means.Constant c)) (is_guardable (means.Constant c)) (is_callable (means.Constant c)) h k
   round_is w v start at ps (means.Procedure q s) h k = other_is w v start at (means.Procedure q s) ps (type_in_round u ps) (takes_type (means.Procedure q s)) (is_guardable (means.Procedure q s)) (is_callable (means.Procedure q s)) h k
   round_is w v start at ps (means.Bound c) h k = other_is w v start at (means.Bound c) ps (type_in_round u ps) (takes_type (means.Bound c)) (is_guardable (means.Bound c)) (is_callable (means.Bound c)) h k

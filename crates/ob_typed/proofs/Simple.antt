@@ -57,7 +57,7 @@ module _ (program : Program) (Has : Signature → QName → Type 0) (unit : List
     Is x = ValuedIs program Has unit held result (map_of u) x
 
     abbrev M : Where → Meant → Type 0
-    M w m = MeantIs program Has unit held result (map_of u) w m
+    M w m = MeantIs program Has unit held result (map_of u) u.receiver w m
 
     abbrev P : Place → Type 0
     P p = PlaceIs program Has unit held result (map_of u) p
@@ -65,7 +65,7 @@ module _ (program : Program) (Has : Signature → QName → Type 0) (unit : List
     -- ASSIGNMENTS
 
     target_is : (start : Pos) (m : Meant) → M Elsewhere m → Makes P (target start m)
-    target_is start (means.Place p) h = makes_unless P p.read_only 26 start p (λ e. h)
+    target_is start (means.Place p) h = makes_unless P p.read_only 26 start p (λ e. h.0)
     target_is start (means.Constant c) h = record { node = tt }
     target_is start (means.Procedure q t) h = record { node = tt }
     target_is start (means.Bound c) h = record { node = tt }
@@ -103,7 +103,7 @@ module _ (program : Program) (Has : Signature → QName → Type 0) (unit : List
     meant_done n m h = makes_then (M AsStatement) (Ss u.in_loop) (call_meant u AsStatement n.ident.pos m []) done (call_meant_is program Has unit held result u s AsStatement AsStatement n.ident.pos m [] h tt) (λ m k. done_is m k)
 
     called_is : (n : Named) (m : Meant) → M AsStatement m → Makes (Ss u.in_loop) (called u n m)
-    called_is n (means.Place p) h = place_called_is n.ident.pos p (signature_at (map_of u) p.of) h refl
+    called_is n (means.Place p) h = place_called_is n.ident.pos p (signature_at (map_of u) p.of) h.0 refl
     called_is n (means.Constant c) h = record { node = tt }
     called_is n (means.Call x) h = called_there x h
     called_is n (means.Statement t) h = record { node = (h u.in_loop, tt) }

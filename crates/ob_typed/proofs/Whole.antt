@@ -25,7 +25,7 @@ expressions_fit program has unit held result u scoped e spelled x is =
 
 pub designators_fit : DesignatorsFit
 designators_fit program has unit held result u scoped w d spelled m is =
-    subst (IfThere (MeantIs program (Having has) unit held result (map_of u) w)) is (designates_is program (Having has) unit held result u scoped w (named_of d).ident (named_of d).behind (designator_of_is program (Having has) unit held result d spelled)).node
+    subst (IfThere (MeantIs program (Having has) unit held result (map_of u) u.receiver w)) is (designates_is program (Having has) unit held result u scoped w (named_of d).ident (named_of d).behind (designator_of_is program (Having has) unit held result d spelled)).node
 
 pub statements_fit : StatementsFit
 statements_fit program has unit held result u scoped xs spelled hidden ys is =

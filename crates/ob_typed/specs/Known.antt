@@ -9,6 +9,8 @@ use Rattle.ob_types.specs.declared.value.Value.{Value as Literal}
 use Rattle.ob_types.specs.declared.value.Value.TheVariants as literal
 use Rattle.ob_types.specs.declared.desc.Desc.TheVariants as desc
 use Rattle.ob_types.specs.declared.desc.Method.{Method}
+use Rattle.ob_types.specs.declared.desc.Receiver.TheVariants as receiver
+use Rattle.ob_types.specs.declared.typed.Passing.TheVariants as passing
 use Rattle.ob_tree.specs.declared.ident.Mark.{Mark}
 use Rattle.ob_types.specs.declared.typed.Width.TheVariants as width
 use Rattle.ob_types.specs.declared.typed.Variable.{Variable}
@@ -25,9 +27,9 @@ use Rattle.ob_relation.specs.Typed.{AreCharacters, IsRecordType, ReceiverOk, pas
 use Rattle.ob_rules.specs.declared.entity.Entity.TheVariants as entity
 use Rattle.ob_rules.specs.declared.entity.Known.{Known}
 use Rattle.ob_rules.specs.declared.entity.Received.{Received}
-use Rattle.ob_rules.specs.Shapes.{Map, AMethod, member, base_record, is_record}
+use Rattle.ob_rules.specs.Shapes.{Map, AMethod, member, base_record, is_record, record_of, pointed}
 use Rattle.ob_rules.specs.Names.{Around, map_of, find_name, is_enclosing}
-use Rattle.ob_rules.specs.Designators.{is_var_record}
+use Rattle.ob_rules.specs.Designators.{is_var_record, same_variable}
 pub use Rattle.ob_forms.specs.Formed.{AreParameters, behind}
 use Rattle.ob_typed.specs.Makes.{IfThere}
 use Rattle.ob_typed.specs.Forms.{IsKnown, ResultIs, SignatureIs, Forms}
@@ -40,6 +42,21 @@ ConstantIs (literal.Int z) = is_in width.LongInt z ≡ true
 ConstantIs (literal.Set n) = n < 2 ^ 32
 ConstantIs (literal.Str text) = AreCharacters text × (length text ≡ 1 → ⊥)
 ConstantIs literal.Nil = Unit {0}
+
+-- what a pointer points to, or the type itself
+abbrev pub pointee : TypeRef → Option TypeRef → TypeRef
+pointee t None = t
+pointee t (Some u) = u
+
+-- a parameter that is passed as a scalar, as a pointer is
+abbrev pub by_scalar : Variable → Bool
+by_scalar (variable.Parameter passing.Scalar x) = true
+by_scalar v = false
+
+-- a type of the receiver's variable, perhaps guarded: its record is the receiver's or extends it, and a pointer stays a pointer
+pub record ReceiverIs (program : Program) (map : Map) (r : Received) (t : TypeRef) : Type 0 where
+  pub below : (q : QName) → record_of map (pointee t (pointed map t)) ≡ Some q → Sub (record_in program q) (record_in program r.owner)
+  pub pointer : by_scalar r.variable ≡ true → is_some (pointed map t) ≡ true
 
 module _ (program : Program) (Has : Signature → QName → Type 0) (unit : List ℕ) (held : List Held) (result : Option TypeRef) where
   -- a variable by its name, of that type
@@ -70,6 +87,22 @@ module _ (program : Program) (Has : Signature → QName → Type 0) (unit : List
     pub parameters : AreParameters program (behind p.parameters) m.signature.params
     pub signature : SignatureIs program map m.signature
 
+  -- a bound procedure as it is called from a base on: the nearest declaration, whose receiver is of a record that the base extends
+  pub record SuperIs (map : Map) (v : Variable) (b o : QName) (m : Method) : Type 0 where
+    pub name : QName
+    pub p : Procedure
+    pub base_is : IsRecordType program b
+    pub near : nearest program (bases_in program b) (record { owner = o; name = m.name }) ≡ Some name
+    pub found : procedure_of program name ≡ Some p
+    pub t : QName
+    pub type_is : IsRecordType program t
+    pub receives : ReceiverOk program m.receiver t p.parameters
+    pub above : Sub (record_in program b) (record_in program t)
+    pub result_is : p.result ≡ m.signature.result
+    pub parameters : AreParameters program (behind p.parameters) m.signature.params
+    pub signature : SignatureIs program map m.signature
+    pub kind : m.receiver ≡ receiver.Pointer → by_scalar v ≡ true
+
   -- what is known around is so in the program: in that module, in a procedure with those variables and that result
   pub record IsScoped (u : Around) : Type 0 where
     pub forms : Forms program Has unit held result (map_of u)
@@ -87,7 +120,8 @@ module _ (program : Program) (Has : Signature → QName → Type 0) (unit : List
     -- a module does not import itself
     pub imports : (x : List ℕ) (k : Known) (m : List ℕ) → find_name u.known x ≡ Some k → k.what ≡ entity.Module m → bytes_eq m u.unit ≡ false
     pub methods : (q o : QName) (x : List ℕ) (m : Method) → member (map_of u) q x ≡ Some (AMethod o m) → MethodIs (map_of u) o m × Sub (record_in program q) (record_in program o)
-    -- no super calls, so far: no base of the receiver's record has bound procedures
-    pub no_supers : (r : Received) (b o : QName) (x : List ℕ) (m : Method) → u.receiver ≡ Some r → base_record (map_of u) r.owner ≡ Some b → member (map_of u) b x ≡ Some (AMethod o m) → ⊥
+    -- the receiver of the procedure at hand, and what a super call reaches
+    pub receivers : (r : Received) (v : Variable) (t : TypeRef) → u.receiver ≡ Some r → same_variable v r.variable ≡ true → VariableIs (map_of u) v t → ReceiverIs program (map_of u) r t
+    pub supers : (r : Received) (b o : QName) (x : List ℕ) (m : Method) → u.receiver ≡ Some r → base_record (map_of u) r.owner ≡ Some b → member (map_of u) b x ≡ Some (AMethod o m) → SuperIs (map_of u) r.variable b o m × Sub (record_in program r.owner) (record_in program b)
     -- the module is not Out
     pub outside : bytes_eq (codes "Out") u.unit ≡ false

@@ -42,7 +42,7 @@ abbrev pub DesignatorsFit : Type 0
 DesignatorsFit =
     (program : Program) (has : Signature → QName → Bool) (unit : List ℕ) (held : List Held) (result : Option TypeRef) (u : Around) → IsScoped program (Having has) unit held result u
     → (w : Where) (d : Designator) → designator_spelled d ≡ true → (m : Meant) → (meant_by w (named_of d) u).node ≡ Some m
-    → MeantIs program (Having has) unit held result (map_of u) w m
+    → MeantIs program (Having has) unit held result (map_of u) u.receiver w m
 
 -- Statements that keep the rules are well typed, where the procedure has the variables that FOR and CASE keep.
 abbrev pub StatementsFit : Type 0

@@ -4,8 +4,13 @@ use Rattle.ob_tree.specs.declared.names.QName.{QName}
 use Rattle.ob_types.specs.declared.types.TypeRef.{TypeRef}
 use Rattle.ob_types.specs.declared.types.Signature.{Signature}
 use Rattle.ob_types.specs.TypedView.{expr_view, stmt_view}
-use Rattle.ob_meaning.specs.Values.{Program, Held}
+use Rattle.ob_meaning.specs.Values.{Program, record_in, Held}
+use Rattle.ob_relation.specs.Relation.{Sub}
 use Rattle.ob_relation.specs.Typed as typed
+use Rattle.ob_types.specs.declared.typed.Variable.{Variable}
+use Rattle.ob_rules.specs.declared.entity.Received.{Received}
+use Rattle.ob_rules.specs.declared.values.Place.{Place}
+use Rattle.ob_rules.specs.Designators.{same_variable}
 use Rattle.ob_rules.specs.declared.meant.Chosen.{Chosen}
 use Rattle.ob_rules.specs.declared.meant.Meant.{Meant}
 use Rattle.ob_rules.specs.declared.meant.Meant.TheVariants as means
@@ -20,13 +25,8 @@ use Rattle.ob_rules.specs.Values.{tree}
 use Rattle.ob_rules.specs.Phrases.{Phrase, Behind, Dot, Index, Up, Round}
 use Rattle.ob_rules.specs.Expressions.{Named, Ranged, Tailed}
 use Rattle.ob_typed.specs.Makes.{IfThere, Makes}
-use Rattle.ob_typed.specs.Known.{ConstantIs, ProcedureIs, IsScoped}
+use Rattle.ob_typed.specs.Known.{pointee, ReceiverIs, ConstantIs, ProcedureIs, SuperIs, IsScoped}
 use Rattle.ob_typed.specs.Kept.{PlaceIs, ValuedIs}
-
--- what a pointer points to, or the type itself
-abbrev pub pointee : TypeRef → Option TypeRef → TypeRef
-pointee t None = t
-pointee t (Some u) = u
 
 module _ (program : Program) (Has : Signature → QName → Type 0) (unit : List ℕ) (held : List Held) (result : Option TypeRef) where
   -- a call: a value in an expression, a proper call as a statement
@@ -35,31 +35,39 @@ module _ (program : Program) (Has : Signature → QName → Type 0) (unit : List
   CalledIs map AsStatement x = typed.ProperOk program Has unit held result (expr_view (tree x))
   CalledIs map Elsewhere x = Unit {0}
 
+  -- where a variable is the receiver's, with no selector but guards of WITH
+  abbrev pub RootIs : Map → Option Received → Place → Type 0
+  RootIs map o p = (r : Received) → o ≡ Some r → same_variable p.root r.variable ≡ true → p.selected ≡ false → ReceiverIs program map r p.of
+
+  -- what a call of a bound procedure reaches: by the record that it is selected of, or from a base on
+  abbrev pub CallsAt : Map → Chosen → Option QName → Type 0
+  CallsAt map c None = (x : List ℕ) × (member map c.owner x ≡ Some (AMethod c.introduced c.method))
+  CallsAt map c (Some b) = (v : Variable) × SuperIs program Has unit held result map v b c.introduced c.method × Sub (record_in program c.owner) (record_in program b)
+
   -- a bound procedure that is selected of a variable: of its record, or of what it points to
-  pub record ChosenIs (map : Map) (c : Chosen) : Type 0 where
+  pub record ChosenIs (map : Map) (o : Option Received) (c : Chosen) : Type 0 where
     pub receiver : PlaceIs program Has unit held result map c.receiver
+    pub rooted : RootIs map o c.receiver
     pub pointed_is : pointed map c.receiver.of ≡ c.pointed
     pub held_is : (t : TypeRef) → c.pointed ≡ Some t → is_held map t ≡ true
     pub owner_is : record_of map (pointee c.receiver.of c.pointed) ≡ Some c.owner
     pub by_pointer : c.method.receiver ≡ receiving.Pointer → is_some c.pointed ≡ true
-    pub x : List ℕ
-    pub found : member map c.owner x ≡ Some (AMethod c.introduced c.method)
-    pub plain : c.base ≡ None
+    pub calls : CallsAt map c c.base
 
-  abbrev pub MeantIs : Map → Where → Meant → Type 0
-  MeantIs map w (means.Place p) = PlaceIs program Has unit held result map p
-  MeantIs map w (means.Constant v) = ConstantIs v
-  MeantIs map w (means.Procedure name s) = ProcedureIs program Has unit held result map name s
-  MeantIs map w (means.Bound c) = ChosenIs map c
-  MeantIs map w (means.Out p) = Unit {0}
-  MeantIs map w (means.Predeclared f) = Unit {0}
-  MeantIs map w (means.Call x) = CalledIs map w x
-  MeantIs map w (means.Statement s) = (in_loop : Bool) → typed.StmtOk program Has unit held result (stmt_view s.inner) in_loop
+  abbrev pub MeantIs : Map → Option Received → Where → Meant → Type 0
+  MeantIs map o w (means.Place p) = PlaceIs program Has unit held result map p × RootIs map o p
+  MeantIs map o w (means.Constant v) = ConstantIs v
+  MeantIs map o w (means.Procedure name s) = ProcedureIs program Has unit held result map name s
+  MeantIs map o w (means.Bound c) = ChosenIs map o c
+  MeantIs map o w (means.Out p) = Unit {0}
+  MeantIs map o w (means.Predeclared f) = Unit {0}
+  MeantIs map o w (means.Call x) = CalledIs map w x
+  MeantIs map o w (means.Statement s) = (in_loop : Bool) → typed.StmtOk program Has unit held result (stmt_view s.inner) in_loop
 
   -- an expression before it is judged: its value and what it comes to as a designator are well typed wherever it stands
   abbrev pub MeantBy : Option (Around → Judged Meant) → Around → Type 0
   MeantBy None u = Unit {0}
-  MeantBy (Some f) u = Makes (MeantIs (map_of u) InExpression) (f u)
+  MeantBy (Some f) u = Makes (MeantIs (map_of u) u.receiver InExpression) (f u)
 
   pub record PhraseIs (p : Phrase) : Type 0 where
     pub value : (u : Around) → IsScoped program Has unit held result u → Makes (ValuedIs program Has unit held result (map_of u)) (p.value u)
