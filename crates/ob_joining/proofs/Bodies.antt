@@ -36,7 +36,7 @@ use Rattle.ob_joining.proofs.Entered as join
 use Rattle.ob_joining.proofs.Found.{IsFound, found}
 use Rattle.ob_joining.proofs.Runs.{from, same_words, kept_with, world_with, with_turns, RunsSo, runs_so, stops_all, stop_named, IsShortFile, short_so}
 
-length_map : {A B : Type 0} (f : A → B) (xs : List A) → length (map f xs) ≡ length xs
+pub length_map : {A B : Type 0} (f : A → B) (xs : List A) → length (map f xs) ≡ length xs
 length_map f [] = refl
 length_map f (x ∷ xs) = ap suc (length_map f xs)
 

@@ -8,3 +8,4 @@ mod Entered
 mod Found
 mod Runs
 mod Bodies
+mod Commands
