@@ -23,7 +23,7 @@ left_is a b e = ap (left_or a) e
 -- THE FIRST INTERFACE OF A NAME
 
 -- what has a name in the first list has it in the second
-abbrev Extends : List (Face Text) → List (Face Text) → Type 0
+abbrev pub Extends : List (Face Text) → List (Face Text) → Type 0
 Extends xs ys = (n : List ℕ) (f : Face Text) → face_named xs n ≡ Some f → face_named ys n ≡ Some f
 
 none_else : (f : Face Text) → None ≡ Some f → ⊥
@@ -33,7 +33,7 @@ none_else f e = false≢true (ap is_some e)
     is_some None = false
     is_some (Some x) = true
 
-extends_more : (xs ys : List (Face Text)) → Extends xs (xs ++ ys)
+pub extends_more : (xs ys : List (Face Text)) → Extends xs (xs ++ ys)
 extends_more [] ys n f e = absurd (none_else f e)
 extends_more (x ∷ xs) ys n f e = go (bytes_eq n x.«module») e (extends_more xs ys n f)
   where

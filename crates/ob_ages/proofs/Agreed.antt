@@ -18,14 +18,14 @@ use Rattle.ob_ages.specs.Builds.{Text, Build}
 use Rattle.ob_ages.specs.Library.{Library, Change, ObjectBecomes, SymbolBecomes}
 use Rattle.ob_ages.specs.Model.{World, answer, interface_in, becomes, new_build, or_empty, compile_answer, demo_behind, check_in}
 use Rattle.ob_ages.specs.Agreeing.{AreSame}
-use Rattle.ob_ages.specs.Laws.{IsTextOfBuild, Apart, BuildsAreWritten, NewIsValid, Simulation}
+use Rattle.ob_ages.specs.Laws.{IsTextOfBuild, Apart, BuildsAreWritten, NewIsValid}
 use Rattle.ob_ages.specs.Headline.{IsIn, IsOfDemo, IsText}
 use Rattle.ob_ages.specs.Composing.{as_bytes, Alike, IsToCome, CompilesAlike, PlansAlike, ChecksAlike, LinesAgreeAll}
 use Rattle.ob_ages.proofs.Members.{has_left, has_right, has_more, has_head}
 use Rattle.ob_ages.proofs.Named.{IsNamed, named}
 use Rattle.ob_ages.proofs.Core.{Core, Made, CompilesSo, compiles_so, apart_alone}
 use Rattle.ob_ages.proofs.Commanded.{Alright, commands_so}
-use Rattle.ob_ages.proofs.Demos.{demos_so}
+use Rattle.ob_ages.proofs.Demos.{StandsFirst, demos_so}
 use Rattle.ob_ages.proofs.Checked.{checks_so}
 use Rattle.ob_ages.proofs.New.{new_is_valid}
 
@@ -42,7 +42,7 @@ Makes s P v n line = (name : List ℕ) (b : Build) → Contains (answer s v n li
 abbrev Demos : (Text → Type 0) → Line → Type 0
 Demos P line = (n k : ℕ) (x : ℕ × World) (b : Build) → line ≡ Demo n → k ≤ n → demo_behind n k ≡ Some x → IsIn x.1.library b → (t : Text) → IsTextOfBuild b t → P t
 
-module _ (s : Settings) (P : Text → Type 0) (apart : Apart P) (compiles : CompilesAlike) (plans : PlansAlike) (checks : ChecksAlike) (written : BuildsAreWritten) (valid : NewIsValid) (simulation : Simulation) where
+module _ (s : Settings) (P : Text → Type 0) (apart : Apart P) (compiles : CompilesAlike) (plans : PlansAlike) (checks : ChecksAlike) (written : BuildsAreWritten) (valid : NewIsValid) (first : StandsFirst s) where
   by_line : (w : bytes.World) (v : World) (n : ℕ) (line : Line) → IsNamed line → Makes s P v n line → Demos P line → Core s P w v → Alright s P (bytes.answer s w n line) (answer s v n line)
   by_line w v n (Compile name) named makes demos h =
       let file = v.files name in
@@ -74,7 +74,7 @@ module _ (s : Settings) (P : Text → Type 0) (apart : Apart P) (compiles : Comp
     };
     core = h;
   }
-  by_line w v n (Demo k) named makes demos h = demos_so s P apart compiles plans written valid simulation w v k named h (λ j x b le e i t y. demos k j x b refl le e i t y)
+  by_line w v n (Demo k) named makes demos h = demos_so s P apart compiles plans written valid first w v k named h (λ j x b le e i t y. demos k j x b refl le e i t y)
   by_line w v n (Command m name) named makes demos h = commands_so s P w v m name apart plans named.0 named.1 h
   by_line w v n Unknown named makes demos h = record { same = record { text = refl; opening = refl; refused = refl; changes = refl }; core = h }
   by_line w v n Nothing named makes demos h = record { same = record { text = refl; opening = refl; refused = refl; changes = refl }; core = h }
@@ -90,9 +90,9 @@ unfolding changes_from
 now s v n l ls name b c = let a = answer s v n (line_of l) in inl (name, has_left a.changes (changes_from (answer s) a.world (n + 1) ls) (ObjectBecomes name b) c)
 
 pub agreed : LinesAgreeAll
-agreed s l0 old script compiles plans written simulation apart w v n l ls h =
+agreed s l0 old script compiles plans written simulation limits apart w v n l ls h =
     let P = IsText s old l0 script in
-    let a = by_line s P apart compiles plans (checks_so written) written (new_is_valid written) simulation w v n (line_of l) (named l)
+    let a = by_line s P apart compiles plans (checks_so written) written (new_is_valid written) (λ commands. simulation commands s limits) w v n (line_of l) (named l)
     (λ name b c t x. h.to_come b (now s v n l ls name b c) t x)
     (λ k j x b e le i m t y. h.to_come b (inr (k, j, l, x, has_head l ls, e, le, i, m)) t y)
     (record { files = h.files; library = h.library; kept = h.kept; loaded = h.loaded; together = h.together; stand = h.stand; texts = h.texts }) in (

@@ -38,6 +38,7 @@ use Rattle.ob_ages.specs.Headline.{IsIn}
 use Rattle.ob_ages.specs.Composing.{IsTextIn, ChecksAlike}
 use Rattle.ob_ages.proofs.Compiled.{comes, short}
 use Rattle.ob_ages.proofs.Stood.{of_is, uses_back, face_back, not_beyond, within_limit, same_name, whole_symbols, short_symbols}
+use Rattle.ob_ages.proofs.Spelled.{uses_named}
 use Rattle.ob_ages.proofs.Kept.{uses_kept, kept_text, shown_text}
 
 -- WHAT IS FOUND
@@ -236,7 +237,7 @@ module _ (written : BuildsAreWritten) (files : Files) (l : Library) (m : List �
       let c = i.0 in
       let s : c.shows ≡ shows_of b = ap (λ (x : Compiled Text). x.shows) (sym (of_is b c i.1)) in
       uses_same (shows_of b).uses
-      (subst (λ (f : Face Text). AllByRecursion (λ u. is_identifier u.object.«module» ≡ true) f.uses) s (written b c i.1).uses)
+      (subst (λ (f : Face Text). AllByRecursion (λ u. is_identifier u.object.«module» ≡ true) f.uses) s (uses_named c.shows (written b c i.1).symbols))
       (subst (λ (f : Face Text). AllByRecursion (λ u. IsTextIn l [] u.kept) f.uses) s (texts_in b c i.1 (m, inl e) c.shows.uses (uses_kept b c i.1)))
 
   all_same : is_identifier m ≡ true → check_of files m ≡ check_in l m

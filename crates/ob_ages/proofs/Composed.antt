@@ -15,7 +15,7 @@ use Rattle.ob_ages.specs.Library.{Library, Kept, Change, ObjectBecomes, SymbolBe
 use Rattle.ob_ages.specs.Model.{World, start, answer, written, written_all}
 use Rattle.ob_ages.specs.Agreeing.{MakeSame}
 use Rattle.ob_ages.specs.Headline.{kind, Stands, IsIn, IsText, KeepsOn}
-use Rattle.ob_ages.specs.Laws.{Simulation}
+use Rattle.ob_ages.specs.Laws.{AreSettings, Simulation}
 use Rattle.ob_ages.specs.Builds.{Build}
 use Rattle.ob_ages.specs.Composing.{as_bytes, Alike, Composes, HeadlineFollows}
 use Rattle.ob_ages.proofs.Keeping.{all_stay}
@@ -99,14 +99,14 @@ composes s l before now old new script status law afresh first small neither end
 
 -- AT ENTRY
 
-starts_alike : (s : Settings) (l : Library) (old : Files) (script : List ℕ) → Simulation → Stands s old l script → Alike s (IsText s old l script) (bytes.start s old) (start old l) 1 (done_lines script)
-starts_alike s l old script simulation h = record {
+pub starts_alike : (s : Settings) (l : Library) (old : Files) (script : List ℕ) → Simulation → AreSettings s → Stands s old l script → Alike s (IsText s old l script) (bytes.start s old) (start old l) 1 (done_lines script)
+starts_alike s l old script simulation limits h = record {
   files = refl;
   library = h.library;
   kept = h.kept;
   loaded = refl;
   together = tt;
-  stand = λ commands. simulation commands s;
+  stand = λ commands. simulation commands s limits;
   texts = λ b i t x. ⊎_elim (λ (i : IsIn l b). (b, inl i, x)) (λ n. absurd (no_build b n)) i;
   to_come = λ b i t x. (b, inr i, x);
 }
@@ -115,4 +115,4 @@ starts_alike s l old script simulation h = record {
     no_build b n = let h = n.1 in omega (arith, h)
 
 pub follows : HeadlineFollows
-follows s l before now old new script status simulation afresh law h small neither ends = composes s l before now old new script status law afresh (starts_alike s l old script simulation h) small neither ends
+follows s l before now old new script status simulation limits afresh law h small neither ends = composes s l before now old new script status law afresh (starts_alike s l old script simulation limits h) small neither ends

@@ -25,6 +25,7 @@ use Rattle.ob_ages.proofs.Keeping.{all_stay}
 use Rattle.ob_ages.proofs.Members.{has_none}
 use Rattle.ob_ages.proofs.Compiled.{some_source}
 use Rattle.ob_ages.proofs.Stood.{of_is, counted_same}
+use Rattle.ob_ages.proofs.Spelled.{module_named}
 
 pub record Core (s : Settings) (P : Text → Type 0) (w : bytes.World) (v : World) : Type 0 where
   pub files : w.files ≡ v.files
@@ -108,7 +109,7 @@ made_so s P w v text c d written h valid new same =
     record {
       shows = same.0;
       changes = ap (λ x. both x (object_bytes prints c) (symbol_bytes prints c)) m ∙ ap (λ x. both d.shows.«module» x (symbol_bytes prints c)) o ∙ ap (λ x. both d.shows.«module» (bytes_of b) x) y;
-      counts = ap (λ f. bytes.counted f c.shows) h.files ∙ ap (bytes.counted v.files) same.0 ∙ counted_same written v.files v.library d.shows h.kept h.library (h.kept.symbols d.shows.«module» (written b d valid).name);
+      counts = ap (λ f. bytes.counted f c.shows) h.files ∙ ap (bytes.counted v.files) same.0 ∙ counted_same written v.files v.library d.shows h.kept h.library (h.kept.symbols d.shows.«module» (module_named d.shows (written b d valid).symbols));
       core = record {
         files = ap (λ f. two f c.shows.«module» (object_bytes prints c) (symbol_bytes prints c)) h.files ∙ ap (λ x. two v.files x (object_bytes prints c) (symbol_bytes prints c)) m ∙ ap (λ x. two v.files d.shows.«module» x (symbol_bytes prints c)) o ∙ ap (λ x. two v.files d.shows.«module» (bytes_of b) x) y;
         library = record {

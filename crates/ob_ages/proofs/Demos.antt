@@ -4,6 +4,8 @@ use Rattle.std.specs.Prelude.{zero, suc, map, codes, Contains, ◌⊎◌}
 use Rattle.std.proofs.lemmas.Bool.{false≢true}
 use Rattle.ob_tree.specs.declared.print.Print.{Print}
 use Rattle.ob_io.specs.Io.{put}
+use Rattle.ob_machine.specs.Machine.{made}
+use Rattle.ob_meaning.specs.Commands.{nothing_loaded}
 use Rattle.ob_env.specs.Faces.{Face}
 use Rattle.ob_walk.specs.Walk.{symbol_entry}
 use Rattle.ob_demo.specs.Source.{source, module_name}
@@ -18,7 +20,7 @@ use Rattle.ob_bytes.specs.Bytes.{source_name, no_files}
 use Rattle.ob_ages.specs.Builds.{Text, Build}
 use Rattle.ob_ages.specs.Library.{Library, empty, with_entry, after_all}
 use Rattle.ob_ages.specs.Model.{World, Making, start, interface_in, becomes, new_build, with_changes, or_empty, made_of, made_one, with_source, and_more, demo_behind, demo_answer, compiled_in}
-use Rattle.ob_ages.specs.Laws.{IsTextOfBuild, Apart, BuildsAreWritten, NewIsValid, Simulation}
+use Rattle.ob_ages.specs.Laws.{IsTextOfBuild, Apart, BuildsAreWritten, NewIsValid, StandFor}
 use Rattle.ob_ages.specs.Headline.{IsIn}
 use Rattle.ob_ages.specs.Composing.{CompilesAlike, PlansAlike}
 use Rattle.ob_ages.proofs.Keeping.{source_stays}
@@ -30,6 +32,10 @@ use Rattle.ob_ages.proofs.Commanded.{Alright, commands_so}
 
 -- THE EMPTY FOLDER
 
+-- the words of a machine with no module stand for nothing loaded
+abbrev pub StandsFirst : Settings → Type 0
+StandsFirst s = (commands : ℕ) → StandFor commands s [] nothing_loaded (made s.heap).words (made s.heap).heap
+
 abbrev holds_some : Entry Build → Bool
 holds_some (Holds b) = true
 holds_some e = false
@@ -37,14 +43,14 @@ holds_some e = false
 nothing_in : (b : Build) → IsIn empty b → ⊥
 nothing_in b i = ⊎_elim (λ e. false≢true (ap holds_some e)) (λ e. false≢true (ap holds_some e)) i.1
 
-empty_core : (s : Settings) (P : Text → Type 0) → Simulation → Core s P (bytes.start s no_files) (start no_files empty)
-empty_core s P simulation = record {
+empty_core : (s : Settings) (P : Text → Type 0) → StandsFirst s → Core s P (bytes.start s no_files) (start no_files empty)
+empty_core s P first = record {
   files = refl;
   library = record { objects = λ n. tt; symbols = λ n. tt };
   kept = record { objects = λ n i. refl; symbols = λ n i. refl };
   loaded = refl;
   together = tt;
-  stand = λ commands. simulation commands s;
+  stand = first;
   texts = λ b i t x. ⊎_elim (λ (i : IsIn empty b). absurd (nothing_in b i)) (λ (n : Contains [] b). absurd (has_none b n)) i;
 }
 
@@ -77,7 +83,7 @@ step_by s P o files v text (Err r) (Ok d) k = k
 becomes_in : (l : Library) (text : List ℕ) (d : Compiled Text) → IsIn (after_all l (becomes text d)) (new_build text d)
 becomes_in l text d = (d.shows.«module», inl (ap (λ t. cond t (Holds (new_build text d)) (l.objects d.shows.«module»)) (same_name d.shows.«module» d.shows.«module» refl)))
 
-module _ (s : Settings) (P : Text → Type 0) (apart : Apart P) (compiles : CompilesAlike) (plans : PlansAlike) (written : BuildsAreWritten) (valid : NewIsValid) (simulation : Simulation) where
+module _ (s : Settings) (P : Text → Type 0) (apart : Apart P) (compiles : CompilesAlike) (plans : PlansAlike) (written : BuildsAreWritten) (valid : NewIsValid) (first : StandsFirst s) where
   step : (n i o : ℕ) (files : Files) (v : World) → Core s P (bytes.start s files) v →
       ((x : ℕ × World) → made_one n i (o, v) ≡ Some x → (b : Build) → IsIn x.1.library b → (t : Text) → IsTextOfBuild b t → P t) →
       Stepped s P o (bytes.made_one n i files) (made_one n i (o, v))
@@ -133,7 +139,7 @@ module _ (s : Settings) (P : Text → Type 0) (apart : Apart P) (compiles : Comp
 
   demo_same : (n : ℕ) → Demos n → SameMaking (bytes.demo_made n) (demo_behind n n)
   unfolding demo_behind bytes.demo_made
-  demo_same n demos = demo_so n n 0 n (omega arith) (omega arith) demos 0 no_files (refl, empty_core s P simulation)
+  demo_same n demos = demo_so n n 0 n (omega arith) (omega arith) demos 0 no_files (refl, empty_core s P first)
 
   -- THE LINE
 

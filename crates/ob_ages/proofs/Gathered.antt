@@ -1,18 +1,25 @@
 -- Builds that go together, taken afresh.
 use Rattle.std.proofs.Common.{◌≡◌, ℕ, List, [], ◌∷◌, ◌++◌, Bool, true, false, refl, sym, ap, ◌∙◌, subst, append_assoc, Option, Some, None, Result, Ok, Err}
-use Rattle.std.specs.Prelude.{map, nat_le, length}
+use Rattle.std.specs.Prelude.{map, nat_le, length, Contains}
+use Rattle.std.specs.List.{AllByRecursion}
 use Rattle.std.proofs.lemmas.List.{append-nil}
+use Rattle.ob_tree.specs.declared.names.QName.{QName}
 use Rattle.ob_tree.specs.declared.decl.Module.{Module as Tree}
+use Rattle.ob_types.specs.declared.face.Aspect.{Aspect}
+use Rattle.ob_format.specs.Format.{◌>>=◌}
+use Rattle.ob_desc.specs.Grammar.{text_of}
 use Rattle.ob_types.specs.TypedSyntax.{Module}
-use Rattle.ob_env.specs.Faces.{Face}
+use Rattle.ob_env.specs.Faces.{Face, Wanted, face_named, object_named, text_in}
 use Rattle.ob_walk.specs.Walk.{Entry}
 use Rattle.ob_reading.specs.Reading.{NoModule, reading}
 use Rattle.ob_compile.specs.Compiling as c
 use Rattle.ob_compile.specs.Compiling.{Compiled, Refusal, compiled, texts, by_rules, of_reading, of_short, most_source}
-use Rattle.ob_ages.specs.Builds.{Text, Build, IsValid, of, shows_of, tree_of}
-use Rattle.ob_ages.specs.Laws.{Together, IsBehind, AreTogether, AreAsWanted, IsSame, Locality, Afresh, and_one, on_reading, of_source, and_all, taken_afresh}
+use Rattle.ob_ages.specs.Builds.{Text, Build, IsSpelled, IsValid, of, shows_of, tree_of, name_of}
+use Rattle.ob_ages.specs.Laws.{Together, IsBehind, AreTogether, AreAround, AreAsWanted, IsSame, Locality, Afresh, BuildsAreWritten, and_one, on_reading, of_source, and_all, taken_afresh}
 use Rattle.ob_ages.proofs.Compiled.{err_no}
 use Rattle.ob_ages.proofs.Stood.{of_is}
+use Rattle.ob_ages.proofs.Kept.{none_no}
+use Rattle.ob_ages.proofs.Again.{extends_more}
 
 -- THE TREE OF A BUILD
 
@@ -40,13 +47,64 @@ gathered bs = (map shows_of bs, map tree_of bs)
 abbrev pair : List (Face Text) → List Module → Option Together
 pair faces trees = Some (faces, trees)
 
-one_more : Locality → (before : List Build) (b : Build) → IsBehind before b → of_source (gathered before) b.source ≡ Some (gathered (before ++ b ∷ []))
-one_more locality before b h =
+-- ---- the interfaces of builds that go together
+
+abbrev of_found : QName → Aspect → Option (Face Text) → Option Text
+of_found q a o = (o >>= λ f. object_named f.objects q.object) >>= λ d. text_of q d a
+
+text_more : (xs ys : List (Face Text)) (q : QName) (a : Aspect) (t : Text) → text_in xs q a ≡ Some t → text_in (xs ++ ys) q a ≡ Some t
+text_more xs ys q a t e = go (face_named xs q.«module») refl e
+  where
+    go : (o : Option (Face Text)) → face_named xs q.«module» ≡ o → of_found q a o ≡ Some t → of_found q a (face_named (xs ++ ys) q.«module») ≡ Some t
+    go None i h = absurd (none_no t h)
+    go (Some f) i h = ap (of_found q a) (extends_more xs ys q.«module» f i) ∙ h
+
+wanted_more : (xs ys : List (Face Text)) (us : List (Wanted Text)) → AreAsWanted xs us → AreAsWanted (xs ++ ys) us
+wanted_more xs ys [] h = tt
+wanted_more xs ys (u ∷ us) h = (text_more xs ys u.object u.aspect u.kept h.0, wanted_more xs ys us h.1)
+
+all_more_wanted : (xs ys fs : List (Face Text)) → AllByRecursion (λ f. AreAsWanted xs f.uses) fs → AllByRecursion (λ f. AreAsWanted (xs ++ ys) f.uses) fs
+all_more_wanted xs ys [] h = tt
+all_more_wanted xs ys (f ∷ fs) h = (wanted_more xs ys f.uses h.0, all_more_wanted xs ys fs h.1)
+
+all_last : {A : Type 0} (P : A → Type 0) (xs : List A) (x : A) → AllByRecursion P xs → P x → AllByRecursion P (xs ++ x ∷ [])
+all_last P [] x h p = (p, tt)
+all_last P (y ∷ ys) x h p = (h.0, all_last P ys x h.1 p)
+
+record Standing (before : List Build) : Type 0 where
+  spelled : AllByRecursion IsSpelled (map shows_of before)
+  met : AllByRecursion (λ f. AreAsWanted (map shows_of before) f.uses) (map shows_of before)
+
+stand_more : BuildsAreWritten → (before : List Build) (b : Build) → Standing before → IsBehind before b → Standing (before ++ b ∷ [])
+stand_more written before b s h =
+    let x = h.valid.0 in
+    let o : x.shows ≡ shows_of b = ap (λ (y : Compiled Text). y.shows) (sym (of_is b x h.valid.1)) in
+    let fs = map shows_of before in
+    let spelled : AllByRecursion IsSpelled (fs ++ shows_of b ∷ []) = all_last IsSpelled fs (shows_of b) s.spelled (subst IsSpelled o (written b x h.valid.1).symbols) in
+    let met : AllByRecursion (λ f. AreAsWanted (fs ++ shows_of b ∷ []) f.uses) (fs ++ shows_of b ∷ []) =
+    all_last (λ f. AreAsWanted (fs ++ shows_of b ∷ []) f.uses) fs (shows_of b) (all_more_wanted fs (shows_of b ∷ []) fs s.met) (wanted_more fs (shows_of b ∷ []) (shows_of b).uses h.uses) in
+    let e : fs ++ shows_of b ∷ [] ≡ map shows_of (before ++ b ∷ []) = sym (map_last shows_of before b) in
+    record {
+      spelled = subst (λ gs. AllByRecursion IsSpelled gs) e spelled;
+      met = subst (λ gs. AllByRecursion (λ f. AreAsWanted gs f.uses) gs) e met;
+    }
+
+names_of : (bs : List Build) → map (λ (f : Face Text). f.«module») (map shows_of bs) ≡ map name_of bs
+names_of [] = refl
+names_of (b ∷ bs) = ap (λ r. name_of b ∷ r) (names_of bs)
+
+one_more : Locality → (before : List Build) (b : Build) → Standing before → IsBehind before b → of_source (gathered before) b.source ≡ Some (gathered (before ++ b ∷ []))
+one_more locality before b s h =
     let x = h.valid.0 in
     let v = h.valid.1 in
     let o : of b ≡ x = of_is b x v in
     let m = tree_in _ b.source x v.is in
-    let d = locality b x m.0 v m.1 (map shows_of before) (subst (λ (f : Face Text). AreAsWanted (map shows_of before) f.uses) (ap (λ (y : Compiled Text). y.shows) o) h.uses) in
+    let around : AreAround x.shows.«module» (map shows_of before) = record {
+      spelled = s.spelled;
+      other = λ c. h.new (subst (λ ns. Contains ns (name_of b)) (names_of before) (subst (Contains (map (λ (f : Face Text). f.«module») (map shows_of before))) (ap (λ (y : Compiled Text). y.shows.«module») (sym o)) c));
+      met = s.met;
+    } in
+    let d = locality b x m.0 v m.1 (map shows_of before) around (subst (λ (f : Face Text). AreAsWanted (map shows_of before) f.uses) (ap (λ (y : Compiled Text). y.shows) o) h.uses) in
     let shows : d.0.shows ≡ shows_of b = d.2.shows ∙ ap (λ (y : Compiled Text). y.shows) (sym o) in
     let tree : d.0.tree ≡ tree_of b = d.2.tree ∙ ap (λ (y : Compiled Text). y.tree) (sym o) in
     ap (on_reading (gathered before)) m.1
@@ -61,12 +119,12 @@ one_more locality before b h =
 abbrev sources : List Build → List (List ℕ)
 sources bs = map (λ b. b.source) bs
 
-all_more : Locality → (bs before : List Build) → AreTogether before bs → taken_afresh (gathered before) (sources bs) ≡ Some (gathered (before ++ bs))
-all_more locality [] before h = ap (λ xs. Some (gathered xs)) (sym (append-nil before))
-all_more locality (b ∷ bs) before h =
-    ap (λ o. and_all o (λ x. taken_afresh x (sources bs))) (one_more locality before b h.0)
-    ∙ all_more locality bs (before ++ b ∷ []) h.1
+all_more : BuildsAreWritten → Locality → (bs before : List Build) → Standing before → AreTogether before bs → taken_afresh (gathered before) (sources bs) ≡ Some (gathered (before ++ bs))
+all_more written locality [] before s h = ap (λ xs. Some (gathered xs)) (sym (append-nil before))
+all_more written locality (b ∷ bs) before s h =
+    ap (λ o. and_all o (λ x. taken_afresh x (sources bs))) (one_more locality before b s h.0)
+    ∙ all_more written locality bs (before ++ b ∷ []) (stand_more written before b s h.0) h.1
     ∙ ap (λ xs. Some (gathered xs)) (append_assoc before (b ∷ []) bs)
 
-pub afresh_so : Locality → Afresh
-afresh_so locality bs h = all_more locality bs [] h
+pub afresh_so : BuildsAreWritten → Locality → Afresh
+afresh_so written locality bs h = all_more written locality bs [] (record { spelled = tt; met = tt }) h

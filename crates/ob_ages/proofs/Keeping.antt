@@ -14,6 +14,7 @@ use Rattle.ob_bytes.specs.Bytes.{source_name}
 use Rattle.ob_ages.specs.Builds.{Build, bytes_of, symbols_of}
 use Rattle.ob_ages.specs.Library.{Library, Kept, ObjectKept, SymbolKept, with_entry, Change, ObjectBecomes, SymbolBecomes, after, after_all}
 use Rattle.ob_ages.specs.Model.{written, written_all}
+use Rattle.ob_ages.specs.Composing.{EmptyIsKept}
 
 by_bool : (b : Bool) → (b ≡ true) ⊎ (b ≡ false)
 by_bool true = inl refl
@@ -90,3 +91,6 @@ source_stays files l i text k = record {
   objects = λ n h. subst (λ x. ObjectKept n x (l.objects n)) (sym (put_there files (source_name i) text (object_file_name n) (differ_source n i).0)) (k.objects n h);
   symbols = λ n h. subst (λ x. SymbolKept n x (l.symbols n)) (sym (put_there files (source_name i) text (symbol_name n) (differ_source n i).1)) (k.symbols n h);
 }
+
+pub empty_kept : EmptyIsKept
+empty_kept = (record { objects = λ n. tt; symbols = λ n. tt }, record { objects = λ n i. refl; symbols = λ n i. refl })

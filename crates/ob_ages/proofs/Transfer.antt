@@ -98,3 +98,6 @@ ends_alike f R one two law make before now old new script status r e =
 
 pub related_behind : {W V C D : Type 0} (f : D → C) (R : W → V → ℕ → List (List ℕ) → Type 0) (one : Answers W C) (two : Answers V D) → Agree f R one two → (past rest : List (List ℕ)) (w : W) (v : V) → R w v 1 (past ++ rest) → R (world_from one w 1 past) (world_from two v 1 past) (1 + length past) rest
 related_behind f R one two law past rest w v r = (behind f R one two law past rest w v 1 (1 + length past) refl r).related
+
+pub text_behind : {W V C D : Type 0} (f : D → C) (R : W → V → ℕ → List (List ℕ) → Type 0) (one : Answers W C) (two : Answers V D) → Agree f R one two → (past rest : List (List ℕ)) (w : W) (v : V) → R w v 1 (past ++ rest) → text_from one w 1 past ≡ text_from two v 1 past
+text_behind f R one two law past rest w v r = (behind f R one two law past rest w v 1 (1 + length past) refl r).text

@@ -77,6 +77,6 @@ asks = record {
   same = bytes_eq;
   keeps = λ b name aspect. text_in (shows_of b ∷ []) (record { «module» = name_of b; object = name }) aspect;
   unlinked = λ bs b. None;
-  words = λ b. globals_words (viewed (described b.against) (tree_of b)) (tree_of b);
+  words = λ b. globals_words (viewed (described (of b).against) (tree_of b)) (tree_of b);
   has_command = λ b name. is_there (command_named (tree_of b) name);
 }

@@ -12,15 +12,15 @@ use Rattle.ob_compile.specs.Compiling.{Compiled, compiled, texts, prints, object
 use Rattle.ob_lines.specs.Lines.{is_identifier, done_lines}
 use Rattle.ob_words.specs.declared.asked.Settings.{Settings}
 use Rattle.ob_printing.specs.Texts.{compile_reason, load_refused}
-use Rattle.ob_bytes.specs.Folds.{changes_from}
+use Rattle.ob_bytes.specs.Folds.{text_from, changes_from}
 use Rattle.ob_bytes.specs.Bytes as bytes
 use Rattle.ob_bytes.specs.Session as session
 use Rattle.ob_bytes.specs.Session.{Ends, is_whole}
 use Rattle.ob_ages.specs.Builds.{Text, Build, file_of, bytes_of, symbols_of}
-use Rattle.ob_ages.specs.Library.{Library, IsLibrary, Kept, Change, ObjectBecomes, SymbolBecomes, after}
+use Rattle.ob_ages.specs.Library.{Library, IsLibrary, Kept, Change, ObjectBecomes, SymbolBecomes, after, empty}
 use Rattle.ob_ages.specs.Model.{World, start, answer, written, interface_in, build_plan, check_in}
 use Rattle.ob_ages.specs.Agreeing.{Agree}
-use Rattle.ob_ages.specs.Laws.{IsTextOfBuild, Apart, AreTogether, IsPlanned, StandFor, Afresh, Locality, Simulation, BuildsAreWritten, NewIsValid}
+use Rattle.ob_ages.specs.Laws.{IsTextOfBuild, Apart, AreTogether, IsPlanned, AreSettings, StandFor, Afresh, Locality, Simulation, BuildsAreWritten, NewIsValid}
 use Rattle.ob_ages.specs.Headline.{Headline, Stands, IsIn, IsOfDemo, IsText}
 
 -- a change as it is made of files
@@ -92,6 +92,10 @@ LinesAgree s P = Agree as_bytes (Alike s P) (bytes.answer s) (answer s)
 
 -- THE COMPOSITION
 
+-- the empty folder keeps the empty library
+abbrev pub EmptyIsKept : Type 0
+EmptyIsKept = IsLibrary empty × Kept bytes.no_files empty
+
 -- an entry that becomes a build is kept by its new file
 abbrev pub KeptStays : Type 0
 KeptStays = (files : Files) (l : Library) (c : Change) → Kept files l → Kept (written files c) (after l c)
@@ -106,12 +110,12 @@ NewBuildsAreValid = BuildsAreWritten → NewIsValid
 
 -- Sources that are loaded are a well formed program, taken afresh together, where each is what it was against other interfaces.
 abbrev pub AfreshFollows : Type 0
-AfreshFollows = Locality → Afresh
+AfreshFollows = BuildsAreWritten → Locality → Afresh
 
 -- Each line of a script agrees, where compiles, plans and commands do.
 abbrev pub LinesAgreeAll : Type 0
 LinesAgreeAll = (s : Settings) (l : Library) (old : Files) (script : List ℕ) →
-    CompilesAlike → PlansAlike → BuildsAreWritten → Simulation → Apart (IsText s old l script) → LinesAgree s (IsText s old l script)
+    CompilesAlike → PlansAlike → BuildsAreWritten → Simulation → AreSettings s → Apart (IsText s old l script) → LinesAgree s (IsText s old l script)
 
 -- what the byte session's clause and the laws come to
 abbrev pub Composes : Type 0
@@ -125,13 +129,18 @@ Composes = (s : Settings) (l : Library) (before now : List ℕ) (old new : Files
 -- The headline, for every library that the files keep, from the laws and from what the byte session is promised.
 abbrev pub HeadlineFollows : Type 0
 HeadlineFollows = (s : Settings) (l : Library) (before now : List ℕ) (old new : Files) (script : List ℕ) (status : ℕ) →
-    Simulation → Afresh → LinesAgree s (IsText s old l script) → Stands s old l script →
+    Simulation → AreSettings s → Afresh → LinesAgree s (IsText s old l script) → Stands s old l script →
     (is_whole status ≡ false → 3 ≤ status) → (is_whole status ≡ false → status ≤ 6) →
     Ends (session.bytes s old) before now old new script status → Headline s before now old new l script status
 
 -- THE HEADLINE, from the laws alone: of each session with accepted words, over files that a library keeps and texts that are apart.
 abbrev pub HeadlineHolds : Type 0
 HeadlineHolds = (s : Settings) (l : Library) (before now : List ℕ) (old new : Files) (script : List ℕ) (status : ℕ) →
-    Locality → Simulation → BuildsAreWritten → CompilesAlike → PlansAlike → Stands s old l script →
+    Locality → Simulation → BuildsAreWritten → CompilesAlike → PlansAlike → AreSettings s → Stands s old l script →
     (status ≡ 2 → ⊥) → status ≤ 7 →
     Ends (session.bytes s old) before now old new script status → Headline s before now old new l script status
+
+-- The texts of the first lines, and of no others, are those of the meaning.
+abbrev pub FrontsAgree : Type 0
+FrontsAgree = (s : Settings) (l : Library) (old : Files) (script : List ℕ) → Simulation → BuildsAreWritten → CompilesAlike → PlansAlike → AreSettings s → Stands s old l script →
+    (past rest : List (List ℕ)) → done_lines script ≡ past ++ rest → text_from (bytes.answer s) (bytes.start s old) 1 past ≡ text_from (answer s) (start old l) 1 past

@@ -16,9 +16,8 @@ use Rattle.ob_link.specs.Files.{planned}
 use Rattle.ob_load.specs.Command.{Ran, ran}
 use Rattle.ob_reading.specs.Reading.{NoModule, reading}
 use Rattle.ob_compile.specs.Compiling.{Compiled, Refusal, texts, compiled, by_rules, object_by, interface_by}
-use Rattle.ob_lines.specs.Lines.{is_identifier}
 use Rattle.ob_words.specs.declared.asked.Settings.{Settings}
-use Rattle.ob_ages.specs.Builds.{Text, Build, IsValid, shows_of, tree_of, name_of, file_of, asks}
+use Rattle.ob_ages.specs.Builds.{Text, Build, IsSpelled, IsValid, shows_of, tree_of, name_of, file_of, asks}
 use Rattle.ob_ages.specs.Library.{Library, IsLibrary}
 use Rattle.ob_ages.specs.Model.{outcome_of, joined, ended, interface_in, new_build}
 
@@ -47,11 +46,18 @@ pub record IsSame (c d : Compiled Text) : Type 0 where
   pub shows : d.shows ≡ c.shows
   pub object : object_by texts d ≡ object_by texts c
 
+-- interfaces around a module of this name: each can stand in a symbol file, none is of that module, and each of their uses has its
+-- text among them
+pub record AreAround (m : List ℕ) (faces : List (Face Text)) : Type 0 where
+  pub spelled : AllByRecursion IsSpelled faces
+  pub other : Contains (map (λ f. f.«module») faces) m → ⊥
+  pub met : AllByRecursion (λ f. AreAsWanted faces f.uses) faces
+
 -- A valid build whose uses have the same texts in other interfaces keeps the rules against those too, with the same checked
 -- module, interface, uses and code. (Not so the limit depth: a type far below may be nested deeper there.)
 abbrev pub Locality : Type 0
 Locality = (b : Build) (c : Compiled Text) (m : Tree) → IsValid b c → reading b.source ≡ Ok m →
-    (faces : List (Face Text)) → AreAsWanted faces c.shows.uses →
+    (faces : List (Face Text)) → AreAround c.shows.«module» faces → AreAsWanted faces c.shows.uses →
     (d : Compiled Text) × (by_rules texts faces m ≡ Ok d) × IsSame c d
 
 -- AFRESH
@@ -79,13 +85,16 @@ abbrev pub taken_afresh : Together → List (List ℕ) → Option Together
 taken_afresh so_far [] = Some so_far
 taken_afresh so_far (text ∷ more) = and_all (of_source so_far text) (λ x. taken_afresh x more)
 
--- the modules of these builds are different, each behind those that it imports, and each use has its text among them
+-- a valid build stands behind these: they have all that it imports, none of its name, the text of each of its uses, and are fewer than
+-- may be loaded
 pub record IsBehind (before : List Build) (b : Build) : Type 0 where
   pub imports : AllByRecursion (λ n. (n ≡ codes "Out") ⊎ Contains (map name_of before) n) (shows_of b).imports
   pub new : Contains (map name_of before) (name_of b) → ⊥
   pub uses : AreAsWanted (map shows_of before) (shows_of b).uses
+  pub few : suc (length before) ≤ most_modules
   pub valid : (c : Compiled Text) × IsValid b c
 
+-- each of these stands behind those, and the ones before it
 abbrev pub AreTogether : List Build → List Build → Type 0
 AreTogether before [] = Unit {0}
 AreTogether before (b ∷ bs) = IsBehind before b × AreTogether (before ++ b ∷ []) bs
@@ -96,12 +105,10 @@ Afresh = (bs : List Build) → AreTogether [] bs → taken_afresh ([], []) (map 
 
 -- FILES
 
--- What is written of a module has a spelling, and it names modules by identifiers.
+-- What is written of a module has a spelling.
 pub record IsWritten (c : Compiled Text) : Type 0 where
   pub object : file.fits (object_by texts c)
   pub symbols : face.fits (interface_by texts c)
-  pub name : is_identifier c.shows.«module» ≡ true
-  pub uses : AllByRecursion (λ u. is_identifier u.object.«module» ≡ true) c.shows.uses
 
 abbrev pub BuildsAreWritten : Type 0
 BuildsAreWritten = (b : Build) (c : Compiled Text) → IsValid b c → IsWritten c
@@ -112,9 +119,8 @@ NewIsValid = (l : Library) (source : List ℕ) (c : Compiled Text) → IsLibrary
 
 -- SIMULATION
 
--- what a plan has seen to: few modules, room for the globals, and the command is there
+-- what a plan has seen to: room for the globals, and the command is there
 pub record IsPlanned (bs new : List Build) (m name : List ℕ) : Type 0 where
-  pub few : length (bs ++ new) ≤ most_modules
   pub words : words_of asks (bs ++ new) ≤ most_globals
   pub command : has_command asks (named asks m (bs ++ new)) name ≡ true
 
@@ -138,6 +144,13 @@ StandFor (suc commands) s bs system words heap =
     let e : Ended = ended s system new m name in
     IsSameRun (bs ++ new) r e × StandFor commands s (joined (bs ++ new) e) e.system r.words r.heap
 
+-- settings as words can say them
+pub record AreSettings (s : Settings) : Type 0 where
+  pub some_turns : 1 ≤ s.turns
+  pub most_turns : s.turns ≤ 1000000000
+  pub some_heap : 1 ≤ s.heap
+  pub most_heap : s.heap ≤ 4194304
+
 -- All commands behind one another, from the first, are the same by the table and by the meaning.
 abbrev pub Simulation : Type 0
-Simulation = (commands : ℕ) (s : Settings) → StandFor commands s [] nothing_loaded (made s.heap).words (made s.heap).heap
+Simulation = (commands : ℕ) (s : Settings) → AreSettings s → StandFor commands s [] nothing_loaded (made s.heap).words (made s.heap).heap

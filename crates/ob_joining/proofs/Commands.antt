@@ -30,7 +30,7 @@ use Rattle.ob_ages.specs.Model.{joined, ended}
 use Rattle.ob_ages.specs.Laws.{AreTogether, IsPlanned, IsSameRun, StandFor, ran_over}
 use Rattle.ob_joining.specs.Builds.{program_of, AreLoaded, HasModule, BuildsStand}
 use Rattle.ob_joining.proofs.Images.{room_is, image_both, all_words, next_is, globals_of, globals_length, strings_length, IsFull, words_are}
-use Rattle.ob_joining.proofs.Settings.{map_both, all_of, all_map, words_both, loaded_front, setting, front, large, small, stands_small, stands_large}
+use Rattle.ob_joining.proofs.Settings.{map_both, all_of, all_map, are_few, setting, front, large, small, stands_small, stands_large}
 use Rattle.ob_joining.proofs.Runs.{from, kept_with, world_with, with_turns}
 use Rattle.ob_joining.proofs.Bodies.{length_map, Alike, all_run}
 
@@ -79,7 +79,7 @@ module _ (commands : CommandsSimulate) (bodies : BodiesSimulate) (B : BuildsStan
     all = bs ++ new
 
     abbrev l : AreLoaded all
-    l = record { together = together; few = plan.few; words = plan.words }
+    l = record { together = together; few = are_few (bs ++ new) together; words = plan.words }
 
     abbrev P : Program
     P = system.program

@@ -13,7 +13,7 @@ use Rattle.ob_relation.specs.Layout.{type_number}
 use Rattle.ob_relation.specs.Relation.{ModulesOk}
 use Rattle.ob_relation.specs.Setting.{Setting, StandIn}
 use Rattle.ob_link.specs.Members.{empty_image}
-use Rattle.ob_link.specs.Plan.{words_of}
+use Rattle.ob_link.specs.Plan.{words_of, most_modules}
 use Rattle.ob_load.specs.Command.{image_for}
 use Rattle.ob_ages.specs.Builds.{Build, tree_of, file_of, asks}
 use Rattle.ob_ages.specs.Laws.{AreTogether}
@@ -44,6 +44,18 @@ all_two P Q R (x ∷ xs) f p q = (f x p.0 q.0, all_two P Q R xs f p.1 q.1)
 together_front : (before bs more : List Build) → AreTogether before (bs ++ more) → AreTogether before bs
 together_front before [] more t = tt
 together_front before (b ∷ bs) more t = (t.0, together_front (before ++ b ∷ []) bs more t.1)
+
+few_more : (before bs : List Build) → length before ≤ most_modules → AreTogether before bs → length before + length bs ≤ most_modules
+few_more before [] le t = omega (arith, le)
+few_more before (b ∷ bs) le t =
+    let n = length-append before (b ∷ []) in
+    let h = t.0.few in
+    let r = few_more (before ++ b ∷ []) bs (omega (arith, n, h)) t.1 in
+    omega (arith, r, n)
+
+-- builds that are together are few
+pub are_few : (bs : List Build) → AreTogether [] bs → length bs ≤ most_modules
+are_few bs t = let h = few_more [] bs (omega arith) t in omega (arith, h)
 
 pub words_both : (bs more : List Build) → words_of asks (bs ++ more) ≡ words_of asks bs + words_of asks more
 words_both [] more = omega arith

@@ -425,11 +425,15 @@ goes_waits s before now old there script rest system n at b last status g four e
 
 -- a failed read: all lines whose byte 10 was taken are done
 pub goes_pieces : (s : Settings) (before now : List ℕ) (old there : Files) (script rest line ahead left : List ℕ) (system : Standing) (n at : ℕ) (b : Bool) → Goes s before now old there script system n at rest b false → NextDoes (length script) at rest (ahead ++ left) line (Err fault.Failed) → ahead ≡ [] → Pieces s before now old script left
-goes_pieces s before now old there script rest line ahead left system n at b g step e = record {
-  got = g.got ++ line;
-  parts = g.parts refl ∙ ap (λ x. g.got ++ x) (step.0 ∙ ap (λ x. line ++ (x ++ left)) e) ∙ sym (append_assoc g.got line left);
-  written = g.going.written ∙ ap (λ x. before ++ text_from (answer s) (start s old) 1 x) (sym (g.ended_so refl line ∙ ap (λ x. g.going.past ++ x) (ended_open line step.1) ∙ append-nil g.going.past));
-}
+goes_pieces s before now old there script rest line ahead left system n at b g step e =
+    let is : ended (g.got ++ line) ≡ g.going.past = g.ended_so refl line ∙ ap (λ x. g.going.past ++ x) (ended_open line step.1) ∙ append-nil g.going.past in
+    record {
+      got = g.got ++ line;
+      parts = g.parts refl ∙ ap (λ x. g.got ++ x) (step.0 ∙ ap (λ x. line ++ (x ++ left)) e) ∙ sym (append_assoc g.got line left);
+      written = g.going.written ∙ ap (λ x. before ++ text_from (answer s) (start s old) 1 x) (sym is);
+      after = within (length script) at (lines_of rest);
+      split = g.going.split ∙ ap (λ x. x ++ within (length script) at (lines_of rest)) (sym is);
+    }
 
 -- A session that was cut short before its first line.
 pub ends_early : {W C : Type 0} (kind : Kind W C) (before : List ℕ) (old : Files) (script : List ℕ) (status : ℕ) → (kind.make old [] ≡ old) → (status ≡ 4 → ⊥) → is_whole status ≡ false → Ends kind before before old old script status

@@ -28,3 +28,6 @@ pub record Pieces (s : Settings) (before now : List ℕ) (old : Files) (script l
   pub got : List ℕ
   pub parts : script ≡ got ++ left
   pub written : now ≡ before ++ text_from (answer s) (start s old) 1 (ended got)
+  -- these are the first of the lines that are done
+  pub after : List (List ℕ)
+  pub split : done_lines script ≡ ended got ++ after

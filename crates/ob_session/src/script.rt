@@ -8,6 +8,9 @@ ghost use Rattle.ob_words.specs.Settings.{settings_of};
 ghost use Rattle.ob_bytes.specs.Bytes.{World, answer, start};
 ghost use Rattle.ob_session.specs.Does.{Shows, LineDoes, Cause};
 ghost use Rattle.ob_bytes.specs.Session.{bytes, Ends};
+ghost use Rattle.ob_ages.specs.Library.{Library};
+ghost use Rattle.ob_ages.specs.Headline.{Headline, Stands};
+ghost use Rattle.ob_headline.specs.Holds.{Promises, WritesPieces};
 ghost use Rattle.ob_session.specs.Stand.{Pieces};
 ghost use Rattle.ob_session.specs.Session.{Causes, StatusIs};
 
@@ -157,6 +160,30 @@ fn run_script<F: Folder, I: Source, O: Sink>(
     )
 }
 
+// Does all lines that the words ask for, by the bytes of files.
+fn do_all<F: Folder, I: Source, O: Sink>(
+    alloc: Global,
+    words: &[String],
+    folder: &mut F,
+    script: &mut I,
+    out: &mut O,
+) -> u8
+    ensures ends { (s : TheSettings) → settings_of (map (λ w. w.bytes.items) words.now) ≡ Some s → I.tells script.old ≡ true → F.tells folder.old ≡ true → O.tells out.old ≡ true → Ends (bytes s (F.files folder.old)) (O.taken out.old) (O.taken out.new) (F.files folder.old) (F.files folder.new) (I.left script.old) result }
+    ensures pieces { (s : TheSettings) → settings_of (map (λ w. w.bytes.items) words.now) ≡ Some s → I.tells script.old ≡ true → F.tells folder.old ≡ true → O.tells out.old ≡ true → result ≡ 3 → Pieces s (O.taken out.old) (O.taken out.new) (F.files folder.old) (I.left script.old) (I.left script.new) }
+    ensures causes { Causes (I.faults script.old) (I.faults script.new) (O.faults out.old) (O.faults out.new) (F.faults folder.old) (F.faults folder.new) result }
+    ensures words { settings_of (map (λ w. w.bytes.items) words.now) ≡ None → (result ≡ 2) ⊎ (result ≡ 5) }
+    ensures refused { result ≡ 2 → settings_of (map (λ w. w.bytes.items) words.now) ≡ None }
+    ensures untouched { settings_of (map (λ w. w.bytes.items) words.now) ≡ None → (script.new ≡ script.old) × (out.new ≡ out.old) × (folder.new ≡ folder.old) }
+    ensures read { I.tells script.old ≡ true → result < 2 → I.left script.new ≡ [] }
+{
+    let settings = match settings(alloc, words) {
+        Ok(settings) => settings,
+        Err(WordsFault::Refused) => return 2,
+        Err(WordsFault::Memory) => return 5,
+    };
+    run_script(alloc, settings, folder, script, out)
+}
+
 /// Does all that the program does: the lines of a script over the files of a folder, into a sink.
 /// The script is read by pieces of 4,096 bytes, and a line is done when its byte 10 has come, or
 /// the script's end. The sink is flushed after each line.
@@ -170,6 +197,14 @@ fn run_script<F: Folder, I: Source, O: Sink>(
 ///   the first line of a demo,
 /// - 7 exactly where a line has more than 1,024 bytes or the script more than 1,048,576, and none
 ///   of 2 to 6 came before: the lines before that line are done, and in it nothing is.
+///
+/// Beside what it does by the bytes of files, `headline` says what that means: over files that any
+/// earlier runs have left, so that some library of builds keeps them, the bytes written are those
+/// that the Report's meaning gives the loaded modules' sources, taken afresh together. It takes for
+/// granted, as premises in one record (`Promises`), that a build is the same against all interfaces
+/// that have the texts of its uses, that commands by the machine's table are those of the meaning,
+/// that what is written of a build has a spelling, and that the procedures of a module that
+/// compiles are named apart and its links name what it uses.
 pub fn session<F: Folder, I: Source, O: Sink>(
     alloc: Global,
     words: &[String],
@@ -188,11 +223,14 @@ pub fn session<F: Folder, I: Source, O: Sink>(
     ensures refused { result ≡ 2 → settings_of (map (λ w. w.bytes.items) words.now) ≡ None }
     ensures untouched { settings_of (map (λ w. w.bytes.items) words.now) ≡ None → (script.new ≡ script.old) × (out.new ≡ out.old) × (folder.new ≡ folder.old) }
     ensures read { I.tells script.old ≡ true → result < 2 → I.left script.new ≡ [] }
+    // Where the files keep a library, and no two of the texts of its builds, and of those that the
+    // lines make, have one print unless they are the same: what is written, answered and left is
+    // what the meaning of the builds' sources says, whole or cut short, and the loaded sources,
+    // taken afresh together, are a well formed program at each line. Laws of builds are taken for
+    // granted here.
+    ensures headline { (s : TheSettings) → settings_of (map (λ w. w.bytes.items) words.now) ≡ Some s → I.tells script.old ≡ true → F.tells folder.old ≡ true → O.tells out.old ≡ true → (l : Library) → Promises → Stands s (F.files folder.old) l (I.left script.old) → Headline s (O.taken out.old) (O.taken out.new) (F.files folder.old) (F.files folder.new) l (I.left script.old) result }
+    // So are the lines done with status 3.
+    ensures headline_pieces { (s : TheSettings) → settings_of (map (λ w. w.bytes.items) words.now) ≡ Some s → I.tells script.old ≡ true → F.tells folder.old ≡ true → O.tells out.old ≡ true → (l : Library) → Promises → Stands s (F.files folder.old) l (I.left script.old) → result ≡ 3 → WritesPieces s (O.taken out.old) (O.taken out.new) (F.files folder.old) l (I.left script.old) (I.left script.new) }
 {
-    let settings = match settings(alloc, words) {
-        Ok(settings) => settings,
-        Err(WordsFault::Refused) => return 2,
-        Err(WordsFault::Memory) => return 5,
-    };
-    run_script(alloc, settings, folder, script, out)
+    do_all(alloc, words, folder, script, out)
 }

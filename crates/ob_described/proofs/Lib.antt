@@ -1,0 +1,5 @@
+pub mod Nodes
+pub mod Typings
+pub mod Written
+pub mod Heads
+pub mod Blocks

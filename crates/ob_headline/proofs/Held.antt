@@ -1,0 +1,11 @@
+-- The headline from the laws of compiles and loads.
+use Rattle.ob_ages.proofs.Whole.{holds, fronts_so}
+use Rattle.ob_kept.proofs.Law.{kept_compiles_alike}
+use Rattle.ob_loads.proofs.Law.{loads_so}
+use Rattle.ob_headline.specs.Holds.{HeadlineHolds, LinesHold}
+
+pub whole_so : HeadlineHolds
+whole_so k s l before now old new script status limits h two most ends = holds s l before now old new script status k.locality k.simulation k.written (kept_compiles_alike k.written) (loads_so k.written k.said) limits h two most ends
+
+pub lines_so : LinesHold
+lines_so k s l old script limits h past rest split = fronts_so s l old script k.simulation k.written (kept_compiles_alike k.written) (loads_so k.written k.said) limits h past rest split

@@ -1,0 +1,4 @@
+pub mod Alike
+pub mod Seen
+pub mod Compiled
+pub mod Laws
