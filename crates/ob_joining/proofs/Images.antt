@@ -110,7 +110,7 @@ length_map : (text : List ℕ) → length (map pos text) ≡ length text
 length_map [] = refl
 length_map (c ∷ text) = ap suc (length_map text)
 
-strings_length : (ss : List StringConst) → AllByRecursion (λ s. length s.text ≤ s.words) ss → length (string_words ss) ≡ words_of ss
+pub strings_length : (ss : List StringConst) → AllByRecursion (λ s. length s.text ≤ s.words) ss → length (string_words ss) ≡ words_of ss
 strings_length [] h = refl
 strings_length (s ∷ ss) h =
     let pad = replicate (s.words - length s.text) (pos 0) in

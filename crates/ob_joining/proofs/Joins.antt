@@ -129,7 +129,7 @@ module _ (d : Setting) (os : List AnObject) where
   abbrev P : Program
   P = d.program
 
-  first_slots : (vs : List TypedVariable) → AreDifferent (map (held_variable P) vs) → OwnFormsOk P (map (held_variable P) vs) → S d os [] (no_places P (has_of d) d.img) 0 (map (held_variable P) vs) (first_globals P vs) ≡ zeros (slots_words (map (held_variable P) vs))
+  pub first_slots : (vs : List TypedVariable) → AreDifferent (map (held_variable P) vs) → OwnFormsOk P (map (held_variable P) vs) → S d os [] (no_places P (has_of d) d.img) 0 (map (held_variable P) vs) (first_globals P vs) ≡ zeros (slots_words (map (held_variable P) vs))
   first_slots [] different ok = refl
   first_slots (v ∷ vs) different ok =
       let t = form_in P v.of in
@@ -141,7 +141,7 @@ module _ (d : Setting) (os : List AnObject) where
       ∙ ap (λ l. l ++ zeros (slots_words hs)) (first_words d os t ok.0)
       ∙ zeros_both (words t) (slots_words hs)
 
-  first_held : (vs : List TypedVariable) → AreDifferent (map (held_variable P) vs) → OwnFormsOk P (map (held_variable P) vs) → Hs d os [] (no_places P (has_of d) d.img) (map (held_variable P) vs) (first_globals P vs)
+  pub first_held : (vs : List TypedVariable) → AreDifferent (map (held_variable P) vs) → OwnFormsOk P (map (held_variable P) vs) → Hs d os [] (no_places P (has_of d) d.img) (map (held_variable P) vs) (first_globals P vs)
   first_held [] different ok = tt
   first_held (v ∷ vs) different ok =
       let t = form_in P v.of in

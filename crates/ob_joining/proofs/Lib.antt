@@ -3,3 +3,9 @@ mod Joins
 mod Shifts
 mod Stops
 mod Images
+mod Settings
+mod Entered
+mod Found
+mod Runs
+mod Bodies
+mod Commands
