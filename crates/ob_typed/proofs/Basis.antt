@@ -55,7 +55,7 @@ module _ (map : Map) (program : Program) (formed : Formed map program) (grounded
   result_known None h k p = tt
   result_known (Some t) h k p = (h.0, plain_form map program formed grounded t k.0 p)
 
-  signature_is : (s : Signature) → AllByRecursion IsDeclared (signature_types s) → AllByRecursion (IsHeld map) (signature_types s) → IsPlainResult map s → SignatureIs program map s
+  pub signature_is : (s : Signature) → AllByRecursion IsDeclared (signature_types s) → AllByRecursion (IsHeld map) (signature_types s) → IsPlainResult map s → SignatureIs program map s
   signature_is s h k p =
       let a = all_split IsDeclared (each (λ p. p.1) s.params) (listed s.result) h in
       let b = all_split (IsHeld map) (each (λ p. p.1) s.params) (listed s.result) k in

@@ -56,9 +56,9 @@ module _ (program : Program) (Has : Signature → QName → Type 0) (unit : List
         constants = s.constants;
         procedures = λ x k q t e f. subst (λ z. ProcedureIs program Has unit held result z q t) m (s.procedures x k q t e f);
         forwards = λ x k q t e f. subst (λ z. ProcedureIs program Has unit held result z q t) m (s.forwards x k q t e f);
-        shown_variables = λ q k t e. subst (λ z. VariableIs program Has unit held result z (variable.Module q.«module» q.object) t) m (s.shown_variables q k t e);
+        shown_variables = λ q k t x y e. subst (λ z. VariableIs program Has unit held result z (variable.Module q.«module» q.object) t) m (s.shown_variables q k t x y e);
         shown_constants = s.shown_constants;
-        shown_procedures = λ q t e. subst (λ z. ProcedureIs program Has unit held result z q t) m (s.shown_procedures q t e);
+        shown_procedures = λ q t x y e. subst (λ z. ProcedureIs program Has unit held result z q t) m (s.shown_procedures q t x y e);
         types = λ x k t e f. subst (λ z. IsKnown z t) m (s.types x k t e f);
         guards = subst (λ z. AllByRecursion (λ (g : Variable × Option TypeRef). IfThere (IsKnown z) g.1) gs) m h;
         result_is = s.result_is;

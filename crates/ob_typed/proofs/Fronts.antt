@@ -1,5 +1,6 @@
 -- The name at a designator's front, and the designator.
 use Rattle.std.proofs.Common.{◌≡◌, refl, sym, ap, ◌∙◌, subst, ℕ, List, [], ◌∷◌, Option, Some, None, Bool, true, false}
+use Rattle.std.specs.Prelude.{bytes_eq}
 use Rattle.ob_tree.specs.declared.pos.Pos.{Pos}
 use Rattle.ob_tree.specs.declared.names.QName.{QName}
 use Rattle.ob_tree.specs.declared.ident.Ident.{Ident}
@@ -74,32 +75,32 @@ module _ (program : Program) (Has : Signature → QName → Type 0) (unit : List
   variable_meant : (at : Pos) (v : Variable) (t : TypeRef) (read_only : Bool) → VariableIs program Has unit held result (map_of u) v t → Makes Front (of_variable (variable_named u at v t read_only))
   variable_meant at v t read_only h = makes_then (λ p. PlaceIs program Has unit held result (map_of u) p × RootIs program Has unit held result (map_of u) u.receiver p) Front (variable_named u at v t read_only) (λ q. sound (means.Place q)) (rooted_is program Has unit held result (map_of u) scoped.forms u.receiver at v t read_only u.guards h (λ r e f. scoped.receivers r v t e f h) scoped.guards) (λ q k. record { node = λ w. k })
 
-  exported_is : (start at : Pos) (m x : List ℕ) (d : Desc) → u.shown (record { «module» = m; object = x }) ≡ Some d → Makes Front (exported_meant u start at m x d)
-  exported_is start at m x (desc.Const c) e = record { node = λ w. scoped.shown_constants (record { «module» = m; object = x }) c e }
-  exported_is start at m x (desc.Var k t) e = variable_meant start (variable.Module m x) t (is_read_only k) (scoped.shown_variables (record { «module» = m; object = x }) k t e)
-  exported_is start at m x (desc.Proc s) e = record { node = λ w. scoped.shown_procedures (record { «module» = m; object = x }) s e }
-  exported_is start at m x (desc.Alias k t) e = record { node = tt }
-  exported_is start at m x (desc.Array k n t) e = record { node = tt }
-  exported_is start at m x (desc.OpenArray k t) e = record { node = tt }
-  exported_is start at m x (desc.Pointer k t) e = record { node = tt }
-  exported_is start at m x (desc.ProcType k s) e = record { node = tt }
-  exported_is start at m x (desc.Record r) e = record { node = tt }
+  exported_is : (start at : Pos) (m x : List ℕ) (d : Desc) → is_out m ≡ false → bytes_eq m u.unit ≡ false → u.shown (record { «module» = m; object = x }) ≡ Some d → Makes Front (exported_meant u start at m x d)
+  exported_is start at m x (desc.Const c) a b e = record { node = λ w. scoped.shown_constants (record { «module» = m; object = x }) c e }
+  exported_is start at m x (desc.Var k t) a b e = variable_meant start (variable.Module m x) t (is_read_only k) (scoped.shown_variables (record { «module» = m; object = x }) k t a b e)
+  exported_is start at m x (desc.Proc s) a b e = record { node = λ w. scoped.shown_procedures (record { «module» = m; object = x }) s a b e }
+  exported_is start at m x (desc.Alias k t) a b e = record { node = tt }
+  exported_is start at m x (desc.Array k n t) a b e = record { node = tt }
+  exported_is start at m x (desc.OpenArray k t) a b e = record { node = tt }
+  exported_is start at m x (desc.Pointer k t) a b e = record { node = tt }
+  exported_is start at m x (desc.ProcType k s) a b e = record { node = tt }
+  exported_is start at m x (desc.Record r) a b e = record { node = tt }
 
   out_there : (at : Pos) (o : Option OutProcedure) → Makes Front (out_meant at o)
   out_there at None = record { node = tt }
   out_there at (Some p) = record { node = λ w. tt }
 
-  shown_there : (start : Pos) (m : List ℕ) (x : Ident) (o : Option Desc) → shown_of (u.shown (record { «module» = m; object = x.name })) ≡ o → Makes Front (export_known (record { «module» = m; object = x.name }) x.pos o ▷ λ q. exported_meant u start x.pos m x.name q.1)
-  shown_there start m x None e = record { node = tt }
-  shown_there start m x (Some d) e = record { node = (exported_is start x.pos m x.name d (shown_is (u.shown (record { «module» = m; object = x.name })) d e)).node }
+  shown_there : (start : Pos) (m : List ℕ) (x : Ident) (o : Option Desc) → is_out m ≡ false → bytes_eq m u.unit ≡ false → shown_of (u.shown (record { «module» = m; object = x.name })) ≡ o → Makes Front (export_known (record { «module» = m; object = x.name }) x.pos o ▷ λ q. exported_meant u start x.pos m x.name q.1)
+  shown_there start m x None a b e = record { node = tt }
+  shown_there start m x (Some d) a b e = record { node = (exported_is start x.pos m x.name d a b (shown_is (u.shown (record { «module» = m; object = x.name })) d e)).node }
 
-  module_there : (b : Bool) (start : Pos) (m : List ℕ) (x : Ident) → Makes Front (in_module b u start m x)
-  module_there true start m x = out_there x.pos (out_procedure x.name)
-  module_there false start m x = shown_there start m x (shown_of (u.shown (record { «module» = m; object = x.name }))) refl
+  module_there : (b : Bool) (start : Pos) (m : List ℕ) (x : Ident) → is_out m ≡ b → bytes_eq m u.unit ≡ false → Makes Front (in_module b u start m x)
+  module_there true start m x a b = out_there x.pos (out_procedure x.name)
+  module_there false start m x a b = shown_there start m x (shown_of (u.shown (record { «module» = m; object = x.name }))) a b refl
 
-  module_is : (start : Pos) (m : List ℕ) (o : Option Ident) → Makes Front (module_front u start m o)
-  module_is start m None = record { node = tt }
-  module_is start m (Some y) = module_there (is_out m) start m y
+  module_is : (start : Pos) (m : List ℕ) (o : Option Ident) → bytes_eq m u.unit ≡ false → Makes Front (module_front u start m o)
+  module_is start m None b = record { node = tt }
+  module_is start m (Some y) b = module_there (is_out m) start m y refl b
 
   front_is : (x : Ident) (e : Entity) (dot : Option Ident) → EntityIs x e → Makes Front (front_of u x e dot)
   front_is x (entity.Constant c) dot h = record { node = λ w. scoped.constants x.name h.k c h.known h.is }
@@ -107,7 +108,7 @@ module _ (program : Program) (Has : Signature → QName → Type 0) (unit : List
   front_is x (entity.Procedure q s) dot h = record { node = λ w. scoped.procedures x.name h.k q s h.known h.is }
   front_is x (entity.Forward q s) dot h = record { node = λ w. scoped.forwards x.name h.k q s h.known h.is }
   front_is x (entity.Predeclared f) dot h = record { node = λ w. tt }
-  front_is x (entity.Module m) dot h = module_is x.pos m dot
+  front_is x (entity.Module m) dot h = module_is x.pos m dot (scoped.imports x.name h.k m h.known h.is)
   front_is x (entity.TypeName t) dot h = record { node = tt }
   front_is x entity.LeftOut dot h = record { node = tt }
   front_is x entity.Unsound dot h = record { node = tt }

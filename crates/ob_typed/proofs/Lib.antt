@@ -26,4 +26,5 @@ pub mod Branching
 pub mod Looping
 pub mod Statements
 pub mod Basis
+pub mod Surrounded
 pub mod Whole

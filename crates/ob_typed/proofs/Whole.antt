@@ -10,12 +10,13 @@ use Rattle.ob_typed.specs.Makes.{IfThere}
 use Rattle.ob_typed.specs.Kept.{ValuedIs}
 use Rattle.ob_typed.specs.Meant.{MeantIs}
 use Rattle.ob_typed.specs.Bodies.{AreStatements}
-use Rattle.ob_typed.specs.Laws.{Having, ExpressionsFit, DesignatorsFit, StatementsFit}
+use Rattle.ob_typed.specs.Laws.{Having, ExpressionsFit, DesignatorsFit, StatementsFit, SurroundingsFit}
 use Rattle.ob_typed.proofs.Assignable.{scalar_fits}
 use Rattle.ob_typed.proofs.Fronts.{designates_is}
 use Rattle.ob_typed.proofs.Expressions.{expr_is, designator_of_is}
 use Rattle.ob_typed.proofs.Bodies.{stmts_ok, in_turn_is}
 use Rattle.ob_typed.proofs.Statements.{stmts_are}
+use Rattle.ob_typed.proofs.Surrounded.{scoped_is}
 
 pub expressions_fit : ExpressionsFit
 expressions_fit program has unit held result u scoped e spelled x is =
@@ -31,3 +32,6 @@ pub statements_fit : StatementsFit
 statements_fit program has unit held result u scoped xs spelled hidden ys is =
     let h = in_turn_is program (Having has) unit held result u scoped (map judging xs) (stmts_are program (Having has) unit held result xs spelled hidden) in
     stmts_ok program (Having has) unit held result u.in_loop ys (subst (IfThere (AreStatements program (Having has) unit held result u.in_loop)) is h.node)
+
+pub surroundings_fit : SurroundingsFit
+surroundings_fit program has unit held result u s = scoped_is program (Having has) unit held result u s

@@ -28,7 +28,7 @@ use Rattle.ob_rules.specs.declared.entity.Entity.TheVariants as entity
 use Rattle.ob_rules.specs.declared.entity.Known.{Known}
 use Rattle.ob_rules.specs.declared.entity.Received.{Received}
 use Rattle.ob_rules.specs.Shapes.{Map, AMethod, member, base_record, is_record, record_of, pointed}
-use Rattle.ob_rules.specs.Names.{Around, map_of, find_name, is_enclosing}
+use Rattle.ob_rules.specs.Names.{Around, map_of, find_name, is_enclosing, is_out}
 use Rattle.ob_rules.specs.Designators.{is_var_record, same_variable}
 pub use Rattle.ob_forms.specs.Formed.{AreParameters, behind}
 use Rattle.ob_typed.specs.Makes.{IfThere}
@@ -110,9 +110,9 @@ module _ (program : Program) (Has : Signature → QName → Type 0) (unit : List
     pub constants : (x : List ℕ) (k : Known) (v : Literal) → find_name u.known x ≡ Some k → k.what ≡ entity.Constant v → ConstantIs v
     pub procedures : (x : List ℕ) (k : Known) (q : QName) (s : Signature) → find_name u.known x ≡ Some k → k.what ≡ entity.Procedure q s → ProcedureIs (map_of u) q s
     pub forwards : (x : List ℕ) (k : Known) (q : QName) (s : Signature) → find_name u.known x ≡ Some k → k.what ≡ entity.Forward q s → ProcedureIs (map_of u) q s
-    pub shown_variables : (q : QName) (m : Mark) (t : TypeRef) → u.shown q ≡ Some (desc.Var m t) → VariableIs (map_of u) (variable.Module q.«module» q.object) t
+    pub shown_variables : (q : QName) (m : Mark) (t : TypeRef) → is_out q.«module» ≡ false → bytes_eq q.«module» u.unit ≡ false → u.shown q ≡ Some (desc.Var m t) → VariableIs (map_of u) (variable.Module q.«module» q.object) t
     pub shown_constants : (q : QName) (v : Literal) → u.shown q ≡ Some (desc.Const v) → ConstantIs v
-    pub shown_procedures : (q : QName) (s : Signature) → u.shown q ≡ Some (desc.Proc s) → ProcedureIs (map_of u) q s
+    pub shown_procedures : (q : QName) (s : Signature) → is_out q.«module» ≡ false → bytes_eq q.«module» u.unit ≡ false → u.shown q ≡ Some (desc.Proc s) → ProcedureIs (map_of u) q s
     pub types : (x : List ℕ) (k : Known) (t : TypeRef) → find_name u.known x ≡ Some k → k.what ≡ entity.TypeName t → IsKnown (map_of u) t
     pub guards : AllByRecursion (λ (g : Variable × Option TypeRef). IfThere (IsKnown (map_of u)) g.1) u.guards
     pub result_is : u.result ≡ result

@@ -20,6 +20,7 @@ use Rattle.ob_rules.specs.Expressions.{phrase_of, named_of, meant_by}
 use Rattle.ob_rules.specs.Statements.{judging, in_turn}
 use Rattle.ob_typed.specs.Forms.{IsDeclared}
 use Rattle.ob_typed.specs.Known.{IsScoped}
+use Rattle.ob_typed.specs.Surrounded.{IsSurrounded}
 use Rattle.ob_typed.specs.Kept.{ValuedIs}
 use Rattle.ob_typed.specs.Meant.{MeantIs}
 use Rattle.ob_typed.specs.Spelled.{all_true, is_spelled, designator_spelled}
@@ -51,3 +52,7 @@ StatementsFit =
     → (xs : List Stmt) → all_true (map stmt_spelled xs) ≡ true → AreHidden program (Having has) unit held result (in_all (map hidden_places xs))
     → (ys : List TypedStmt) → (in_turn (map judging xs) u).node ≡ Some ys
     → typed.StmtsOk program (Having has) unit held result (stmts_view ys) u.in_loop
+
+-- What stands around is as the laws above want it where its map is formed and grounded and its names are so.
+abbrev pub SurroundingsFit : Type 0
+SurroundingsFit = (program : Program) (has : Signature → QName → Bool) (unit : List ℕ) (held : List Held) (result : Option TypeRef) (u : Around) → IsSurrounded program (Having has) unit held result u → IsScoped program (Having has) unit held result u

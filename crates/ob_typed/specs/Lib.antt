@@ -4,5 +4,6 @@ pub mod Known
 pub mod Kept
 pub mod Meant
 pub mod Spelled
-pub mod Laws
 pub mod Bodies
+pub mod Surrounded
+pub mod Laws

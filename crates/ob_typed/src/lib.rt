@@ -2,16 +2,19 @@
 //! checked tree.
 #![tactic(auto)]
 
-ghost use Rattle.ob_typed.specs.Laws.{ExpressionsFit, DesignatorsFit, StatementsFit};
+ghost use Rattle.ob_typed.specs.Laws.{ExpressionsFit, DesignatorsFit, StatementsFit, SurroundingsFit};
 
 /// A law, with nothing to run. Where the types, variables, constants and procedures that the rules
 /// know around a part of a text are so in a program (`specs/Known.antt`: `IsScoped`): an expression
 /// of the grammar that keeps the rules is well typed (`specs/Kept.antt`), and of each scalar type
 /// that it is assignable to; a designator that keeps them comes to what is well typed
 /// (`specs/Meant.antt`); statements that keep them are well typed, where the procedure has the
-/// variables that FOR and CASE keep (`specs/Bodies.antt`).
+/// variables that FOR and CASE keep (`specs/Bodies.antt`). And what is known around is so where the map
+/// of types is formed and grounded, and the declared names are so one by one
+/// (`specs/Surrounded.antt`).
 pub fn well_typed()
     ensures expressions { ExpressionsFit }
     ensures designators { DesignatorsFit }
     ensures statements { StatementsFit }
+    ensures surroundings { SurroundingsFit }
 {}

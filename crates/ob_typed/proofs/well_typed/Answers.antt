@@ -1,4 +1,4 @@
-use Rattle.ob_typed.proofs.Whole.{expressions_fit, designators_fit, statements_fit}
+use Rattle.ob_typed.proofs.Whole.{expressions_fit, designators_fit, statements_fit, surroundings_fit}
 use Rattle.ob_typed.proofs.well_typed.Goals as goal
 
 pub returns-clause-expressions : goal.returns-clause-expressions
@@ -9,3 +9,6 @@ returns-clause-designators c = designators_fit
 
 pub returns-clause-statements : goal.returns-clause-statements
 returns-clause-statements c = statements_fit
+
+pub returns-clause-surroundings : goal.returns-clause-surroundings
+returns-clause-surroundings c = surroundings_fit
