@@ -1,37 +1,35 @@
 -- The bodies of modules that join, one behind the other, and the command behind them.
-use Rattle.std.proofs.Common.{◌≡◌, ℕ, zero, suc, ◌+◌, ◌≤◌, List, [], ◌∷◌, ◌++◌, length, ℤ, Option, Some, None, Bool, true, refl, ap, sym, ◌∙◌, subst, arith, append_assoc, length-append}
+use Rattle.std.proofs.Common.{◌≡◌, ℕ, suc, ◌+◌, ◌≤◌, List, [], ◌∷◌, ◌++◌, length, ℤ, Some, true, refl, ap, sym, ◌∙◌, subst, arith, append_assoc, length-append}
 use Rattle.std.proofs.lemmas.List.{append-nil}
 use Rattle.std.specs.Prelude.{map, Contains}
 use Rattle.std.specs.List.{AllByRecursion}
 use Rattle.ob_tree.specs.declared.names.QName.{QName}
 use Rattle.ob_tree.specs.declared.proc_ref.ProcRef.{ProcRef}
-use Rattle.ob_types.specs.TypedSyntax.{Procedure, Module}
-use Rattle.ob_instr.specs.Image as image
-use Rattle.ob_instr.specs.Image.{ModuleImage, Image, World, End}
+use Rattle.ob_types.specs.TypedSyntax.{Module}
+use Rattle.ob_instr.specs.Image.{ModuleImage, Image, World}
 use Rattle.ob_meaning.specs.Values.{Program, procedure_of, State}
 use Rattle.ob_meaning.specs.Results.{Res, Gives, Stops, Why}
 use Rattle.ob_meaning.specs.Meaning.{Flow}
-use Rattle.ob_meaning.specs.Commands.{Ended, System, run_first, run_found, run_bodies, and_then, end_of, at_rest, with_module, body_name, body_procedure}
+use Rattle.ob_meaning.specs.Commands.{Ended, run_first, run_found, run_bodies, and_then, end_of, at_rest, with_module, body_name, body_procedure}
 use Rattle.ob_machine.specs.Machine as machine
 use Rattle.ob_relation.specs.Layout.{module_number, procedure_index, procedures_in}
-use Rattle.ob_relation.specs.Relation.{number_of}
-use Rattle.ob_relation.specs.Setting.{Setting, StandIn, has_of, stopped}
-use Rattle.ob_simulation.specs.Simulates.{CommandsSimulate, BodiesSimulate, Simulates, Same, idle}
+use Rattle.ob_relation.specs.Setting.{Setting, StandIn, stopped}
+use Rattle.ob_simulation.specs.Simulates.{CommandsSimulate, BodiesSimulate, Simulates, idle}
 use Rattle.ob_link.specs.Plan.{named, has_command}
 use Rattle.ob_link.specs.Files.{command_at}
 use Rattle.ob_link.specs.Members.{empty_image}
-use Rattle.ob_load.specs.Running.{IsShort, run_whole}
-use Rattle.ob_load.specs.Command.{Last, last, behind, goes_on, runs, body_of, again, image_for}
+use Rattle.ob_load.specs.Running.{IsShort}
+use Rattle.ob_load.specs.Command.{Last, last, behind, goes_on, runs, body_of, image_for}
 use Rattle.ob_load.proofs.Wholes.{no_body, one_body}
 use Rattle.ob_ages.specs.Builds.{Build, tree_of, file_of, asks}
 use Rattle.ob_ages.specs.Model as ages
 use Rattle.ob_ages.proofs.Members.{has_head, has_right}
-use Rattle.ob_joining.specs.Builds.{program_of, AreLoaded, HasModule, AllStand, BuildsStand}
+use Rattle.ob_joining.specs.Builds.{program_of, AreLoaded, HasModule, BuildsStand}
 use Rattle.ob_joining.proofs.Joins.{others_differ, last_number}
 use Rattle.ob_joining.proofs.Stops.{IsThere, ends_there}
 use Rattle.ob_joining.proofs.Shifts.{put}
 use Rattle.ob_joining.proofs.Images.{modules_are, own_words, globals_of}
-use Rattle.ob_joining.proofs.Settings.{all_of, all_map, map_both, setting, all_stand, front, whole, large, small, stands_small}
+use Rattle.ob_joining.proofs.Settings.{all_of, all_map, setting, all_stand, front, whole, large, small, stands_small}
 use Rattle.ob_joining.proofs.Entered as join
 use Rattle.ob_joining.proofs.Found.{IsFound, found}
 use Rattle.ob_joining.proofs.Runs.{from, same_words, kept_with, world_with, with_turns, RunsSo, runs_so, stops_all, stop_named, IsShortFile, short_so}

@@ -9,11 +9,10 @@ use Rattle.ob_types.specs.declared.types.TypeRef.{TypeRef}
 use Rattle.ob_types.specs.declared.types.TypeRef.TheVariants as ref
 use Rattle.ob_types.specs.declared.types.Signature.{Signature}
 use Rattle.ob_types.specs.declared.desc.Desc.{Desc}
-use Rattle.ob_types.specs.TypedSyntax.{Module}
 use Rattle.ob_instr.specs.Rows.{tag, proc_value}
-use Rattle.ob_meaning.specs.Values.{description, Form, BasicForm, PointerForm, ProcedureForm, ArrayForm, OpenForm, RecordForm, Fields, NoField, AField, described, form_within, form_in, record_in, number_of_types, Value, field_of, element_of, Place, Held, Own, Referred, Copied, AnObject, Whole, Opened}
+use Rattle.ob_meaning.specs.Values.{description, Form, BasicForm, PointerForm, ProcedureForm, ArrayForm, OpenForm, RecordForm, Fields, NoField, AField, described, form_within, form_in, record_in, number_of_types, Value, field_of, element_of, AnObject, Whole, Opened}
 use Rattle.ob_relation.specs.Layout.{object_form, object_at, has_length_at, object_offset, heap_start, type_number}
-use Rattle.ob_relation.specs.Relation.{LengthFits, Sub, Scalar, IsStructure, FormOk, FieldsOk, ObjectOk, IsBasic, IsPointer, IsProcedure, Fine, FieldsFine, ObjectsFine, HeldFine, word_of, flat, flat_fields, flat_elements, flat_slots, flat_objects, extra, number_of, no_places}
+use Rattle.ob_relation.specs.Relation.{LengthFits, Sub, Scalar, IsStructure, FormOk, FieldsOk, IsBasic, IsPointer, IsProcedure, Fine, FieldsFine, ObjectsFine, word_of, flat, flat_fields, flat_elements, flat_objects, extra, number_of}
 use Rattle.ob_relation.proofs.Values.{sub_scalar}
 use Rattle.ob_relation.specs.Setting.{Setting, has_of}
 

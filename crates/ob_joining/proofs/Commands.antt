@@ -1,16 +1,13 @@
 -- All commands, one behind the other.
-use Rattle.std.proofs.Common.{◌≡◌, ℕ, zero, suc, ◌+◌, ◌≤◌, List, [], ◌∷◌, ◌++◌, length, take, drop, ℤ, pos, Option, Some, None, refl, ap, sym, ◌∙◌, subst, arith, append_assoc, length-append}
+use Rattle.std.proofs.Common.{◌≡◌, ℕ, zero, suc, ◌+◌, ◌≤◌, List, [], ◌∷◌, ◌++◌, length, take, drop, ℤ, pos, refl, ap, sym, ◌∙◌, subst, arith, length-append}
 use Rattle.std.proofs.lemmas.List.{append-nil, length-drop, length-replicate}
 use Rattle.std.proofs.Math.Seq.{take-append_seam}
-use Rattle.std.specs.Prelude.{map, replicate, Contains}
+use Rattle.std.specs.Prelude.{map, replicate}
 use Rattle.std.specs.List.{AllByRecursion}
-use Rattle.ob_tree.specs.declared.names.QName.{QName}
-use Rattle.ob_types.specs.TypedSyntax.{Module}
-use Rattle.ob_instr.specs.Image.{Image, World}
 use Rattle.ob_obj.specs.declared.file.ObjFile.{ObjFile}
 use Rattle.ob_obj.specs.Images.{image_of, words_with}
 use Rattle.ob_meaning.specs.Values.{Program, Value, AnObject, State}
-use Rattle.ob_meaning.specs.Commands.{System, Ended, nothing_loaded, run_bodies, command_begins}
+use Rattle.ob_meaning.specs.Commands.{System, Ended, nothing_loaded, command_begins}
 use Rattle.ob_machine.specs.Machine.{made}
 use Rattle.ob_relation.specs.Layout.{module_held}
 use Rattle.ob_relation.specs.Relation.{no_places}
@@ -29,9 +26,9 @@ use Rattle.ob_ages.specs.Builds.{Build, tree_of, file_of, asks}
 use Rattle.ob_ages.specs.Model.{joined, ended}
 use Rattle.ob_ages.specs.Laws.{AreTogether, IsPlanned, IsSameRun, StandFor, ran_over}
 use Rattle.ob_joining.specs.Builds.{program_of, AreLoaded, HasModule, BuildsStand}
-use Rattle.ob_joining.proofs.Images.{room_is, image_both, all_words, next_is, globals_of, globals_length, strings_length, IsFull, words_are}
+use Rattle.ob_joining.proofs.Images.{image_both, all_words, next_is, globals_of, globals_length, strings_length, IsFull, words_are}
 use Rattle.ob_joining.proofs.Settings.{map_both, all_of, all_map, are_few, setting, front, large, small, stands_small, stands_large}
-use Rattle.ob_joining.proofs.Runs.{from, kept_with, world_with, with_turns}
+use Rattle.ob_joining.proofs.Runs.{kept_with, world_with, with_turns}
 use Rattle.ob_joining.proofs.Bodies.{length_map, Alike, all_run}
 
 -- THE WORDS OF ALL GLOBALS

@@ -1,26 +1,24 @@
 -- One more module of builds joins.
-use Rattle.std.proofs.Common.{◌≡◌, ℕ, zero, suc, ◌+◌, ◌≤◌, List, [], ◌∷◌, ◌++◌, length, ℤ, pos, Option, Some, None, refl, ap, sym, ◌∙◌, subst, arith, append_assoc}
+use Rattle.std.proofs.Common.{◌≡◌, ℕ, suc, ◌+◌, ◌≤◌, List, [], ◌∷◌, ◌++◌, ℤ, Some, refl, ap, sym, ◌∙◌, subst, append_assoc}
 use Rattle.std.proofs.lemmas.List.{append-nil}
-use Rattle.std.specs.Prelude.{map, replicate, true, false, Bool, Contains, bytes_eq, if◌then◌else◌}
+use Rattle.std.specs.Prelude.{map, true, false, Bool, Contains, bytes_eq, if◌then◌else◌}
 use Rattle.std.specs.List.{AllByRecursion}
 use Rattle.ob_tree.specs.declared.names.QName.{QName}
 use Rattle.ob_types.specs.declared.types.Signature.{Signature}
 use Rattle.ob_types.specs.TypedSyntax.{Procedure, Module}
 use Rattle.ob_instr.specs.Image.{World}
-use Rattle.ob_obj.specs.Images.{string_words}
 use Rattle.ob_meaning.specs.Values.{changed, Program, procedure_of, procedure_named, Value, AnObject, State}
 use Rattle.ob_meaning.specs.Commands.{first_globals, with_module}
-use Rattle.ob_relation.specs.Layout.{module_number, procedure_index, procedures_in, slots_words, module_held}
+use Rattle.ob_relation.specs.Layout.{module_number, procedure_index, procedures_in, module_held}
 use Rattle.ob_relation.specs.Relation.{AreDifferent, number_of, no_places}
 use Rattle.ob_relation.specs.Texts.{module_texts}
-use Rattle.ob_relation.specs.Linked.{OwnFormsOk}
 use Rattle.ob_relation.specs.Setting.{Setting, StandIn, has_of}
 use Rattle.ob_relation.proofs.Names.{bytes_same}
 use Rattle.ob_relation.proofs.Places.{Hs}
 use Rattle.ob_relation.proofs.Firsts.{zeros}
-use Rattle.ob_relation.proofs.Modules.{M, Ms, MsFine}
+use Rattle.ob_relation.proofs.Modules.{M}
 use Rattle.ob_ages.specs.Builds.{Build, tree_of, file_of}
-use Rattle.ob_ages.proofs.Members.{has_left, has_head, to_in, of_in, In}
+use Rattle.ob_ages.proofs.Members.{has_left, to_in, of_in, In}
 use Rattle.ob_joining.specs.Builds.{program_of, AreLoaded, HasModule, FormsStay, BuildsStand}
 use Rattle.ob_joining.proofs.Carried.{Carries}
 use Rattle.ob_joining.proofs.Joins.{Stays, Differs, Follows, stands_on, first_slots, first_held, others_differ, last_different}

@@ -1,11 +1,9 @@
 -- The command that a plan has seen to be there: its procedure in the program and its number in the image.
-use Rattle.std.proofs.Common.{◌≡◌, ℕ, zero, suc, ◌+◌, List, [], ◌∷◌, ◌++◌, Option, Some, None, Bool, true, false, refl, ap, sym, ◌∙◌, subst, arith}
+use Rattle.std.proofs.Common.{◌≡◌, ℕ, suc, ◌+◌, List, [], ◌∷◌, Option, Some, None, Bool, true, false, refl, ap, sym, ◌∙◌, subst, arith}
 use Rattle.std.specs.Prelude.{map, bytes_eq, not, ◌&&◌, is_none, if◌then◌else◌}
 use Rattle.std.specs.List.{AllByRecursion}
 use Rattle.ob_tree.specs.declared.names.QName.{QName}
-use Rattle.ob_tree.specs.declared.proc_ref.ProcRef.{ProcRef}
 use Rattle.ob_format.specs.Names.{is_identifier}
-use Rattle.ob_types.specs.declared.typed.TypedParameter.{TypedParameter}
 use Rattle.ob_types.specs.TypedSyntax.{Procedure, Module}
 use Rattle.ob_meaning.specs.Values.{Program, procedure_of, procedure_named}
 use Rattle.ob_meaning.specs.Commands.{command_named, when_command, is_command, is_hidden, is_none_of}
@@ -13,7 +11,7 @@ use Rattle.ob_relation.specs.Layout.{module_number, procedure_index, procedures_
 use Rattle.ob_relation.proofs.Names.{and_both}
 use Rattle.ob_link.specs.Plan.{named, has_command, is_there}
 use Rattle.ob_link.specs.Files.{command_at, command_in, or_zero}
-use Rattle.ob_ages.specs.Builds.{Build, name_of, tree_of, file_of, asks}
+use Rattle.ob_ages.specs.Builds.{Build, tree_of, file_of, asks}
 use Rattle.ob_joining.specs.Builds.{HasModule}
 
 none_of : {A : Type 0} (xs : List A) → is_none_of xs ≡ true → xs ≡ []

@@ -1,5 +1,5 @@
 -- The image of files in its parts, and the words of their globals.
-use Rattle.std.proofs.Common.{◌≡◌, ℕ, zero, suc, ◌+◌, ◌-◌, ◌<◌, ◌≤◌, List, [], ◌∷◌, ◌++◌, length, take, drop, map, ℤ, pos, Option, Some, None, Bool, true, false, refl, ap, sym, ◌∙◌, subst, arith, append_assoc, length-append}
+use Rattle.std.proofs.Common.{◌≡◌, ℕ, suc, ◌+◌, ◌-◌, ◌<◌, ◌≤◌, List, [], ◌∷◌, ◌++◌, length, take, drop, map, ℤ, pos, Some, Bool, true, false, refl, ap, sym, ◌∙◌, arith, append_assoc, length-append}
 use Rattle.std.proofs.lemmas.List.{append-nil, length-take-le, length-replicate, length-drop, take-append-drop, drop-drop}
 use Rattle.std.specs.Prelude.{slice_get, replicate, bytes_eq, ◌&&◌, if◌then◌else◌}
 use Rattle.std.specs.List.{AllByRecursion}

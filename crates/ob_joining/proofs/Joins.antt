@@ -1,16 +1,16 @@
 -- Words that stand for a state stand also for that state with one more module, whose words have stood behind.
-use Rattle.std.proofs.Common.{◌≡◌, ℕ, zero, suc, ◌+◌, List, [], ◌∷◌, ◌++◌, length, refl, sym, ap, ◌∙◌, subst, arith, append_assoc, append-nil, length-append}
-use Rattle.std.specs.Prelude.{ℤ, pos, map, true, false, bytes_eq, if◌then◌else◌}
+use Rattle.std.proofs.Common.{◌≡◌, ℕ, suc, ◌+◌, List, [], ◌∷◌, ◌++◌, length, refl, sym, ap, ◌∙◌, subst, arith, append_assoc, length-append}
+use Rattle.std.specs.Prelude.{map, false, bytes_eq}
 use Rattle.std.specs.List.{AllByRecursion}
 use Rattle.ob_types.specs.declared.typed.TypedVariable.{TypedVariable}
 use Rattle.ob_types.specs.TypedSyntax.{Module}
 use Rattle.ob_instr.specs.Image.{World}
-use Rattle.ob_meaning.specs.Values.{changed, Program, form_in, words, first, Value, Held, AnObject, State}
+use Rattle.ob_meaning.specs.Values.{changed, Program, form_in, words, first, Value, AnObject, State}
 use Rattle.ob_meaning.specs.Meaning.{costs_of}
-use Rattle.ob_meaning.specs.Calls.{held_variable, cost_of_calls}
-use Rattle.ob_meaning.specs.Commands.{first_globals, with_module}
+use Rattle.ob_meaning.specs.Calls.{held_variable}
+use Rattle.ob_meaning.specs.Commands.{first_globals}
 use Rattle.ob_relation.specs.Layout.{slots_words, module_held, module_number}
-use Rattle.ob_relation.specs.Relation.{Fresh, AreDifferent, FreshModule, ModulesOk, HeldFine, no_places, flat_slots, flat_module, flat_modules, ModulesFine, flat_objects}
+use Rattle.ob_relation.specs.Relation.{AreDifferent, FreshModule, ModulesOk, no_places, flat_objects}
 use Rattle.ob_relation.specs.Texts.{module_texts}
 use Rattle.ob_relation.specs.Linked.{OwnFormsOk}
 use Rattle.ob_relation.specs.Setting.{Setting, StandIn, has_of}

@@ -1,27 +1,23 @@
 -- The run of a body or command by the table, with its own text, and the run that it means, behind what was written.
-use Rattle.std.proofs.Common.{◌≡◌, ℕ, zero, suc, ◌+◌, ◌<◌, ◌≤◌, List, [], ◌∷◌, ◌++◌, length, ℤ, refl, ap, sym, ◌∙◌, subst, arith, append_assoc}
+use Rattle.std.proofs.Common.{◌≡◌, ℕ, suc, ◌+◌, ◌<◌, ◌≤◌, List, [], ◌∷◌, ◌++◌, length, ℤ, refl, ap, sym, ◌∙◌, subst, arith}
 use Rattle.std.proofs.lemmas.List.{append-nil}
-use Rattle.std.specs.Prelude.{map, slice_get, Some}
+use Rattle.std.specs.Prelude.{map, Some}
 use Rattle.std.specs.List.{AllByRecursion}
-use Rattle.ob_tree.specs.declared.pos.Pos.{Pos}
 use Rattle.ob_tree.specs.declared.proc_ref.ProcRef.{ProcRef}
-use Rattle.ob_types.specs.TypedSyntax.{Module}
-use Rattle.ob_instr.specs.Image as image
 use Rattle.ob_instr.specs.Image.{ModuleImage, Image, World, End}
 use Rattle.ob_instr.specs.Table.{Ends}
 use Rattle.ob_obj.specs.declared.file.ObjFile.{ObjFile}
-use Rattle.ob_obj.specs.Images.{module_of, entered, image_of}
-use Rattle.ob_meaning.specs.Values.{Program, State}
-use Rattle.ob_meaning.specs.Results.{Res, Gives, Stops, Why, Trapped, Spent}
+use Rattle.ob_obj.specs.Images.{entered}
+use Rattle.ob_meaning.specs.Values.{State}
+use Rattle.ob_meaning.specs.Results.{Res, Why, Trapped, Spent}
 use Rattle.ob_meaning.specs.Meaning.{Flow}
 use Rattle.ob_meaning.specs.Commands.{System}
-use Rattle.ob_machine.specs.declared.outcome.Outcome.{Outcome}
 use Rattle.ob_machine.specs.declared.outcome.Outcome.TheVariants as outcome
 use Rattle.ob_machine.specs.Machine as machine
 use Rattle.ob_machine.specs.Machine.{name_in}
 use Rattle.ob_relation.specs.Layout.{module_number}
 use Rattle.ob_relation.specs.Setting.{Setting, StandIn, stopped}
-use Rattle.ob_simulation.specs.Simulates.{Simulates, Same, idle}
+use Rattle.ob_simulation.specs.Simulates.{Simulates, Same}
 use Rattle.ob_link.specs.Members.{empty_image}
 use Rattle.ob_load.specs.Running.{IsShort, run_whole}
 use Rattle.ob_load.specs.Command.{Last, last, behind, goes_on, again, image_for}
@@ -33,7 +29,6 @@ use Rattle.ob_joining.specs.Builds.{program_of}
 use Rattle.ob_joining.proofs.Shifts.{put, ends_shift}
 use Rattle.ob_joining.proofs.Stops.{IsThere}
 use Rattle.ob_joining.proofs.Images.{new_modules, modules_are, new_length, AreNamed, name_at}
-use Rattle.ob_joining.proofs.Settings.{map_both}
 
 -- WORLDS
 

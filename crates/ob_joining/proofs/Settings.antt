@@ -1,12 +1,11 @@
 -- The program of builds in the image of their files, and in the image of these and further ones.
-use Rattle.std.proofs.Common.{◌≡◌, ℕ, zero, suc, ◌+◌, ◌≤◌, List, [], ◌∷◌, ◌++◌, length, ℤ, Option, Some, None, refl, ap, sym, ◌∙◌, subst, arith, append_assoc, length-append}
+use Rattle.std.proofs.Common.{◌≡◌, ℕ, ◌+◌, ◌≤◌, List, [], ◌∷◌, ◌++◌, length, ℤ, refl, ap, sym, ◌∙◌, subst, arith, length-append}
 use Rattle.std.proofs.lemmas.List.{append-nil}
-use Rattle.std.specs.Prelude.{map, true, Bool, Contains, slice_get}
+use Rattle.std.specs.Prelude.{map, Contains}
 use Rattle.std.specs.List.{AllByRecursion}
 use Rattle.ob_tree.specs.declared.names.QName.{QName}
 use Rattle.ob_types.specs.TypedSyntax.{Module}
 use Rattle.ob_instr.specs.Image.{Image, World}
-use Rattle.ob_obj.specs.declared.file.ObjFile.{ObjFile}
 use Rattle.ob_obj.specs.Images.{image_of}
 use Rattle.ob_meaning.specs.Values.{Program, RecordForm, Fields, fields_of, record_in, Value, State}
 use Rattle.ob_relation.specs.Layout.{type_number}
@@ -15,12 +14,12 @@ use Rattle.ob_relation.specs.Setting.{Setting, StandIn}
 use Rattle.ob_link.specs.Members.{empty_image}
 use Rattle.ob_link.specs.Plan.{words_of, most_modules}
 use Rattle.ob_load.specs.Command.{image_for}
-use Rattle.ob_ages.specs.Builds.{Build, tree_of, file_of, asks}
+use Rattle.ob_ages.specs.Builds.{Build, file_of, asks}
 use Rattle.ob_ages.specs.Laws.{AreTogether}
 use Rattle.ob_ages.proofs.Members.{has_head, has_more}
-use Rattle.ob_joining.specs.Builds.{program_of, AreLoaded, AllStand, IsOf, BuildsStand}
+use Rattle.ob_joining.specs.Builds.{program_of, AreLoaded, AllStand, BuildsStand}
 use Rattle.ob_joining.proofs.Carried.{Carries}
-use Rattle.ob_joining.proofs.Joins.{Stays, Follows, stands_on}
+use Rattle.ob_joining.proofs.Joins.{Stays, stands_on}
 use Rattle.ob_joining.proofs.Images.{new_types, types_are, room_is, image_both, same_number}
 
 pub map_both : {A B : Type 0} (f : A → B) (xs ys : List A) → map f (xs ++ ys) ≡ map f xs ++ map f ys

@@ -1,10 +1,9 @@
 -- Where a run is stopped, it has stopped in a module that is there.
-use Rattle.std.proofs.Common.{◌≡◌, ℕ, zero, suc, ◌<◌, List, [], ◌∷◌, length, ℤ, Option, Some, None, Bool, true, false, refl, ap, sym, ◌∙◌, subst, arith}
+use Rattle.std.proofs.Common.{◌≡◌, ℕ, zero, suc, ◌<◌, List, [], ◌∷◌, length, ℤ, Option, Some, None, Bool, true, false, refl, subst, arith}
 use Rattle.std.specs.Prelude.{slice_get, nat_le, if◌then◌else◌}
 use Rattle.ob_tree.specs.declared.proc_ref.ProcRef.{ProcRef}
 use Rattle.ob_instr.specs.declared.instr.Instr.{Instr}
 use Rattle.ob_instr.specs.declared.procedure.Procedure.{Procedure}
-use Rattle.ob_instr.specs.Parts.{slots}
 use Rattle.ob_instr.specs.Image.{ModuleImage, Image, World, Act, End, Done, Trapped, Spent, Illegal, Point, Go, Over}
 use Rattle.ob_instr.specs.Rows.{Effect, Next, Goto, Enter, Leave, Traps, Spends, Unable, procedure_of}
 use Rattle.ob_instr.specs.Table.{Ends, row, checked, has_room, left, come_to, act, act_in, step, run, begins, start}
