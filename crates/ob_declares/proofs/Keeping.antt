@@ -1,5 +1,5 @@
 -- What a description keeps by a map it keeps by a map that has more, or the same with more said of records.
-use Rattle.std.proofs.Common.{◌≡◌, ◌⊎◌, ⊎_elim, inl, inr, ℕ, List, [], ◌∷◌, ◌++◌, map as each, Option, Some, None, refl, sym, ap, subst, ◌∙◌}
+use Rattle.std.proofs.Common.{◌≡◌, ◌⊎◌, ⊎_elim, inl, inr, List, [], ◌∷◌, ◌++◌, map as each, Option, Some, None, refl, sym, ap, subst, ◌∙◌}
 use Rattle.std.specs.Prelude.{Bool, true, false, MatchOption, IfSome, IsTrue}
 use Rattle.std.specs.List.{flat_map, AllByRecursion}
 use Rattle.ob_tree.specs.declared.names.QName.{QName}
@@ -12,7 +12,7 @@ use Rattle.ob_types.specs.declared.desc.Desc.TheVariants as desc
 use Rattle.ob_types.specs.declared.desc.Field.{Field}
 use Rattle.ob_types.specs.declared.desc.Method.{Method}
 use Rattle.ob_types.specs.Maps.{is_type, named_by, signature_types, listed, IsHeld}
-use Rattle.ob_types.specs.Relations.{is_alias, IsOwn, StandsFor, itself, equated, Is, is_record, is_structure, is_open, IsPlainResult, Keeps}
+use Rattle.ob_types.specs.Relations.{is_alias, StandsFor, itself, equated, Is, is_record, is_structure, is_open, IsPlainResult, Keeps}
 use Rattle.ob_desc.specs.Grammar.{seen}
 use Rattle.ob_forms.proofs.Within.{all_left, all_right}
 

@@ -1,6 +1,5 @@
 -- A description with its layout says what it says without.
-use Rattle.std.proofs.Common.{◌≡◌, ◌≢◌, ◌⊎◌, ⊎_elim, inl, inr, ℕ, suc, ◌+◌, List, [], ◌∷◌, map as each, refl, sym, ap, subst, ◌∙◌}
-use Rattle.std.specs.Prelude.{Bool, true, false}
+use Rattle.std.proofs.Common.{◌≡◌, ◌≢◌, ⊎_elim, inl, inr, ℕ, suc, ◌+◌, List, [], ◌∷◌, map as each, refl, sym, subst}
 use Rattle.std.specs.List.{AllByRecursion}
 use Rattle.std.specs.Ordering.{nat_cmp, ordering_then}
 use Rattle.std.specs.Cmp.Lexicographic.{slice_cmp}
@@ -9,8 +8,6 @@ use Rattle.std.specs.declared.cmp.Ordering.TheVariants as order
 use Rattle.std.proofs.lemmas.Cmp.{ranked}
 use Rattle.ob_tree.specs.declared.names.QName.{QName}
 use Rattle.ob_types.specs.declared.types.TypeRef.{TypeRef}
-use Rattle.ob_types.specs.declared.desc.Desc.{Desc}
-use Rattle.ob_types.specs.declared.desc.Desc.TheVariants as desc
 use Rattle.ob_types.specs.declared.desc.RecordDesc.{RecordDesc}
 use Rattle.ob_types.specs.declared.desc.Field.{Field}
 use Rattle.ob_types.specs.declared.desc.Method.{Method}
@@ -19,8 +16,7 @@ use Rattle.ob_layout.specs.Lists.{put_before, put_in, in_order}
 use Rattle.ob_layout.specs.LaidOut.{base_of, kept, placed, numbered, laid_record}
 use Rattle.ob_env.specs.Shown.{unplaced, unnumbered}
 use Rattle.ob_forms.specs.Said.{IsOneOf, IsAmong, IsBoundAmong, IsPartOf, IsFreshName, HaveNames}
-use Rattle.ob_forms.proofs.Modules.{of_all}
-use Rattle.ob_declares.proofs.Shown.{one_ordered, part_itself}
+use Rattle.ob_declares.proofs.Shown.{one_ordered}
 
 -- ---- fields in their order
 

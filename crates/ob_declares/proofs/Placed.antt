@@ -1,34 +1,30 @@
 -- The map of a module's code has the words and places of the program's records.
-use Rattle.std.proofs.Common.{◌≡◌, ◌⊎◌, ⊎_elim, inl, inr, ℕ, List, [], ◌∷◌, ◌++◌, map as each, Option, Some, None, refl, sym, ap, subst, ◌∙◌}
-use Rattle.std.specs.Prelude.{Bool, true, false, cond, bytes_eq}
-use Rattle.std.specs.List.{filter, AllByRecursion}
+use Rattle.std.proofs.Common.{◌≡◌, ⊎_elim, ℕ, List, ◌++◌, map as each, Some, None, refl, sym, ap, subst, ◌∙◌}
+use Rattle.std.specs.Prelude.{Bool, true, false, cond}
+use Rattle.std.specs.List.{filter}
 use Rattle.ob_tree.specs.declared.names.QName.{QName}
 use Rattle.ob_types.specs.declared.desc.Desc.{Desc}
 use Rattle.ob_types.specs.declared.desc.Desc.TheVariants as desc
 use Rattle.ob_types.specs.declared.desc.RecordDesc.{RecordDesc}
 use Rattle.ob_types.specs.declared.desc.Field.{Field}
-use Rattle.ob_types.specs.declared.typed.TypedType.{TypedType}
 use Rattle.ob_types.specs.Relations.{IsGrounded}
-use Rattle.ob_types.specs.TypedSyntax.{Procedure, Module}
-use Rattle.ob_meaning.specs.Values.{Program, fields_of, form_in, record_in, words, description}
-use Rattle.ob_relation.specs.Layout.{field_offset}
+use Rattle.ob_types.specs.TypedSyntax.{Module}
+use Rattle.ob_meaning.specs.Values.{Program, description}
 use Rattle.ob_relation.proofs.Names.{bytes_true}
 use Rattle.ob_desc.specs.Grammar.{is_shown, seen}
-use Rattle.ob_layout.specs.Lists.{in_order}
 use Rattle.ob_layout.specs.LaidOut.{type_named, is_own, viewed}
 use Rattle.ob_env.specs.Faces.{Face, described}
 use Rattle.ob_counts.specs.Counts.{own_name}
 use Rattle.ob_uses.specs.Objects.{signature_of, is_exported, constant_object, variable_object, procedure_object, type_object, types_among, reached_types, by_name, objects_of}
 use Rattle.ob_uses.specs.Closed.{is_among}
 use Rattle.ob_rules.specs.Names.{out_string}
-use Rattle.ob_forms.specs.Formed.{Formed}
 use Rattle.ob_forms.specs.Said.{IsOneOf, IsSound}
 use Rattle.ob_forms.specs.Whole.{IsWhole}
 use Rattle.ob_forms.proofs.Modules.{of_all, type_there}
 use Rattle.ob_declares.specs.Ages.{IsShownBy, AreShown}
 use Rattle.ob_declares.specs.Sized.{IsSized, Describes}
-use Rattle.ob_declares.proofs.Shown.{one_joined, one_filtered, one_mapped, one_ordered, FaceFound, face_found, object_found}
-use Rattle.ob_declares.proofs.Views.{TypeFound, type_found, viewed_formed}
+use Rattle.ob_declares.proofs.Shown.{one_joined, one_filtered, one_mapped, one_ordered, face_found, object_found}
+use Rattle.ob_declares.proofs.Views.{type_found, viewed_formed}
 use Rattle.ob_declares.proofs.Sized.{describes}
 
 -- a description of a record type has the words of the declared one, and fields of it with their places

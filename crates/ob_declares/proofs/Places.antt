@@ -1,29 +1,24 @@
 -- The places of the fields of a filled record.
-use Rattle.std.proofs.Common.{◌≡◌, ◌≢◌, ◌⊎◌, ⊎_elim, inl, inr, ℕ, zero, suc, ◌+◌, ◌≤◌, ◌<◌, List, [], ◌∷◌, ◌++◌, map as each, Option, Some, None, refl, sym, ap, subst, ◌∙◌, arith, append_assoc}
+use Rattle.std.proofs.Common.{◌≡◌, ◌⊎◌, inl, inr, ℕ, ◌+◌, ◌≤◌, ◌<◌, List, [], ◌∷◌, refl, sym, ap, ◌∙◌, arith}
 use Rattle.std.proofs.lemmas.Bool.Decides.{nat_tests}
-use Rattle.std.specs.Prelude.{Bool, true, false, ◌&&◌, ◌==◌, nat_lt, bytes_eq, cond, min, MatchOption, IsTrue, if◌then◌else◌}
+use Rattle.std.specs.Prelude.{Bool, true, false, ◌&&◌, ◌==◌, nat_lt, bytes_eq, cond, if◌then◌else◌}
 use Rattle.std.specs.List.{AllByRecursion}
 use Rattle.std.specs.Ordering.{nat_cmp, ordering_then}
 use Rattle.std.specs.Cmp.Lexicographic.{slice_cmp}
-use Rattle.std.specs.declared.cmp.Ordering.{Ordering}
 use Rattle.std.specs.declared.cmp.Ordering.TheVariants as order
 use Rattle.ob_tree.specs.declared.names.QName.{QName}
 use Rattle.ob_types.specs.declared.types.TypeRef.{TypeRef}
-use Rattle.ob_types.specs.declared.types.TypeRef.TheVariants as ref
-use Rattle.ob_types.specs.declared.desc.Desc.{Desc}
-use Rattle.ob_types.specs.declared.desc.Desc.TheVariants as desc
-use Rattle.ob_types.specs.declared.desc.RecordDesc.{RecordDesc}
 use Rattle.ob_types.specs.declared.desc.Field.{Field}
-use Rattle.ob_meaning.specs.Values.{same_name, Program, Form, RecordForm, Fields, NoField, AField, joined, own_fields, base_line, base_fields, fields_of, form_in, record_in, words, fields_words}
+use Rattle.ob_meaning.specs.Values.{same_name, Form, Fields, NoField, AField, joined, own_fields, words, fields_words}
 use Rattle.ob_relation.specs.Layout.{field_offset}
 use Rattle.ob_relation.proofs.Names.{bytes_true, name_true, field_same}
 use Rattle.ob_desc.specs.Grammar.{by_place}
 use Rattle.ob_layout.specs.Lists.{put_before, put_in, in_order, sum_of}
 use Rattle.ob_layout.specs.Words.{most_words}
 use Rattle.ob_layout.specs.LaidOut.{kept, placed}
-use Rattle.ob_forms.specs.Said.{IsOneOf, IsFreshName, HaveNames}
+use Rattle.ob_forms.specs.Said.{IsOneOf, HaveNames}
 use Rattle.ob_forms.proofs.Built.{OwnerIn}
-use Rattle.ob_declares.proofs.Laid.{fresh_other, placed_fresh, placed_names}
+use Rattle.ob_declares.proofs.Laid.{fresh_other, placed_fresh}
 
 less_first : (a b : ℕ) (x y : List ℕ) → a < b → ordering_then (nat_cmp a b) (slice_cmp nat_cmp x y) ≡ order.Less
 less_first a b x y lt =

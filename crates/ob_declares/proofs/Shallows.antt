@@ -1,9 +1,8 @@
 -- Chains of aliases and arrays are as short in a program as in what its modules see.
-use Rattle.std.proofs.Common.{◌≡◌, ◌⊎◌, ⊎_elim, inl, inr, ℕ, zero, suc, List, [], ◌∷◌, ◌++◌, Option, Some, None, refl, sym, ap, subst, ◌∙◌, append_assoc}
-use Rattle.std.specs.Prelude.{Bool, true, false, MatchOption, IsTrue}
+use Rattle.std.proofs.Common.{◌≡◌, ⊎_elim, ℕ, zero, suc, List, [], ◌∷◌, ◌++◌, Option, Some, None, refl, sym, ap, subst, ◌∙◌, append_assoc}
+use Rattle.std.specs.Prelude.{true, MatchOption, IsTrue}
 use Rattle.std.specs.List.{AllByRecursion}
 use Rattle.ob_tree.specs.declared.names.QName.{QName}
-use Rattle.ob_tree.specs.declared.ident.Mark.{Mark}
 use Rattle.ob_types.specs.declared.types.TypeRef.{TypeRef}
 use Rattle.ob_types.specs.declared.types.TypeRef.TheVariants as ref
 use Rattle.ob_types.specs.declared.desc.Desc.{Desc}
@@ -15,11 +14,10 @@ use Rattle.ob_desc.specs.Grammar.{seen}
 use Rattle.ob_forms.specs.Said.{IsSound}
 use Rattle.ob_forms.specs.Formed.{Formed}
 use Rattle.ob_forms.proofs.Saying.{formed}
-use Rattle.ob_forms.proofs.Staying.{HasMore}
 use Rattle.ob_forms.proofs.Within.{all_from}
 use Rattle.ob_declares.specs.Ordered.{StandsOver, StandInOrder}
 use Rattle.ob_declares.specs.Shallow.{passes_to, IsShallow, AreShallow}
-use Rattle.ob_declares.proofs.Ordered.{Seen, sees, has_more, view, either_there, own_viewed, own_type, type_seen}
+use Rattle.ob_declares.proofs.Ordered.{sees, has_more, view, either_there, own_viewed, own_type, type_seen}
 use Rattle.ob_declares.proofs.Views.{own_said}
 
 passes : (P : TypeRef → Type 0) (d : Desc) → AllByRecursion P (stands_on d) → AllByRecursion P (passes_to d)

@@ -1,29 +1,21 @@
 -- What interfaces of one age describe is what the program declares.
-use Rattle.std.proofs.Common.{◌≡◌, ◌⊎◌, ⊎_elim, inl, inr, ℕ, zero, suc, List, [], ◌∷◌, ◌++◌, map as each, Option, Some, None, refl, sym, ap, subst, ◌∙◌}
-use Rattle.std.specs.Prelude.{Bool, true, false, cond, bytes_eq, MatchOption, IsTrue, is_none, ◌&&◌}
-use Rattle.std.specs.Option.{option_map}
+use Rattle.std.proofs.Common.{◌≡◌, ◌⊎◌, ⊎_elim, inl, inr, ℕ, zero, suc, List, [], ◌∷◌, ◌++◌, map as each, Option, Some, refl, sym, ap, subst, ◌∙◌}
+use Rattle.std.specs.Prelude.{Bool, true, false, cond, bytes_eq, MatchOption, IsTrue}
 use Rattle.std.specs.List.{filter, AllByRecursion}
 use Rattle.std.specs.declared.cmp.Ordering.{Ordering}
 use Rattle.std.specs.declared.cmp.Ordering.TheVariants as order
 use Rattle.ob_tree.specs.declared.names.QName.{QName}
-use Rattle.ob_tree.specs.declared.ident.Mark.{Mark}
 use Rattle.ob_types.specs.declared.types.Mode.{Mode}
 use Rattle.ob_types.specs.declared.types.Mode.TheVariants as mode
-use Rattle.ob_types.specs.declared.types.TypeRef.{TypeRef}
 use Rattle.ob_types.specs.declared.types.TypeRef.TheVariants as ref
 use Rattle.ob_types.specs.declared.desc.Desc.{Desc}
 use Rattle.ob_types.specs.declared.desc.Desc.TheVariants as desc
 use Rattle.ob_types.specs.declared.desc.RecordDesc.{RecordDesc}
 use Rattle.ob_types.specs.declared.desc.Field.{Field}
 use Rattle.ob_types.specs.declared.desc.Method.{Method}
-use Rattle.ob_types.specs.declared.typed.Passing.{Passing}
-use Rattle.ob_types.specs.declared.typed.Passing.TheVariants as passing
 use Rattle.ob_types.specs.declared.typed.TypedParameter.{TypedParameter}
-use Rattle.ob_types.specs.declared.typed.TypedConstant.{TypedConstant}
-use Rattle.ob_types.specs.declared.typed.TypedType.{TypedType}
-use Rattle.ob_types.specs.declared.typed.TypedVariable.{TypedVariable}
 use Rattle.ob_types.specs.TypedSyntax.{Procedure, Module}
-use Rattle.ob_types.specs.Maps.{is_type, stands_on, listed, signature_types, IsWithin}
+use Rattle.ob_types.specs.Maps.{is_type, stands_on, listed, IsWithin}
 use Rattle.ob_meaning.specs.Values.{Program, Form, BasicForm, PointerForm, ProcedureForm, ArrayForm, OpenForm, RecordForm, form_in, description, number_of_types}
 use Rattle.ob_relation.specs.Typed.{passing_for}
 use Rattle.ob_relation.proofs.Names.{bytes_true}
@@ -31,7 +23,6 @@ use Rattle.ob_format.specs.Format.{◌>>=◌}
 use Rattle.ob_desc.specs.Grammar.{is_shown, seen}
 use Rattle.ob_layout.specs.Lists.{put_before, put_in, in_order}
 use Rattle.ob_env.specs.Faces.{Face, object_named, face_named, described}
-use Rattle.ob_env.specs.Shown.{unplaced, unnumbered, blank, shown}
 use Rattle.ob_counts.specs.Counts.{mode_of, own_name}
 use Rattle.ob_uses.specs.Objects.{formal_of, signature_of, is_exported, constant_object, variable_object, procedure_object, type_object, types_among, reached_types, by_name, objects_of}
 use Rattle.ob_uses.specs.Closed.{is_among}

@@ -1,6 +1,6 @@
 -- The records of filled modules laid out in order have their words and places.
-use Rattle.std.proofs.Common.{◌≡◌, ◌⊎◌, ⊎_elim, inl, inr, ℕ, zero, suc, ◌+◌, ◌≤◌, List, [], ◌∷◌, ◌++◌, map as each, Option, Some, None, refl, sym, ap, subst, ◌∙◌, arith, append_assoc}
-use Rattle.std.specs.Prelude.{Bool, true, false, bytes_eq, cond, MatchOption, IsTrue}
+use Rattle.std.proofs.Common.{◌≡◌, ⊎_elim, inl, inr, ℕ, ◌+◌, ◌≤◌, List, [], ◌∷◌, ◌++◌, map as each, Some, refl, sym, ap, subst, ◌∙◌, append_assoc}
+use Rattle.std.specs.Prelude.{true, bytes_eq, cond, MatchOption, IsTrue}
 use Rattle.std.specs.List.{AllByRecursion}
 use Rattle.ob_tree.specs.declared.names.QName.{QName}
 use Rattle.ob_types.specs.declared.types.TypeRef.{TypeRef}
@@ -9,11 +9,10 @@ use Rattle.ob_types.specs.declared.desc.Desc.{Desc}
 use Rattle.ob_types.specs.declared.desc.Desc.TheVariants as desc
 use Rattle.ob_types.specs.declared.desc.RecordDesc.{RecordDesc}
 use Rattle.ob_types.specs.declared.desc.Field.{Field}
-use Rattle.ob_types.specs.declared.typed.TypedType.{TypedType}
 use Rattle.ob_types.specs.Maps.{is_type, listed, stands_on, IsWithin}
 use Rattle.ob_types.proofs.Targets.{more as one_more}
 use Rattle.ob_types.specs.TypedSyntax.{Module}
-use Rattle.ob_meaning.specs.Values.{Program, Form, own_fields, base_fields, joined, fields_of, fields_words, form_in, record_in, words, description, type_named}
+use Rattle.ob_meaning.specs.Values.{Program, Form, own_fields, base_fields, joined, fields_of, fields_words, form_in, record_in, words, description}
 use Rattle.ob_relation.specs.Layout.{field_offset}
 use Rattle.ob_relation.proofs.Names.{bytes_same}
 use Rattle.ob_desc.specs.Grammar.{by_place}
@@ -28,12 +27,12 @@ use Rattle.ob_forms.proofs.Modules.{of_all}
 use Rattle.ob_forms.proofs.Staying.{HasMore}
 use Rattle.ob_declares.specs.Sized.{IsSized}
 use Rattle.ob_declares.specs.Views.{FieldsDiffer}
-use Rattle.ob_declares.specs.Words.{IsSmall, IsLaidOver, AreLaidInOrder}
+use Rattle.ob_declares.specs.Words.{IsSmall, IsLaidOver}
 use Rattle.ob_declares.specs.Filled.{IsFilled, AreFilledInOrder}
-use Rattle.ob_declares.proofs.Views.{TypeFound, type_found}
+use Rattle.ob_declares.proofs.Views.{type_found}
 use Rattle.ob_declares.proofs.Ordered.{either_there, types_named}
 use Rattle.ob_declares.proofs.Words.{HaveWords, based_words, base_records, record_sum, summed_words}
-use Rattle.ob_declares.proofs.Summed.{LaidFound, laid_found, laid_words, has_more, words_more}
+use Rattle.ob_declares.proofs.Summed.{laid_found, has_more, words_more}
 use Rattle.ob_declares.proofs.Places.{stays_placed, places_sum, offset_behind}
 
 -- a record that is laid out was one before

@@ -1,6 +1,6 @@
 -- Modules that stand over interfaces of one age make a sound program.
-use Rattle.std.proofs.Common.{◌≡◌, ◌⊎◌, ⊎_elim, inl, inr, ℕ, List, [], ◌∷◌, ◌++◌, map as each, Option, Some, None, refl, sym, ap, subst, ◌∙◌}
-use Rattle.std.specs.Prelude.{Bool, true, false}
+use Rattle.std.proofs.Common.{◌≡◌, ⊎_elim, ℕ, List, [], ◌++◌, map as each, Some, None, refl, sym, ap, subst, ◌∙◌}
+use Rattle.std.specs.Prelude.{true, false}
 use Rattle.std.specs.List.{filter, AllByRecursion}
 use Rattle.ob_tree.specs.declared.names.QName.{QName}
 use Rattle.ob_tree.specs.declared.ident.Mark.{Mark}
@@ -9,13 +9,13 @@ use Rattle.ob_types.specs.declared.desc.Desc.{Desc}
 use Rattle.ob_types.specs.declared.desc.Desc.TheVariants as desc
 use Rattle.ob_types.specs.declared.desc.RecordDesc.{RecordDesc}
 use Rattle.ob_types.specs.Maps.{is_type}
-use Rattle.ob_types.specs.TypedSyntax.{Procedure, Module}
+use Rattle.ob_types.specs.TypedSyntax.{Module}
 use Rattle.ob_meaning.specs.Values.{Program, description}
 use Rattle.ob_relation.specs.Relation.{IsLength}
 use Rattle.ob_desc.specs.Grammar.{is_shown, seen}
 use Rattle.ob_env.specs.Faces.{Face, described}
 use Rattle.ob_counts.specs.Counts.{own_name}
-use Rattle.ob_uses.specs.Objects.{signature_of, is_exported, constant_object, variable_object, procedure_object, type_object, types_among, reached_types, by_name, objects_of}
+use Rattle.ob_uses.specs.Objects.{is_exported, constant_object, variable_object, procedure_object, type_object, types_among, reached_types, by_name, objects_of}
 use Rattle.ob_uses.specs.Closed.{is_among}
 use Rattle.ob_rules.specs.Names.{out_string}
 use Rattle.ob_forms.specs.Formed.{IsMethodOf}

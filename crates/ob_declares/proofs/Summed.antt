@@ -1,7 +1,6 @@
 -- All records of modules that are laid out in order have their words.
-use Rattle.std.proofs.Common.{◌≡◌, ◌⊎◌, ⊎_elim, inl, inr, ℕ, zero, suc, ◌≤◌, List, [], ◌∷◌, ◌++◌, map as each, Option, Some, None, refl, sym, ap, subst, ◌∙◌, arith, append_assoc}
-use Rattle.std.specs.Prelude.{Bool, true, false, bytes_eq, cond, min, MatchOption, IsTrue}
-use Rattle.std.specs.List.{AllByRecursion}
+use Rattle.std.proofs.Common.{◌≡◌, ⊎_elim, inl, inr, ℕ, ◌≤◌, List, [], ◌∷◌, ◌++◌, map as each, Option, Some, refl, sym, ap, subst, ◌∙◌, arith, append_assoc}
+use Rattle.std.specs.Prelude.{Bool, true, false, bytes_eq, cond, MatchOption, IsTrue}
 use Rattle.ob_tree.specs.declared.names.QName.{QName}
 use Rattle.ob_types.specs.declared.types.TypeRef.{TypeRef}
 use Rattle.ob_types.specs.declared.types.TypeRef.TheVariants as ref
@@ -11,7 +10,7 @@ use Rattle.ob_types.specs.declared.desc.RecordDesc.{RecordDesc}
 use Rattle.ob_types.specs.declared.typed.TypedType.{TypedType}
 use Rattle.ob_types.specs.Maps.{is_type}
 use Rattle.ob_types.specs.TypedSyntax.{Module}
-use Rattle.ob_meaning.specs.Values.{Program, record_in, words, description, type_named}
+use Rattle.ob_meaning.specs.Values.{Program, record_in, words, description}
 use Rattle.ob_relation.proofs.Names.{bytes_true, bytes_same}
 use Rattle.ob_layout.specs.Words.{most_words}
 use Rattle.ob_layout.specs.LaidOut.{type_named as own_named, is_own, viewed, words_in, procedures_in, kept, laid_record, laid_desc, laid_type}
@@ -20,7 +19,7 @@ use Rattle.ob_forms.specs.Whole.{IsWhole}
 use Rattle.ob_forms.proofs.Modules.{of_all, type_there}
 use Rattle.ob_forms.proofs.Staying.{HasMore}
 use Rattle.ob_declares.specs.Words.{IsSmall, IsLaidOver, AreLaidInOrder}
-use Rattle.ob_declares.proofs.Views.{TypeFound, type_found}
+use Rattle.ob_declares.proofs.Views.{type_found}
 use Rattle.ob_declares.proofs.Ordered.{either_there, types_named}
 use Rattle.ob_declares.proofs.Words.{HaveWords, summed_words}
 

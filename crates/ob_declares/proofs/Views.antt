@@ -1,8 +1,8 @@
 -- The maps of a module of a program have to do with the program as `Formed` says: that of its code, and that of the rules.
-use Rattle.std.proofs.Common.{◌≡◌, ◌⊎◌, ⊎_elim, inl, inr, ℕ, List, [], ◌∷◌, map as each, Option, Some, None, refl, sym, ap, subst, ◌∙◌}
+use Rattle.std.proofs.Common.{◌≡◌, inl, inr, ℕ, List, [], ◌∷◌, map as each, Option, Some, None, refl, sym, ap, subst, ◌∙◌}
 use Rattle.std.specs.Prelude.{Bool, true, false, cond, bytes_eq}
 use Rattle.std.specs.Option.{option_map}
-use Rattle.std.specs.List.{find, AllByRecursion}
+use Rattle.std.specs.List.{find}
 use Rattle.ob_tree.specs.declared.names.QName.{QName}
 use Rattle.ob_tree.specs.declared.ident.Mark.TheVariants as mark
 use Rattle.ob_types.specs.declared.types.Basic.TheVariants as basic
@@ -16,7 +16,7 @@ use Rattle.ob_meaning.specs.Values.{Program, description, number_of_types}
 use Rattle.ob_relation.proofs.Names.{bytes_true}
 use Rattle.ob_layout.specs.LaidOut.{type_named, is_own, viewed, laid_desc, laid_record, laid_type, words_in, procedures_in}
 use Rattle.ob_env.specs.Faces.{Face, described}
-use Rattle.ob_env.specs.Shown.{blank, shown}
+use Rattle.ob_env.specs.Shown.{blank}
 use Rattle.ob_rules.specs.Shapes.{same_name}
 use Rattle.ob_rules.specs.Names.{Around, map_of, type_desc, own_desc, out_string}
 use Rattle.ob_forms.specs.Formed.{Formed}
@@ -26,7 +26,7 @@ use Rattle.ob_forms.specs.Whole.{IsWhole}
 use Rattle.ob_forms.proofs.Modules.{of_all, type_there}
 use Rattle.ob_forms.proofs.Saying.{formed}
 use Rattle.ob_declares.specs.Ages.{AreShown}
-use Rattle.ob_declares.specs.Views.{FieldsDiffer, IsLaid, IsAround}
+use Rattle.ob_declares.specs.Views.{FieldsDiffer, IsAround}
 use Rattle.ob_declares.proofs.Shown.{within_type, part_itself, described_said}
 use Rattle.ob_declares.proofs.Laid.{part_laid, part_blank}
 

@@ -1,6 +1,6 @@
 -- The declarations of a whole program describe its types, each of them.
-use Rattle.std.proofs.Common.{◌≡◌, ◌⊎◌, ⊎_elim, inl, inr, ℕ, zero, suc, ◌*◌, List, [], ◌∷◌, Option, Some, None, refl, sym, ap, subst, ◌∙◌}
-use Rattle.std.specs.Prelude.{Bool, true, false, ◌&&◌, cond, bytes_eq, MatchOption, IsTrue, unwrap_or, if◌then◌else◌}
+use Rattle.std.proofs.Common.{◌≡◌, ◌⊎◌, inl, inr, ℕ, zero, suc, ◌*◌, List, [], ◌∷◌, Option, Some, None, refl, sym, ap, subst, ◌∙◌}
+use Rattle.std.specs.Prelude.{Bool, true, false, ◌&&◌, cond, bytes_eq, MatchOption, IsTrue, unwrap_or}
 use Rattle.std.specs.Option.{option_map}
 use Rattle.std.specs.List.{AllByRecursion}
 use Rattle.ob_tree.specs.declared.names.QName.{QName}
@@ -9,24 +9,22 @@ use Rattle.ob_types.specs.declared.types.Basic.{Basic}
 use Rattle.ob_types.specs.declared.types.Basic.TheVariants as basic
 use Rattle.ob_types.specs.declared.types.TypeRef.{TypeRef}
 use Rattle.ob_types.specs.declared.types.TypeRef.TheVariants as ref
-use Rattle.ob_types.specs.declared.types.Signature.{Signature}
 use Rattle.ob_types.specs.declared.desc.Desc.{Desc}
 use Rattle.ob_types.specs.declared.desc.Desc.TheVariants as desc
 use Rattle.ob_types.specs.declared.desc.RecordDesc.{RecordDesc}
 use Rattle.ob_types.specs.declared.desc.Field.{Field}
-use Rattle.ob_types.specs.Maps.{is_type, IsHeld}
+use Rattle.ob_types.specs.Maps.{is_type}
 use Rattle.ob_types.specs.Relations.{is_alias}
-use Rattle.ob_types.specs.Tests.{target, alias_of, target_of, follow, shape_at}
+use Rattle.ob_types.specs.Tests.{target, target_of, follow, shape_at}
 use Rattle.ob_meaning.specs.Values.{same_name, Program, Form, BasicForm, PointerForm, ProcedureForm, ArrayForm, OpenForm, RecordForm, Fields, NoField, AField, own_fields, base_line, base_fields, joined, fields_of, form_in, form_within, record_in, words, described, description, number_of_types}
 use Rattle.ob_relation.specs.Layout.{field_offset}
 use Rattle.ob_relation.specs.Relation.{OrElse, FieldIn}
-use Rattle.ob_relation.proofs.Names.{bytes_true, name_true}
+use Rattle.ob_relation.proofs.Names.{name_true}
 use Rattle.ob_layout.specs.Lists.{or_else}
 use Rattle.ob_layout.specs.Words.{described_words, words_within, words_of}
 use Rattle.ob_layout.specs.Members.{field_named, from_base, nearest_in, nearest, field_in_record}
 use Rattle.ob_code.specs.Descriptions.{name_in, elements_in, open_words_in, own_name, elements_of, field_place, open_words}
-use Rattle.ob_forms.specs.Formed.{Formed}
-use Rattle.ob_forms.specs.Said.{IsOneOf, IsSound}
+use Rattle.ob_forms.specs.Said.{IsSound}
 use Rattle.ob_forms.proofs.Shapes.{basic_is}
 use Rattle.ob_forms.proofs.Within.{form_described}
 use Rattle.ob_forms.proofs.Built.{OwnerIn, base_apart, alias_apart}

@@ -1,11 +1,10 @@
 -- The words that the layout gives a record are those of its type.
-use Rattle.std.proofs.Common.{◌≡◌, ◌≢◌, ◌⊎◌, ⊎_elim, inl, inr, ℕ, zero, suc, ◌+◌, ◌*◌, ◌≤◌, List, [], ◌∷◌, ◌++◌, map as each, Option, Some, None, refl, sym, ap, subst, ◌∙◌, arith, append_assoc}
-use Rattle.std.specs.Prelude.{Bool, true, false, bytes_eq, cond, min, MatchOption, IfSome, IsTrue}
+use Rattle.std.proofs.Common.{◌≡◌, ◌≢◌, inl, inr, ℕ, zero, suc, ◌+◌, ◌*◌, List, [], ◌∷◌, ◌++◌, map as each, Option, Some, None, refl, sym, ap, subst, ◌∙◌, arith}
+use Rattle.std.specs.Prelude.{Bool, true, false, cond, MatchOption, IfSome, IsTrue}
 use Rattle.std.specs.List.{AllByRecursion}
 use Rattle.std.specs.declared.cmp.Ordering.{Ordering}
 use Rattle.std.specs.declared.cmp.Ordering.TheVariants as order
 use Rattle.ob_tree.specs.declared.names.QName.{QName}
-use Rattle.ob_tree.specs.declared.ident.Mark.{Mark}
 use Rattle.ob_types.specs.declared.types.TypeRef.{TypeRef}
 use Rattle.ob_types.specs.declared.types.TypeRef.TheVariants as ref
 use Rattle.ob_types.specs.declared.desc.Desc.{Desc}
@@ -16,26 +15,25 @@ use Rattle.ob_types.specs.declared.typed.TypedType.{TypedType}
 use Rattle.ob_types.specs.Maps.{is_type, stands_on, listed, IsWithin}
 use Rattle.ob_types.specs.Relations.{Is, is_record}
 use Rattle.ob_types.specs.TypedSyntax.{Module}
-use Rattle.ob_meaning.specs.Values.{Program, Form, RecordForm, Fields, NoField, AField, joined, own_fields, base_line, base_fields, fields_of, form_in, record_in, words, fields_words, described, description, type_named}
+use Rattle.ob_meaning.specs.Values.{Program, Form, Fields, NoField, AField, joined, own_fields, base_fields, fields_of, form_in, record_in, words, fields_words, description}
 use Rattle.ob_relation.specs.Typed.{IsRecordForm}
 use Rattle.ob_relation.proofs.Names.{bytes_true}
 use Rattle.ob_desc.specs.Grammar.{by_place, seen}
 use Rattle.ob_layout.specs.Lists.{put_before, put_in, in_order, sum_of}
-use Rattle.ob_layout.specs.Words.{described_words, most_words}
-use Rattle.ob_layout.specs.LaidOut.{type_named as own_named, is_own, viewed, base_of, record_words, declared_words, summed, words_in, procedures_in, kept, placed, laid_record, laid_desc, laid_type}
-use Rattle.ob_forms.specs.Said.{IsOneOf, IsFreshName, HaveNames, IsSound}
+use Rattle.ob_layout.specs.Words.{described_words}
+use Rattle.ob_layout.specs.LaidOut.{type_named as own_named, is_own, viewed, base_of, declared_words, summed, words_in, procedures_in, placed, laid_record, laid_desc, laid_type}
+use Rattle.ob_forms.specs.Said.{IsOneOf, HaveNames, IsSound}
 use Rattle.ob_forms.specs.Whole.{IsWhole}
 use Rattle.ob_forms.proofs.Within.{form_described, all_left, all_right}
 use Rattle.ob_forms.proofs.Built.{record_base}
 use Rattle.ob_forms.proofs.Shapes.{basic_is}
 use Rattle.ob_forms.proofs.Modules.{of_all, type_there}
 use Rattle.ob_forms.proofs.Staying.{HasMore}
-use Rattle.ob_declares.specs.Views.{FieldsDiffer, IsLaid}
-use Rattle.ob_declares.specs.Words.{IsSmall, IsLaidOver, AreLaidInOrder}
-use Rattle.ob_declares.proofs.Shown.{one_ordered, one_mapped}
+use Rattle.ob_declares.specs.Views.{FieldsDiffer}
+use Rattle.ob_declares.specs.Words.{IsLaidOver}
+use Rattle.ob_declares.proofs.Shown.{one_ordered}
 use Rattle.ob_declares.proofs.Laid.{place_name, placed_names, fresh_other}
-use Rattle.ob_declares.proofs.Views.{TypeFound, type_found, one_each}
-use Rattle.ob_declares.proofs.Ordered.{either_there}
+use Rattle.ob_declares.proofs.Views.{type_found, one_each}
 
 -- ---- sums do not ask for the order
 

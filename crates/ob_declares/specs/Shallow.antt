@@ -7,7 +7,7 @@ use Rattle.ob_types.specs.declared.types.TypeRef.TheVariants as ref
 use Rattle.ob_types.specs.declared.desc.Desc.{Desc}
 use Rattle.ob_types.specs.declared.desc.Desc.TheVariants as desc
 use Rattle.ob_types.specs.Maps.{is_type}
-use Rattle.ob_meaning.specs.Values.{Program, Form, ArrayForm, OpenForm, RecordForm, Fields, fields_of, form_in, record_in, words, description}
+use Rattle.ob_meaning.specs.Values.{Program, Form, ArrayForm, OpenForm, RecordForm, Fields, fields_of, form_in, record_in, words}
 use Rattle.ob_relation.specs.Layout.{field_offset}
 use Rattle.ob_relation.specs.Relation.{FieldIn}
 use Rattle.ob_layout.specs.Words.{words_of}

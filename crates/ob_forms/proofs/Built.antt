@@ -10,11 +10,11 @@ use Rattle.ob_types.specs.declared.desc.Desc.{Desc}
 use Rattle.ob_types.specs.declared.desc.Desc.TheVariants as desc
 use Rattle.ob_types.specs.declared.desc.RecordDesc.{RecordDesc}
 use Rattle.ob_types.specs.declared.desc.Field.{Field}
-use Rattle.ob_types.specs.Maps.{stands_on, listed, IsWithin}
+use Rattle.ob_types.specs.Maps.{listed, IsWithin}
 use Rattle.ob_types.specs.Relations.{is_alias, StandsFor, itself, equated, Is, is_record, is_open}
 use Rattle.ob_types.proofs.Targets.{unique, more}
-use Rattle.ob_meaning.specs.Values.{same_name, Program, Form, BasicForm, PointerForm, ProcedureForm, ArrayForm, OpenForm, RecordForm, Fields, NoField, AField, joined, own_fields, base_line, base_fields, line_of, fields_of, described, form_in, record_in, description, number_of_types}
-use Rattle.ob_relation.specs.Relation.{OrElse, FormOk, FieldsOk, FreshField}
+use Rattle.ob_meaning.specs.Values.{same_name, Program, Form, BasicForm, PointerForm, ProcedureForm, ArrayForm, OpenForm, RecordForm, Fields, NoField, AField, joined, own_fields, base_line, base_fields, fields_of, described, form_in, record_in, description, number_of_types}
+use Rattle.ob_relation.specs.Relation.{FormOk, FieldsOk, FreshField}
 use Rattle.ob_relation.specs.Typed.{IsRecordForm}
 use Rattle.ob_relation.proofs.Names.{bytes_true, name_true}
 use Rattle.ob_forms.proofs.Chains.{chains}

@@ -8,7 +8,7 @@ use Rattle.ob_types.specs.declared.types.Signature.{Signature}
 use Rattle.ob_types.specs.declared.desc.Desc.{Desc}
 use Rattle.ob_types.specs.declared.desc.Desc.TheVariants as desc
 use Rattle.ob_types.specs.declared.desc.RecordDesc.{RecordDesc}
-use Rattle.ob_types.specs.Tests.{target, alias_of, target_of, same_at, shape_at, base_of, pointer_of, holds_of, climbs, both, extends_at}
+use Rattle.ob_types.specs.Tests.{target, alias_of, target_of, same_at, shape_at, base_of, holds_of, climbs, both, extends_at}
 use Rattle.ob_types.proofs.Targets.{stays}
 use Rattle.ob_meaning.specs.Values.{Program, Form, PointerForm, RecordForm, Fields, joined, line_of, fields_of, base_line, base_fields, form_in, record_in, Held}
 use Rattle.ob_relation.specs.Relation.{Sub, itself, extended, opened, LengthFits, Scalar}

@@ -4,7 +4,6 @@ use Rattle.std.specs.Prelude.{Bool, true, false, bytes_eq, cond}
 use Rattle.std.specs.List.{find, flat_map, AllByRecursion}
 use Rattle.ob_tree.specs.declared.names.QName.{QName}
 use Rattle.ob_types.specs.declared.types.TypeRef.{TypeRef}
-use Rattle.ob_types.specs.declared.types.TypeRef.TheVariants as ref
 use Rattle.ob_types.specs.declared.types.Signature.{Signature}
 use Rattle.ob_types.specs.declared.desc.Desc.{Desc}
 use Rattle.ob_types.specs.declared.desc.Desc.TheVariants as desc
@@ -15,12 +14,12 @@ use Rattle.ob_types.specs.Maps.{listed, signature_types}
 use Rattle.ob_meaning.specs.Values.{Program, Form, BasicForm, PointerForm, ProcedureForm, ArrayForm, OpenForm, RecordForm, line_of, fields_of, FieldStep, bases_in, base_line, form_in, record_in, Held}
 use Rattle.ob_meaning.specs.Meaning.{nearest, first_of_both}
 use Rattle.ob_relation.specs.Layout.{field_form}
-use Rattle.ob_relation.specs.Relation.{Sub, FieldIn, PathIn}
+use Rattle.ob_relation.specs.Relation.{FieldIn, PathIn}
 use Rattle.ob_relation.specs.Typed.{FieldOk}
 use Rattle.ob_relation.proofs.Names.{bytes_true}
 use Rattle.ob_relation.proofs.Paths.{Same, sub_field}
 use Rattle.ob_rules.specs.Shapes.{Member, AField, AMethod, field_or, own_member, base_type, base_record, record_if, or_in_base, member_within, member}
-use Rattle.ob_forms.specs.Formed.{IsDeclared, IsRecordOf, IsFieldOf, IsMethodOf, introduced, Formed}
+use Rattle.ob_forms.specs.Formed.{IsDeclared, IsFieldOf, IsMethodOf, introduced, Formed}
 use Rattle.ob_forms.proofs.Shapes as shapes
 use Rattle.ob_forms.proofs.Extending.{Above, above_same, above_on, base_above}
 

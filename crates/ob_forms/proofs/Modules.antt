@@ -1,14 +1,12 @@
 -- What a module declares is found in a whole program.
-use Rattle.std.proofs.Common.{◌≡◌, ◌≢◌, ◌⊎◌, ⊎_elim, inl, inr, ℕ, List, [], ◌∷◌, ◌++◌, map, Option, Some, None, refl, sym, ap, subst, ◌∙◌}
+use Rattle.std.proofs.Common.{◌≡◌, ◌≢◌, ◌⊎◌, ⊎_elim, inl, inr, ℕ, List, [], ◌∷◌, map, Some, refl, sym, ap, subst, ◌∙◌}
 use Rattle.std.specs.Prelude.{Bool, true, false, bytes_eq, if◌then◌else◌}
 use Rattle.std.specs.List.{AllByRecursion}
 use Rattle.ob_tree.specs.declared.names.QName.{QName}
-use Rattle.ob_types.specs.declared.types.TypeRef.{TypeRef}
-use Rattle.ob_types.specs.declared.desc.Desc.{Desc}
 use Rattle.ob_types.specs.declared.typed.TypedType.{TypedType}
 use Rattle.ob_types.specs.declared.typed.TypedVariable.{TypedVariable}
 use Rattle.ob_types.specs.TypedSyntax.{Procedure, Module}
-use Rattle.ob_meaning.specs.Values.{Program, Form, form_in, type_named, procedure_named, description, procedure_of, Held, Own}
+use Rattle.ob_meaning.specs.Values.{Program, form_in, type_named, procedure_named, description, procedure_of}
 use Rattle.ob_meaning.specs.Calls.{held_variable}
 use Rattle.ob_relation.specs.Layout.{form_named, variables_in, module_held}
 use Rattle.ob_relation.specs.Relation.{OrElse, ValueIn, Fresh, AreDifferent, FreshModule, ModulesOk}

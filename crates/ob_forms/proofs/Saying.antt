@@ -1,5 +1,5 @@
 -- A map that says what a sound program declares has to do with it as `Formed` says.
-use Rattle.std.proofs.Common.{◌≡◌, ◌≢◌, ◌⊎◌, ⊎_elim, inl, inr, ℕ, List, [], ◌∷◌, ◌++◌, map as each, Option, Some, None, refl, sym, ap, subst, ◌∙◌}
+use Rattle.std.proofs.Common.{◌≡◌, ◌⊎◌, ⊎_elim, inl, inr, ℕ, List, [], ◌∷◌, ◌++◌, map as each, Option, Some, None, refl, sym, ap, subst, ◌∙◌}
 use Rattle.std.specs.Prelude.{Bool, true, false, ◌&&◌, bytes_eq, if◌then◌else◌, MatchOption, IfSome, IsTrue}
 use Rattle.std.specs.List.{flat_map, AllByRecursion}
 use Rattle.ob_tree.specs.declared.names.QName.{QName}
@@ -20,7 +20,7 @@ use Rattle.ob_meaning.specs.Meaning.{declared_for}
 use Rattle.ob_relation.specs.Layout.{field_form}
 use Rattle.ob_relation.specs.Relation.{OrElse, FieldIn, FormOk}
 use Rattle.ob_relation.specs.Typed.{IsRecordForm, ReceiverOk}
-use Rattle.ob_relation.proofs.Names.{bytes_true, bytes_same, name_true, name_same, field_same}
+use Rattle.ob_relation.proofs.Names.{bytes_true, name_true, field_same}
 use Rattle.ob_rules.specs.Shapes as rules
 use Rattle.ob_rules.specs.Names.{out_string}
 use Rattle.ob_forms.specs.Formed.{IsDeclared, IsRecordOf, IsFieldOf, IsMethodOf, introduced, AreParameters, behind, Formed}

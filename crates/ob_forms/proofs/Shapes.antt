@@ -1,6 +1,6 @@
 -- What stands for a type has its form, and what the map has of it says which.
-use Rattle.std.proofs.Common.{◌≡◌, ℕ, zero, suc, List, ◌∷◌, Option, Some, None, refl, sym, ap, subst, ◌∙◌}
-use Rattle.std.specs.Prelude.{Bool, true, false, IsTrue, ◌&&◌, bytes_eq}
+use Rattle.std.proofs.Common.{◌≡◌, ℕ, zero, suc, ◌∷◌, Option, Some, None, refl, sym, ap, subst, ◌∙◌}
+use Rattle.std.specs.Prelude.{true}
 use Rattle.ob_tree.specs.declared.names.QName.{QName}
 use Rattle.ob_tree.specs.declared.ident.Mark.{Mark}
 use Rattle.ob_types.specs.declared.types.Basic.{Basic}
@@ -11,12 +11,11 @@ use Rattle.ob_types.specs.declared.desc.Desc.{Desc}
 use Rattle.ob_types.specs.declared.desc.Desc.TheVariants as desc
 use Rattle.ob_types.specs.declared.desc.RecordDesc.{RecordDesc}
 use Rattle.ob_types.specs.Relations.{StandsFor, itself, equated, Same}
-use Rattle.ob_types.specs.Tests.{target_of, alias_of, follow, target, same_at, shape_at, type_eq}
+use Rattle.ob_types.specs.Tests.{alias_of, follow, target, same_at, shape_at}
 use Rattle.ob_types.proofs.Sameness.{type_eq_decides}
 use Rattle.ob_meaning.specs.Values.{Program, base_line, Form, BasicForm, PointerForm, ProcedureForm, ArrayForm, OpenForm, RecordForm, fields_of, form_in, record_in, form_within, description, number_of_types}
 use Rattle.ob_relation.specs.Typed.{IsRecordType}
-use Rattle.ob_rules.specs.Shapes.{same_name, shape, record_at, as_basic, basic_of, record_of, record_if, pointed, pointed_record, array_of, open_element, signature_at}
-use Rattle.ob_rules.specs.Names.{out_string}
+use Rattle.ob_rules.specs.Shapes.{shape, basic_of, record_of, record_if, pointed, pointed_record, array_of, open_element, signature_at}
 use Rattle.ob_forms.specs.Formed.{IsDeclared, IsRecordOf, Formed}
 use Rattle.ob_forms.proofs.Finds as finds
 

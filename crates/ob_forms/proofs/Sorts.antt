@@ -19,7 +19,7 @@ use Rattle.ob_types.specs.Relations as relations
 use Rattle.ob_types.specs.Relations.{is_alias, IsOwn, StandsFor, itself, equated, Is, is_structure, Keeps, IsGrounded}
 use Rattle.ob_types.specs.Tests.{target, shape_at}
 use Rattle.ob_types.proofs.Sameness.{at}
-use Rattle.ob_meaning.specs.Values.{Program, Form, BasicForm, PointerForm, ProcedureForm, ArrayForm, OpenForm, RecordForm, fields_of, joined, base_line, base_fields, Fields, form_in, record_in}
+use Rattle.ob_meaning.specs.Values.{Program, Form, BasicForm, PointerForm, ProcedureForm, ArrayForm, OpenForm, RecordForm, joined, base_line, base_fields, Fields, form_in, record_in}
 use Rattle.ob_relation.specs.Relation.{FormOk, Scalar}
 use Rattle.ob_relation.specs.Typed.{passing_for}
 use Rattle.ob_rules.specs.Shapes.{shape, record_at, array_at, open_at, is_structured, passing_of, by_value, by_var}

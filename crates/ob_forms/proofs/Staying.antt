@@ -1,5 +1,5 @@
 -- What types are stays where one more module is behind.
-use Rattle.std.proofs.Common.{◌≡◌, ⊎_elim, ℕ, zero, suc, ◌≤◌, ◌+◌, List, [], ◌∷◌, ◌++◌, map as each, length, Option, Some, None, refl, sym, ap, subst, ◌∙◌, arith}
+use Rattle.std.proofs.Common.{◌≡◌, ℕ, zero, suc, ◌≤◌, List, [], ◌∷◌, ◌++◌, map as each, Option, Some, None, refl, sym, ap, ◌∙◌, arith}
 use Rattle.std.specs.Prelude.{Bool, true, false, bytes_eq, if◌then◌else◌, MatchOption, IsTrue}
 use Rattle.std.specs.List.{AllByRecursion}
 use Rattle.ob_tree.specs.declared.names.QName.{QName}
@@ -10,11 +10,11 @@ use Rattle.ob_types.specs.declared.desc.Desc.{Desc}
 use Rattle.ob_types.specs.declared.typed.TypedVariable.{TypedVariable}
 use Rattle.ob_types.specs.Maps.{is_type, stands_on, IsHeld, IsWithin}
 use Rattle.ob_types.specs.TypedSyntax.{Module}
-use Rattle.ob_meaning.specs.Values.{Program, Form, BasicForm, type_named, described, form_within, form_in, record_in, description, number_of_types, Own, Held}
+use Rattle.ob_meaning.specs.Values.{Program, BasicForm, type_named, described, form_within, form_in, record_in, description, number_of_types, Own}
 use Rattle.ob_meaning.specs.Calls.{held_variable}
 use Rattle.ob_relation.specs.Layout.{module_held}
 use Rattle.ob_forms.proofs.Chains.{chains}
-use Rattle.ob_forms.specs.Said.{IsOneOf, IsSound}
+use Rattle.ob_forms.specs.Said.{IsSound}
 use Rattle.ob_forms.proofs.Shapes.{basic_is}
 use Rattle.ob_forms.proofs.Within.{all_from, agree, parts_within, nowhere, none_within}
 

@@ -1,8 +1,7 @@
 -- What a variable takes, by the forms of types.
-use Rattle.std.proofs.Common.{◌≡◌, ◌⊎◌, inl, inr, ℕ, ◌<◌, zero, suc, List, [], ◌∷◌, Option, Some, None, refl, sym, ap, subst, ◌∙◌, arith}
+use Rattle.std.proofs.Common.{◌≡◌, ◌⊎◌, inl, inr, ℕ, ◌<◌, List, ◌∷◌, Option, Some, None, refl, sym, ap, subst, ◌∙◌, arith}
 use Rattle.std.proofs.lemmas.Bool.Decides.{nat_tests}
-use Rattle.std.proofs.lemmas.Bool.{eqb-true}
-use Rattle.std.specs.Prelude.{Bool, true, false, not, ◌&&◌, ◌||◌, nat_lt, nat_eq}
+use Rattle.std.specs.Prelude.{Bool, true, false, not, ◌&&◌, ◌||◌, nat_lt}
 use Rattle.ob_tree.specs.declared.names.QName.{QName}
 use Rattle.ob_types.specs.declared.types.Basic.{Basic}
 use Rattle.ob_types.specs.declared.types.Basic.TheVariants as basic
@@ -13,16 +12,16 @@ use Rattle.ob_types.specs.declared.desc.Desc.{Desc}
 use Rattle.ob_types.specs.declared.desc.Desc.TheVariants as desc
 use Rattle.ob_types.specs.declared.typed.Width.{Width}
 use Rattle.ob_types.specs.declared.typed.Width.TheVariants as width
-use Rattle.ob_types.specs.Tests.{target, same_at, extends_at, shape_at, basic_number}
+use Rattle.ob_types.specs.Tests.{target, same_at, extends_at}
 use Rattle.ob_types.specs.Assigning.{includes, is_extensible, has_nil}
 use Rattle.ob_types.specs.AssigningTests.{is_at, described, widens, takes_type, has_room, takes_text, alike_to}
 use Rattle.ob_types.specs.Relations as relations
 use Rattle.ob_types.proofs.Sameness.{type_eq_decides}
-use Rattle.ob_meaning.specs.Values.{Program, Form, BasicForm, PointerForm, ProcedureForm, ArrayForm, OpenForm, RecordForm, fields_of, form_in, record_in, Held}
+use Rattle.ob_meaning.specs.Values.{Program, Form, BasicForm, PointerForm, ProcedureForm, ArrayForm, OpenForm, form_in, record_in, Held}
 use Rattle.ob_relation.specs.Relation.{IsLength, Sub, itself, Scalar}
 use Rattle.ob_relation.specs.Typed as typed
 use Rattle.ob_relation.specs.Typed.{Widens, Within, short, shorter, middle, integer, char, IsArrayOf, IsText, IsRecordForm}
-use Rattle.ob_rules.specs.Shapes.{shape, same_basic, is_this, is_basic, basic_of, width_of, record_of, array_of, open_element, element_is, is_char_array, signature_at}
+use Rattle.ob_rules.specs.Shapes.{shape, same_basic, is_this, is_basic, basic_of, width_of, record_of, array_of, element_is, is_char_array, signature_at}
 use Rattle.ob_rules.specs.Calls.{both_records, takes_variable}
 use Rattle.ob_forms.specs.Formed.{IsDeclared, Formed}
 use Rattle.ob_forms.proofs.Finds as finds

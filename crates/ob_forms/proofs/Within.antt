@@ -1,5 +1,5 @@
 -- The form of a type that a program declares is what its declaration says.
-use Rattle.std.proofs.Common.{◌≡◌, ℕ, zero, suc, List, [], ◌∷◌, ◌++◌, map as each, Option, Some, None, refl, sym, ap, subst, ◌∙◌}
+use Rattle.std.proofs.Common.{◌≡◌, ℕ, zero, suc, List, [], ◌∷◌, ◌++◌, map as each, Option, Some, None, refl, ap, subst, ◌∙◌}
 use Rattle.std.specs.Prelude.{MatchOption, IsTrue}
 use Rattle.std.specs.List.{AllByRecursion}
 use Rattle.ob_tree.specs.declared.names.QName.{QName}
@@ -9,7 +9,7 @@ use Rattle.ob_types.specs.declared.desc.Desc.{Desc}
 use Rattle.ob_types.specs.declared.desc.Desc.TheVariants as desc
 use Rattle.ob_types.specs.declared.desc.Field.{Field}
 use Rattle.ob_types.specs.Maps.{is_type, stands_on, listed, IsWithin}
-use Rattle.ob_meaning.specs.Values.{Program, Form, BasicForm, ArrayForm, OpenForm, RecordForm, Fields, AField, joined, own_fields, base_line, base_fields, line_of, fields_of, described, form_within, form_in, record_in, description, number_of_types}
+use Rattle.ob_meaning.specs.Values.{Program, Form, ArrayForm, OpenForm, RecordForm, AField, joined, own_fields, base_line, base_fields, line_of, fields_of, described, form_within, form_in, record_in, description, number_of_types}
 use Rattle.ob_forms.proofs.Chains.{chains}
 use Rattle.ob_forms.specs.Said.{IsSound}
 
