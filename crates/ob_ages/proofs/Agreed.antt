@@ -10,10 +10,10 @@ use Rattle.ob_compile.specs.Compiling.{Compiled, compiled, texts, prints}
 use Rattle.ob_lines.specs.Lines.{Line, Compile, Compare, Check, Show, Demo, Command, Unknown, Nothing, line_of, is_identifier}
 use Rattle.ob_words.specs.declared.asked.Settings.{Settings}
 use Rattle.ob_printing.specs.Texts.{refused}
-use Rattle.ob_bytes.specs.Folds.{Answer, changes_from}
-use Rattle.ob_bytes.specs.Files.{sym_file}
-use Rattle.ob_bytes.specs.Bytes as bytes
-use Rattle.ob_bytes.specs.Bytes.{compared, shown}
+use Rattle.ob_ages.specs.Folds.{Answer, changes_from}
+use Rattle.ob_ages.specs.Files.{sym_file}
+use Rattle.ob_ages.specs.Bytes as bytes
+use Rattle.ob_ages.specs.Bytes.{compared, shown}
 use Rattle.ob_ages.specs.Builds.{Text, Build}
 use Rattle.ob_ages.specs.Library.{Library, Change, ObjectBecomes, SymbolBecomes}
 use Rattle.ob_ages.specs.Model.{World, answer, interface_in, becomes, new_build, or_empty, compile_answer, demo_behind, check_in}

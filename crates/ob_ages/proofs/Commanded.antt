@@ -10,8 +10,8 @@ use Rattle.ob_load.specs.Command.{Ran, ran}
 use Rattle.ob_lines.specs.Lines.{is_identifier}
 use Rattle.ob_words.specs.declared.asked.Settings.{Settings}
 use Rattle.ob_printing.specs.Texts.{report, stops, refused}
-use Rattle.ob_bytes.specs.Folds.{Answer}
-use Rattle.ob_bytes.specs.Bytes as bytes
+use Rattle.ob_ages.specs.Folds.{Answer}
+use Rattle.ob_ages.specs.Bytes as bytes
 use Rattle.ob_ages.specs.Builds.{Text, Build, file_of}
 use Rattle.ob_ages.specs.Library.{Change}
 use Rattle.ob_ages.specs.Model.{World, outcome_of, joined, ended, ended_answer, load_answer, command_answer, build_plan}

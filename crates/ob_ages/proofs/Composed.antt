@@ -5,11 +5,11 @@ use Rattle.std.specs.Prelude.{map, zero, suc, ◌⊎◌, Contains}
 use Rattle.ob_io.specs.Io.{SameFiles}
 use Rattle.ob_link.specs.Files.{Files}
 use Rattle.ob_lines.specs.Lines.{done_lines, line_of}
-use Rattle.ob_bytes.specs.Folds.{Answers, world_from, changes_from, session_changes}
-use Rattle.ob_bytes.specs.Session.{IsCut, next_of, is_whole}
-use Rattle.ob_bytes.specs.Bytes as bytes
-use Rattle.ob_bytes.specs.Bytes.{changed}
-use Rattle.ob_bytes.specs.Session as session
+use Rattle.ob_ages.specs.Folds.{Answers, world_from, changes_from, session_changes}
+use Rattle.ob_ages.specs.Session.{IsCut, next_of, is_whole}
+use Rattle.ob_ages.specs.Bytes as bytes
+use Rattle.ob_ages.specs.Bytes.{changed}
+use Rattle.ob_ages.specs.Session as session
 use Rattle.ob_words.specs.declared.asked.Settings.{Settings}
 use Rattle.ob_ages.specs.Library.{Library, Kept, Change, ObjectBecomes, SymbolBecomes, after_all}
 use Rattle.ob_ages.specs.Model.{World, start, answer, written, written_all}

@@ -13,8 +13,8 @@ use Rattle.ob_compile.specs.Compiling as compile
 use Rattle.ob_compile.specs.Compiling.{Compiled, compiled, texts, prints, object_bytes, symbol_bytes}
 use Rattle.ob_words.specs.declared.asked.Settings.{Settings}
 use Rattle.ob_printing.specs.Texts.{compile_reason}
-use Rattle.ob_bytes.specs.Bytes as bytes
-use Rattle.ob_bytes.specs.Bytes.{files_of}
+use Rattle.ob_ages.specs.Bytes as bytes
+use Rattle.ob_ages.specs.Bytes.{files_of}
 use Rattle.ob_ages.specs.Builds.{Text, Build, IsValid, of, name_of, file_of, bytes_of, symbols_of}
 use Rattle.ob_ages.specs.Library.{Library, IsLibrary, IsEntry, Kept, Change, ObjectBecomes, with_entry, after_all}
 use Rattle.ob_ages.specs.Model.{World, interface_in, becomes, new_build, counted, with_changes, written_all, or_empty}

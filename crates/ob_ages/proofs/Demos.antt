@@ -15,8 +15,8 @@ use Rattle.ob_compile.specs.Compiling as compile
 use Rattle.ob_compile.specs.Compiling.{Compiled, compiled, texts, prints}
 use Rattle.ob_words.specs.declared.asked.Settings.{Settings}
 use Rattle.ob_printing.specs.Texts.{demo_text}
-use Rattle.ob_bytes.specs.Bytes as bytes
-use Rattle.ob_bytes.specs.Bytes.{source_name, no_files}
+use Rattle.ob_ages.specs.Bytes as bytes
+use Rattle.ob_ages.specs.Bytes.{source_name, no_files}
 use Rattle.ob_ages.specs.Builds.{Text, Build}
 use Rattle.ob_ages.specs.Library.{Library, empty, with_entry, after_all}
 use Rattle.ob_ages.specs.Model.{World, Making, start, interface_in, becomes, new_build, with_changes, or_empty, made_of, made_one, with_source, and_more, demo_behind, demo_answer, compiled_in}

@@ -10,7 +10,7 @@ use Rattle.ob_link.specs.Files.{Files, object_file_name}
 use Rattle.ob_walk.specs.Walk.{symbol_name}
 use Rattle.ob_demo.specs.Source.{module_name}
 use Rattle.ob_lines.specs.Lines.{is_identifier}
-use Rattle.ob_bytes.specs.Bytes.{source_name}
+use Rattle.ob_ages.specs.Bytes.{source_name}
 use Rattle.ob_ages.specs.Builds.{Build, bytes_of, symbols_of}
 use Rattle.ob_ages.specs.Library.{Library, Kept, ObjectKept, SymbolKept, with_entry, Change, ObjectBecomes, SymbolBecomes, after, after_all}
 use Rattle.ob_ages.specs.Model.{written, written_all}

@@ -5,8 +5,8 @@ use Rattle.std.proofs.lemmas.List.{append-nil}
 use Rattle.ob_io.specs.Io.{SameFiles}
 use Rattle.ob_link.specs.Files.{Files}
 use Rattle.ob_lines.specs.Lines.{line_of, lines_of, exceeds, done_lines}
-use Rattle.ob_bytes.specs.Folds.{Answer, Answers, text_from, refused_from, world_from, changes_from, session_text, session_status, session_changes}
-use Rattle.ob_bytes.specs.Session.{Kind, Ends, IsCut, next_of}
+use Rattle.ob_ages.specs.Folds.{Answer, Answers, text_from, refused_from, world_from, changes_from, session_text, session_status, session_changes}
+use Rattle.ob_ages.specs.Session.{Kind, Ends, IsCut, next_of}
 use Rattle.ob_ages.specs.Agreeing.{AreSame, Agree, MakeSame}
 
 map_append : {A B : Type 0} (f : A → B) (xs ys : List A) → map f (xs ++ ys) ≡ map f xs ++ map f ys

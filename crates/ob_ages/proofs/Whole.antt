@@ -1,8 +1,8 @@
 -- The headline from the laws.
 use Rattle.std.proofs.Common.{◌≡◌, ℕ, ◌<◌, ◌≤◌, Bool, true, false, refl, sym, ap, ◌∙◌, subst, arith}
 use Rattle.std.specs.Prelude.{◌||◌, nat_lt, nat_eq}
-use Rattle.ob_bytes.specs.Session.{is_whole}
-use Rattle.ob_bytes.specs.Bytes as bytes
+use Rattle.ob_ages.specs.Session.{is_whole}
+use Rattle.ob_ages.specs.Bytes as bytes
 use Rattle.ob_ages.specs.Model.{start, answer}
 use Rattle.ob_ages.specs.Headline.{IsText}
 use Rattle.ob_ages.specs.Composing.{as_bytes, Alike, HeadlineHolds, FrontsAgree}

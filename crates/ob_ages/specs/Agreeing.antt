@@ -2,8 +2,8 @@
 use Rattle.std.specs.Prelude.{◌≡◌, ℕ, ◌+◌, List, [], ◌∷◌, ◌++◌, Bool, map}
 use Rattle.ob_link.specs.Files.{Files}
 use Rattle.ob_lines.specs.Lines.{line_of}
-use Rattle.ob_bytes.specs.Folds.{Answer, Answers}
-use Rattle.ob_bytes.specs.Session.{Kind}
+use Rattle.ob_ages.specs.Folds.{Answer, Answers}
+use Rattle.ob_ages.specs.Session.{Kind}
 
 -- two answers print the same, and make the same changes
 pub record AreSame {W V C D : Type 0} (for_each : D → C) (a : Answer W C) (b : Answer V D) : Type 0 where

@@ -12,10 +12,10 @@ use Rattle.ob_compile.specs.Compiling.{Compiled, compiled, texts, prints, object
 use Rattle.ob_lines.specs.Lines.{is_identifier, done_lines}
 use Rattle.ob_words.specs.declared.asked.Settings.{Settings}
 use Rattle.ob_printing.specs.Texts.{compile_reason, load_refused}
-use Rattle.ob_bytes.specs.Folds.{text_from, changes_from}
-use Rattle.ob_bytes.specs.Bytes as bytes
-use Rattle.ob_bytes.specs.Session as session
-use Rattle.ob_bytes.specs.Session.{Ends, is_whole}
+use Rattle.ob_ages.specs.Folds.{text_from, changes_from}
+use Rattle.ob_ages.specs.Bytes as bytes
+use Rattle.ob_ages.specs.Session as session
+use Rattle.ob_ages.specs.Session.{Ends, is_whole}
 use Rattle.ob_ages.specs.Builds.{Text, Build, file_of, bytes_of, symbols_of}
 use Rattle.ob_ages.specs.Library.{Library, IsLibrary, Kept, Change, ObjectBecomes, SymbolBecomes, after, empty}
 use Rattle.ob_ages.specs.Model.{World, start, answer, written, interface_in, build_plan, check_in}

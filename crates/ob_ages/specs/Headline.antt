@@ -5,8 +5,8 @@ use Rattle.ob_link.specs.Plan.{Holds}
 use Rattle.ob_link.specs.Files.{Files}
 use Rattle.ob_lines.specs.Lines.{Demo, done_lines, line_of}
 use Rattle.ob_words.specs.declared.asked.Settings.{Settings}
-use Rattle.ob_bytes.specs.Folds.{world_from, session_changes}
-use Rattle.ob_bytes.specs.Session.{Kind, Ends, is_whole}
+use Rattle.ob_ages.specs.Folds.{world_from, session_changes}
+use Rattle.ob_ages.specs.Session.{Kind, Ends, is_whole}
 use Rattle.ob_ages.specs.Builds.{Text, Build, shows_of, tree_of}
 use Rattle.ob_ages.specs.Library.{Library, IsLibrary, Kept, Change, ObjectBecomes, after_all}
 use Rattle.ob_ages.specs.Model.{World, start, answer, written_all, demo_behind}

@@ -23,9 +23,9 @@ use Rattle.ob_lines.specs.Lines as line
 use Rattle.ob_lines.specs.Lines.{Line}
 use Rattle.ob_words.specs.declared.asked.Settings.{Settings}
 use Rattle.ob_printing.specs.Texts.{compile_refused, load_refused, report, stops, demo_text, unknown_text}
-use Rattle.ob_bytes.specs.Folds.{Answer}
-use Rattle.ob_bytes.specs.Files.{sym_file}
-use Rattle.ob_bytes.specs.Bytes.{Said, told, denied, compared, shown, check_said, no_files, source_name}
+use Rattle.ob_ages.specs.Folds.{Answer}
+use Rattle.ob_ages.specs.Files.{sym_file}
+use Rattle.ob_ages.specs.Bytes.{Said, told, denied, compared, shown, check_said, no_files, source_name}
 use Rattle.ob_ages.specs.Builds.{Text, Build, shows_of, tree_of, bytes_of, symbols_of, asks}
 use Rattle.ob_ages.specs.Library.{Library, Change, ObjectBecomes, SymbolBecomes, after_all, empty}
 

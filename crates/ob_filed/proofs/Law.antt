@@ -22,7 +22,7 @@ use Rattle.ob_planned.proofs.Numbered.{numbered_by_names}
 use Rattle.ob_ages.specs.Builds.{Text, Build, IsValid, of, tree_of, name_of, file_of, asks}
 use Rattle.ob_ages.proofs.Compiled.{Comes, comes}
 use Rattle.ob_ages.proofs.Stood.{of_is}
-use Rattle.ob_loads.specs.Loads.{IsSaid, BuildsAreSaid}
+use Rattle.ob_ages.specs.Loads.{IsSaid, BuildsAreSaid}
 use Rattle.ob_filed.specs.Filed.{HasOfFile, FilesHave}
 use Rattle.ob_filed.proofs.Limits.{room_kept, code_kept}
 

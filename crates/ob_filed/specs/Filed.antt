@@ -7,7 +7,7 @@ use Rattle.ob_relation.specs.Layout.{procedure_index}
 use Rattle.ob_compile.specs.Compiling.{Compiled}
 use Rattle.ob_link.specs.Files.{command_in}
 use Rattle.ob_ages.specs.Builds.{Text, Build, IsValid, tree_of, name_of, file_of, asks}
-use Rattle.ob_loads.specs.Loads.{BuildsAreSaid}
+use Rattle.ob_ages.specs.Loads.{BuildsAreSaid}
 
 -- its name, the words of its globals, not too much code, and the commands at the numbers of their procedures
 pub record HasOfFile (b : Build) : Type 0 where

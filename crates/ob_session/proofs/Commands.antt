@@ -20,7 +20,7 @@ use Rattle.ob_printing.specs.Texts.{report, stops, load_refused, load_answered}
 use Rattle.ob_printing.specs.Prints.{PrintDoes}
 use Rattle.ob_session.specs.Running.{is_cut}
 use Rattle.ob_words.specs.declared.asked.Settings.{Settings}
-use Rattle.ob_bytes.specs.Bytes.{World, denied, ran_answer, load_answer, command_answer}
+use Rattle.ob_ages.specs.Bytes.{World, denied, ran_answer, load_answer, command_answer}
 use Rattle.ob_session.proofs.Said.{printed, said_line}
 use Rattle.ob_session.specs.Does.{Shows, LineDoes}
 

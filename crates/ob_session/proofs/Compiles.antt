@@ -22,10 +22,10 @@ use Rattle.ob_printing.specs.declared.stop.Stop.{Stop}
 use Rattle.ob_printing.specs.Prints.{PrintDoes}
 use Rattle.ob_printing.specs.Texts.{refused, compile_refused, compile_reason, reason_answered, unread_text, walk_text, unmet_text, compiled_line}
 use Rattle.ob_printing.specs.declared.counts.Counts.{Counts}
-use Rattle.ob_bytes.specs.Bytes.{World, Change, changed, compile_answer, counted, denied}
+use Rattle.ob_ages.specs.Bytes.{World, Change, changed, compile_answer, counted, denied}
 use Rattle.ob_session.specs.Counting.{counts_between}
 use Rattle.ob_session.specs.Does.{FilesDo, AnswerDo, ChangesDo}
-use Rattle.ob_bytes.specs.Files.{SymFile, stood}
+use Rattle.ob_ages.specs.Files.{SymFile, stood}
 use Rattle.ob_session.proofs.Said.{printed, said_files}
 
 -- THE TEXT OF A REFUSAL

@@ -10,7 +10,7 @@ use Rattle.ob_io.specs.declared.traits.FolderFault.TheVariants as fault
 use Rattle.ob_types.specs.declared.face.Interface.{Interface}
 use Rattle.ob_sym.specs.Grammar.{face as face_form}
 use Rattle.ob_sym.specs.Laws.{face_exact}
-use Rattle.ob_bytes.specs.Files.{IsMissing, IsLong, decoded_file, sym_file_of}
+use Rattle.ob_ages.specs.Files.{IsMissing, IsLong, decoded_file, sym_file_of}
 
 within : (b : Bool) → b ≡ true → (bytes : List ℕ) → cond b (decoded_file (whole face_form bytes)) IsLong ≡ decoded_file (whole face_form bytes)
 within true e bytes = refl

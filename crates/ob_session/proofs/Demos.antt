@@ -20,8 +20,8 @@ use Rattle.ob_printing.specs.declared.stop.Stop.TheVariants.{Sink, Folder, Memor
 use Rattle.ob_printing.specs.Prints.{PrintDoes}
 use Rattle.ob_printing.specs.Texts.{demo_text}
 use Rattle.ob_words.specs.declared.asked.Settings.{Settings}
-use Rattle.ob_bytes.specs.Folds.{Answer}
-use Rattle.ob_bytes.specs.Bytes.{World, Change, Making, changed, start, no_files, load_answer, command_answer, source_name, compiled_file, made_of, made_one, and_more, demo_from, demo_made, demo_answer, demo_ran}
+use Rattle.ob_ages.specs.Folds.{Answer}
+use Rattle.ob_ages.specs.Bytes.{World, Change, Making, changed, start, no_files, load_answer, command_answer, source_name, compiled_file, made_of, made_one, and_more, demo_from, demo_made, demo_answer, demo_ran}
 use Rattle.ob_session.specs.Does.{Shows, LineDoes, TextDoes, MakesSo}
 
 -- THE MODULES

@@ -20,11 +20,11 @@ use Rattle.ob_lines.specs.Lines.{Line, lines_of, line_of, within, exceeds, done_
 use Rattle.ob_lines.specs.Splits.{Stops, GoesOn}
 use Rattle.ob_pieces.specs.declared.next.NextFault.TheVariants as fault
 use Rattle.ob_pieces.specs.declared.next.Next.TheVariants as next
-use Rattle.ob_bytes.specs.Folds.{Answer, Answers, text_from, refused_from, world_from, changes_from, session_text, session_changes}
-use Rattle.ob_bytes.specs.Bytes.{World, Change, Making, answer, start, changed, compile_answer, load_answer, demo_answer, demo_made, compiled_in}
+use Rattle.ob_ages.specs.Folds.{Answer, Answers, text_from, refused_from, world_from, changes_from, session_text, session_changes}
+use Rattle.ob_ages.specs.Bytes.{World, Change, Making, answer, start, changed, compile_answer, load_answer, demo_answer, demo_made, compiled_in}
 use Rattle.ob_session.specs.Does.{Shows, LineDoes}
 use Rattle.ob_pieces.specs.Reading.{NextDoes, ended}
-use Rattle.ob_bytes.specs.Session.{Kind, Ends, IsCut, next_of, is_whole, bytes}
+use Rattle.ob_ages.specs.Session.{Kind, Ends, IsCut, next_of, is_whole, bytes}
 use Rattle.ob_session.specs.Session.{Going, StatusIs}
 use Rattle.ob_session.specs.Stand.{Goes, Pieces}
 use Rattle.ob_pieces.specs.Opens.{ended_line, ended_open}

@@ -9,8 +9,8 @@ use Rattle.ob_compile.specs.Compiling.{Compiled}
 use Rattle.ob_printing.specs.declared.stop.Stop.{Stop}
 use Rattle.ob_printing.specs.declared.stop.Stop.TheVariants.{Sink, Folder, Memory}
 use Rattle.ob_printing.specs.Prints.{PrintDoes}
-use Rattle.ob_bytes.specs.Folds.{Answer}
-use Rattle.ob_bytes.specs.Bytes.{World, Change, Said, Making, changed, says, check_said, compile_answer, demo_answer}
+use Rattle.ob_ages.specs.Folds.{Answer}
+use Rattle.ob_ages.specs.Bytes.{World, Change, Said, Making, changed, says, check_said, compile_answer, demo_answer}
 use Rattle.ob_words.specs.declared.asked.Settings.{Settings}
 use Rattle.ob_session.specs.Does.{Shows, LineDoes, SaidDoes, AnswerDo, TextDoes}
 

@@ -6,8 +6,8 @@ use Rattle.ob_link.specs.Files.{Files}
 use Rattle.ob_load.specs.Standing.{Standing, Stands}
 use Rattle.ob_printing.specs.declared.stop.Stop.{Stop}
 use Rattle.ob_printing.specs.declared.stop.Stop.TheVariants.{Sink, Folder, Memory}
-use Rattle.ob_bytes.specs.Folds.{Answer}
-use Rattle.ob_bytes.specs.Bytes.{World, Change, Said, Making, changed}
+use Rattle.ob_ages.specs.Folds.{Answer}
+use Rattle.ob_ages.specs.Bytes.{World, Change, Said, Making, changed}
 
 -- the system and the folder have what the model keeps
 pub record Shows (s : Standing) (there : Files) (w : World) : Type 0 where

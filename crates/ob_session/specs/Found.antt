@@ -2,7 +2,7 @@
 use Rattle.ob_sym.specs.Grammar.{face as face_form}
 use Rattle.ob_session.specs.declared.found.SymbolFile.{SymbolFile}
 use Rattle.ob_session.specs.declared.found.SymbolFile.TheVariants as found
-use Rattle.ob_bytes.specs.Files.{SymFile, IsMissing, IsLong, IsDamaged, IsOf}
+use Rattle.ob_ages.specs.Files.{SymFile, IsMissing, IsLong, IsDamaged, IsOf}
 
 abbrev pub found_as : SymbolFile → SymFile
 found_as found.Missing = IsMissing

@@ -4,8 +4,8 @@ use Rattle.ob_io.specs.Io.{Rose, SameFiles}
 use Rattle.ob_link.specs.Files.{Files}
 use Rattle.ob_printing.specs.declared.stop.Stop.{Stop}
 use Rattle.ob_printing.specs.declared.stop.Stop.TheVariants.{Sink, Folder, Memory}
-use Rattle.ob_bytes.specs.Folds.{text_from, changes_from, world_from, refused_from}
-use Rattle.ob_bytes.specs.Session.{Kind}
+use Rattle.ob_ages.specs.Folds.{text_from, changes_from, world_from, refused_from}
+use Rattle.ob_ages.specs.Session.{Kind}
 
 -- which status comes only where a count of faults rose
 pub record Causes (script script_now sink sink_now folder folder_now status : ℕ) : Type 0 where

@@ -4,11 +4,11 @@ use Rattle.ob_link.specs.Files.{Files}
 use Rattle.ob_load.specs.Standing.{Standing}
 use Rattle.ob_lines.specs.Lines.{lines_of, within, exceeds, done_lines}
 use Rattle.ob_words.specs.declared.asked.Settings.{Settings}
-use Rattle.ob_bytes.specs.Folds.{text_from}
-use Rattle.ob_bytes.specs.Bytes.{World, answer, start}
+use Rattle.ob_ages.specs.Folds.{text_from}
+use Rattle.ob_ages.specs.Bytes.{World, answer, start}
 use Rattle.ob_session.specs.Does.{Shows}
 use Rattle.ob_pieces.specs.Reading.{ended}
-use Rattle.ob_bytes.specs.Session.{bytes}
+use Rattle.ob_ages.specs.Session.{bytes}
 use Rattle.ob_session.specs.Session.{Going}
 
 -- The session stands behind so many bytes of a script, with these left: behind whole lines that ended, but where it is behind the last.

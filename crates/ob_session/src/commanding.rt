@@ -1,7 +1,7 @@
 //! The line of a command.
 
 ghost use Rattle.std.specs.Prelude.{◌≡◌, true};
-ghost use Rattle.ob_bytes.specs.Bytes.{World, command_answer};
+ghost use Rattle.ob_ages.specs.Bytes.{World, command_answer};
 ghost use Rattle.ob_session.specs.Running.{is_cut};
 ghost use Rattle.ob_session.specs.Does.{Shows, LineDoes, Cause};
 

@@ -7,9 +7,9 @@ ghost use Rattle.ob_walk.specs.Walk.{symbol_name};
 ghost use Rattle.ob_cmp.specs.Check.{Checked, check_of};
 ghost use Rattle.ob_cmp.specs.Checking.{ChecksAs};
 ghost use Rattle.ob_printing.specs.Prints.{SinkCause};
-ghost use Rattle.ob_bytes.specs.Bytes.{compared, shown, check_said};
+ghost use Rattle.ob_ages.specs.Bytes.{compared, shown, check_said};
 ghost use Rattle.ob_session.specs.Does.{SaidDoes, Cause};
-ghost use Rattle.ob_bytes.specs.Files.{sym_file, IsOf};
+ghost use Rattle.ob_ages.specs.Files.{sym_file, IsOf};
 ghost use Rattle.ob_session.specs.Found.{found_as, HasSpelling};
 
 use crate::files::{read_symbols, symbol_file};

@@ -8,9 +8,9 @@ ghost use Rattle.ob_walk.specs.Walk.{symbol_name};
 ghost use Rattle.ob_cmp.specs.Verdicts.{compiled_text};
 ghost use Rattle.ob_link.specs.Files.{object_file_name};
 ghost use Rattle.ob_printing.specs.Texts.{compiled_line};
-ghost use Rattle.ob_bytes.specs.Bytes.{World, compile_answer, compiled_in, counted};
+ghost use Rattle.ob_ages.specs.Bytes.{World, compile_answer, compiled_in, counted};
 ghost use Rattle.ob_session.specs.Does.{AnswerDo, FilesDo, ChangesDo, Cause};
-ghost use Rattle.ob_bytes.specs.Files.{stood, sym_file};
+ghost use Rattle.ob_ages.specs.Files.{stood, sym_file};
 
 use crate::counting::count_objects;
 use crate::files::{object_file, read_symbols, symbol_file};

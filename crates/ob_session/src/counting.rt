@@ -5,7 +5,7 @@ ghost use Rattle.ob_sym.specs.Grammar.{face as face_form};
 ghost use Rattle.ob_env.specs.Faces.{face_of};
 ghost use Rattle.ob_session.specs.Counting.{is_shape, is_layout, follows, and_one, counts_from, no_counts, counts_between};
 ghost use Rattle.ob_cmp.specs.Verdicts.{no_face};
-ghost use Rattle.ob_bytes.specs.Files.{stood, IsOf};
+ghost use Rattle.ob_ages.specs.Files.{stood, IsOf};
 ghost use Rattle.ob_session.specs.Found.{found_as, HasSpelling};
 
 use crate::found::SymbolFile;

@@ -7,7 +7,7 @@ ghost use Rattle.ob_walk.specs.Walk.{symbol_name};
 ghost use Rattle.ob_demo.specs.Source.{module_name};
 ghost use Rattle.ob_link.specs.Files.{Files, object_file_name};
 ghost use Rattle.ob_printing.specs.Prints.{SinkCause};
-ghost use Rattle.ob_bytes.specs.Bytes.{World, source_name, changed, start, command_answer, made_of, made_one, compiled_file, demo_answer, demo_made};
+ghost use Rattle.ob_ages.specs.Bytes.{World, source_name, changed, start, command_answer, made_of, made_one, compiled_file, demo_answer, demo_made};
 ghost use Rattle.ob_session.specs.Does.{Shows, TextDoes, MakesSo, AreFew};
 
 use crate::commanding::do_command;

@@ -6,7 +6,7 @@ ghost use Rattle.ob_sym.specs.Grammar.{face as face_form};
 ghost use Rattle.ob_walk.specs.Walk.{symbol_name};
 ghost use Rattle.ob_link.specs.Files.{object_file_name};
 ghost use Rattle.ob_session.specs.Does.{FolderCause};
-ghost use Rattle.ob_bytes.specs.Files.{decoded_file, sym_file};
+ghost use Rattle.ob_ages.specs.Files.{decoded_file, sym_file};
 ghost use Rattle.ob_session.specs.Found.{found_as, HasSpelling};
 
 use crate::found::SymbolFile;

@@ -2,7 +2,7 @@
 
 ghost use Rattle.std.specs.Prelude.{◌≡◌, ◌≤◌, true};
 ghost use Rattle.ob_lines.specs.Lines.{line_of};
-ghost use Rattle.ob_bytes.specs.Bytes.{World, answer};
+ghost use Rattle.ob_ages.specs.Bytes.{World, answer};
 ghost use Rattle.ob_session.specs.Does.{Shows, LineDoes, Cause};
 
 use crate::commanding::do_command;

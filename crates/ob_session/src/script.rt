@@ -5,12 +5,12 @@ ghost use Rattle.ob_link.specs.Files.{Files};
 ghost use Rattle.ob_lines.specs.Lines.{line_of};
 ghost use Rattle.ob_words.specs.declared.asked.Settings.{Settings as TheSettings};
 ghost use Rattle.ob_words.specs.Settings.{settings_of};
-ghost use Rattle.ob_bytes.specs.Bytes.{World, answer, start};
+ghost use Rattle.ob_ages.specs.Bytes.{World, answer, start};
 ghost use Rattle.ob_session.specs.Does.{Shows, LineDoes, Cause};
-ghost use Rattle.ob_bytes.specs.Session.{bytes, Ends};
+ghost use Rattle.ob_ages.specs.Session.{bytes, Ends};
 ghost use Rattle.ob_ages.specs.Library.{Library};
 ghost use Rattle.ob_ages.specs.Headline.{Headline, Stands};
-ghost use Rattle.ob_headline.specs.Holds.{Promises, WritesPieces};
+ghost use Rattle.ob_ages.specs.Holds.{Promises, WritesPieces};
 ghost use Rattle.ob_session.specs.Stand.{Pieces};
 ghost use Rattle.ob_session.specs.Session.{Causes, StatusIs};
 

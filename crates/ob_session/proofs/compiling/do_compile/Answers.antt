@@ -8,7 +8,7 @@ use Rattle.ob_compile.specs.declared.fault.CompileFault.{CompileFault}
 use Rattle.ob_compile.specs.declared.fault.CompileRefusal.{CompileRefusal}
 use Rattle.ob_printing.specs.Prints.{PrintDoes}
 use Rattle.ob_printing.specs.Texts.{refused, reason_answered}
-use Rattle.ob_bytes.specs.Bytes.{compiled_in, counted}
+use Rattle.ob_ages.specs.Bytes.{compiled_in, counted}
 use Rattle.ob_session.specs.Does.{FilesDo}
 use Rattle.ob_session.proofs.Compiles.{both_files, compile_built, compile_denied}
 use Rattle.ob_session.proofs.compiling.do_compile.Goals as goal

@@ -1,6 +1,6 @@
 use Rattle.std.proofs.Common.{◌∙◌, ◌∷◌, []}
 use Rattle.ob_env.specs.Faces.{face_of}
-use Rattle.ob_bytes.specs.Files.{sym_file}
+use Rattle.ob_ages.specs.Files.{sym_file}
 use Rattle.ob_session.specs.Found.{found_as}
 use Rattle.ob_session.proofs.Compiles.{put_done}
 use Rattle.ob_session.proofs.compiling.put_counted.Goals as goal

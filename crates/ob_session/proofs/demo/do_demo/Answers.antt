@@ -1,6 +1,6 @@
 use Rattle.std.proofs.Common.{Option, ℕ, subst}
 use Rattle.ob_io.specs.Kept.{file_in}
-use Rattle.ob_bytes.specs.Bytes.{demo_made}
+use Rattle.ob_ages.specs.Bytes.{demo_made}
 use Rattle.ob_session.specs.Does.{MakesSo}
 use Rattle.ob_session.proofs.Demos.{demo_is}
 use Rattle.ob_session.proofs.demo.do_demo.Goals as goal

@@ -1,6 +1,6 @@
 use Rattle.std.proofs.Common.{◌≡◌, ◌≤◌, ◌+◌, ◌-◌, ◌∙◌, ℕ, Option, ap, subst, arith}
 use Rattle.ob_io.specs.Kept.{file_in}
-use Rattle.ob_bytes.specs.Bytes.{made_one, demo_from, demo_made}
+use Rattle.ob_ages.specs.Bytes.{made_one, demo_from, demo_made}
 use Rattle.ob_session.specs.Does.{MakesSo, AreFew}
 use Rattle.ob_session.proofs.Demos.{starts, goes_on}
 use Rattle.ob_session.proofs.demo.make_all.Goals as goal

@@ -1,6 +1,6 @@
 use Rattle.std.proofs.Common.{◌≡◌, ◌≤◌, ◌+◌, ◌-◌, ◌*◌}
 use Rattle.ob_io.specs.Kept.{file_in}
-use Rattle.ob_bytes.specs.Bytes.{demo_made, demo_from}
+use Rattle.ob_ages.specs.Bytes.{demo_made, demo_from}
 use Rattle.ob_session.proofs.demo.make_all.Given as goal
 
 abbrev pub invariant-modules : goal.invariant-modules

@@ -2,7 +2,7 @@ use Rattle.std.proofs.Common.{refl, ap, Ok, Err, inl}
 use Rattle.ob_io.specs.Kept.{file_in}
 use Rattle.ob_printing.specs.declared.stop.Stop.{Stop}
 use Rattle.ob_printing.specs.declared.stop.Stop.TheVariants.{Sink, Folder, Memory}
-use Rattle.ob_bytes.specs.Bytes.{start}
+use Rattle.ob_ages.specs.Bytes.{start}
 use Rattle.ob_session.proofs.Demos.{went}
 use Rattle.ob_session.proofs.demo.run_command.Goals as goal
 

@@ -1,7 +1,7 @@
 use Rattle.std.proofs.Common.{◌≡◌, ℕ, List, subst, ◌∙◌}
 use Rattle.ob_format.specs.Format.{whole}
 use Rattle.ob_sym.specs.Grammar.{face as face_form}
-use Rattle.ob_bytes.specs.Files.{sym_file, decoded_file}
+use Rattle.ob_ages.specs.Files.{sym_file, decoded_file}
 use Rattle.ob_session.specs.Found.{found_as}
 use Rattle.ob_session.proofs.Decoded.{none_found, some_found, long_found}
 use Rattle.ob_session.proofs.files.read_symbols.Goals as goal

@@ -1,6 +1,6 @@
 use Rattle.std.proofs.Common.{◌≡◌, sym, ap, ◌∙◌, arith}
 use Rattle.ob_sym.specs.declared.fault.SymFault.TheVariants as fault
-use Rattle.ob_bytes.specs.Files.{decoded_file}
+use Rattle.ob_ages.specs.Files.{decoded_file}
 use Rattle.ob_session.proofs.Decoded.{spelled, not_spelled}
 use Rattle.ob_session.proofs.files.symbols_in.Goals as goal
 

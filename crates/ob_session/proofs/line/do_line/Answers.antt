@@ -7,9 +7,9 @@ use Rattle.ob_link.specs.Files.{Files}
 use Rattle.ob_walk.specs.Walk.{symbol_name}
 use Rattle.ob_cmp.specs.Check.{check_of}
 use Rattle.ob_printing.specs.Texts.{unknown_text}
-use Rattle.ob_bytes.specs.Bytes.{answer, compared, shown, check_said, denied, told, compile_answer, compiled_in, demo_answer, demo_made}
+use Rattle.ob_ages.specs.Bytes.{answer, compared, shown, check_said, denied, told, compile_answer, compiled_in, demo_answer, demo_made}
 use Rattle.ob_session.specs.Does.{LineDoes}
-use Rattle.ob_bytes.specs.Files.{sym_file}
+use Rattle.ob_ages.specs.Files.{sym_file}
 use Rattle.ob_session.proofs.Fine.{fine_demo}
 use Rattle.ob_session.proofs.Said.{said_by, said_line, files_line, compile_world, text_line, printed, demo_world, demo_changes}
 use Rattle.ob_session.proofs.line.do_line.Goals as goal

@@ -1,6 +1,6 @@
 use Rattle.std.proofs.Common.{refl, arith}
 use Rattle.ob_session.proofs.Goings.{ends_early}
-use Rattle.ob_bytes.specs.Session.{bytes}
+use Rattle.ob_ages.specs.Session.{bytes}
 use Rattle.ob_session.proofs.script.do_all.Goals as goal
 
 pub returns-in-Err-Memory-clause-ends : goal.returns-in-Err-Memory-clause-ends

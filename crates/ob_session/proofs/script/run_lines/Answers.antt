@@ -3,7 +3,7 @@ use Rattle.ob_lines.specs.Lines.{line_of}
 use Rattle.ob_pieces.specs.Reading.{NextDoes, TakesMore}
 use Rattle.ob_pieces.specs.declared.next.Next.{Next}
 use Rattle.ob_pieces.specs.declared.next.NextFault.{NextFault}
-use Rattle.ob_bytes.specs.Bytes.{answer}
+use Rattle.ob_ages.specs.Bytes.{answer}
 use Rattle.ob_session.specs.Does.{LineDoes}
 use Rattle.ob_session.specs.Stand.{Goes}
 use Rattle.ob_session.proofs.Goings.{goes_start, goes_line, goes_last, goes_cut, goes_end, goes_waits, goes_pieces}

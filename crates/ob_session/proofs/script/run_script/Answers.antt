@@ -1,6 +1,6 @@
 use Rattle.std.proofs.Common.{refl, arith}
 use Rattle.ob_session.proofs.Goings.{ends_early}
-use Rattle.ob_bytes.specs.Session.{bytes}
+use Rattle.ob_ages.specs.Session.{bytes}
 use Rattle.ob_session.proofs.script.run_script.Goals as goal
 
 pub returns-in_default-clause-ends : goal.returns-in_default-clause-ends

@@ -2,8 +2,8 @@ use Rattle.std.proofs.Common.{◌≡◌, ◌++◌, Bool, true, false, Option, So
 use Rattle.std.proofs.lemmas.Bool.{false≢true}
 use Rattle.ob_words.specs.declared.asked.Settings.{Settings}
 use Rattle.ob_pieces.specs.Reading.{ended}
-use Rattle.ob_headline.proofs.Held.{whole_so, lines_so}
-use Rattle.ob_headline.proofs.Chosen.{settings_in}
+use Rattle.ob_ages.proofs.Held.{whole_so, lines_so}
+use Rattle.ob_ages.proofs.Chosen.{settings_in}
 use Rattle.ob_session.proofs.script.session.Goals as goal
 
 abbrev is_some : Option Settings → Bool

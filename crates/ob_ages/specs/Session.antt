@@ -4,8 +4,8 @@ use Rattle.ob_io.specs.Io.{SameFiles}
 use Rattle.ob_link.specs.Files.{Files}
 use Rattle.ob_lines.specs.Lines.{done_lines, line_of}
 use Rattle.ob_words.specs.declared.asked.Settings.{Settings}
-use Rattle.ob_bytes.specs.Folds.{Answer, Answers, text_from, changes_from, world_from, session_text, session_status, session_changes}
-use Rattle.ob_bytes.specs.Bytes.{World, Change, answer, start, changed}
+use Rattle.ob_ages.specs.Folds.{Answer, Answers, text_from, changes_from, world_from, session_text, session_status, session_changes}
+use Rattle.ob_ages.specs.Bytes.{World, Change, answer, start, changed}
 
 -- the statuses of a session that was not cut short
 abbrev pub is_whole : ℕ → Bool

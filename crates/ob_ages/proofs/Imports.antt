@@ -21,8 +21,8 @@ use Rattle.ob_pexpr.specs.Left.{tokens_of}
 use Rattle.ob_reading.specs.Reading.{NoModule, fault_of, parsed, by_fault, reading}
 use Rattle.ob_compile.specs.Compiling.{target_of, imported}
 use Rattle.ob_lines.specs.Lines.{is_identifier}
-use Rattle.ob_kept.specs.Named.{AreIdentifiers, ImportsAreNamed}
-use Rattle.ob_kept.proofs.Tokens.{is_name, IsNamed, tokens_named}
+use Rattle.ob_ages.specs.Named.{AreIdentifiers, ImportsAreNamed}
+use Rattle.ob_ages.proofs.Tokens.{is_name, IsNamed, tokens_named}
 
 abbrev AreNamed : Tokens → Type 0
 AreNamed ts = AllByRecursion IsNamed ts

@@ -12,10 +12,10 @@ use Rattle.ob_alike.specs.Alike.{ComeToTheSame}
 use Rattle.ob_alike.proofs.Law.{alike_among}
 use Rattle.ob_ages.specs.Model.{interface_in}
 use Rattle.ob_ages.specs.Composing.{SameCompile}
-use Rattle.ob_kept.specs.Kept.{KeptCompilesAlike}
-use Rattle.ob_kept.proofs.Imports.{imports_are_named}
-use Rattle.ob_kept.proofs.Entries.{entries_same, imports_found}
-use Rattle.ob_kept.proofs.Spoken.{spoken}
+use Rattle.ob_ages.specs.Kept.{KeptCompilesAlike}
+use Rattle.ob_ages.proofs.Imports.{imports_are_named}
+use Rattle.ob_ages.proofs.SymbolEntries.{entries_same, imports_found}
+use Rattle.ob_ages.proofs.Spoken.{spoken}
 
 -- ---- the same reason is printed
 

@@ -23,7 +23,7 @@ use Rattle.ob_ages.specs.Library.{Library, IsLibrary, IsEntry, Kept, SymbolKept}
 use Rattle.ob_ages.specs.Model.{face_entry, interface_in}
 use Rattle.ob_ages.specs.Laws.{IsWritten, BuildsAreWritten}
 use Rattle.ob_ages.proofs.Stood.{of_is, face_back, not_beyond, same_name, whole_symbols, short_symbols}
-use Rattle.ob_kept.specs.Named.{AreIdentifiers}
+use Rattle.ob_ages.specs.Named.{AreIdentifiers}
 
 -- ---- entries
 

@@ -34,7 +34,7 @@ use Rattle.ob_ages.specs.Composing.{IsTextIn}
 use Rattle.ob_ages.proofs.Compiled.{Comes, comes}
 use Rattle.ob_ages.proofs.Stood.{of_is}
 use Rattle.ob_ages.proofs.Kept.{uses_kept, kept_text}
-use Rattle.ob_loads.specs.Loads.{IsSaid, BuildsAreSaid}
+use Rattle.ob_ages.specs.Loads.{IsSaid, BuildsAreSaid}
 
 -- ROOM
 

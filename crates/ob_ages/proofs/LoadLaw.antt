@@ -25,10 +25,10 @@ use Rattle.ob_ages.specs.Composing.{IsTextIn, SameBuilds, SamePlan}
 use Rattle.ob_ages.proofs.Members.{In, of_in, to_in}
 use Rattle.ob_ages.proofs.Stood.{of_is}
 use Rattle.ob_ages.proofs.Spelled.{AreIdentifiers, imports_named}
-use Rattle.ob_loads.specs.Loads.{BuildsAreSaid, LoadsAlike}
-use Rattle.ob_loads.proofs.Entries.{entries_same}
-use Rattle.ob_loads.proofs.Known.{IsFit, fit, asked_alike}
-use Rattle.ob_loads.proofs.Gone.{go_together, all_valid, words_both}
+use Rattle.ob_ages.specs.Loads.{BuildsAreSaid, LoadsAlike}
+use Rattle.ob_ages.proofs.ObjectEntries.{entries_same}
+use Rattle.ob_ages.proofs.Known.{IsFit, fit, asked_alike}
+use Rattle.ob_ages.proofs.Gone.{go_together, all_valid, words_both}
 
 -- the same refusal is printed
 same_refusal : (m : List ℕ) (r : load.Refusal Text) → load_refused m (refusal_as print_from r) ≡ load_refused m r

@@ -6,10 +6,10 @@ use Rattle.ob_compile.specs.Compiling.{Compiled}
 use Rattle.ob_lines.specs.Lines.{done_lines}
 use Rattle.ob_words.specs.declared.asked.Settings.{Settings}
 use Rattle.ob_pieces.specs.Reading.{ended}
-use Rattle.ob_bytes.specs.Folds.{text_from}
-use Rattle.ob_bytes.specs.Bytes as bytes
-use Rattle.ob_bytes.specs.Session as session
-use Rattle.ob_bytes.specs.Session.{Ends}
+use Rattle.ob_ages.specs.Folds.{text_from}
+use Rattle.ob_ages.specs.Bytes as bytes
+use Rattle.ob_ages.specs.Session as session
+use Rattle.ob_ages.specs.Session.{Ends}
 use Rattle.ob_ages.specs.Builds.{Text, Build, IsValid}
 use Rattle.ob_ages.specs.Library.{Library}
 use Rattle.ob_ages.specs.Model.{start, answer}

@@ -20,8 +20,8 @@ use Rattle.ob_lines.specs.Lines as line
 use Rattle.ob_lines.specs.Lines.{Line}
 use Rattle.ob_words.specs.declared.asked.Settings.{Settings}
 use Rattle.ob_printing.specs.Texts.{refused, compile_refused, load_refused, report, stops, demo_text, unknown_text, no_interface, too_long, damaged}
-use Rattle.ob_bytes.specs.Folds.{Answer}
-use Rattle.ob_bytes.specs.Files.{SymFile, IsMissing, IsLong, IsDamaged, IsOf, sym_file, stood}
+use Rattle.ob_ages.specs.Folds.{Answer}
+use Rattle.ob_ages.specs.Files.{SymFile, IsMissing, IsLong, IsDamaged, IsOf, sym_file, stood}
 
 -- What a session keeps: the files of the folder, the loaded files in their order, the words of the three areas, and the next free
 -- word of the heap.

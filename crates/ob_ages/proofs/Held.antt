@@ -4,11 +4,11 @@ use Rattle.ob_env.specs.Faces.{described}
 use Rattle.ob_compile.specs.Compiling.{exports_of, interface_by, texts}
 use Rattle.ob_planned.proofs.Fitting.{names_spelled}
 use Rattle.ob_ages.specs.Laws.{BuildsAreWritten}
-use Rattle.ob_loads.specs.Loads.{BuildsAreSaid}
+use Rattle.ob_ages.specs.Loads.{BuildsAreSaid}
 use Rattle.ob_ages.proofs.Whole.{holds, fronts_so}
-use Rattle.ob_kept.proofs.Law.{kept_compiles_alike}
-use Rattle.ob_loads.proofs.Law.{loads_so}
-use Rattle.ob_headline.specs.Holds.{IsTold, BuildsAreTold, HeadlineHolds, LinesHold}
+use Rattle.ob_ages.proofs.CompileLaw.{kept_compiles_alike}
+use Rattle.ob_ages.proofs.LoadLaw.{loads_so}
+use Rattle.ob_ages.specs.Holds.{IsTold, BuildsAreTold, HeadlineHolds, LinesHold}
 
 -- the names of exported procedures are identifiers, since the object file has a spelling
 said_by : BuildsAreWritten → BuildsAreTold → BuildsAreSaid

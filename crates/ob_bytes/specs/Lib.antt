@@ -1,4 +1,0 @@
-pub mod Folds
-pub mod Files
-pub mod Bytes
-pub mod Session

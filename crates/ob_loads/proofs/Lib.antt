@@ -1,4 +1,0 @@
-pub mod Entries
-pub mod Known
-pub mod Gone
-pub mod Law
