@@ -1,8 +1,6 @@
 -- The headline of a session, from what is said of builds.
-use Rattle.std.specs.Prelude.{◌≡◌, ℕ, ◌≤◌, List, ◌++◌, map, bytes_eq}
-use Rattle.std.specs.List.{IsDistinct}
+use Rattle.std.specs.Prelude.{◌≡◌, ℕ, ◌≤◌, List, ◌++◌}
 use Rattle.ob_link.specs.Files.{Files}
-use Rattle.ob_compile.specs.Compiling.{Compiled}
 use Rattle.ob_lines.specs.Lines.{done_lines}
 use Rattle.ob_words.specs.declared.asked.Settings.{Settings}
 use Rattle.ob_pieces.specs.Reading.{ended}
@@ -10,21 +8,11 @@ use Rattle.ob_ages.specs.Folds.{text_from}
 use Rattle.ob_ages.specs.Bytes as bytes
 use Rattle.ob_ages.specs.Session as session
 use Rattle.ob_ages.specs.Session.{Ends}
-use Rattle.ob_ages.specs.Builds.{Text, Build, IsValid}
 use Rattle.ob_ages.specs.Library.{Library}
 use Rattle.ob_ages.specs.Model.{start, answer}
 use Rattle.ob_ages.specs.Laws.{AreSettings, Locality, Simulation, BuildsAreWritten}
 use Rattle.ob_ages.specs.Headline.{Headline, Stands}
-use Rattle.ob_planned.specs.Compiled.{AreLinksUsed}
-
--- What the rules and the code say of a module that compiles: the names of its procedures are different, and its links name what it
--- uses.
-pub record IsTold (c : Compiled Text) : Type 0 where
-  pub names : IsDistinct bytes_eq (map (λ p. p.name) c.tree.procedures)
-  pub links : AreLinksUsed c
-
-abbrev pub BuildsAreTold : Type 0
-BuildsAreTold = (b : Build) (c : Compiled Text) → IsValid b c → IsTold c
+use Rattle.ob_ages.specs.Loads.{BuildsAreSaid}
 
 -- WHAT IS TAKEN FOR GRANTED: laws of builds, that speak of no session and no folder
 pub record Promises : Type 0 where
@@ -35,7 +23,7 @@ pub record Promises : Type 0 where
   -- what is written of a build has a spelling
   pub written : BuildsAreWritten
   -- the procedures of a module that compiles are named apart, and its links name what it uses
-  pub said : BuildsAreTold
+  pub said : BuildsAreSaid
 
 -- with accepted words the status is 0, 1 or 3 to 7
 abbrev pub HeadlineHolds : Type 0
