@@ -15,7 +15,7 @@ ghost use Rattle.ob_cbound.specs.Told.{at_notes, Told, left_pointers, base_judge
 
 use ob_cname::{is_array, is_held, is_record};
 use ob_known::{Imports, Scope, Stack};
-use ob_rules::{Later, Notebook};
+use ob_rules::{Later, Notebook, Surroundings};
 use ob_types::{TypeRef, Types, target_within};
 use std::alloc::{AllocError, Global};
 
@@ -43,12 +43,19 @@ fn pointer_name(left: &Later) -> &[u8]
     }
 }
 
-fn own_name<'a, E: Imports>(_scope: &Scope<'_, E>, t: &'a TypeRef) -> &'a [u8]
-    ensures { result.now ≡ spec.own_name (around_of E.types _scope.now) t.now }
+// The name of a type of this module; none of another module's.
+fn own_name<'a, E: Imports>(scope: &Scope<'_, E>, t: &'a TypeRef) -> &'a [u8]
+    ensures { result.now ≡ spec.own_name (around_of E.types scope.now) t.now }
 {
     match t {
         TypeRef::Basic(_) => b"".as_slice(),
-        TypeRef::Named(name) => name.object.as_bytes(),
+        TypeRef::Named(name) => {
+            if name.module.as_bytes() == scope.unit().as_bytes() {
+                name.object.as_bytes()
+            } else {
+                b"".as_slice()
+            }
+        }
     }
 }
 

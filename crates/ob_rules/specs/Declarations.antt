@@ -1,5 +1,5 @@
 -- Declarations in their order, the procedures behind them, and modules.
-use Rattle.std.specs.Prelude.{ℕ, zero, suc, ◌+◌, ◌==◌, Bool, true, false, not, ◌&&◌, ◌||◌, List, [], ◌∷◌, ◌++◌, length, drop, map, Option, Some, None, is_some, codes, bytes_eq}
+use Rattle.std.specs.Prelude.{ℕ, zero, suc, ◌+◌, ◌==◌, Bool, true, false, not, ◌&&◌, ◌||◌, List, [], ◌∷◌, ◌++◌, length, drop, map, Option, Some, None, is_some, codes, bytes_eq, cond}
 use Rattle.std.specs.List.{list_any, find, filter, filter_map, flat_map}
 use Rattle.ob_types.specs.Tests.{target}
 use Rattle.ob_tree.specs.declared.pos.Pos.{Pos}
@@ -249,9 +249,10 @@ abbrev pub pointer_name : Later → List ℕ
 pointer_name (later.PointsTo x at t inline) = x
 pointer_name (later.Inherits x t) = []
 
+-- the name of a type of this module; none of another module's
 abbrev pub own_name : Around → TypeRef → List ℕ
 own_name u (ref.Basic b) = []
-own_name u (ref.Named q) = q.object
+own_name u (ref.Named q) = cond (bytes_eq q.«module» u.unit) q.object []
 
 -- what the base stands for
 abbrev pub base_name : Around → Later → List ℕ
