@@ -25,3 +25,8 @@ pub mod Reading
 pub mod RuleNames
 pub mod RuleTypes
 pub mod RuleWritten
+pub mod RuleHeads
+pub mod RuleBlocks
+pub mod Walked
+pub mod Imports
+pub mod Compiled

@@ -4,6 +4,7 @@ use Rattle.std.specs.Prelude.{◌&&◌, ◌||◌, ◌/◌, ◌%◌, ◌==◌, if
 use Rattle.std.specs.Fmt.{digit_glyph, digits_onto, digits, signed_decimal}
 use Rattle.std.specs.List.{list_all, list_any, find, AllByRecursion}
 use Rattle.std.specs.Char.{is_ascii_alphabetic, is_ascii_alphanumeric}
+use Rattle.std.specs.Int.{is_in_range}
 use Rattle.std.proofs.lemmas.Bool.{false≢true, and_parts}
 use Rattle.std.proofs.lemmas.Slice.Eq.{bytes_eq-Decides}
 use Rattle.ob_tree.specs.declared.pos.Pos.{Pos}
@@ -61,7 +62,7 @@ pub object_bytes : (x : List ℕ) → is_object x ≡ true → AreBytes x
 object_bytes [] h = absurd (false≢true h)
 object_bytes (c ∷ x) h =
     let p = and_parts (is_ascii_alphabetic c) (list_all is_object_byte x) h in
-    both_true (is_object_byte c) (list_all is_object_byte x) (first_or (is_ascii_alphanumeric c) _ (turned _ _ _ p.0)) p.1
+    both_true (is_object_byte c) (list_all is_object_byte x) (first_or (is_ascii_alphanumeric c) _ (turned (is_in_range 48 57 c) (is_in_range 65 90 c) (is_in_range 97 122 c) p.0)) p.1
 
 digit_few : (n : ℕ) → n < 10 → is_object_byte (digit_glyph false n) ≡ true
 digit_few zero h = refl
@@ -98,10 +99,10 @@ pub element_object : (n : List ℕ) → is_object n ≡ true → is_object (elem
 element_object n h = object_more n (codes "[") h refl
 
 pub field_object : (n f : List ℕ) → is_object n ≡ true → AreBytes f → is_object (field_name n f) ≡ true
-field_object n f h k = object_more n (codes "." ++ f) h (bytes_both (codes ".") f refl k)
+field_object n f h k = object_more (n ++ codes ".") f (object_more n (codes ".") h refl) k
 
 pub section_object : (n : List ℕ) (i : ℕ) → is_object n ≡ true → is_object (section_name n i) ≡ true
-section_object n i h = object_more n (codes "(" ++ signed_decimal (pos i)) h (bytes_both (codes "(") (signed_decimal (pos i)) refl (number_bytes i))
+section_object n i h = object_more (n ++ codes "(") (signed_decimal (pos i)) (object_more n (codes "(") h refl) (number_bytes i)
 
 -- ---- what is known by a name
 

@@ -1,4 +1,34 @@
 -- The laws of what is written of a module that compiles.
+--
+-- FACE.FITS, one conjunct a line, and where it comes from:
+--   name, imports named      identifiers of the text (Raw.IsNamedTree, from the scanner), kept by the rules (Ruled)
+--   at most 64 imports       most_imports, a refusal of `compiled`
+--   imports rise, Out and    sorted where they are written; each once, none of these two: `imported` leaves out what is repeated and
+--   SYSTEM not among them    Out, SYSTEM breaks rule 5
+--   objects rise             sorted where they are written, one for each name (first found)
+--   at most 4,096 objects    limit objects (`exceeds`)
+--   names of objects         identifiers, and for types the way to them: shorter than 2^16 (Seen.short)
+--   shape of an object       names and references of types: Ruled. Values: characters below 256, INTEGER in 32 bits, strings of bytes
+--                            (Seen.constants); array lengths from 1 to 2^31 - 1 (Seen.lengths, TypeNames); members rise: laid out so
+--   layout of an object      words and numbers below 2^31: limits words and procedures, laid out so
+--   texts below 2^32         limit face of `exceeds` (a symbol file's bytes)
+--   prints                   of these texts, by definition
+--   uses rise, their names   sorted where they are written; identifiers of described objects: interfaces against which it compiles are
+--                            spelled
+-- FILE.FITS:
+--   head                     as of the face; at most 4,096 different names of exports: limit objects
+--   globals                  words of variables and strings at most 262,144: limit globals; a string is shorter than its words: it has
+--                            room for its 0X; variables rise and their places are below the words
+--   links                    names of other modules and their objects (Coded.OtherNames, RecordIsCoded); each list below 2^32 by limit
+--                            code: one for an instruction at most
+--   record types             rise by name: sorted, names differ (Seen.differ); words and numbers by limits; a base stands before
+--                            (Seen.bases); definitions rise, numbers below the count (Seen.numbers)
+--   procedures               at most 4,096: limit procedures; slots within the limit frame; entries within the code; the body is first
+--   commands                 rise, as the exported procedures do; their indices are of procedures
+--   code                     at most 262,144: limit code; operands in 32 bits (Coded: constants, labels, numbers; layout: places, words)
+--   positions                line and column below 2^32 (Coded.PosFits; a source is at most most_source bytes); just where has_position
+--                            says: of the code scheme; EXIT stands in a LOOP (Coded.StmtIsCoded)
+-- No conjunct was found false of a valid build.
 use Rattle.std.specs.Prelude.{◌≡◌, ℕ, List, None, Option, Ok}
 use Rattle.std.specs.List.{AllByRecursion}
 use Rattle.ob_sym.specs.Grammar.{face}

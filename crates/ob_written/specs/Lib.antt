@@ -5,3 +5,4 @@ pub mod Files
 pub mod Raw
 pub mod Ruled
 pub mod Laws
+pub mod Seen
