@@ -1,5 +1,5 @@
 -- What compiles is written.
-use Rattle.std.proofs.Common.{◌≡◌, ℕ, ◌≤◌, ◌<◌, ◌^◌, Bool, true, false, cond, List, [], ◌∷◌, ◌++◌, length, map, Option, Some, None, Result, Ok, Err, refl, sym, ap, subst, ◌∙◌}
+use Rattle.std.proofs.Common.{◌≡◌, ℕ, ◌≤◌, ◌<◌, ◌^◌, Bool, true, false, cond, List, [], ◌∷◌, length, map, Option, Some, None, Result, Ok, Err, refl, sym, ap, subst}
 use Rattle.std.specs.Prelude.{nat_le, bytes_eq}
 use Rattle.std.specs.List.{AllByRecursion, IsDistinct}
 use Rattle.std.specs.Option.{option_map}
@@ -12,37 +12,35 @@ use Rattle.ob_types.specs.declared.types.TypeRef.TheVariants as ref
 use Rattle.ob_types.specs.declared.desc.Desc.{Desc}
 use Rattle.ob_types.specs.declared.desc.Desc.TheVariants as desc
 use Rattle.ob_types.specs.declared.typed.TypedType.{TypedType}
-use Rattle.ob_types.specs.declared.typed.TypedConstant.{TypedConstant}
 use Rattle.ob_types.specs.declared.typed.TypedParameter.{TypedParameter}
 use Rattle.ob_types.specs.declared.typed.TypedProcedure.{TypedProcedure}
 use Rattle.ob_types.specs.declared.typed.TypedModule.{TypedModule}
-use Rattle.ob_types.specs.TypedSyntax.{Procedure, Module}
+use Rattle.ob_types.specs.TypedSyntax.{Module}
 use Rattle.ob_types.specs.TypedView.{procedure_view, module_view}
 use Rattle.ob_format.specs.Format.{◌>>=◌, text16}
-use Rattle.ob_format.specs.Names.{name, object_name, is_object}
-use Rattle.ob_desc.specs.Grammar.{type_fits, value_fits, param, signature}
+use Rattle.ob_format.specs.Names.{name, object_name}
+use Rattle.ob_desc.specs.Grammar.{type_fits, value_fits, param}
 use Rattle.ob_rules.specs.declared.broken.Broken.{Broken as BrokenRule}
 use Rattle.ob_rules.specs.Declarations.{Part, declaration, imports_declared, around_module, module_of, typed_module, if_unbroken, imported, first_break, checked}
 use Rattle.ob_rules.specs.Statements.{judging}
-use Rattle.ob_layout.specs.LaidOut.{is_own, laid_desc, laid_type, laid_out, viewed}
+use Rattle.ob_layout.specs.LaidOut.{laid_type, laid_out, viewed}
 use Rattle.ob_env.specs.Faces.{Face, object_named, face_named, described}
 use Rattle.ob_env.specs.Fit.{first_unfit}
 use Rattle.ob_env.specs.Stale.{StaleUse, first_stale}
-use Rattle.ob_env.specs.Answer.{Standing, Stands, Stale, Unfit, if_fit, if_coherent, standing}
+use Rattle.ob_env.specs.Answer.{if_fit, if_coherent, standing}
 use Rattle.ob_env.specs.Shown.{blank, shown}
 use Rattle.ob_walk.specs.Walk.{Entry, Walked, Left, NoInterface, Damaged, Cycle, TooMany, walk}
-use Rattle.ob_walk.specs.Answer.{Reached, Stopped, Whole, after_walk, env_answer}
+use Rattle.ob_walk.specs.Answer.{after_walk, env_answer}
 use Rattle.ob_reading.specs.Reading.{NoModule, reading}
-use Rattle.ob_uses.specs.Objects.{formal_of, signature_of, is_exported}
-use Rattle.ob_compile.specs.Compiling.{texts, Refusal, Compiled, exceeds, within, made, of_checked, of_break, by_rules, and_limits, is_deep, unless_deep, of_faces, of_standing, of_reached, most_imports, of_few, of_tree, of_reading, most_source, of_short, compiled, imported as imported_name}
-use Rattle.ob_written.specs.Trees.{IsNamed, TypeIsSpelled, TypedTypeIsSpelled, ConstantIsSpelled, VariableIsSpelled, ProcedureIsSpelled, AreImports, IsSpelledTree}
-use Rattle.ob_written.specs.Files.{IsCodedTree}
+use Rattle.ob_uses.specs.Objects.{formal_of, is_exported}
+use Rattle.ob_compile.specs.Compiling.{texts, Compiled, exceeds, within, of_checked, of_break, by_rules, and_limits, is_deep, unless_deep, of_standing, of_reached, most_imports, of_few, of_reading, most_source, of_short, compiled, imported as imported_name}
+use Rattle.ob_written.specs.Trees.{IsNamed, TypeIsSpelled, TypedTypeIsSpelled, ProcedureIsSpelled, AreImports}
 use Rattle.ob_written.specs.Raw.{IsNamedTree}
-use Rattle.ob_written.specs.Ruled.{TypeNames, TypeOk, ShownOk, ConstantNamed, ProcedureTypes, ModuleOk}
+use Rattle.ob_written.specs.Ruled.{TypeNames, TypeOk, ShownOk, ConstantNamed, ProcedureTypes}
 use Rattle.ob_written.specs.Laws.{Text, IsSpelled, compiled_from, IsBuilt, IsWritten}
 use Rattle.ob_written.specs.Seen.{AreNamedEntries, LengthFits, IsSeen, CompiledAreWritten}
-use Rattle.ob_written.proofs.Lists.{all_map, all_each, both_all}
-use Rattle.ob_written.proofs.Names.{described_fits, is_named_of, is_object_of, FaceFound, face_found}
+use Rattle.ob_written.proofs.Lists.{all_map, both_all}
+use Rattle.ob_written.proofs.Names.{described_fits, is_named_of, is_object_of}
 use Rattle.ob_written.proofs.Limits.{within as limits_of}
 use Rattle.ob_written.proofs.File.{modules_written}
 use Rattle.ob_written.proofs.Words.{words_few}

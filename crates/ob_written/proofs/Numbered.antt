@@ -1,13 +1,12 @@
 -- What lines that have a spelling come to: instructions, positions, strings and links that have one.
-use Rattle.std.proofs.Common.{◌≡◌, ℕ, zero, suc, ◌+◌, ◌<◌, ◌≤◌, ◌^◌, Bool, true, false, List, [], ◌∷◌, ◌++◌, length, Option, Some, None, refl, sym, ap, subst, ◌∙◌, arith, length-append}
-use Rattle.std.specs.Prelude.{ℤ, pos, if◌then◌else◌, ◌&&◌, nat_eq, is_some, IfSome, FitsSigned}
+use Rattle.std.proofs.Common.{◌≡◌, ℕ, suc, ◌+◌, ◌<◌, ◌≤◌, ◌^◌, Bool, true, false, List, [], ◌∷◌, ◌++◌, length, Option, Some, None, refl, sym, ap, subst, ◌∙◌, arith}
+use Rattle.std.specs.Prelude.{pos, if◌then◌else◌, ◌&&◌, nat_eq, is_some, IfSome, FitsSigned}
 use Rattle.std.specs.Int.{w32}
 use Rattle.std.specs.List.{AllByRecursion}
 use Rattle.ob_tree.specs.declared.pos.Pos.{Pos}
 use Rattle.ob_tree.specs.declared.names.QName.{QName}
 use Rattle.ob_format.specs.Format.{int, text32, word32}
 use Rattle.ob_format.specs.Names.{name, object_name, qname}
-use Rattle.ob_instr.specs.declared.instr.Instr.{Instr}
 use Rattle.ob_instr.specs.declared.procedure.Position.{Position}
 use Rattle.ob_instr.specs.Spelling.{instr, opcode}
 use Rattle.ob_instr.specs.Parts.{position}
@@ -134,8 +133,8 @@ pub are_there : (n : Named) (pc : ℕ) (ls : List Line) → LinesFit pc ls → a
 are_there n pc [] h = refl
 are_there n pc (l ∷ ls) h =
     let more : are_placed (pc + 1) (instrs_in (with_line n l) ls) (positions_at (suc pc) ls) ≡ true =
-      let same : suc pc ≡ pc + 1 = omega arith in
-      ap (λ k. are_placed k (instrs_in (with_line n l) ls) (positions_at (suc pc) ls)) (sym same) ∙ are_there (with_line n l) (suc pc) ls h.1 in
+    let same : suc pc ≡ pc + 1 = omega arith in
+    ap (λ k. are_placed k (instrs_in (with_line n l) ls) (positions_at (suc pc) ls)) (sym same) ∙ are_there (with_line n l) (suc pc) ls h.1 in
     go l.at (h.0.placed n) more
   where
     go : (o : Option Pos) → has_position pc (instr_in n l) ≡ is_some o → are_placed (pc + 1) (instrs_in (with_line n l) ls) (positions_at (suc pc) ls) ≡ true → are_placed pc (instr_in n l ∷ instrs_in (with_line n l) ls) (with_position o pc (positions_at (suc pc) ls)) ≡ true

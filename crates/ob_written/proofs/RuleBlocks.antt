@@ -1,6 +1,6 @@
 -- Declarations in their order, procedures, and modules: names and types that have a spelling.
-use Rattle.std.proofs.Common.{◌≡◌, ℕ, Bool, true, false, cond, List, [], ◌∷◌, ◌++◌, map, Option, Some, None, refl, sym, ap, subst, ◌∙◌, codes}
-use Rattle.std.specs.Prelude.{bytes_eq, ◌&&◌, IfSome}
+use Rattle.std.proofs.Common.{◌≡◌, ℕ, Bool, true, false, List, [], ◌∷◌, ◌++◌, map, Option, Some, None, refl, sym, subst, ◌∙◌, codes}
+use Rattle.std.specs.Prelude.{bytes_eq}
 use Rattle.std.specs.List.{AllByRecursion, cons_option, find, filter_map}
 use Rattle.std.proofs.lemmas.Bool.{false≢true, and_parts}
 use Rattle.ob_tree.specs.declared.names.QName.{QName}
@@ -12,14 +12,11 @@ use Rattle.ob_tree.specs.declared.ident.Qualident.{Qualident}
 use Rattle.ob_tree.specs.declared.decl.Decl.{Decl, roll-Decl, map-Decl}
 use Rattle.ob_tree.specs.declared.decl.Decl.TheOpen.{Decl-F}
 use Rattle.ob_tree.specs.declared.decl.Decl.TheFolds.{ind-Decl, fold-roll-Decl}
-use Rattle.ob_tree.specs.declared.decl.Module.{Module as Tree}
-use Rattle.ob_types.specs.declared.types.TypeRef.TheVariants as ref
 use Rattle.ob_types.specs.declared.desc.Desc.{Desc}
 use Rattle.ob_types.specs.declared.desc.Receiver.{Receiver}
 use Rattle.ob_types.specs.declared.desc.Receiver.TheVariants as receiver
 use Rattle.ob_types.specs.declared.value.Value.{Value}
 use Rattle.ob_types.specs.declared.typed.TypedType.{TypedType}
-use Rattle.ob_types.specs.declared.typed.TypedParameter.{TypedParameter}
 use Rattle.ob_types.specs.declared.typed.TypedModule.{TypedModule}
 use Rattle.ob_format.specs.Names.{is_object}
 use Rattle.ob_desc.specs.Grammar.{type_fits}
@@ -29,20 +26,20 @@ use Rattle.ob_rules.specs.declared.broken.Broken.{Broken}
 use Rattle.ob_rules.specs.declared.notes.Later.{Later}
 use Rattle.ob_rules.specs.Judged.{Judged, sound, both, ◌▷◌}
 use Rattle.ob_rules.specs.Shapes.{Map}
-use Rattle.ob_rules.specs.Names.{Around, map_of, in_unit, found_in_scope, predeclared}
+use Rattle.ob_rules.specs.Names.{Around, map_of, found_in_scope, predeclared}
 use Rattle.ob_rules.specs.Expressions.{phrase_of, constant_value}
 use Rattle.ob_rules.specs.Phrases.{Phrase}
 use Rattle.ob_rules.specs.Types.{Parameters, Typing, Written, written, is_module_level, marked, with_types}
 use Rattle.ob_rules.specs.Statements.{Judging, judging}
-use Rattle.ob_rules.specs.Headings.{BoundAs, Head, Heads, Binding, self_by, self_parameter, add_heading, heading_of, reversed, mark_or_hidden}
-use Rattle.ob_rules.specs.Declarations.{Contents, no_contents, together, Part, Declared, declare_if, declare, constant_contents, constant_entity, no_nil, constant_declared, equated, typing_as, types_made, type_entity, type_declared, variable_of, variable_entity, variable_contents, paired_typing, first_name, variables_with, made_in, variables_typed, variables_declared, Written_procedure, Declaration, Plain, Procedure, plain_of, procedure_of, type_name_of, in_order, headings_in_order, around_body, self_parameters, typed_procedure, types_of_head, procedure_contents, procedure_judged, procedures_judged, block_inside, with_bound, binding_at, block_bound, heads_later, block_headed, block_declared, block, decl_rule, declaration, import_entity, import_declared, target_of, is_system, imports_declared, around_module, module_of, described, all_described, typed_module, if_unbroken}
-use Rattle.ob_described.proofs.Nodes.{IfThere, Has, all_both, then_has, second_has}
+use Rattle.ob_rules.specs.Headings.{BoundAs, Head, Heads, Binding, self_by, add_heading, reversed, mark_or_hidden}
+use Rattle.ob_rules.specs.Declarations.{Contents, no_contents, together, Part, Declared, declare_if, declare, constant_contents, constant_entity, no_nil, constant_declared, equated, typing_as, types_made, type_entity, type_declared, variable_entity, variable_contents, paired_typing, first_name, variables_with, made_in, variables_typed, variables_declared, Written_procedure, Declaration, Plain, Procedure, plain_of, procedure_of, type_name_of, in_order, headings_in_order, around_body, self_parameters, typed_procedure, types_of_head, procedure_contents, procedure_judged, procedures_judged, block_inside, with_bound, binding_at, block_bound, heads_later, block_headed, block_declared, block, decl_rule, declaration, import_entity, import_declared, target_of, is_system, imports_declared, around_module, module_of, described, all_described, typed_module, if_unbroken}
+use Rattle.ob_described.proofs.Nodes.{IfThere, all_both, then_has, second_has}
 use Rattle.ob_written.specs.Trees.{IsNamed, VariableIsSpelled}
-use Rattle.ob_written.specs.Raw.{all_true, is_named, all_named, are_named, type_named, parameters_named, heading_named, decl_layer, decl_named, IsNamedTree}
-use Rattle.ob_written.specs.Ruled.{TypeNames, TypeOk, EntityOk, KnownOk, ShownOk, AroundOk, ConstantNamed, ProcedureTypes, ModuleOk, ModulesAreNamed}
+use Rattle.ob_written.specs.Raw.{all_true, is_named, all_named, are_named, type_named, parameters_named, heading_named, decl_layer, decl_named}
+use Rattle.ob_written.specs.Ruled.{TypeOk, EntityOk, KnownOk, ShownOk, AroundOk, ConstantNamed, ProcedureTypes, ModuleOk, ModulesAreNamed}
 use Rattle.ob_written.proofs.Names.{named_object}
 use Rattle.ob_written.proofs.RuleNames.{object_more, object_bytes, find_all}
-use Rattle.ob_written.proofs.RuleTypes.{AreOk, TypingOk, HasTyping, IsOk, AreOkSections, typed_around, ParametersOk}
+use Rattle.ob_written.proofs.RuleTypes.{AreOk, TypingOk, HasTyping, IsOk, typed_around, ParametersOk}
 use Rattle.ob_written.proofs.RuleWritten.{written_ok, written_parameters_ok}
 use Rattle.ob_written.proofs.RuleHeads.{BoundOk, HeadingOk, HeadOk, AreOkHeads, HeadsOk, add_ok, reversed_ok, bindings_ok}
 
@@ -324,15 +321,15 @@ decl_cases (Decl-F.Constant d x) = layer (Decl-F.Constant d x) (λ e. (tt, const
 decl_cases (Decl-F.NamedType d n) = layer (Decl-F.NamedType d n) (λ e. let p = and_parts (is_named d) (type_named n) e in (p.0, type_ok d (written n) p.0 (written_ok n p.1)))
 decl_cases (Decl-F.Variables ds n) = layer (Decl-F.Variables ds n) (λ e. let p = and_parts (are_named ds) (type_named n) e in (tt, variables_declared_ok ds (written n) p.0 (written_ok n p.1)))
 decl_cases (Decl-F.Procedure h ds body closing) = layer (Decl-F.Procedure h (map (λ (x : SD). x.0) ds) body closing) (λ e.
-  let p = and_parts (heading_named h) (all_true (map decl_named (map (λ (x : SD). x.0) ds))) e in
-  let q = and_parts (is_named h.name) (parameters_named h.parameters) p.0 in
-  record {
-    heading = record { name = q.0; parameters = written_parameters_ok h.parameters q.1 };
-    inside = λ u a. block_ok (map declaration (map (λ (x : SD). x.0) ds)) (all_of ds p.1) (map judging body) u a;
-  })
+    let p = and_parts (heading_named h) (all_true (map decl_named (map (λ (x : SD). x.0) ds))) e in
+    let q = and_parts (is_named h.name) (parameters_named h.parameters) p.0 in
+    record {
+      heading = record { name = q.0; parameters = written_parameters_ok h.parameters q.1 };
+      inside = λ u a. block_ok (map declaration (map (λ (x : SD). x.0) ds)) (all_of ds p.1) (map judging body) u a;
+    })
 decl_cases (Decl-F.Forward h) = layer (Decl-F.Forward h) (λ e.
-  let q = and_parts (is_named h.name) (parameters_named h.parameters) e in
-  record { heading = record { name = q.0; parameters = written_parameters_ok h.parameters q.1 }; inside = λ u a. ok_none })
+    let q = and_parts (is_named h.name) (parameters_named h.parameters) e in
+    record { heading = record { name = q.0; parameters = written_parameters_ok h.parameters q.1 }; inside = λ u a. ok_none })
 
 decl_ok : (x : Decl) → PD x
 decl_ok = ind-Decl PD (λ x y is. subst (λ z. PD (roll-Decl z)) is (decl_cases y))
