@@ -4,7 +4,6 @@
 ghost use Rattle.std.specs.Prelude.{◌≡◌, [], IfOk, OnOk, map};
 ghost use Rattle.std.specs.Option.{option_map};
 ghost use Rattle.ob_rules.specs.Books.{book_after};
-ghost use Rattle.ob_rules.specs.Expressions as exprs;
 ghost use Rattle.ob_rules.specs.Statements as spec;
 ghost use Rattle.ob_cparts.specs.Seen.{branches_in, cases_in, else_in, stmt_in, stmts_in};
 
@@ -22,7 +21,7 @@ use ob_cparts::{
     with_made, with_stmts,
 };
 use ob_rules::{Notebook, Selects, Surroundings};
-use ob_tree::{Branch, Case, Expr, GuardedBranch, Ident, List, Pos, Stmt};
+use ob_tree::{Branch, Case, GuardedBranch, List, Pos, Stmt};
 use ob_trees::{BranchTrees, CaseTrees, StmtTree, StmtTrees};
 use ob_types::{TypeRef, Variable};
 use std::alloc::{AllocError, Global};
@@ -74,8 +73,9 @@ fn check_stmt<S: Surroundings>(
             otherwise,
             ..
         } => {
-            let made = check_if(alloc, here, book, branches.as_slice(), otherwise)?;
-            alone(alloc, made)
+            let branches = check_branches(alloc, here, book, branches.as_slice())?;
+            let otherwise = check_otherwise(alloc, here, book, otherwise)?;
+            alone(alloc, if_made(alloc, branches, otherwise))
         }
         Stmt::Case {
             pos,
@@ -83,16 +83,21 @@ fn check_stmt<S: Surroundings>(
             cases,
             otherwise,
         } => {
-            let made = check_case(alloc, here, book, *pos, value, cases.as_slice(), otherwise)?;
-            alone(alloc, made)
+            let value = case_value(alloc, here, book, value)?;
+            let selects = selects_if(types(here), value.as_ref());
+            let cases = check_cases(alloc, here, book, cases.as_slice(), selects)?;
+            let otherwise = check_otherwise(alloc, here, book, otherwise)?;
+            alone(alloc, case_made(*pos, value, cases, otherwise))
         }
         Stmt::While { pos, test, body } => {
-            let made = check_while(alloc, here, book, *pos, test, body.as_slice())?;
-            alone(alloc, made)
+            let tested = condition(alloc, here, book, test)?;
+            let repeated = check_stmts(alloc, here, book, body.as_slice())?;
+            alone(alloc, while_made(*pos, tested, repeated))
         }
         Stmt::Repeat { pos, body, test } => {
-            let made = check_repeat(alloc, here, book, *pos, body.as_slice(), test)?;
-            alone(alloc, made)
+            let repeated = check_stmts(alloc, here, book, body.as_slice())?;
+            let tested = condition(alloc, here, book, test)?;
+            alone(alloc, repeat_made(*pos, repeated, tested))
         }
         Stmt::For {
             pos,
@@ -102,18 +107,15 @@ fn check_stmt<S: Surroundings>(
             step,
             body,
         } => {
-            let made = check_for(
+            let place = for_variable(alloc, here, book, *pos, variable)?;
+            let first = check_bound(alloc, here, book, *pos, place.as_ref(), start)?;
+            let last = check_bound(alloc, here, book, *pos, place.as_ref(), end)?;
+            let by = check_step_if(alloc, here, book, *pos, step)?;
+            let repeated = check_stmts(alloc, here, book, body.as_slice())?;
+            alone(
                 alloc,
-                here,
-                book,
-                *pos,
-                variable,
-                start,
-                end,
-                step,
-                body.as_slice(),
-            )?;
-            alone(alloc, made)
+                for_if(types(here), *pos, place, first, last, by, repeated),
+            )
         }
         Stmt::Loop { pos, body } => {
             let made = check_loop(alloc, here, book, body.as_slice(), *pos)?;
@@ -129,132 +131,11 @@ fn check_stmt<S: Surroundings>(
             branches,
             otherwise,
         } => {
-            let made = check_with(alloc, here, book, *pos, branches.as_slice(), otherwise)?;
-            alone(alloc, made)
+            let branches = check_guarded(alloc, here, book, branches.as_slice())?;
+            let otherwise = check_otherwise(alloc, here, book, otherwise)?;
+            alone(alloc, with_made(*pos, branches, otherwise))
         }
     }
-}
-
-// IF.
-#[cycle(walk)]
-fn check_if<S: Surroundings>(
-    alloc: Global,
-    here: &mut S,
-    book: &mut Notebook,
-    branches: &[Branch],
-    otherwise: &Option<List<Stmt>>,
-) -> Result<Option<StmtTree>, AllocError>
-    ensures made { IfOk result (λ r. stmt_in r ≡ (spec.if_statement (map spec.conditional_of branches.now) (option_map (λ b. map spec.judging b) otherwise.now) (S.around here.old)).node) }
-    ensures noted { OnOk result (book.new ≡ book_after book.old (spec.if_statement (map spec.conditional_of branches.now) (option_map (λ b. map spec.judging b) otherwise.now) (S.around here.old)).notes) }
-    ensures around { OnOk result (S.around here.new ≡ S.around here.old) }
-{
-    let branches = check_branches(alloc, here, book, branches)?;
-    let otherwise = check_otherwise(alloc, here, book, otherwise)?;
-    Ok(if_made(alloc, branches, otherwise))
-}
-
-// CASE.
-#[cycle(walk)]
-fn check_case<S: Surroundings>(
-    alloc: Global,
-    here: &mut S,
-    book: &mut Notebook,
-    at: Pos,
-    value: &Expr,
-    cases: &[Case],
-    otherwise: &Option<List<Stmt>>,
-) -> Result<Option<StmtTree>, AllocError>
-    ensures made { IfOk result (λ r. stmt_in r ≡ (spec.case (S.around here.old) at (exprs.phrase_of value.now) (map spec.labelled_of cases.now) (option_map (λ b. map spec.judging b) otherwise.now)).node) }
-    ensures noted { OnOk result (book.new ≡ book_after book.old (spec.case (S.around here.old) at (exprs.phrase_of value.now) (map spec.labelled_of cases.now) (option_map (λ b. map spec.judging b) otherwise.now)).notes) }
-    ensures around { OnOk result (S.around here.new ≡ S.around here.old) }
-{
-    let value = case_value(alloc, here, book, value)?;
-    let selects = selects_if(types(here), value.as_ref());
-    let cases = check_cases(alloc, here, book, cases, selects)?;
-    let otherwise = check_otherwise(alloc, here, book, otherwise)?;
-    Ok(case_made(at, value, cases, otherwise))
-}
-
-// WHILE.
-#[cycle(walk)]
-fn check_while<S: Surroundings>(
-    alloc: Global,
-    here: &mut S,
-    book: &mut Notebook,
-    at: Pos,
-    test: &Expr,
-    body: &[Stmt],
-) -> Result<Option<StmtTree>, AllocError>
-    ensures made { IfOk result (λ r. stmt_in r ≡ (spec.while_statement at (exprs.phrase_of test.now) (map spec.judging body.now) (S.around here.old)).node) }
-    ensures noted { OnOk result (book.new ≡ book_after book.old (spec.while_statement at (exprs.phrase_of test.now) (map spec.judging body.now) (S.around here.old)).notes) }
-    ensures around { OnOk result (S.around here.new ≡ S.around here.old) }
-{
-    let tested = condition(alloc, here, book, test)?;
-    let repeated = check_stmts(alloc, here, book, body)?;
-    Ok(while_made(at, tested, repeated))
-}
-
-// REPEAT.
-#[cycle(walk)]
-fn check_repeat<S: Surroundings>(
-    alloc: Global,
-    here: &mut S,
-    book: &mut Notebook,
-    at: Pos,
-    body: &[Stmt],
-    test: &Expr,
-) -> Result<Option<StmtTree>, AllocError>
-    ensures made { IfOk result (λ r. stmt_in r ≡ (spec.repeat_statement at (map spec.judging body.now) (exprs.phrase_of test.now) (S.around here.old)).node) }
-    ensures noted { OnOk result (book.new ≡ book_after book.old (spec.repeat_statement at (map spec.judging body.now) (exprs.phrase_of test.now) (S.around here.old)).notes) }
-    ensures around { OnOk result (S.around here.new ≡ S.around here.old) }
-{
-    let repeated = check_stmts(alloc, here, book, body)?;
-    let tested = condition(alloc, here, book, test)?;
-    Ok(repeat_made(at, repeated, tested))
-}
-
-// FOR.
-#[cycle(walk)]
-fn check_for<S: Surroundings>(
-    alloc: Global,
-    here: &mut S,
-    book: &mut Notebook,
-    at: Pos,
-    variable: &Ident,
-    start: &Expr,
-    end: &Expr,
-    step: &Option<Expr>,
-    body: &[Stmt],
-) -> Result<Option<StmtTree>, AllocError>
-    ensures made { IfOk result (λ r. stmt_in r ≡ (spec.for (S.around here.old) at variable.now (exprs.phrase_of start.now) (exprs.phrase_of end.now) (spec.phrase_if step.now) (map spec.judging body.now)).node) }
-    ensures noted { OnOk result (book.new ≡ book_after book.old (spec.for (S.around here.old) at variable.now (exprs.phrase_of start.now) (exprs.phrase_of end.now) (spec.phrase_if step.now) (map spec.judging body.now)).notes) }
-    ensures around { OnOk result (S.around here.new ≡ S.around here.old) }
-{
-    let place = for_variable(alloc, here, book, at, variable)?;
-    let first = check_bound(alloc, here, book, at, place.as_ref(), start)?;
-    let last = check_bound(alloc, here, book, at, place.as_ref(), end)?;
-    let by = check_step_if(alloc, here, book, at, step)?;
-    let repeated = check_stmts(alloc, here, book, body)?;
-    Ok(for_if(types(here), at, place, first, last, by, repeated))
-}
-
-// WITH.
-#[cycle(walk)]
-fn check_with<S: Surroundings>(
-    alloc: Global,
-    here: &mut S,
-    book: &mut Notebook,
-    at: Pos,
-    branches: &[GuardedBranch],
-    otherwise: &Option<List<Stmt>>,
-) -> Result<Option<StmtTree>, AllocError>
-    ensures made { IfOk result (λ r. stmt_in r ≡ (spec.with_statement at (map spec.guarded_of branches.now) (option_map (λ b. map spec.judging b) otherwise.now) (S.around here.old)).node) }
-    ensures noted { OnOk result (book.new ≡ book_after book.old (spec.with_statement at (map spec.guarded_of branches.now) (option_map (λ b. map spec.judging b) otherwise.now) (S.around here.old)).notes) }
-    ensures around { OnOk result (S.around here.new ≡ S.around here.old) }
-{
-    let branches = check_guarded(alloc, here, book, branches)?;
-    let otherwise = check_otherwise(alloc, here, book, otherwise)?;
-    Ok(with_made(at, branches, otherwise))
 }
 
 // The statements behind ELSE, if it is there.

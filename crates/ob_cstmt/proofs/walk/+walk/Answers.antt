@@ -205,53 +205,78 @@ pub check_stmt-returns-in_ok-made-in-Return-clause-around : goal.check_stmt-retu
 check_stmt-returns-in_ok-made-in-Return-clause-around g t c =
     always c.alone-in-Return.result refl
 
-pub check_stmt-returns-in_ok-made-in-While-clause-made : goal.check_stmt-returns-in_ok-made-in-While-clause-made
-check_stmt-returns-in_ok-made-in-While-clause-made g t c =
+pub check_stmt-returns-in_ok-repeated-in-While-clause-made : goal.check_stmt-returns-in_ok-repeated-in-While-clause-made
+check_stmt-returns-in_ok-repeated-in-While-clause-made g t c =
     let u = g.S.Surroundings.around c.args.here.now in
     let whole : spec.judging c.args.stmt.now u ≡ spec.while_statement c.in-While.pos (exprs.phrase_of c.in-While.test) (map spec.judging c.as_slice-in-While.result.now) u = ap (λ y. spec.judging y u) (c.in-While.is ∙ ap (λ b. s.While c.in-While.pos c.in-While.test b) (sym c.as_slice-in-While.ensures)) ∙ judging_while c.in-While.pos c.in-While.test c.as_slice-in-While.result.now u in
-    alone_made c.alone-in-While.result _ _ c.alone-in-While.ensures (c.in_ok-made-in-While.ensures.made ∙ ap (λ j. j.node) (sym whole))
+    alone_made c.alone-in-While.result _ _ c.alone-in-While.ensures (pair_made (λ p. spec.one (typed.While p.0 p.1 c.in-While.pos)) (spec.condition u (exprs.phrase_of c.in-While.test)) (spec.in_turn (map spec.judging c.as_slice-in-While.result.now) u) _ _ _ c.in_ok-tested-in-While.ensures.made c.in_ok-repeated-in-While.ensures.made c.while_made.ensures ∙ ap (λ j. j.node) (sym whole))
 
-pub check_stmt-returns-in_ok-made-in-While-clause-noted : goal.check_stmt-returns-in_ok-made-in-While-clause-noted
-check_stmt-returns-in_ok-made-in-While-clause-noted g t c =
+pub check_stmt-returns-in_ok-repeated-in-While-clause-noted : goal.check_stmt-returns-in_ok-repeated-in-While-clause-noted
+check_stmt-returns-in_ok-repeated-in-While-clause-noted g t c =
     let u = g.S.Surroundings.around c.args.here.now in
     let whole : spec.judging c.args.stmt.now u ≡ spec.while_statement c.in-While.pos (exprs.phrase_of c.in-While.test) (map spec.judging c.as_slice-in-While.result.now) u = ap (λ y. spec.judging y u) (c.in-While.is ∙ ap (λ b. s.While c.in-While.pos c.in-While.test b) (sym c.as_slice-in-While.ensures)) ∙ judging_while c.in-While.pos c.in-While.test c.as_slice-in-While.result.now u in
-    always {P = c.check_while.new.book ≡ book_after c.args.book.now (spec.judging c.args.stmt.now u).notes} c.alone-in-While.result (c.in_ok-made-in-While.ensures.noted ∙ ap (λ j. book_after c.args.book.now j.notes) (sym whole))
+    always {P = c.check_stmts.new.book ≡ book_after c.args.book.now (spec.judging c.args.stmt.now u).notes} c.alone-in-While.result (pair_noted (λ p. typed.While p.0 p.1 c.in-While.pos ∷ []) (spec.condition u (exprs.phrase_of c.in-While.test)) (spec.in_turn (map spec.judging c.as_slice-in-While.result.now) u) c.args.book.now c.condition.new.book c.check_stmts.new.book c.in_ok-tested-in-While.ensures.noted c.in_ok-repeated-in-While.ensures.noted ∙ ap (λ j. book_after c.args.book.now j.notes) (sym whole))
 
-pub check_stmt-returns-in_ok-made-in-While-clause-around : goal.check_stmt-returns-in_ok-made-in-While-clause-around
-check_stmt-returns-in_ok-made-in-While-clause-around g t c =
-    always c.alone-in-While.result c.in_ok-made-in-While.ensures.around
+pub check_stmt-returns-in_ok-repeated-in-While-clause-around : goal.check_stmt-returns-in_ok-repeated-in-While-clause-around
+check_stmt-returns-in_ok-repeated-in-While-clause-around g t c =
+    always c.alone-in-While.result c.in_ok-repeated-in-While.ensures.around
 
-pub check_stmt-returns-in_ok-made-in-Repeat-clause-made : goal.check_stmt-returns-in_ok-made-in-Repeat-clause-made
-check_stmt-returns-in_ok-made-in-Repeat-clause-made g t c =
+pub check_stmt-returns-in_ok-tested-in-Repeat-clause-made : goal.check_stmt-returns-in_ok-tested-in-Repeat-clause-made
+check_stmt-returns-in_ok-tested-in-Repeat-clause-made g t c =
     let u = g.S.Surroundings.around c.args.here.now in
     let whole : spec.judging c.args.stmt.now u ≡ spec.repeat_statement c.in-Repeat.pos (map spec.judging c.as_slice-in-Repeat.result.now) (exprs.phrase_of c.in-Repeat.test) u = ap (λ y. spec.judging y u) (c.in-Repeat.is ∙ ap (λ b. s.Repeat c.in-Repeat.pos b c.in-Repeat.test) (sym c.as_slice-in-Repeat.ensures)) ∙ judging_repeat c.in-Repeat.pos c.as_slice-in-Repeat.result.now c.in-Repeat.test u in
-    alone_made c.alone-in-Repeat.result _ _ c.alone-in-Repeat.ensures (c.in_ok-made-in-Repeat.ensures.made ∙ ap (λ j. j.node) (sym whole))
+    alone_made c.alone-in-Repeat.result _ _ c.alone-in-Repeat.ensures (pair_made (λ p. spec.one (typed.Repeat p.0 p.1 c.in-Repeat.pos)) (spec.in_turn (map spec.judging c.as_slice-in-Repeat.result.now) u) (spec.condition u (exprs.phrase_of c.in-Repeat.test)) _ _ _ c.in_ok-repeated-in-Repeat.ensures.made (c.in_ok-tested-in-Repeat.ensures.made ∙ ap (λ y. (spec.condition y (exprs.phrase_of c.in-Repeat.test)).node) c.in_ok-repeated-in-Repeat.ensures.around) c.repeat_made.ensures ∙ ap (λ j. j.node) (sym whole))
 
-pub check_stmt-returns-in_ok-made-in-Repeat-clause-noted : goal.check_stmt-returns-in_ok-made-in-Repeat-clause-noted
-check_stmt-returns-in_ok-made-in-Repeat-clause-noted g t c =
+pub check_stmt-returns-in_ok-tested-in-Repeat-clause-noted : goal.check_stmt-returns-in_ok-tested-in-Repeat-clause-noted
+check_stmt-returns-in_ok-tested-in-Repeat-clause-noted g t c =
     let u = g.S.Surroundings.around c.args.here.now in
     let whole : spec.judging c.args.stmt.now u ≡ spec.repeat_statement c.in-Repeat.pos (map spec.judging c.as_slice-in-Repeat.result.now) (exprs.phrase_of c.in-Repeat.test) u = ap (λ y. spec.judging y u) (c.in-Repeat.is ∙ ap (λ b. s.Repeat c.in-Repeat.pos b c.in-Repeat.test) (sym c.as_slice-in-Repeat.ensures)) ∙ judging_repeat c.in-Repeat.pos c.as_slice-in-Repeat.result.now c.in-Repeat.test u in
-    always {P = c.check_repeat.new.book ≡ book_after c.args.book.now (spec.judging c.args.stmt.now u).notes} c.alone-in-Repeat.result (c.in_ok-made-in-Repeat.ensures.noted ∙ ap (λ j. book_after c.args.book.now j.notes) (sym whole))
+    always {P = c.condition-in-Repeat.new.book ≡ book_after c.args.book.now (spec.judging c.args.stmt.now u).notes} c.alone-in-Repeat.result (pair_noted (λ p. typed.Repeat p.0 p.1 c.in-Repeat.pos ∷ []) (spec.in_turn (map spec.judging c.as_slice-in-Repeat.result.now) u) (spec.condition u (exprs.phrase_of c.in-Repeat.test)) c.args.book.now c.check_stmts-in-Repeat.new.book c.condition-in-Repeat.new.book c.in_ok-repeated-in-Repeat.ensures.noted (c.in_ok-tested-in-Repeat.ensures.noted ∙ ap (λ y. book_after c.check_stmts-in-Repeat.new.book (spec.condition y (exprs.phrase_of c.in-Repeat.test)).notes) c.in_ok-repeated-in-Repeat.ensures.around) ∙ ap (λ j. book_after c.args.book.now j.notes) (sym whole))
 
-pub check_stmt-returns-in_ok-made-in-Repeat-clause-around : goal.check_stmt-returns-in_ok-made-in-Repeat-clause-around
-check_stmt-returns-in_ok-made-in-Repeat-clause-around g t c =
-    always c.alone-in-Repeat.result c.in_ok-made-in-Repeat.ensures.around
+pub check_stmt-returns-in_ok-tested-in-Repeat-clause-around : goal.check_stmt-returns-in_ok-tested-in-Repeat-clause-around
+check_stmt-returns-in_ok-tested-in-Repeat-clause-around g t c =
+    always c.alone-in-Repeat.result c.in_ok-repeated-in-Repeat.ensures.around
 
-pub check_stmt-returns-in_ok-made-in-For-clause-made : goal.check_stmt-returns-in_ok-made-in-For-clause-made
-check_stmt-returns-in_ok-made-in-For-clause-made g t c =
+pub check_stmt-returns-in_ok-repeated-in-For-clause-made : goal.check_stmt-returns-in_ok-repeated-in-For-clause-made
+check_stmt-returns-in_ok-repeated-in-For-clause-made g t c =
     let u = g.S.Surroundings.around c.args.here.now in
-    let whole : spec.judging c.args.stmt.now u ≡ spec.for u c.in-For.pos c.in-For.variable (exprs.phrase_of c.in-For.start) (exprs.phrase_of c.in-For.end) (spec.phrase_if c.in-For.step) (map spec.judging c.as_slice-in-For.result.now) = ap (λ y. spec.judging y u) (c.in-For.is ∙ ap (λ b. s.For c.in-For.pos c.in-For.variable c.in-For.start c.in-For.end c.in-For.step b) (sym c.as_slice-in-For.ensures)) ∙ judging_for c.in-For.pos c.in-For.variable c.in-For.start c.in-For.end c.in-For.step c.as_slice-in-For.result.now u in
-    alone_made c.alone-in-For.result _ _ c.alone-in-For.ensures (c.in_ok-made-in-For.ensures.made ∙ ap (λ j. j.node) (sym whole))
+    let at = c.in-For.pos in
+    let v = names.named u c.in-For.variable ▷ λ e. spec.for_variable u at c.in-For.variable e in
+    let a = (exprs.phrase_of c.in-For.start).value u in
+    let b = (exprs.phrase_of c.in-For.end).value u in
+    let step = spec.for_step u at (spec.phrase_if c.in-For.step) in
+    let body = spec.in_turn (map spec.judging c.as_slice-in-For.result.now) u in
+    let p = c.in_ok-place-in-For.place in
+    let whole : spec.judging c.args.stmt.now u ≡ spec.for u at c.in-For.variable (exprs.phrase_of c.in-For.start) (exprs.phrase_of c.in-For.end) (spec.phrase_if c.in-For.step) (map spec.judging c.as_slice-in-For.result.now) = ap (λ y. spec.judging y u) (c.in-For.is ∙ ap (λ b. s.For at c.in-For.variable c.in-For.start c.in-For.end c.in-For.step b) (sym c.as_slice-in-For.ensures)) ∙ judging_for at c.in-For.variable c.in-For.start c.in-For.end c.in-For.step c.as_slice-in-For.result.now u in
+    let all = for_is u at v a b step body (g.S.Types.types c.types-in-For.result.now) p (expr_in c.in_ok-first-in-For.first) (expr_in c.in_ok-last-in-For.last) c.in_ok-by-in-For.by (stmts_in c.in_ok-repeated-in-For.repeated) _
+    (c.types-in-For.ensures.map ∙ ap map_of c.in_ok-repeated-in-For.ensures.around) c.in_ok-place-in-For.ensures.made
+    (c.in_ok-first-in-For.ensures.made ∙ ap (λ o. (spec.bound_if (map_of u) at o a).node) c.as_ref-in-For.ensures.value)
+    (c.in_ok-last-in-For.ensures.made ∙ ap (λ o. (spec.bound_if (map_of u) at o b).node) c.as_ref-in-For-2.ensures.value)
+    c.in_ok-by-in-For.ensures.made c.in_ok-repeated-in-For.ensures.made c.for_if.ensures in
+    alone_made c.alone-in-For.result _ _ c.alone-in-For.ensures (all ∙ ap (λ j. j.node) (sym whole))
 
-pub check_stmt-returns-in_ok-made-in-For-clause-noted : goal.check_stmt-returns-in_ok-made-in-For-clause-noted
-check_stmt-returns-in_ok-made-in-For-clause-noted g t c =
+pub check_stmt-returns-in_ok-repeated-in-For-clause-noted : goal.check_stmt-returns-in_ok-repeated-in-For-clause-noted
+check_stmt-returns-in_ok-repeated-in-For-clause-noted g t c =
     let u = g.S.Surroundings.around c.args.here.now in
-    let whole : spec.judging c.args.stmt.now u ≡ spec.for u c.in-For.pos c.in-For.variable (exprs.phrase_of c.in-For.start) (exprs.phrase_of c.in-For.end) (spec.phrase_if c.in-For.step) (map spec.judging c.as_slice-in-For.result.now) = ap (λ y. spec.judging y u) (c.in-For.is ∙ ap (λ b. s.For c.in-For.pos c.in-For.variable c.in-For.start c.in-For.end c.in-For.step b) (sym c.as_slice-in-For.ensures)) ∙ judging_for c.in-For.pos c.in-For.variable c.in-For.start c.in-For.end c.in-For.step c.as_slice-in-For.result.now u in
-    always {P = c.check_for.new.book ≡ book_after c.args.book.now (spec.judging c.args.stmt.now u).notes} c.alone-in-For.result (c.in_ok-made-in-For.ensures.noted ∙ ap (λ j. book_after c.args.book.now j.notes) (sym whole))
+    let at = c.in-For.pos in
+    let v = names.named u c.in-For.variable ▷ λ e. spec.for_variable u at c.in-For.variable e in
+    let a = (exprs.phrase_of c.in-For.start).value u in
+    let b = (exprs.phrase_of c.in-For.end).value u in
+    let step = spec.for_step u at (spec.phrase_if c.in-For.step) in
+    let body = spec.in_turn (map spec.judging c.as_slice-in-For.result.now) u in
+    let p = c.in_ok-place-in-For.place in
+    let whole : spec.judging c.args.stmt.now u ≡ spec.for u at c.in-For.variable (exprs.phrase_of c.in-For.start) (exprs.phrase_of c.in-For.end) (spec.phrase_if c.in-For.step) (map spec.judging c.as_slice-in-For.result.now) = ap (λ y. spec.judging y u) (c.in-For.is ∙ ap (λ b. s.For at c.in-For.variable c.in-For.start c.in-For.end c.in-For.step b) (sym c.as_slice-in-For.ensures)) ∙ judging_for at c.in-For.variable c.in-For.start c.in-For.end c.in-For.step c.as_slice-in-For.result.now u in
+    always {P = c.check_stmts-in-For.new.book ≡ book_after c.args.book.now (spec.judging c.args.stmt.now u).notes} c.alone-in-For.result (
+    for_says u at v a b step body p c.args.book.now c.for_variable.new.book c.check_bound.new.book c.check_bound-in-For.new.book c.check_step_if.new.book c.check_stmts-in-For.new.book
+    c.in_ok-place-in-For.ensures.made c.in_ok-place-in-For.ensures.noted
+    (c.in_ok-first-in-For.ensures.noted ∙ ap (λ o. book_after c.for_variable.new.book (spec.bound_if (map_of u) at o a).notes) c.as_ref-in-For.ensures.value)
+    (c.in_ok-last-in-For.ensures.noted ∙ ap (λ o. book_after c.check_bound.new.book (spec.bound_if (map_of u) at o b).notes) c.as_ref-in-For-2.ensures.value)
+    c.in_ok-by-in-For.ensures.noted c.in_ok-repeated-in-For.ensures.noted
+    ∙ ap (λ j. book_after c.args.book.now j.notes) (sym whole))
 
-pub check_stmt-returns-in_ok-made-in-For-clause-around : goal.check_stmt-returns-in_ok-made-in-For-clause-around
-check_stmt-returns-in_ok-made-in-For-clause-around g t c =
-    always c.alone-in-For.result c.in_ok-made-in-For.ensures.around
+pub check_stmt-returns-in_ok-repeated-in-For-clause-around : goal.check_stmt-returns-in_ok-repeated-in-For-clause-around
+check_stmt-returns-in_ok-repeated-in-For-clause-around g t c =
+    always c.alone-in-For.result c.in_ok-repeated-in-For.ensures.around
 
 pub check_stmt-returns-in_ok-made-in-Loop-clause-made : goal.check_stmt-returns-in_ok-made-in-Loop-clause-made
 check_stmt-returns-in_ok-made-in-Loop-clause-made g t c =
@@ -285,53 +310,73 @@ pub check_stmt-returns-in-Exit-clause-around : goal.check_stmt-returns-in-Exit-c
 check_stmt-returns-in-Exit-clause-around g t c =
     always c.alone-in-Exit.result refl
 
-pub check_stmt-returns-in_ok-made-in-If-clause-made : goal.check_stmt-returns-in_ok-made-in-If-clause-made
-check_stmt-returns-in_ok-made-in-If-clause-made g t c =
+pub check_stmt-returns-in_ok-otherwise-in-If-clause-made : goal.check_stmt-returns-in_ok-otherwise-in-If-clause-made
+check_stmt-returns-in_ok-otherwise-in-If-clause-made g t c =
     let u = g.S.Surroundings.around c.args.here.now in
+    let rows = spec.conditionals u (map spec.conditional_of c.as_slice.result.now) in
+    let other = λ (y : Around). spec.in_turn_if (option_map (λ b. map spec.judging b) c.in-If.otherwise) y in
     let whole : spec.judging c.args.stmt.now u ≡ spec.if_statement (map spec.conditional_of c.as_slice.result.now) (option_map (λ b. map spec.judging b) c.in-If.otherwise) u = ap (λ y. spec.judging y u) (c.in-If.is ∙ ap (λ b. s.If c.in-If.pos b c.in-If.otherwise) (sym c.as_slice.ensures)) ∙ judging_if c.in-If.pos c.as_slice.result.now c.in-If.otherwise u in
-    alone_made c.alone-in-If.result _ _ c.alone-in-If.ensures (c.in_ok-made-in-If.ensures.made ∙ ap (λ j. j.node) (sym whole))
+    alone_made c.alone-in-If.result _ _ c.alone-in-If.ensures (pair_made (λ p. spec.one (typed.If p.0 (spec.empty_if_none p.1))) rows (other u) _ _ _ c.in_ok-branches-in-If.ensures.made (c.in_ok-otherwise-in-If.ensures.made ∙ ap (λ y. (other y).node) c.in_ok-branches-in-If.ensures.around) c.if_made.ensures ∙ ap (λ j. j.node) (sym whole))
 
-pub check_stmt-returns-in_ok-made-in-If-clause-noted : goal.check_stmt-returns-in_ok-made-in-If-clause-noted
-check_stmt-returns-in_ok-made-in-If-clause-noted g t c =
+pub check_stmt-returns-in_ok-otherwise-in-If-clause-noted : goal.check_stmt-returns-in_ok-otherwise-in-If-clause-noted
+check_stmt-returns-in_ok-otherwise-in-If-clause-noted g t c =
     let u = g.S.Surroundings.around c.args.here.now in
+    let rows = spec.conditionals u (map spec.conditional_of c.as_slice.result.now) in
+    let other = λ (y : Around). spec.in_turn_if (option_map (λ b. map spec.judging b) c.in-If.otherwise) y in
     let whole : spec.judging c.args.stmt.now u ≡ spec.if_statement (map spec.conditional_of c.as_slice.result.now) (option_map (λ b. map spec.judging b) c.in-If.otherwise) u = ap (λ y. spec.judging y u) (c.in-If.is ∙ ap (λ b. s.If c.in-If.pos b c.in-If.otherwise) (sym c.as_slice.ensures)) ∙ judging_if c.in-If.pos c.as_slice.result.now c.in-If.otherwise u in
-    always {P = c.check_if.new.book ≡ book_after c.args.book.now (spec.judging c.args.stmt.now u).notes} c.alone-in-If.result (c.in_ok-made-in-If.ensures.noted ∙ ap (λ j. book_after c.args.book.now j.notes) (sym whole))
+    always {P = c.check_otherwise.new.book ≡ book_after c.args.book.now (spec.judging c.args.stmt.now u).notes} c.alone-in-If.result (pair_noted (λ p. typed.If p.0 (spec.empty_if_none p.1) ∷ []) rows (other u) c.args.book.now c.check_branches.new.book c.check_otherwise.new.book c.in_ok-branches-in-If.ensures.noted (c.in_ok-otherwise-in-If.ensures.noted ∙ ap (λ y. book_after c.check_branches.new.book (other y).notes) c.in_ok-branches-in-If.ensures.around) ∙ ap (λ j. book_after c.args.book.now j.notes) (sym whole))
 
-pub check_stmt-returns-in_ok-made-in-If-clause-around : goal.check_stmt-returns-in_ok-made-in-If-clause-around
-check_stmt-returns-in_ok-made-in-If-clause-around g t c =
-    always c.alone-in-If.result c.in_ok-made-in-If.ensures.around
+pub check_stmt-returns-in_ok-otherwise-in-If-clause-around : goal.check_stmt-returns-in_ok-otherwise-in-If-clause-around
+check_stmt-returns-in_ok-otherwise-in-If-clause-around g t c =
+    always c.alone-in-If.result (c.in_ok-otherwise-in-If.ensures.around ∙ c.in_ok-branches-in-If.ensures.around)
 
-pub check_stmt-returns-in_ok-made-in-With-clause-made : goal.check_stmt-returns-in_ok-made-in-With-clause-made
-check_stmt-returns-in_ok-made-in-With-clause-made g t c =
+pub check_stmt-returns-in_ok-otherwise-in-With-clause-made : goal.check_stmt-returns-in_ok-otherwise-in-With-clause-made
+check_stmt-returns-in_ok-otherwise-in-With-clause-made g t c =
     let u = g.S.Surroundings.around c.args.here.now in
+    let rows = spec.with_branches u (map spec.guarded_of c.as_slice-in-With.result.now) in
+    let other = λ (y : Around). spec.in_turn_if (option_map (λ b. map spec.judging b) c.in-With.otherwise) y in
     let whole : spec.judging c.args.stmt.now u ≡ spec.with_statement c.in-With.pos (map spec.guarded_of c.as_slice-in-With.result.now) (option_map (λ b. map spec.judging b) c.in-With.otherwise) u = ap (λ y. spec.judging y u) (c.in-With.is ∙ ap (λ b. s.With c.in-With.pos b c.in-With.otherwise) (sym c.as_slice-in-With.ensures)) ∙ judging_with c.in-With.pos c.as_slice-in-With.result.now c.in-With.otherwise u in
-    alone_made c.alone-in-With.result _ _ c.alone-in-With.ensures (c.in_ok-made-in-With.ensures.made ∙ ap (λ j. j.node) (sym whole))
+    alone_made c.alone-in-With.result _ _ c.alone-in-With.ensures (pair_made (λ p. spec.one (typed.With p.0 p.1 c.in-With.pos)) rows (other u) _ _ _ c.in_ok-branches-in-With.ensures.made (c.in_ok-otherwise-in-With.ensures.made ∙ ap (λ y. (other y).node) c.in_ok-branches-in-With.ensures.around) c.with_made.ensures ∙ ap (λ j. j.node) (sym whole))
 
-pub check_stmt-returns-in_ok-made-in-With-clause-noted : goal.check_stmt-returns-in_ok-made-in-With-clause-noted
-check_stmt-returns-in_ok-made-in-With-clause-noted g t c =
+pub check_stmt-returns-in_ok-otherwise-in-With-clause-noted : goal.check_stmt-returns-in_ok-otherwise-in-With-clause-noted
+check_stmt-returns-in_ok-otherwise-in-With-clause-noted g t c =
     let u = g.S.Surroundings.around c.args.here.now in
+    let rows = spec.with_branches u (map spec.guarded_of c.as_slice-in-With.result.now) in
+    let other = λ (y : Around). spec.in_turn_if (option_map (λ b. map spec.judging b) c.in-With.otherwise) y in
     let whole : spec.judging c.args.stmt.now u ≡ spec.with_statement c.in-With.pos (map spec.guarded_of c.as_slice-in-With.result.now) (option_map (λ b. map spec.judging b) c.in-With.otherwise) u = ap (λ y. spec.judging y u) (c.in-With.is ∙ ap (λ b. s.With c.in-With.pos b c.in-With.otherwise) (sym c.as_slice-in-With.ensures)) ∙ judging_with c.in-With.pos c.as_slice-in-With.result.now c.in-With.otherwise u in
-    always {P = c.check_with.new.book ≡ book_after c.args.book.now (spec.judging c.args.stmt.now u).notes} c.alone-in-With.result (c.in_ok-made-in-With.ensures.noted ∙ ap (λ j. book_after c.args.book.now j.notes) (sym whole))
+    always {P = c.check_otherwise-in-With.new.book ≡ book_after c.args.book.now (spec.judging c.args.stmt.now u).notes} c.alone-in-With.result (pair_noted (λ p. typed.With p.0 p.1 c.in-With.pos ∷ []) rows (other u) c.args.book.now c.check_guarded.new.book c.check_otherwise-in-With.new.book c.in_ok-branches-in-With.ensures.noted (c.in_ok-otherwise-in-With.ensures.noted ∙ ap (λ y. book_after c.check_guarded.new.book (other y).notes) c.in_ok-branches-in-With.ensures.around) ∙ ap (λ j. book_after c.args.book.now j.notes) (sym whole))
 
-pub check_stmt-returns-in_ok-made-in-With-clause-around : goal.check_stmt-returns-in_ok-made-in-With-clause-around
-check_stmt-returns-in_ok-made-in-With-clause-around g t c =
-    always c.alone-in-With.result c.in_ok-made-in-With.ensures.around
+pub check_stmt-returns-in_ok-otherwise-in-With-clause-around : goal.check_stmt-returns-in_ok-otherwise-in-With-clause-around
+check_stmt-returns-in_ok-otherwise-in-With-clause-around g t c =
+    always c.alone-in-With.result (c.in_ok-otherwise-in-With.ensures.around ∙ c.in_ok-branches-in-With.ensures.around)
 
-pub check_stmt-returns-in_ok-made-in-Case-clause-made : goal.check_stmt-returns-in_ok-made-in-Case-clause-made
-check_stmt-returns-in_ok-made-in-Case-clause-made g t c =
+pub check_stmt-returns-in_ok-otherwise-in-Case-clause-made : goal.check_stmt-returns-in_ok-otherwise-in-Case-clause-made
+check_stmt-returns-in_ok-otherwise-in-Case-clause-made g t c =
     let u = g.S.Surroundings.around c.args.here.now in
-    let whole : spec.judging c.args.stmt.now u ≡ spec.case u c.in-Case.pos (exprs.phrase_of c.in-Case.value) (map spec.labelled_of c.as_slice-in-Case.result.now) (option_map (λ b. map spec.judging b) c.in-Case.otherwise) = ap (λ y. spec.judging y u) (c.in-Case.is ∙ ap (λ b. s.Case c.in-Case.pos c.in-Case.value b c.in-Case.otherwise) (sym c.as_slice-in-Case.ensures)) ∙ judging_case c.in-Case.pos c.in-Case.value c.as_slice-in-Case.result.now c.in-Case.otherwise u in
-    alone_made c.alone-in-Case.result _ _ c.alone-in-Case.ensures (c.in_ok-made-in-Case.ensures.made ∙ ap (λ j. j.node) (sym whole))
+    let x = spec.case_judged u (exprs.phrase_of c.in-Case.value) in
+    let ds = map spec.labelled_of c.as_slice-in-Case.result.now in
+    let o = (option_map (λ b. map spec.judging b) c.in-Case.otherwise) in
+    let m = g.S.Types.types c.types.result.now in
+    let em : m ≡ map_of u = c.types.ensures.map in
+    let es : c.selects_if-selects.result ≡ spec.selects_if m c.in_ok-value-in-Case.value = c.selects_if-selects.ensures ∙ ap (λ y. spec.selects_if m y) c.as_ref.ensures.value in
+    let whole : spec.judging c.args.stmt.now u ≡ spec.case_with u c.in-Case.pos x ds o = ap (λ y. spec.judging y u) (c.in-Case.is ∙ ap (λ b. s.Case c.in-Case.pos c.in-Case.value b c.in-Case.otherwise) (sym c.as_slice-in-Case.ensures)) ∙ judging_case c.in-Case.pos c.in-Case.value c.as_slice-in-Case.result.now c.in-Case.otherwise u in
+    alone_made c.alone-in-Case.result _ _ c.alone-in-Case.ensures (case_of_parts u c.in-Case.pos x ds o m c.in_ok-value-in-Case.value c.selects_if-selects.result (cases_in c.in_ok-cases-in-Case.cases) (else_in c.in_ok-otherwise-in-Case.otherwise) _ em c.in_ok-value-in-Case.ensures.made es c.in_ok-cases-in-Case.ensures.made (c.in_ok-otherwise-in-Case.ensures.made ∙ ap (λ y. (spec.in_turn_if o y).node) c.in_ok-cases-in-Case.ensures.around) c.case_made.ensures ∙ ap (λ j. j.node) (sym whole))
 
-pub check_stmt-returns-in_ok-made-in-Case-clause-noted : goal.check_stmt-returns-in_ok-made-in-Case-clause-noted
-check_stmt-returns-in_ok-made-in-Case-clause-noted g t c =
+pub check_stmt-returns-in_ok-otherwise-in-Case-clause-noted : goal.check_stmt-returns-in_ok-otherwise-in-Case-clause-noted
+check_stmt-returns-in_ok-otherwise-in-Case-clause-noted g t c =
     let u = g.S.Surroundings.around c.args.here.now in
-    let whole : spec.judging c.args.stmt.now u ≡ spec.case u c.in-Case.pos (exprs.phrase_of c.in-Case.value) (map spec.labelled_of c.as_slice-in-Case.result.now) (option_map (λ b. map spec.judging b) c.in-Case.otherwise) = ap (λ y. spec.judging y u) (c.in-Case.is ∙ ap (λ b. s.Case c.in-Case.pos c.in-Case.value b c.in-Case.otherwise) (sym c.as_slice-in-Case.ensures)) ∙ judging_case c.in-Case.pos c.in-Case.value c.as_slice-in-Case.result.now c.in-Case.otherwise u in
-    always {P = c.check_case.new.book ≡ book_after c.args.book.now (spec.judging c.args.stmt.now u).notes} c.alone-in-Case.result (c.in_ok-made-in-Case.ensures.noted ∙ ap (λ j. book_after c.args.book.now j.notes) (sym whole))
+    let x = spec.case_judged u (exprs.phrase_of c.in-Case.value) in
+    let ds = map spec.labelled_of c.as_slice-in-Case.result.now in
+    let o = (option_map (λ b. map spec.judging b) c.in-Case.otherwise) in
+    let m = g.S.Types.types c.types.result.now in
+    let em : m ≡ map_of u = c.types.ensures.map in
+    let es : c.selects_if-selects.result ≡ spec.selects_if m c.in_ok-value-in-Case.value = c.selects_if-selects.ensures ∙ ap (λ y. spec.selects_if m y) c.as_ref.ensures.value in
+    let whole : spec.judging c.args.stmt.now u ≡ spec.case_with u c.in-Case.pos x ds o = ap (λ y. spec.judging y u) (c.in-Case.is ∙ ap (λ b. s.Case c.in-Case.pos c.in-Case.value b c.in-Case.otherwise) (sym c.as_slice-in-Case.ensures)) ∙ judging_case c.in-Case.pos c.in-Case.value c.as_slice-in-Case.result.now c.in-Case.otherwise u in
+    always {P = c.check_otherwise-in-Case.new.book ≡ book_after c.args.book.now (spec.judging c.args.stmt.now u).notes} c.alone-in-Case.result (case_says u c.in-Case.pos x ds o m c.in_ok-value-in-Case.value c.selects_if-selects.result c.args.book.now c.case_value.new.book c.check_cases.new.book c.check_otherwise-in-Case.new.book em c.in_ok-value-in-Case.ensures.made es c.in_ok-value-in-Case.ensures.noted c.in_ok-cases-in-Case.ensures.noted (c.in_ok-otherwise-in-Case.ensures.noted ∙ ap (λ y. book_after c.check_cases.new.book (spec.in_turn_if o y).notes) c.in_ok-cases-in-Case.ensures.around) ∙ ap (λ j. book_after c.args.book.now j.notes) (sym whole))
 
-pub check_stmt-returns-in_ok-made-in-Case-clause-around : goal.check_stmt-returns-in_ok-made-in-Case-clause-around
-check_stmt-returns-in_ok-made-in-Case-clause-around g t c =
-    always c.alone-in-Case.result c.in_ok-made-in-Case.ensures.around
+pub check_stmt-returns-in_ok-otherwise-in-Case-clause-around : goal.check_stmt-returns-in_ok-otherwise-in-Case-clause-around
+check_stmt-returns-in_ok-otherwise-in-Case-clause-around g t c =
+    always c.alone-in-Case.result (c.in_ok-otherwise-in-Case.ensures.around ∙ c.in_ok-cases-in-Case.ensures.around)
 
 pub check_loop-returns-clause-made : goal.check_loop-returns-clause-made
 check_loop-returns-clause-made g t c =
@@ -388,130 +433,3 @@ check_guarded_body-returns-in_ok-made-in-Some-clause-around g t c =
     let inside : g.S.Surroundings.around c.guard.new.self ≡ spec.guarded_around u (Some variable) c.args.of = c.in_ok-guard-in-Some.ensures in
     let whole : spec.guarded_around u c.args.variable c.args.of ≡ spec.guarded_around u (Some variable) c.args.of = ap (λ o. spec.guarded_around u o c.args.of) c.in-Some.is in
     unguarded u (g.S.Surroundings.around c.check_stmts-in-Some.new.here) _ variable c.args.of (c.in_ok-made-in-Some.ensures.around ∙ inside) (λ h. c.unguard.ensures u.guards (variable, c.args.of) h)
-
-pub check_while-returns-in_ok-repeated-clause-made : goal.check_while-returns-in_ok-repeated-clause-made
-check_while-returns-in_ok-repeated-clause-made g t c =
-    let u = g.S.Surroundings.around c.args.here.now in
-    pair_made (λ p. spec.one (typed.While p.0 p.1 c.args.at)) (spec.condition u (exprs.phrase_of c.args.test.now)) (spec.in_turn (map spec.judging c.args.body.now) u) _ _ _ c.in_ok-tested.ensures.made c.in_ok-repeated.ensures.made c.while_made.ensures
-
-pub check_while-returns-in_ok-repeated-clause-noted : goal.check_while-returns-in_ok-repeated-clause-noted
-check_while-returns-in_ok-repeated-clause-noted g t c =
-    let u = g.S.Surroundings.around c.args.here.now in
-    pair_noted (λ p. typed.While p.0 p.1 c.args.at ∷ []) (spec.condition u (exprs.phrase_of c.args.test.now)) (spec.in_turn (map spec.judging c.args.body.now) u) c.args.book.now c.condition.new.book c.check_stmts.new.book c.in_ok-tested.ensures.noted c.in_ok-repeated.ensures.noted
-
-pub check_while-returns-in_ok-repeated-clause-around : goal.check_while-returns-in_ok-repeated-clause-around
-check_while-returns-in_ok-repeated-clause-around g t c =
-    c.in_ok-repeated.ensures.around
-
-pub check_repeat-returns-in_ok-tested-clause-made : goal.check_repeat-returns-in_ok-tested-clause-made
-check_repeat-returns-in_ok-tested-clause-made g t c =
-    let u = g.S.Surroundings.around c.args.here.now in
-    pair_made (λ p. spec.one (typed.Repeat p.0 p.1 c.args.at)) (spec.in_turn (map spec.judging c.args.body.now) u) (spec.condition u (exprs.phrase_of c.args.test.now)) _ _ _ c.in_ok-repeated.ensures.made (c.in_ok-tested.ensures.made ∙ ap (λ y. (spec.condition y (exprs.phrase_of c.args.test.now)).node) c.in_ok-repeated.ensures.around) c.repeat_made.ensures
-
-pub check_repeat-returns-in_ok-tested-clause-noted : goal.check_repeat-returns-in_ok-tested-clause-noted
-check_repeat-returns-in_ok-tested-clause-noted g t c =
-    let u = g.S.Surroundings.around c.args.here.now in
-    pair_noted (λ p. typed.Repeat p.0 p.1 c.args.at ∷ []) (spec.in_turn (map spec.judging c.args.body.now) u) (spec.condition u (exprs.phrase_of c.args.test.now)) c.args.book.now c.check_stmts.new.book c.condition.new.book c.in_ok-repeated.ensures.noted (c.in_ok-tested.ensures.noted ∙ ap (λ y. book_after c.check_stmts.new.book (spec.condition y (exprs.phrase_of c.args.test.now)).notes) c.in_ok-repeated.ensures.around)
-
-pub check_repeat-returns-in_ok-tested-clause-around : goal.check_repeat-returns-in_ok-tested-clause-around
-check_repeat-returns-in_ok-tested-clause-around g t c =
-    c.in_ok-repeated.ensures.around
-
-pub check_for-returns-in_ok-repeated-clause-made : goal.check_for-returns-in_ok-repeated-clause-made
-check_for-returns-in_ok-repeated-clause-made g t c =
-    let u = g.S.Surroundings.around c.args.here.now in
-    let at = c.args.at in
-    let v = names.named u c.args.variable.now ▷ λ e. spec.for_variable u at c.args.variable.now e in
-    let a = (exprs.phrase_of c.args.start.now).value u in
-    let b = (exprs.phrase_of c.args.end.now).value u in
-    let step = spec.for_step u at (spec.phrase_if c.args.step.now) in
-    let body = spec.in_turn (map spec.judging c.args.body.now) u in
-    let p = c.in_ok-place.place in
-    let all = for_is u at v a b step body (g.S.Types.types c.types.result.now) p (expr_in c.in_ok-first.first) (expr_in c.in_ok-last.last) c.in_ok-by.by (stmts_in c.in_ok-repeated.repeated) _
-    (c.types.ensures.map ∙ ap map_of c.in_ok-repeated.ensures.around) c.in_ok-place.ensures.made
-    (c.in_ok-first.ensures.made ∙ ap (λ o. (spec.bound_if (map_of u) at o a).node) c.as_ref.ensures.value)
-    (c.in_ok-last.ensures.made ∙ ap (λ o. (spec.bound_if (map_of u) at o b).node) c.as_ref-2.ensures.value)
-    c.in_ok-by.ensures.made c.in_ok-repeated.ensures.made c.for_if.ensures in
-    all
-
-pub check_for-returns-in_ok-repeated-clause-noted : goal.check_for-returns-in_ok-repeated-clause-noted
-check_for-returns-in_ok-repeated-clause-noted g t c =
-    let u = g.S.Surroundings.around c.args.here.now in
-    let at = c.args.at in
-    let v = names.named u c.args.variable.now ▷ λ e. spec.for_variable u at c.args.variable.now e in
-    let a = (exprs.phrase_of c.args.start.now).value u in
-    let b = (exprs.phrase_of c.args.end.now).value u in
-    let step = spec.for_step u at (spec.phrase_if c.args.step.now) in
-    let body = spec.in_turn (map spec.judging c.args.body.now) u in
-    let p = c.in_ok-place.place in
-    for_says u at v a b step body p c.args.book.now c.for_variable.new.book c.check_bound.new.book c.check_bound-2.new.book c.check_step_if.new.book c.check_stmts.new.book
-    c.in_ok-place.ensures.made c.in_ok-place.ensures.noted
-    (c.in_ok-first.ensures.noted ∙ ap (λ o. book_after c.for_variable.new.book (spec.bound_if (map_of u) at o a).notes) c.as_ref.ensures.value)
-    (c.in_ok-last.ensures.noted ∙ ap (λ o. book_after c.check_bound.new.book (spec.bound_if (map_of u) at o b).notes) c.as_ref-2.ensures.value)
-    c.in_ok-by.ensures.noted c.in_ok-repeated.ensures.noted
-
-pub check_for-returns-in_ok-repeated-clause-around : goal.check_for-returns-in_ok-repeated-clause-around
-check_for-returns-in_ok-repeated-clause-around g t c =
-    c.in_ok-repeated.ensures.around
-
-pub check_if-returns-in_ok-otherwise-clause-made : goal.check_if-returns-in_ok-otherwise-clause-made
-check_if-returns-in_ok-otherwise-clause-made g t c =
-    let u = g.S.Surroundings.around c.args.here.now in
-    let rows = spec.conditionals u (map spec.conditional_of c.args.branches.now) in
-    let other = λ (y : Around). spec.in_turn_if (option_map (λ b. map spec.judging b) c.args.otherwise.now) y in
-    pair_made (λ p. spec.one (typed.If p.0 (spec.empty_if_none p.1))) rows (other u) _ _ _ c.in_ok-branches.ensures.made (c.in_ok-otherwise.ensures.made ∙ ap (λ y. (other y).node) c.in_ok-branches.ensures.around) c.if_made.ensures
-
-pub check_if-returns-in_ok-otherwise-clause-noted : goal.check_if-returns-in_ok-otherwise-clause-noted
-check_if-returns-in_ok-otherwise-clause-noted g t c =
-    let u = g.S.Surroundings.around c.args.here.now in
-    let rows = spec.conditionals u (map spec.conditional_of c.args.branches.now) in
-    let other = λ (y : Around). spec.in_turn_if (option_map (λ b. map spec.judging b) c.args.otherwise.now) y in
-    pair_noted (λ p. typed.If p.0 (spec.empty_if_none p.1) ∷ []) rows (other u) c.args.book.now c.check_branches.new.book c.check_otherwise.new.book c.in_ok-branches.ensures.noted (c.in_ok-otherwise.ensures.noted ∙ ap (λ y. book_after c.check_branches.new.book (other y).notes) c.in_ok-branches.ensures.around)
-
-pub check_if-returns-in_ok-otherwise-clause-around : goal.check_if-returns-in_ok-otherwise-clause-around
-check_if-returns-in_ok-otherwise-clause-around g t c =
-    (c.in_ok-otherwise.ensures.around ∙ c.in_ok-branches.ensures.around)
-
-pub check_with-returns-in_ok-otherwise-clause-made : goal.check_with-returns-in_ok-otherwise-clause-made
-check_with-returns-in_ok-otherwise-clause-made g t c =
-    let u = g.S.Surroundings.around c.args.here.now in
-    let rows = spec.with_branches u (map spec.guarded_of c.args.branches.now) in
-    let other = λ (y : Around). spec.in_turn_if (option_map (λ b. map spec.judging b) c.args.otherwise.now) y in
-    pair_made (λ p. spec.one (typed.With p.0 p.1 c.args.at)) rows (other u) _ _ _ c.in_ok-branches.ensures.made (c.in_ok-otherwise.ensures.made ∙ ap (λ y. (other y).node) c.in_ok-branches.ensures.around) c.with_made.ensures
-
-pub check_with-returns-in_ok-otherwise-clause-noted : goal.check_with-returns-in_ok-otherwise-clause-noted
-check_with-returns-in_ok-otherwise-clause-noted g t c =
-    let u = g.S.Surroundings.around c.args.here.now in
-    let rows = spec.with_branches u (map spec.guarded_of c.args.branches.now) in
-    let other = λ (y : Around). spec.in_turn_if (option_map (λ b. map spec.judging b) c.args.otherwise.now) y in
-    pair_noted (λ p. typed.With p.0 p.1 c.args.at ∷ []) rows (other u) c.args.book.now c.check_guarded.new.book c.check_otherwise.new.book c.in_ok-branches.ensures.noted (c.in_ok-otherwise.ensures.noted ∙ ap (λ y. book_after c.check_guarded.new.book (other y).notes) c.in_ok-branches.ensures.around)
-
-pub check_with-returns-in_ok-otherwise-clause-around : goal.check_with-returns-in_ok-otherwise-clause-around
-check_with-returns-in_ok-otherwise-clause-around g t c =
-    (c.in_ok-otherwise.ensures.around ∙ c.in_ok-branches.ensures.around)
-
-pub check_case-returns-in_ok-otherwise-clause-made : goal.check_case-returns-in_ok-otherwise-clause-made
-check_case-returns-in_ok-otherwise-clause-made g t c =
-    let u = g.S.Surroundings.around c.args.here.now in
-    let x = spec.case_judged u (exprs.phrase_of c.args.value.now) in
-    let ds = map spec.labelled_of c.args.cases.now in
-    let o = (option_map (λ b. map spec.judging b) c.args.otherwise.now) in
-    let m = g.S.Types.types c.types.result.now in
-    let em : m ≡ map_of u = c.types.ensures.map in
-    let es : c.selects_if-selects.result ≡ spec.selects_if m c.in_ok-value.value = c.selects_if-selects.ensures ∙ ap (λ y. spec.selects_if m y) c.as_ref.ensures.value in
-    case_of_parts u c.args.at x ds o m c.in_ok-value.value c.selects_if-selects.result (cases_in c.in_ok-cases.cases) (else_in c.in_ok-otherwise.otherwise) _ em c.in_ok-value.ensures.made es c.in_ok-cases.ensures.made (c.in_ok-otherwise.ensures.made ∙ ap (λ y. (spec.in_turn_if o y).node) c.in_ok-cases.ensures.around) c.case_made.ensures
-
-pub check_case-returns-in_ok-otherwise-clause-noted : goal.check_case-returns-in_ok-otherwise-clause-noted
-check_case-returns-in_ok-otherwise-clause-noted g t c =
-    let u = g.S.Surroundings.around c.args.here.now in
-    let x = spec.case_judged u (exprs.phrase_of c.args.value.now) in
-    let ds = map spec.labelled_of c.args.cases.now in
-    let o = (option_map (λ b. map spec.judging b) c.args.otherwise.now) in
-    let m = g.S.Types.types c.types.result.now in
-    let em : m ≡ map_of u = c.types.ensures.map in
-    let es : c.selects_if-selects.result ≡ spec.selects_if m c.in_ok-value.value = c.selects_if-selects.ensures ∙ ap (λ y. spec.selects_if m y) c.as_ref.ensures.value in
-    case_says u c.args.at x ds o m c.in_ok-value.value c.selects_if-selects.result c.args.book.now c.case_value.new.book c.check_cases.new.book c.check_otherwise.new.book em c.in_ok-value.ensures.made es c.in_ok-value.ensures.noted c.in_ok-cases.ensures.noted (c.in_ok-otherwise.ensures.noted ∙ ap (λ y. book_after c.check_cases.new.book (spec.in_turn_if o y).notes) c.in_ok-cases.ensures.around)
-
-pub check_case-returns-in_ok-otherwise-clause-around : goal.check_case-returns-in_ok-otherwise-clause-around
-check_case-returns-in_ok-otherwise-clause-around g t c =
-    (c.in_ok-otherwise.ensures.around ∙ c.in_ok-cases.ensures.around)

@@ -30,43 +30,25 @@ invariant-check_cases-cases g l =
     × (g.S.Surroundings.around l.here ≡ g.S.Surroundings.around l.initial.here)
 
 abbrev pub decreases-check_stmt : goal.decreases-check_stmt
-decreases-check_stmt g l = goal.size-check_stmt g l * 5
+decreases-check_stmt g l = goal.size-check_stmt g l * 4
 
 abbrev pub decreases-check_stmts : goal.decreases-check_stmts
-decreases-check_stmts g l = goal.size-check_stmts g l * 5 + 1
+decreases-check_stmts g l = goal.size-check_stmts g l * 4 + 1
 
 abbrev pub decreases-check_otherwise : goal.decreases-check_otherwise
-decreases-check_otherwise g l = goal.size-check_otherwise g l * 5 + 2
+decreases-check_otherwise g l = goal.size-check_otherwise g l * 4 + 2
 
 abbrev pub decreases-check_loop : goal.decreases-check_loop
-decreases-check_loop g l = goal.size-check_loop g l * 5 + 2
+decreases-check_loop g l = goal.size-check_loop g l * 4 + 2
 
 abbrev pub decreases-check_guarded_body : goal.decreases-check_guarded_body
-decreases-check_guarded_body g l = goal.size-check_guarded_body g l * 5 + 2
+decreases-check_guarded_body g l = goal.size-check_guarded_body g l * 4 + 2
 
 abbrev pub decreases-check_branches : goal.decreases-check_branches
-decreases-check_branches g l = goal.size-check_branches g l * 5 + 3
+decreases-check_branches g l = goal.size-check_branches g l * 4 + 3
 
 abbrev pub decreases-check_cases : goal.decreases-check_cases
-decreases-check_cases g l = goal.size-check_cases g l * 5 + 3
+decreases-check_cases g l = goal.size-check_cases g l * 4 + 3
 
 abbrev pub decreases-check_guarded : goal.decreases-check_guarded
-decreases-check_guarded g l = goal.size-check_guarded g l * 5 + 3
-
-abbrev pub decreases-check_if : goal.decreases-check_if
-decreases-check_if g l = goal.size-check_if g l * 5 + 4
-
-abbrev pub decreases-check_case : goal.decreases-check_case
-decreases-check_case g l = goal.size-check_case g l * 5 + 4
-
-abbrev pub decreases-check_while : goal.decreases-check_while
-decreases-check_while g l = goal.size-check_while g l * 5 + 4
-
-abbrev pub decreases-check_repeat : goal.decreases-check_repeat
-decreases-check_repeat g l = goal.size-check_repeat g l * 5 + 4
-
-abbrev pub decreases-check_for : goal.decreases-check_for
-decreases-check_for g l = goal.size-check_for g l * 5 + 4
-
-abbrev pub decreases-check_with : goal.decreases-check_with
-decreases-check_with g l = goal.size-check_with g l * 5 + 4
+decreases-check_guarded g l = goal.size-check_guarded g l * 4 + 3
