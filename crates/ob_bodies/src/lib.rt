@@ -1,0 +1,2 @@
+//! Where the bodies of a checked module are judged.
+#![tactic(auto)]
