@@ -9,3 +9,9 @@ pub mod Binding
 pub mod Headings
 pub mod Levels
 pub mod Plain
+pub mod Blocks
+pub mod Sequences
+pub mod Modules
+pub mod Hidden
+pub mod Held
+pub mod Whole
