@@ -122,6 +122,7 @@ module _ (IsConstant : Value → Type 0) (shown : QName → Option Desc) (m : Ty
   pub record PartIs (l : Level) (c : Contents) : Type 0 where
     pub procedures : AreJudged c.procedures
     pub body : IsJudged IsConstant shown m (frame l) c.body
+    pub placed : IsPlaced l body.u
 
   abbrev pub IsBlock : (Around → Part) → Type 0
   IsBlock f = (l : Level) (u : Around) → B l u → I l (f u).contents → PartIs l (f u).contents
@@ -139,7 +140,7 @@ module _ (IsConstant : Value → Type 0) (shown : QName → Option Desc) (m : Ty
 
   -- the body of a part, judged at a level
   pub stands_at : (l : Level) (u : Around) → B l u → StandsAround IsConstant shown m (frame l) u
-  stands_at l u b = record { knows = b.knows; names = b.names; guards = b.guards; result = b.result; in_loop = b.in_loop }
+  stands_at l u b = record { knows = b.knows; below = b.below; names = b.names; guards = b.guards; result = b.result; in_loop = b.in_loop }
 
   -- WHAT IS KNOWN IN A PROCEDURE
 

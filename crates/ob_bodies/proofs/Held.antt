@@ -22,7 +22,7 @@ use Rattle.ob_typed.specs.Bodies.{in_all, hidden_places, AreHidden}
 use Rattle.ob_typed.specs.Laws.{Having}
 use Rattle.ob_bodies.specs.Laws.{HiddenStand}
 use Rattle.ob_bodies.proofs.Lists.{one_left, one_right, all_one}
-use Rattle.ob_bodies.proofs.Hidden.{Keeps, stmts_keep}
+use Rattle.ob_bodies.proofs.Places.{Keeps, stmts_keep}
 
 fresh_of : (x : List ℕ) (hs : List Held) (h : Held) → Fresh x hs → IsOneOf hs h → bytes_eq x (held_name h) ≡ false
 fresh_of x [] h f i = absurd i

@@ -12,6 +12,6 @@ pub mod Plain
 pub mod Blocks
 pub mod Sequences
 pub mod Modules
-pub mod Hidden
+pub mod Places
 pub mod Held
 pub mod Whole

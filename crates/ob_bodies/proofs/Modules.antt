@@ -23,8 +23,8 @@ use Rattle.ob_rules.specs.Judged.{notes_if}
 use Rattle.ob_rules.specs.Names.{Around, predeclared, is_out}
 use Rattle.ob_rules.specs.Expressions.{phrase_of}
 use Rattle.ob_rules.specs.Types.{written}
-use Rattle.ob_rules.specs.Statements.{judging}
-use Rattle.ob_rules.specs.Declarations.{Contents, no_contents, together, Part, Declared, Written_procedure, Declaration, Plain, Procedure, plain_of, procedure_of, type_name_of, in_order, block_declared, block, decl_rule, declaration, is_system, target_of, import_entity, import_declared, imports_declared, around_module, module_of, typed_module, if_unbroken, checked}
+use Rattle.ob_rules.specs.Statements.{judging, in_turn}
+use Rattle.ob_rules.specs.Declarations.{Contents, no_contents, together, Part, Declared, Written_procedure, Declaration, Plain, Procedure, plain_of, procedure_of, type_name_of, in_order, stmts_in, block_declared, block, decl_rule, declaration, is_system, target_of, import_entity, import_declared, imports_declared, around_module, module_of, typed_module, if_unbroken, checked}
 use Rattle.ob_typed.specs.Makes.{IfThere}
 use Rattle.ob_typed.specs.Spelled.{all_true, is_spelled}
 use Rattle.ob_typed.specs.Bodies.{stmt_spelled}
@@ -123,7 +123,7 @@ module _ (IsConstant : Value → Type 0) (truths : (b : Bool) → IsConstant (li
   layer x h e = subst GoodDeclaration (sym (fold-roll-Decl Declaration decl_rule x)) (h (sym (fold-roll-Decl Bool decl_layer x) ∙ e))
 
   no_block : IsBlock IsConstant shown m out (λ u. record { notes = Rattle.ob_rules.specs.Judged.no_notes; contents = no_contents })
-  no_block l u b i = record { procedures = tt; body = record { u = u; xs = []; is = refl; spelled = refl; stands = stands_at IsConstant shown m out l u b } }
+  no_block l u b i = record { procedures = tt; body = record { u = u; xs = []; is = refl; spelled = refl; stands = stands_at IsConstant shown m out l u b }; placed = b.placed }
 
   decl_cases : (y : Decl-F SD) → PD (roll-Decl (map-Decl SD Decl (λ x. x.0) y))
   decl_cases (Decl-F.Constant d x) = layer (Decl-F.Constant d x) (λ e. constant_plain IsConstant shown m out d (phrase_of x) (constants x e))
@@ -199,7 +199,8 @@ module _ (IsConstant : Value → Type 0) (truths : (b : Bool) → IsConstant (li
       let p = block_good ds g xs s AtModule d.around r.around (second_included IsConstant shown m AtModule d.part.contents c j) in
       record {
         procedures = all_both (λ p. IsJudged IsConstant shown m (Some p) p.body) d.part.contents.procedures c.procedures (all_empty (λ p. IsJudged IsConstant shown m (Some p) p.body) d.part.contents.procedures r.procedures) p.procedures;
-        body = record { u = p.body.u; xs = p.body.xs; is = ap (λ l. l ++ c.body) r.body ∙ p.body.is; spelled = p.body.spelled; stands = p.body.stands };
+        body = record { u = p.body.u; xs = p.body.xs; is = ◌∙◌ {c = stmts_in (in_turn (map judging p.body.xs) p.body.u).node} (ap (λ l. l ++ c.body) r.body) p.body.is; spelled = p.body.spelled; stands = p.body.stands };
+        placed = p.placed;
       }
 
 -- ---- the checked module
@@ -222,7 +223,7 @@ module _ (IsConstant : Value → Type 0) (truths : (b : Bool) → IsConstant (li
   whole_is out constants s o =
       let e = and_both (all_true (map decl_spelled tree.decls)) (all_true (map stmt_spelled tree.body)) s in
       let p = module_is IsConstant truths shown whole out constants tree.name refl tree.imports o (map declaration tree.decls) (decls_good IsConstant truths shown whole out constants tree.decls e.0) tree.body e.1 tree.closing (record { variables = λ x i. i; procedures = λ p i. i }) in
-      record { procedures = p.procedures; body = p.body }
+      record { procedures = p.procedures; body = p.body; scope = p.placed.1.0; name = out }
 
   pub bodies_judged : (m : TypedModule) → checked shown tree ≡ Some m → ((out : is_out tree.name.name ≡ false) (x : Expr) → is_spelled x ≡ true → ConstantPhrase IsConstant tree.name.name shown out (phrase_of x)) → tree_spelled tree ≡ true → AllByRecursion (λ (i : Import). bytes_eq (target_of i).name tree.name.name ≡ false) tree.imports → BodiesAreJudged IsConstant shown m
   bodies_judged m e constants s o =

@@ -144,6 +144,7 @@ module _ (IsConstant : Value → Type 0) (shown : QName → Option Desc) (m : Ty
             record {
               procedures = all_both (λ p. IsJudged IsConstant shown m (Some p) p.body) c.procedures [] (procedures_are IsConstant shown m out l w around ps good heads (all_reversed (HS own base.scope) hs.before heads_stand) (all_reversed (λ (h : Head). AllByRecursion (KnownBehind IsConstant shown m out l w) h.known) hs.before known.1) (first_included IsConstant shown m l c s i)) tt;
               body = record { u = w; xs = xs; is = ap (λ l. l ++ s.body) (procedures_body w ps heads); spelled = spelled; stands = stands_at IsConstant shown m out l w around };
+              placed = around.placed;
             }
 
   -- with what is bound, and the declarations before
@@ -165,5 +166,6 @@ module _ (IsConstant : Value → Type 0) (shown : QName → Option Desc) (m : Ty
           (λ k. inside_is l base g.around ps good xs spelled bind.own ch.grows (ch.described s.knows.own) bind.bound k) j in
       record {
         procedures = all_both (λ p. IsJudged IsConstant shown m (Some p) p.body) d.part.contents.procedures c.procedures (all_empty (λ p. IsJudged IsConstant shown m (Some p) p.body) d.part.contents.procedures g.procedures) p.procedures;
-        body = record { u = p.body.u; xs = p.body.xs; is = ap (λ l. l ++ c.body) g.body ∙ p.body.is; spelled = p.body.spelled; stands = p.body.stands };
+        body = record { u = p.body.u; xs = p.body.xs; is = ◌∙◌ {c = stmts_in (in_turn (map judging p.body.xs) p.body.u).node} (ap (λ l. l ++ c.body) g.body) p.body.is; spelled = p.body.spelled; stands = p.body.stands };
+        placed = p.placed;
       }

@@ -1,5 +1,5 @@
 -- Where the bodies of a checked module are judged: what is known there is as the module has it.
-use Rattle.std.specs.Prelude.{◌≡◌, ◌⊎◌, ℕ, Bool, true, false, nat_lt, List, [], ◌∷◌, Option, Some, None, map}
+use Rattle.std.specs.Prelude.{◌≡◌, ◌⊎◌, ℕ, ◌≤◌, Bool, true, false, nat_lt, List, [], ◌∷◌, Option, Some, None, map}
 use Rattle.std.specs.List.{AllByRecursion}
 use Rattle.ob_tree.specs.declared.names.QName.{QName}
 use Rattle.ob_tree.specs.declared.stmt.Stmt.{Stmt}
@@ -21,7 +21,7 @@ use Rattle.ob_types.specs.declared.typed.TypedStmt.{TypedStmt}
 use Rattle.ob_types.specs.declared.typed.TypedModule.{TypedModule}
 use Rattle.ob_rules.specs.declared.entity.Entity.{Entity}
 use Rattle.ob_rules.specs.declared.entity.Entity.TheVariants as entity
-use Rattle.ob_rules.specs.Names.{Around}
+use Rattle.ob_rules.specs.Names.{Around, is_out}
 use Rattle.ob_rules.specs.Statements.{judging, in_turn}
 use Rattle.ob_rules.specs.Declarations.{stmts_in}
 use Rattle.ob_forms.specs.Said.{IsOneOf}
@@ -96,6 +96,7 @@ module _ (IsConstant : Value → Type 0) (shown : QName → Option Desc) (m : Ty
   -- what stands around the statements of a procedure, or of the module
   pub record StandsAround (p : Option TypedProcedure) (u : Around) : Type 0 where
     pub knows : Knows IsConstant m.name shown u
+    pub below : AllByRecursion (λ k. k.scope ≤ u.scope) u.known
     pub names : AllByRecursion (λ k. NameIs u.own p u.level k.scope k.what) u.known
     pub guards : u.guards ≡ []
     pub result : u.result ≡ result_of p
@@ -113,3 +114,7 @@ module _ (IsConstant : Value → Type 0) (shown : QName → Option Desc) (m : Ty
   pub record BodiesAreJudged : Type 0 where
     pub procedures : AllByRecursion (λ p. IsJudged (Some p) p.body) m.procedures
     pub body : IsJudged None m.body
+    -- in the scope of the module
+    pub scope : body.u.scope ≡ 1
+    -- the module is not Out
+    pub name : is_out m.name ≡ false

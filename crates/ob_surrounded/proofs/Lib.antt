@@ -1,0 +1,3 @@
+pub mod Standing
+pub mod Variables
+pub mod Names

@@ -1,0 +1,6 @@
+-- What stands around the bodies of a checked module is so in a program.
+use Rattle.ob_surrounded.proofs.Names.{procedures_surrounded}
+use Rattle.ob_surrounded.proofs.bodies_are_surrounded.Goals as goal
+
+pub returns-clause-procedures : goal.returns-clause-procedures
+returns-clause-procedures c = procedures_surrounded
