@@ -1,7 +1,8 @@
 -- What is known around a body is so in the program.
-use Rattle.std.proofs.Common.{◌≡◌, ⊎_elim, refl, sym, ap, ◌∙◌, subst, ℕ, ◌≤◌, List, [], ◌∷◌, map, Option, Some, None, Bool, true, false, inl, inr}
+use Rattle.std.proofs.Common.{◌≡◌, ⊎_elim, refl, sym, ap, ◌∙◌, subst, ℕ, ◌≤◌, List, [], ◌∷◌, map, Option, Some, None, Bool, true, false, inl, inr, arith}
 use Rattle.std.specs.Prelude.{◌&&◌, bytes_eq, codes, nat_lt}
 use Rattle.std.specs.List.{AllByRecursion, find}
+use Rattle.std.proofs.lemmas.Bool.Decides.{nat_tests}
 use Rattle.ob_tree.specs.declared.names.QName.{QName}
 use Rattle.ob_types.specs.declared.types.Mode.{Mode}
 use Rattle.ob_types.specs.declared.types.TypeRef.{TypeRef}
@@ -44,7 +45,7 @@ use Rattle.ob_bodies.specs.Judged.{mode_of, AreOf, IsGlobal, IsInside, result_of
 use Rattle.ob_bodies.proofs.Lists.{one_all, find_has}
 use Rattle.ob_bodies.proofs.Held.{one_mapped}
 use Rattle.ob_surrounded.specs.Left.{IsModuleOf, IsLeft}
-use Rattle.ob_surrounded.specs.Laws.{ProceduresSurrounded}
+use Rattle.ob_surrounded.specs.Laws.{ProceduresSurrounded, ModulesSurrounded}
 use Rattle.ob_surrounded.proofs.Standing.{known_is}
 use Rattle.ob_surrounded.proofs.Variables.{global_is, local_is, parameter_is}
 
@@ -193,3 +194,9 @@ procedures_surrounded program has shown checked m whole is out p i different for
     g.0)
     (one_all (λ (p : TypedProcedure). ResultIs program p.result) checked.procedures p is.results i)
     around.result
+
+no_scope : (k n : ℕ) → k ≤ n → n ≡ 1 → nat_lt 1 k ≡ true → ⊥
+no_scope k n h e f = grind (arith, nat_tests)
+
+pub modules_surrounded : ModulesSurrounded
+modules_surrounded program has shown checked m whole is out held u around one left = surrounded program has shown checked m whole is out held None None u around left (λ scope v t b e g. absurd (no_scope scope u.scope b one e)) tt around.result

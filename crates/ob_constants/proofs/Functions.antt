@@ -42,7 +42,7 @@ use Rattle.ob_meaning.specs.Operators.{is_in}
 use Rattle.ob_typed.specs.Known.{ConstantIs}
 use Rattle.ob_described.proofs.Nodes.{Has, then_has, also_has}
 use Rattle.ob_typed.specs.Makes.{IfThere}
-use Rattle.ob_bodies.proofs.Folded.{V, monadic_is, dyadic_is}
+use Rattle.ob_constants.proofs.Folded.{V, monadic_is, dyadic_is}
 
 -- what a designator comes to: where it is a constant, or a call that is one, it is one
 abbrev pub M : Meant → Type 0
