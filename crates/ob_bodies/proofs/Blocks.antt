@@ -36,7 +36,7 @@ use Rattle.ob_bodies.proofs.Standing.{grows_same, grows_then, stands_grown, all_
 use Rattle.ob_bodies.proofs.Heads.{InsideEntity, SignatureStands, HeadStands, head_grown, all_parameters}
 use Rattle.ob_bodies.proofs.Headings.{Aligned, named_at, IsBehind, Behind, aligned_in_order, names_in_order, AreGoodHeadings, HeadsStand, named_fine, stand_in_order}
 use Rattle.ob_bodies.proofs.Binding.{Changes, binding_changes}
-use Rattle.ob_bodies.proofs.Levels.{Level, AtModule, Within, frame, IsPlaced, IsVariableAt, Included, first_included, second_included, BlockAt, name_grown, not_module, outer_name}
+use Rattle.ob_bodies.proofs.Levels.{Level, AtModule, Within, frame, IsPlaced, IsVariableAt, Included, IsFull, none_full, both_full, first_included, second_included, BlockAt, name_grown, not_module, outer_name}
 use Rattle.ob_bodies.proofs.Plain.{DeclaredIs, IsPlain, order_plain}
 
 -- ---- lists
@@ -123,6 +123,7 @@ module _ (IsConstant : Value → Type 0) (shown : QName → Option Desc) (m : Ty
     pub procedures : AreJudged c.procedures
     pub body : IsJudged IsConstant shown m (frame l) c.body
     pub placed : IsPlaced l body.u
+    pub full : IsFull IsConstant shown m c
 
   abbrev pub IsBlock : (Around → Part) → Type 0
   IsBlock f = (l : Level) (u : Around) → B l u → I l (f u).contents → PartIs l (f u).contents
@@ -220,6 +221,15 @@ module _ (IsConstant : Value → Type 0) (shown : QName → Option Desc) (m : Ty
 
   -- ONE PROCEDURE AND THOSE INSIDE IT
 
+  -- bodies that are judged, and what else is added
+  pub record Adds (c : Contents) : Type 0 where
+    pub procedures : AreJudged c.procedures
+    pub full : IsFull IsConstant shown m c
+
+  head_made : (o : Option Parameters) → IfThere (λ p. AllByRecursion (IsDescribed IsConstant) p.made) o → AllByRecursion (IsDescribed IsConstant) (types_of_head o)
+  head_made None h = tt
+  head_made (Some p) h = h
+
   framed_variables : (types : Map) (h : Head) (o : Option Parameters) (c : Contents) (x : TypedVariable) → IsOneOf c.variables x → IsVariableAt IsConstant shown m (Within (framed types h o c)) x
   framed_variables types h None c x i = tt
   framed_variables types h (Some q) c x i = i
@@ -228,25 +238,28 @@ module _ (IsConstant : Value → Type 0) (shown : QName → Option Desc) (m : Ty
   framed_judged types h None c j = tt
   framed_judged types h (Some q) c j = (j, tt)
 
-  procedure_is : (l : Level) (u : Around) → B l u → (p : Written_procedure) → IsProcedure p → (h : Head) → HS u.own u.scope h → AllByRecursion (KnownBehind l u) h.known → (forward : Bool) → I l (procedure_judged u p h forward).contents → AreJudged (procedure_judged u p h forward).contents.procedures
-  procedure_is l u b p g h s k true i = tt
+  procedure_is : (l : Level) (u : Around) → B l u → (p : Written_procedure) → IsProcedure p → (h : Head) → HS u.own u.scope h → AllByRecursion (KnownBehind l u) h.known → (forward : Bool) → I l (procedure_judged u p h forward).contents → Adds (procedure_judged u p h forward).contents
+  procedure_is l u b p g h s k true i = record { procedures = tt; full = record { constants = tt; types = head_made h.parameters s.made; bound = tt } }
   procedure_is l u b p g h s k false i =
       let c = (p.inside (around_body u h)).contents in
       let types = map_of u in
       let f = framed types h h.parameters c in
       let own = typed_procedure types h h.parameters c in
       let r = g.inside (Within f) (around_body u h) (inside_block l u b h s k types c) (record { variables = λ x j. framed_variables types h h.parameters c x j; procedures = λ q j. i.procedures q (one_right own c.procedures q j) }) in
-      all_both (λ p. IsJudged IsConstant shown m (Some p) p.body) own c.procedures (framed_judged types h h.parameters c r.body) r.procedures
+      record {
+        procedures = all_both (λ p. IsJudged IsConstant shown m (Some p) p.body) own c.procedures (framed_judged types h h.parameters c r.body) r.procedures;
+        full = record { constants = tt; types = all_both (IsDescribed IsConstant) (types_of_head h.parameters) c.types (head_made h.parameters s.made) r.full.types; bound = tt };
+      }
 
-  pub procedures_are : (l : Level) (u : Around) → B l u → (ps : List Written_procedure) → AreProcedures ps → (hs : List Head) → AllByRecursion (HS u.own u.scope) hs → AllByRecursion (λ (h : Head). AllByRecursion (KnownBehind l u) h.known) hs → I l (procedures_judged u ps hs).contents → AreJudged (procedures_judged u ps hs).contents.procedures
-  procedures_are l u b [] g hs s k i = tt
-  procedures_are l u b (p ∷ ps) g [] s k i = tt
+  pub procedures_are : (l : Level) (u : Around) → B l u → (ps : List Written_procedure) → AreProcedures ps → (hs : List Head) → AllByRecursion (HS u.own u.scope) hs → AllByRecursion (λ (h : Head). AllByRecursion (KnownBehind l u) h.known) hs → I l (procedures_judged u ps hs).contents → Adds (procedures_judged u ps hs).contents
+  procedures_are l u b [] g hs s k i = record { procedures = tt; full = none_full IsConstant shown m }
+  procedures_are l u b (p ∷ ps) g [] s k i = record { procedures = tt; full = none_full IsConstant shown m }
   procedures_are l u b (p ∷ ps) g (h ∷ hs) s k i =
       let a = (procedure_judged u p h p.forward).contents in
       let c = (procedures_judged u ps hs).contents in
-      all_both (λ p. IsJudged IsConstant shown m (Some p) p.body) a.procedures c.procedures
-      (procedure_is l u b p g.0 h s.0 k.0 p.forward (first_included IsConstant shown m l a c i))
-      (procedures_are l u b ps g.1 hs s.1 k.1 (second_included IsConstant shown m l a c i))
+      let x = procedure_is l u b p g.0 h s.0 k.0 p.forward (first_included IsConstant shown m l a c i) in
+      let y = procedures_are l u b ps g.1 hs s.1 k.1 (second_included IsConstant shown m l a c i) in
+      record { procedures = all_both (λ p. IsJudged IsConstant shown m (Some p) p.body) a.procedures c.procedures x.procedures y.procedures; full = both_full IsConstant shown m a c x.full y.full }
 
   -- THE PROCEDURES ARE THOSE OF THE HEADINGS
 

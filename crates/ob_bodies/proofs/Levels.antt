@@ -12,6 +12,7 @@ use Rattle.ob_types.specs.declared.value.Value.{Value}
 use Rattle.ob_types.specs.declared.desc.Desc.{Desc}
 use Rattle.ob_types.specs.declared.typed.Variable.{Variable}
 use Rattle.ob_types.specs.declared.typed.TypedType.{TypedType}
+use Rattle.ob_types.specs.declared.typed.TypedConstant.{TypedConstant}
 use Rattle.ob_types.specs.declared.typed.TypedVariable.{TypedVariable}
 use Rattle.ob_types.specs.declared.typed.TypedProcedure.{TypedProcedure}
 use Rattle.ob_types.specs.declared.typed.TypedModule.{TypedModule}
@@ -20,12 +21,12 @@ use Rattle.ob_rules.specs.declared.entity.Entity.TheVariants as entity
 use Rattle.ob_rules.specs.declared.entity.Known.{Known}
 use Rattle.ob_rules.specs.Names.{Around, found_in_scope}
 use Rattle.ob_rules.specs.Types.{with_types, nothing}
-use Rattle.ob_rules.specs.Declarations.{Contents, together, Declared, declare_if, declare}
+use Rattle.ob_rules.specs.Declarations.{Contents, no_contents, together, Declared, declare_if, declare}
 use Rattle.ob_forms.specs.Said.{IsOneOf}
 use Rattle.ob_typed.specs.Makes.{IfThere}
 use Rattle.ob_bodies.specs.Knows.{Grows, Stands, IsDescribed, EntityStands, Knows}
 use Rattle.ob_bodies.specs.Judged.{IsInside, result_of, StandsIn, IsProcedureIn, VariableStands, NameIs}
-use Rattle.ob_bodies.proofs.Lists.{one_left, one_right, all_of, there_of}
+use Rattle.ob_bodies.proofs.Lists.{one_left, one_right, all_of, all_both, there_of}
 use Rattle.ob_bodies.proofs.Standing.{grows_front, stands_grown, all_grown, with_types_known}
 
 -- in the module, or in a procedure, whose heading may break a rule
@@ -58,6 +59,22 @@ module _ (IsConstant : Value → Type 0) (shown : QName → Option Desc) (m : Ty
   pub record Included (l : Level) (c : Contents) : Type 0 where
     pub variables : (x : TypedVariable) → IsOneOf c.variables x → IsVariableAt l x
     pub procedures : (p : TypedProcedure) → IsOneOf c.procedures p → IsOneOf m.procedures p
+
+  -- the constants of a part are constants, and its types are described
+  pub record IsFull (c : Contents) : Type 0 where
+    pub constants : AllByRecursion (λ (x : TypedConstant). IsConstant x.value) c.constants
+    pub types : AllByRecursion (IsDescribed IsConstant) c.types
+    pub bound : AllByRecursion (IsDescribed IsConstant) c.bound
+
+  pub none_full : IsFull no_contents
+  none_full = record { constants = tt; types = tt; bound = tt }
+
+  pub both_full : (a b : Contents) → IsFull a → IsFull b → IsFull (together a b)
+  both_full a b g h = record {
+    constants = all_both (λ (x : TypedConstant). IsConstant x.value) a.constants b.constants g.constants h.constants;
+    types = all_both (IsDescribed IsConstant) a.types b.types g.types h.types;
+    bound = all_both (IsDescribed IsConstant) a.bound b.bound g.bound h.bound;
+  }
 
   pub first_included : (l : Level) (a b : Contents) → Included l (together a b) → Included l a
   first_included l a b i = record { variables = λ x h. i.variables x (one_left a.variables b.variables x h); procedures = λ p h. i.procedures p (one_left a.procedures b.procedures p h) }

@@ -1,7 +1,8 @@
 -- Modules: the bodies of a checked module are judged where what is known is as the module has it.
 use Rattle.std.proofs.Common.{◌≡◌, refl, sym, ap, ◌∙◌, subst, ℕ, suc, ◌≤◌, Bool, true, false, List, [], ◌∷◌, ◌++◌, map, Option, Some, None, inl, inr, arith}
 use Rattle.std.specs.Prelude.{bytes_eq, codes, ◌&&◌, ◌||◌}
-use Rattle.std.specs.List.{AllByRecursion, cons_option, filter_map}
+use Rattle.std.specs.List.{AllByRecursion, cons_option, filter_map, find}
+use Rattle.ob_tree.specs.declared.pos.Pos.{Pos}
 use Rattle.ob_tree.specs.declared.names.QName.{QName}
 use Rattle.ob_tree.specs.declared.ident.Ident.{Ident}
 use Rattle.ob_tree.specs.declared.ident.Import.{Import}
@@ -14,6 +15,7 @@ use Rattle.ob_tree.specs.declared.decl.Module.{Module as Tree}
 use Rattle.ob_types.specs.declared.value.Value.{Value}
 use Rattle.ob_types.specs.declared.value.Value.TheVariants as literal
 use Rattle.ob_types.specs.declared.desc.Desc.{Desc}
+use Rattle.ob_types.specs.declared.typed.TypedType.{TypedType}
 use Rattle.ob_types.specs.declared.typed.TypedProcedure.{TypedProcedure}
 use Rattle.ob_types.specs.declared.typed.TypedModule.{TypedModule}
 use Rattle.ob_rules.specs.declared.broken.Broken.{Broken}
@@ -24,18 +26,18 @@ use Rattle.ob_rules.specs.Names.{Around, predeclared, is_out}
 use Rattle.ob_rules.specs.Expressions.{phrase_of}
 use Rattle.ob_rules.specs.Types.{written}
 use Rattle.ob_rules.specs.Statements.{judging, in_turn}
-use Rattle.ob_rules.specs.Declarations.{Contents, no_contents, together, Part, Declared, Written_procedure, Declaration, Plain, Procedure, plain_of, procedure_of, type_name_of, in_order, stmts_in, block_declared, block, decl_rule, declaration, is_system, target_of, import_entity, import_declared, imports_declared, around_module, module_of, typed_module, if_unbroken, checked}
+use Rattle.ob_rules.specs.Declarations.{Contents, no_contents, together, Part, Declared, Written_procedure, Declaration, Plain, Procedure, plain_of, procedure_of, type_name_of, in_order, stmts_in, block_declared, block, decl_rule, declaration, is_system, target_of, import_entity, import_declared, imports_declared, around_module, module_of, described, all_described, typed_module, if_unbroken, checked}
 use Rattle.ob_typed.specs.Makes.{IfThere}
 use Rattle.ob_typed.specs.Spelled.{all_true, is_spelled}
 use Rattle.ob_typed.specs.Bodies.{stmt_spelled}
 use Rattle.ob_relation.proofs.Names.{and_both}
 use Rattle.ob_bodies.specs.Spelled.{parameters_spelled, type_spelled, decl_layer, decl_spelled, tree_spelled}
-use Rattle.ob_bodies.specs.Knows.{EntityStands, Knows}
-use Rattle.ob_bodies.specs.Judged.{IsJudged, BodiesAreJudged}
-use Rattle.ob_bodies.proofs.Lists.{all_both, all_of}
+use Rattle.ob_bodies.specs.Knows.{IsDescribed, EntityStands, Knows}
+use Rattle.ob_bodies.specs.Judged.{NameIs, IsJudged, BodiesAreJudged}
+use Rattle.ob_bodies.proofs.Lists.{all_both, find_has}
 use Rattle.ob_bodies.proofs.Typings.{ConstantPhrase}
 use Rattle.ob_bodies.proofs.Written.{written_good, written_parameters_good}
-use Rattle.ob_bodies.proofs.Levels.{Level, AtModule, Within, frame, IsPlaced, Included, first_included, second_included, BlockAt, block_declared as name_declared}
+use Rattle.ob_bodies.proofs.Levels.{Level, AtModule, Within, frame, IsPlaced, Included, none_full, both_full, first_included, second_included, BlockAt, block_declared as name_declared}
 use Rattle.ob_bodies.proofs.Plain.{DeclaredIs, IsPlain, constant_plain, type_plain, variables_declared_plain, order_plain}
 use Rattle.ob_bodies.proofs.Blocks.{all_empty, PartIs, IsBlock, IsProcedure, stands_at}
 use Rattle.ob_bodies.proofs.Sequences.{block_is}
@@ -58,7 +60,7 @@ first_empty : {A : Type 0} (xs ys : List A) → xs ++ ys ≡ [] → xs ≡ []
 first_empty [] ys e = refl
 first_empty (x ∷ xs) ys e = absurd cc
 
-not_noted : (b : Bool) (n : ℕ) (at : Rattle.ob_tree.specs.declared.pos.Pos.Pos) → (notes_if b n at).broken ≡ [] → b ≡ false
+not_noted : (b : Bool) (n : ℕ) (at : Pos) → (notes_if b n at).broken ≡ [] → b ≡ false
 not_noted true n at e = absurd cc
 not_noted false n at e = refl
 
@@ -123,7 +125,7 @@ module _ (IsConstant : Value → Type 0) (truths : (b : Bool) → IsConstant (li
   layer x h e = subst GoodDeclaration (sym (fold-roll-Decl Declaration decl_rule x)) (h (sym (fold-roll-Decl Bool decl_layer x) ∙ e))
 
   no_block : IsBlock IsConstant shown m out (λ u. record { notes = Rattle.ob_rules.specs.Judged.no_notes; contents = no_contents })
-  no_block l u b i = record { procedures = tt; body = record { u = u; xs = []; is = refl; spelled = refl; stands = stands_at IsConstant shown m out l u b }; placed = b.placed }
+  no_block l u b i = record { procedures = tt; body = record { u = u; xs = []; is = refl; spelled = refl; stands = stands_at IsConstant shown m out l u b }; placed = b.placed; full = none_full IsConstant shown m }
 
   decl_cases : (y : Decl-F SD) → PD (roll-Decl (map-Decl SD Decl (λ x. x.0) y))
   decl_cases (Decl-F.Constant d x) = layer (Decl-F.Constant d x) (λ e. constant_plain IsConstant shown m out d (phrase_of x) (constants x e))
@@ -147,15 +149,11 @@ module _ (IsConstant : Value → Type 0) (truths : (b : Bool) → IsConstant (li
 
   -- IMPORTS
 
-  import_stands : (b : Bool) (t : Ident) → bytes_eq t.name m.name ≡ false → EntityStands IsConstant m.name shown [] (import_entity b t)
-  import_stands true t h = tt
-  import_stands false t h = h
-
-  import_at : (own : List Rattle.ob_types.specs.declared.typed.TypedType.TypedType) (b : Bool) (t : Ident) → bytes_eq t.name m.name ≡ false → EntityStands IsConstant m.name shown own (import_entity b t)
+  import_at : (own : List TypedType) (b : Bool) (t : Ident) → bytes_eq t.name m.name ≡ false → EntityStands IsConstant m.name shown own (import_entity b t)
   import_at own true t h = tt
   import_at own false t h = h
 
-  import_name : (own : List Rattle.ob_types.specs.declared.typed.TypedType.TypedType) (p : Option TypedProcedure) (level scope : ℕ) (b : Bool) (t : Ident) → Rattle.ob_bodies.specs.Judged.NameIs IsConstant shown m own p level scope (import_entity b t)
+  import_name : (own : List TypedType) (p : Option TypedProcedure) (level scope : ℕ) (b : Bool) (t : Ident) → NameIs IsConstant shown m own p level scope (import_entity b t)
   import_name own p level scope true t = tt
   import_name own p level scope false t = tt
 
@@ -164,6 +162,7 @@ module _ (IsConstant : Value → Type 0) (truths : (b : Bool) → IsConstant (li
     around = name_declared IsConstant shown m l u b i.ident (import_entity (is_system t.name) t) (import_at u.own (is_system t.name) t h) (import_name u.own (frame l) u.level u.scope (is_system t.name) t);
     procedures = refl;
     body = refl;
+    full = none_full IsConstant shown m;
   }
 
   imports_plain : (is : List Import) → AllByRecursion (λ (i : Import). bytes_eq (target_of i).name m.name ≡ false) is → AllByRecursion (IsPlain IsConstant shown m out) (map (λ i. import_declared i (target_of i)) is)
@@ -201,9 +200,19 @@ module _ (IsConstant : Value → Type 0) (truths : (b : Bool) → IsConstant (li
         procedures = all_both (λ p. IsJudged IsConstant shown m (Some p) p.body) d.part.contents.procedures c.procedures (all_empty (λ p. IsJudged IsConstant shown m (Some p) p.body) d.part.contents.procedures r.procedures) p.procedures;
         body = record { u = p.body.u; xs = p.body.xs; is = ◌∙◌ {c = stmts_in (in_turn (map judging p.body.xs) p.body.u).node} (ap (λ l. l ++ c.body) r.body) p.body.is; spelled = p.body.spelled; stands = p.body.stands };
         placed = p.placed;
+        full = both_full IsConstant shown m no_contents (together d.part.contents c) (none_full IsConstant shown m) (both_full IsConstant shown m d.part.contents c r.full p.full);
       }
 
 -- ---- the checked module
+
+module _ (IsConstant : Value → Type 0) where
+  described_is : (o : Option TypedType) (t : TypedType) → IfThere (IsDescribed IsConstant) o → IsDescribed IsConstant t → IsDescribed IsConstant (described o t)
+  described_is None t h k = k
+  described_is (Some b) t h k = record { type = h.type; length = h.length }
+
+  all_described_are : (bound : List TypedType) → AllByRecursion (IsDescribed IsConstant) bound → (ts : List TypedType) → AllByRecursion (IsDescribed IsConstant) ts → AllByRecursion (IsDescribed IsConstant) (all_described bound ts)
+  all_described_are bound h [] k = tt
+  all_described_are bound h (t ∷ ts) k = (described_is (find (λ b. bytes_eq b.name t.name) bound) t (find_has (IsDescribed IsConstant) (λ b. bytes_eq b.name t.name) bound h) k.0, all_described_are bound h ts k.1)
 
 module _ (IsConstant : Value → Type 0) (truths : (b : Bool) → IsConstant (literal.Bool b)) (shown : QName → Option Desc) (tree : Tree) where
   abbrev parts : Part
@@ -223,7 +232,7 @@ module _ (IsConstant : Value → Type 0) (truths : (b : Bool) → IsConstant (li
   whole_is out constants s o =
       let e = and_both (all_true (map decl_spelled tree.decls)) (all_true (map stmt_spelled tree.body)) s in
       let p = module_is IsConstant truths shown whole out constants tree.name refl tree.imports o (map declaration tree.decls) (decls_good IsConstant truths shown whole out constants tree.decls e.0) tree.body e.1 tree.closing (record { variables = λ x i. i; procedures = λ p i. i }) in
-      record { procedures = p.procedures; body = p.body; scope = p.placed.1.0; name = out }
+      record { procedures = p.procedures; body = p.body; scope = p.placed.1.0; name = out; constants = p.full.constants; types = all_described_are IsConstant parts.contents.bound p.full.bound parts.contents.types p.full.types }
 
   pub bodies_judged : (m : TypedModule) → checked shown tree ≡ Some m → ((out : is_out tree.name.name ≡ false) (x : Expr) → is_spelled x ≡ true → ConstantPhrase IsConstant tree.name.name shown out (phrase_of x)) → tree_spelled tree ≡ true → AllByRecursion (λ (i : Import). bytes_eq (target_of i).name tree.name.name ≡ false) tree.imports → BodiesAreJudged IsConstant shown m
   bodies_judged m e constants s o =

@@ -35,7 +35,7 @@ use Rattle.ob_bodies.specs.Knows.{Stands, IsDescribed, EntityStands, Knows}
 use Rattle.ob_bodies.specs.Judged.{IsInside, VariableStands, NameIs}
 use Rattle.ob_bodies.proofs.Lists.{one_left, one_right, there_of}
 use Rattle.ob_bodies.proofs.Typings.{TypingIs, ConstantPhrase, IsGood, typed_is}
-use Rattle.ob_bodies.proofs.Levels.{Level, AtModule, Within, frame, IsPlaced, IsVariableAt, Included, first_included, second_included, BlockAt, block_typed, block_declared, declared_own, not_outer, not_module}
+use Rattle.ob_bodies.proofs.Levels.{Level, AtModule, Within, frame, IsPlaced, IsVariableAt, Included, IsFull, none_full, both_full, first_included, second_included, BlockAt, block_typed, block_declared, declared_own, not_outer, not_module}
 
 module _ (IsConstant : Value → Type 0) (shown : QName → Option Desc) (m : TypedModule) (out : is_out m.name ≡ false) where
   abbrev S : List TypedType → TypeRef → Type 0
@@ -55,6 +55,7 @@ module _ (IsConstant : Value → Type 0) (shown : QName → Option Desc) (m : Ty
     pub around : B l d.around
     pub procedures : d.part.contents.procedures ≡ []
     pub body : d.part.contents.body ≡ []
+    pub full : IsFull IsConstant shown m d.part.contents
 
   abbrev pub IsPlain : (Around → Declared) → Type 0
   IsPlain f = (l : Level) (u : Around) → B l u → I l (f u).part.contents → DeclaredIs l (f u)
@@ -82,6 +83,11 @@ module _ (IsConstant : Value → Type 0) (shown : QName → Option Desc) (m : Ty
   constant_adds true x (Some p) = (refl, refl)
   constant_adds false x o = (refl, refl)
 
+  constant_full : (b : Bool) (x : Ident) (o : Option (Mark × Value)) → IfThere (λ (p : Mark × Value). Unit {0} × IsConstant p.1) o → IsFull IsConstant shown m (constant_contents b x o)
+  constant_full true x None h = none_full IsConstant shown m
+  constant_full true x (Some p) h = record { constants = (h.1, tt); types = tt; bound = tt }
+  constant_full false x o h = none_full IsConstant shown m
+
   pub constant_plain : (d : IdentDef) (x : Phrase) → ConstantPhrase IsConstant m.name shown out x → IsPlain (constant_declared d x)
   constant_plain d x c l u b i =
       let v : Judged Value = constant_value u x ▷ no_nil x.start in
@@ -92,6 +98,7 @@ module _ (IsConstant : Value → Type 0) (shown : QName → Option Desc) (m : Ty
         around = block_declared IsConstant shown m l u b d.ident (constant_entity o) (constant_stands u.own o h) (constant_name u.own (frame l) u.level u.scope o);
         procedures = a.0;
         body = a.1;
+        full = constant_full (is_module_level u) d.ident o h;
       }
 
   -- TYPES
@@ -123,6 +130,7 @@ module _ (IsConstant : Value → Type 0) (shown : QName → Option Desc) (m : Ty
         around = block_declared IsConstant shown m l v (block_typed IsConstant shown m l u b (types_made o) (type_made u.own o h)) d.ident (type_entity o) (type_stands u.own o h) (type_name v.own (frame l) u.level u.scope o);
         procedures = refl;
         body = refl;
+        full = record { constants = tt; types = type_made u.own o h; bound = tt };
       }
 
   -- VARIABLES
@@ -158,11 +166,15 @@ module _ (IsConstant : Value → Type 0) (shown : QName → Option Desc) (m : Ty
   variable_adds x None = (refl, refl)
   variable_adds x (Some p) = (refl, refl)
 
+  variable_full : (x : Ident) (o : Option (Mark × Typing)) → IsFull IsConstant shown m (variable_contents x o)
+  variable_full x None = none_full IsConstant shown m
+  variable_full x (Some p) = record { constants = tt; types = tt; bound = tt }
+
   pub two_empty : {A : Type 0} (xs ys : List A) → xs ≡ [] → ys ≡ [] → xs ++ ys ≡ []
   two_empty xs ys e f = ap (λ l. l ++ ys) e ∙ f
 
   variables_plain : (ds : List IdentDef) (t : Option Typing) (l : Level) (u : Around) → B l u → IfThere (λ t. S u.own t.of) t → I l (variables_with ds t u).part.contents → DeclaredIs l (variables_with ds t u)
-  variables_plain [] t l u b h i = record { around = b; procedures = refl; body = refl }
+  variables_plain [] t l u b h i = record { around = b; procedures = refl; body = refl; full = none_full IsConstant shown m }
   variables_plain (d ∷ ds) t l u b h i =
       let k = (marked u true d).node in
       let o = paired_typing k t in
@@ -173,7 +185,7 @@ module _ (IsConstant : Value → Type 0) (shown : QName → Option Desc) (m : Ty
       let c = block_declared IsConstant shown m l u b d.ident e (unsound_name u d.ident o) (variable_name l u b d.ident k t h (first_included IsConstant shown m l mine rest i)) in
       let r = variables_plain ds t l v c (subst (λ own. IfThere (λ t. S own t.of) t) (sym (declared_own IsConstant shown m u d.ident e)) h) (second_included IsConstant shown m l mine rest i) in
       let a = variable_adds d.ident o in
-      record { around = r.around; procedures = two_empty mine.procedures rest.procedures a.0 r.procedures; body = two_empty mine.body rest.body a.1 r.body }
+      record { around = r.around; procedures = two_empty mine.procedures rest.procedures a.0 r.procedures; body = two_empty mine.body rest.body a.1 r.body; full = both_full IsConstant shown m mine rest (variable_full d.ident o) r.full }
 
   in_made : (own : List TypedType) (o : Option Typing) → IfThere (T own) o → AllByRecursion (IsDescribed IsConstant) (made_in o)
   in_made own None h = tt
@@ -190,15 +202,15 @@ module _ (IsConstant : Value → Type 0) (shown : QName → Option Desc) (m : Ty
       let v = with_types u (made_in t.node) in
       let mine : Contents = record no_contents { types = made_in t.node } in
       let r = variables_plain ds t.node l v (block_typed IsConstant shown m l u b (made_in t.node) (in_made u.own t.node h)) (in_stands u.own t.node h) (second_included IsConstant shown m l mine (variables_with ds t.node v).part.contents i) in
-      record { around = r.around; procedures = r.procedures; body = r.body }
+      record { around = r.around; procedures = r.procedures; body = r.body; full = both_full IsConstant shown m mine (variables_with ds t.node v).part.contents (record { constants = tt; types = in_made u.own t.node h; bound = tt }) r.full }
 
   -- IN ORDER
 
   pub order_plain : (fs : List (Around → Declared)) → AllByRecursion IsPlain fs → IsPlain (in_order fs)
-  order_plain [] g l u b i = record { around = b; procedures = refl; body = refl }
+  order_plain [] g l u b i = record { around = b; procedures = refl; body = refl; full = none_full IsConstant shown m }
   order_plain (f ∷ fs) g l u b i =
       let d = f u in
       let rest = in_order fs d.around in
       let a = g.0 l u b (first_included IsConstant shown m l d.part.contents rest.part.contents i) in
       let r = order_plain fs g.1 l d.around a.around (second_included IsConstant shown m l d.part.contents rest.part.contents i) in
-      record { around = r.around; procedures = two_empty d.part.contents.procedures rest.part.contents.procedures a.procedures r.procedures; body = two_empty d.part.contents.body rest.part.contents.body a.body r.body }
+      record { around = r.around; procedures = two_empty d.part.contents.procedures rest.part.contents.procedures a.procedures r.procedures; body = two_empty d.part.contents.body rest.part.contents.body a.body r.body; full = both_full IsConstant shown m d.part.contents rest.part.contents a.full r.full }

@@ -29,7 +29,7 @@ use Rattle.ob_bodies.proofs.Standing.{grows_same, grows_then, entity_grown}
 use Rattle.ob_bodies.proofs.Heads.{SignatureStands, HeadStands, head_grown, all_parameters}
 use Rattle.ob_bodies.proofs.Headings.{Aligned, named_at, IsBehind, aligned_in_order, names_in_order, HeadsStand, named_fine, stand_in_order}
 use Rattle.ob_bodies.proofs.Binding.{binding_changes}
-use Rattle.ob_bodies.proofs.Levels.{Level, AtModule, Within, frame, IsPlaced, Included, first_included, second_included, BlockAt, name_grown}
+use Rattle.ob_bodies.proofs.Levels.{Level, AtModule, Within, frame, IsPlaced, Included, none_full, both_full, first_included, second_included, BlockAt, name_grown}
 use Rattle.ob_bodies.proofs.Plain.{DeclaredIs}
 use Rattle.ob_bodies.proofs.Blocks.{one_reversed, all_reversed, all_empty, at_most, procedures_body, PartIs, AreProcedures, headings_good, stands_at, KnownBehind, procedures_are, HasProcedure, heading_there}
 
@@ -141,10 +141,12 @@ module _ (IsConstant : Value → Type 0) (shown : QName → Option Desc) (m : Ty
         inside_is =
             let c = (procedures_judged w ps heads).contents in
             let s = (body_part (in_turn (map judging xs) w)).contents in
+            let a = procedures_are IsConstant shown m out l w around ps good heads (all_reversed (HS own base.scope) hs.before heads_stand) (all_reversed (λ (h : Head). AllByRecursion (KnownBehind IsConstant shown m out l w) h.known) hs.before known.1) (first_included IsConstant shown m l c s i) in
             record {
-              procedures = all_both (λ p. IsJudged IsConstant shown m (Some p) p.body) c.procedures [] (procedures_are IsConstant shown m out l w around ps good heads (all_reversed (HS own base.scope) hs.before heads_stand) (all_reversed (λ (h : Head). AllByRecursion (KnownBehind IsConstant shown m out l w) h.known) hs.before known.1) (first_included IsConstant shown m l c s i)) tt;
+              procedures = all_both (λ p. IsJudged IsConstant shown m (Some p) p.body) c.procedures [] a.procedures tt;
               body = record { u = w; xs = xs; is = ap (λ l. l ++ s.body) (procedures_body w ps heads); spelled = spelled; stands = stands_at IsConstant shown m out l w around };
               placed = around.placed;
+              full = both_full IsConstant shown m c s a.full (record { constants = tt; types = tt; bound = tt });
             }
 
   -- with what is bound, and the declarations before
@@ -168,4 +170,5 @@ module _ (IsConstant : Value → Type 0) (shown : QName → Option Desc) (m : Ty
         procedures = all_both (λ p. IsJudged IsConstant shown m (Some p) p.body) d.part.contents.procedures c.procedures (all_empty (λ p. IsJudged IsConstant shown m (Some p) p.body) d.part.contents.procedures g.procedures) p.procedures;
         body = record { u = p.body.u; xs = p.body.xs; is = ◌∙◌ {c = stmts_in (in_turn (map judging p.body.xs) p.body.u).node} (ap (λ l. l ++ c.body) g.body) p.body.is; spelled = p.body.spelled; stands = p.body.stands };
         placed = p.placed;
+        full = both_full IsConstant shown m d.part.contents (together no_contents (together bound c)) g.full (both_full IsConstant shown m no_contents (together bound c) (none_full IsConstant shown m) (both_full IsConstant shown m bound c (record { constants = tt; types = tt; bound = ch.described s.knows.own }) p.full));
       }

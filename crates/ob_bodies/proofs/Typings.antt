@@ -1,5 +1,5 @@
 -- A type that is written stands among those that it makes, and each that it makes is described.
-use Rattle.std.proofs.Common.{◌≡◌, refl, sym, ap, ◌∙◌, subst, ℕ, zero, suc, ◌+◌, Bool, true, false, List, [], ◌∷◌, ◌++◌, length, map, Option, Some, None, inl, inr}
+use Rattle.std.proofs.Common.{◌≡◌, refl, sym, ap, ◌∙◌, subst, ℕ, zero, suc, ◌+◌, ◌≤◌, Bool, true, false, List, [], ◌∷◌, ◌++◌, length, map, Option, Some, None, inl, inr, arith}
 use Rattle.std.specs.Prelude.{is_none, bytes_eq, codes, pos, negsuc, not, ◌||◌, ◌&&◌}
 use Rattle.std.specs.List.{AllByRecursion}
 use Rattle.ob_tree.specs.declared.pos.Pos.{Pos}
@@ -74,9 +74,12 @@ module _ (IsConstant : Value → Type 0) (unit : List ℕ) (shown : QName → Op
       then_has (Stands unit shown u.own) (TypingIs u.own) (type_named u q) (named_typing u (first_of q) open_ok) (type_named_stands IsConstant unit shown u k q)
       (λ t h. unless_has (TypingIs u.own) _ 13 (first_of q) _ (record { made = tt; of = h }))
 
-  length_is : (at : Pos) (v : Value) → IsConstant v → Has (λ n. IsConstant (literal.Int (pos n))) (length_of at v)
+  some_length : (n : ℕ) → 1 ≤ suc n
+  some_length n = omega arith
+
+  length_is : (at : Pos) (v : Value) → IsConstant v → Has (λ n. IsConstant (literal.Int (pos n)) × (1 ≤ n)) (length_of at v)
   length_is at (literal.Int (pos zero)) h = tt
-  length_is at (literal.Int (pos (suc n))) h = h
+  length_is at (literal.Int (pos (suc n))) h = (h, some_length n)
   length_is at (literal.Int (negsuc n)) h = tt
   length_is at (literal.Bool b) h = tt
   length_is at (literal.Char c) h = tt
@@ -84,14 +87,14 @@ module _ (IsConstant : Value → Type 0) (unit : List ℕ) (shown : QName → Op
   length_is at (literal.Str text) h = tt
   length_is at literal.Nil h = tt
 
-  array_length_is : (u : Around) → K u → (x : Phrase) → ConstantPhrase x → Has (λ n. IsConstant (literal.Int (pos n))) (array_length u x)
-  array_length_is u k x h = then_has IsConstant (λ n. IsConstant (literal.Int (pos n))) (constant_value u x) (length_of x.start) (h u k) (λ v g. length_is x.start v g)
+  array_length_is : (u : Around) → K u → (x : Phrase) → ConstantPhrase x → Has (λ n. IsConstant (literal.Int (pos n)) × (1 ≤ n)) (array_length u x)
+  array_length_is u k x h = then_has IsConstant (λ n. IsConstant (literal.Int (pos n)) × (1 ≤ n)) (constant_value u x) (length_of x.start) (h u k) (λ v g. length_is x.start v g)
 
   fixed_good : (ls : List Phrase) → AreConstant ls → (element : Written) → IsGood element → (u : Around) → K u → (name : List ℕ) (m : Mark) → Has (TypingIs u.own) (fixed_array u name m ls element)
   fixed_good [] c element g u k name m = g u k name m false
   fixed_good (l ∷ ls) c element g u k name m =
-      then_has (λ p. IsConstant (literal.Int (pos p.0)) × TypingIs u.own p.1) (TypingIs u.own) (both (array_length u l) (fixed_array u (element_name name) mark.Hidden ls element)) (λ p. sound (typed_as u name (desc.Array m p.0 p.1.of) p.1.made))
-      (both_have (λ n. IsConstant (literal.Int (pos n))) (TypingIs u.own) (array_length u l) (fixed_array u (element_name name) mark.Hidden ls element) (array_length_is u k l c.0) (fixed_good ls c.1 element g u k (element_name name) mark.Hidden))
+      then_has (λ p. (IsConstant (literal.Int (pos p.0)) × (1 ≤ p.0)) × TypingIs u.own p.1) (TypingIs u.own) (both (array_length u l) (fixed_array u (element_name name) mark.Hidden ls element)) (λ p. sound (typed_as u name (desc.Array m p.0 p.1.of) p.1.made))
+      (both_have (λ n. IsConstant (literal.Int (pos n)) × (1 ≤ n)) (TypingIs u.own) (array_length u l) (fixed_array u (element_name name) mark.Hidden ls element) (array_length_is u k l c.0) (fixed_good ls c.1 element g u k (element_name name) mark.Hidden))
       (λ p h. typed_is u k name (desc.Array m p.0 p.1.of) p.1.made refl h.0 h.1.made)
 
   pub array_good : (ls : List Phrase) → AreConstant ls → (at : Pos) (element : Written) → IsGood element → (u : Around) → K u → (name : List ℕ) (m : Mark) (open_ok : Bool) → Has (TypingIs u.own) (array u name m at open_ok ls element)

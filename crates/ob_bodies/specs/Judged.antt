@@ -14,6 +14,7 @@ use Rattle.ob_types.specs.declared.typed.Passing.TheVariants as passing
 use Rattle.ob_types.specs.declared.typed.Variable.{Variable}
 use Rattle.ob_types.specs.declared.typed.Variable.TheVariants as variable
 use Rattle.ob_types.specs.declared.typed.TypedType.{TypedType}
+use Rattle.ob_types.specs.declared.typed.TypedConstant.{TypedConstant}
 use Rattle.ob_types.specs.declared.typed.TypedVariable.{TypedVariable}
 use Rattle.ob_types.specs.declared.typed.TypedParameter.{TypedParameter}
 use Rattle.ob_types.specs.declared.typed.TypedProcedure.{TypedProcedure}
@@ -28,7 +29,7 @@ use Rattle.ob_forms.specs.Said.{IsOneOf}
 use Rattle.ob_typed.specs.Makes.{IfThere}
 use Rattle.ob_typed.specs.Spelled.{all_true}
 use Rattle.ob_typed.specs.Bodies.{stmt_spelled}
-use Rattle.ob_bodies.specs.Knows.{Stands, Knows}
+use Rattle.ob_bodies.specs.Knows.{Stands, IsDescribed, Knows}
 
 -- by value or by VAR
 abbrev pub mode_of : Passing → Mode
@@ -118,3 +119,6 @@ module _ (IsConstant : Value → Type 0) (shown : QName → Option Desc) (m : Ty
     pub scope : body.u.scope ≡ 1
     -- the module is not Out
     pub name : is_out m.name ≡ false
+    -- its constants are constants, its types are described as types, and arrays have lengths
+    pub constants : AllByRecursion (λ (c : TypedConstant). IsConstant c.value) m.constants
+    pub types : AllByRecursion (IsDescribed IsConstant) m.types

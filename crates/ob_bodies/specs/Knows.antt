@@ -1,5 +1,5 @@
 -- What is known around a part of a module, as far as types and constants go.
-use Rattle.std.specs.Prelude.{◌≡◌, ℕ, Bool, true, false, List, [], ◌∷◌, Option, Some, None, bytes_eq, pos, MatchOption, IsTrue}
+use Rattle.std.specs.Prelude.{◌≡◌, ℕ, ◌≤◌, Bool, true, false, List, [], ◌∷◌, Option, Some, None, bytes_eq, pos, MatchOption, IsTrue}
 use Rattle.std.specs.List.{AllByRecursion}
 use Rattle.ob_tree.specs.declared.names.QName.{QName}
 use Rattle.ob_types.specs.declared.types.TypeRef.{TypeRef}
@@ -37,9 +37,9 @@ Stands unit shown own (ref.Basic b) = Unit {0}
 Stands unit shown own (ref.Named q) = (same_name q out_string ≡ false) × StandsBy (bytes_eq q.«module» unit) shown own q
 
 module _ (IsConstant : Value → Type 0) where
-  -- the length of an array is a constant
+  -- the length of an array is a constant, and not 0
   abbrev pub LengthIs : Desc → Type 0
-  LengthIs (desc.Array m n t) = IsConstant (literal.Int (pos n))
+  LengthIs (desc.Array m n t) = IsConstant (literal.Int (pos n)) × (1 ≤ n)
   LengthIs d = Unit {0}
 
   -- a description of a type

@@ -36,17 +36,22 @@ use Rattle.ob_rules.specs.declared.meant.Meant.TheVariants as means
 use Rattle.ob_rules.specs.declared.meant.Where.{Where}
 use Rattle.ob_rules.specs.declared.meant.Where.TheVariants.{InExpression}
 use Rattle.ob_rules.specs.declared.meant.ElementOf.{ElementOf}
+use Rattle.ob_types.specs.declared.typed.Guarded.{Guarded}
+use Rattle.ob_types.specs.declared.typed.Guarded.TheVariants as guarded
+use Rattle.ob_types.specs.declared.typed.TypedExpr.TheVariants as e
+use Rattle.ob_types.specs.declared.typed.ExprType.TheVariants as kind
+use Rattle.ob_rules.specs.declared.values.Place.{Place}
 use Rattle.ob_rules.specs.declared.values.Valued.{Valued}
 use Rattle.ob_rules.specs.declared.values.Valued.TheVariants as valued
-use Rattle.ob_rules.specs.Judged.{Judged, is_quiet, sound, both, also, wants, noted, made, found_or, each_sound, ◌▷◌}
-use Rattle.ob_rules.specs.Shapes.{Map, same_name}
+use Rattle.ob_rules.specs.Judged.{Judged, is_quiet, sound, breaks, both, also, wants, made, found_or, each_sound, ◌▷◌}
+use Rattle.ob_rules.specs.Shapes.{Map, same_name, pointed_record}
 use Rattle.ob_rules.specs.Names.{Around, map_of, type_desc, own_desc, out_string, find_name, variable_known, is_enclosing, entity_known, name_known, named, exported, export_known, shown_of, is_out, out_procedure, type_named}
 use Rattle.ob_rules.specs.Constants.{text_value}
-use Rattle.ob_rules.specs.Values.{constant, constant_in}
+use Rattle.ob_rules.specs.Values.{constant, computed, constant_in, place_in, type_in, type}
 use Rattle.ob_rules.specs.Operators.{combined, opposite, signed, related, element, set_of}
 use Rattle.ob_rules.specs.Phrases.{Phrase, Behind, Dot, Index, Up, Round}
 use Rattle.ob_rules.specs.Designators as designators
-use Rattle.ob_rules.specs.Expressions.{Named, Ranged, Tailed, name_alone, meant_by, designator_phrase, procedure_value, value_meant, integer_literal, integer_text, char_literal, marked, test_of, type_test, other_test, untestable, is_test, phrase, combine_all, bracketed, value_if, element_value, relation_of, relation_value, expr_rule, tail_rule, element_rule, designator_rule, selector_rule, phrase_of, named_of, ranged_of, tailed_of, behind_of, constant_of, constant_if, constant_judged, constant_value}
+use Rattle.ob_rules.specs.Expressions.{Named, Ranged, Tailed, meant_by, designator_phrase, procedure_value, value_meant, integer_literal, integer_text, char_literal, marked, record_if, record_test, pointer_test, test_record, test_of, test, testable, untestable, is_test, phrase, combine_all, bracketed, value_if, element_value, relation_of, relation_value, expr_rule, tail_rule, element_rule, designator_rule, selector_rule, phrase_of, named_of, ranged_of, tailed_of, behind_of, constant_of, constant_if, constant_judged, constant_value}
 use Rattle.ob_relation.specs.Typed.{AreCharacters}
 use Rattle.ob_typed.specs.Known.{ConstantIs}
 use Rattle.ob_typed.specs.Spelled as spelled
@@ -59,7 +64,7 @@ use Rattle.ob_bodies.proofs.Lists.{find_has}
 use Rattle.ob_constants.specs.Laws.{AreShown, ConstantsStand}
 use Rattle.ob_constants.proofs.Folded.{V, E, constant_is, combined_is, opposite_is, only_is, signed_is, related_is, element_is, set_is, each_has}
 use Rattle.ob_constants.proofs.Functions.{M, AreLengths}
-use Rattle.ob_constants.proofs.Phrased.{wants_has, PhraseIs, ArePhrases, BehindIs, AreBehind, behind_are, DescIs, marked_has, out_has, place_has, meant_exported, from_has}
+use Rattle.ob_constants.proofs.Phrased.{also_broken, PhraseIs, ArePhrases, BehindIs, AreBehind, behind_are, DescIs, marked_has, out_has, place_has, meant_exported, from_has}
 
 -- ---- literals
 
@@ -93,7 +98,7 @@ value_has at (means.Place p) h = tt
 value_has at (means.Constant v) h = h
 value_has at (means.Procedure name s) h = by (is_value name)
   where
-    by : (b : Bool) → Has V (procedure_value b at name _)
+    by : (b : Bool) → Has V (procedure_value b at name (computed (e.Procedure name s) (kind.Procedure s)))
     by true = tt
     by false = tt
 value_has at (means.Call x) h = h
@@ -119,7 +124,7 @@ module _ (unit : List ℕ) (shown : QName → Option Desc) (are : AreShown shown
 
   own_length : (o : Option TypedType) (m : Mark) (n : ℕ) (t : TypeRef) → own_desc o ≡ Some (desc.Array m n t) → IfThere (IsDescribed ConstantIs) o → ConstantIs (literal.Int (pos n))
   own_length None m n t e h = absurd cc
-  own_length (Some x) m n t e h = let f : x.desc ≡ desc.Array m n t = cc in subst (LengthIs ConstantIs) f h.length
+  own_length (Some x) m n t e h = let f : x.desc ≡ desc.Array m n t = cc in (subst (LengthIs ConstantIs) f h.length).0
 
   map_lengths : (u : Around) → K u → AreLengths (map_of u)
   map_lengths u k q m n t e = by (bytes_eq q.«module» u.unit) refl (same_name q out_string) refl
@@ -180,7 +185,7 @@ module _ (unit : List ℕ) (shown : QName → Option Desc) (are : AreShown shown
 
   front_has : (u : Around) → K u → (x : Ident) (e : Entity) (dot : Option Ident) → NameHas u e → Has M (designators.front_of u x e dot)
   front_has u k x (entity.Constant v) dot h = h
-  front_has u k x (entity.Variable v t) dot h = place_has _
+  front_has u k x (entity.Variable v t) dot h = place_has (designators.variable_named u x.pos v t false)
   front_has u k x (entity.Procedure n s) dot h = tt
   front_has u k x (entity.Forward n s) dot h = tt
   front_has u k x (entity.Predeclared f) dot h = tt
@@ -193,7 +198,7 @@ module _ (unit : List ℕ) (shown : QName → Option Desc) (are : AreShown shown
   designates_has w x bs h u k =
       from_has K u k (map_lengths u k) w x.pos bs (designators.front u x bs (named u x)).node
       (then_has (NameHas u) (λ (p : Meant × List Behind). M p.0 × AreBehind K p.1) (named u x) (λ e. made (λ m. (m, designators.behind (designators.is_module e) bs)) (designators.front_of u x e (designators.dot_of bs))) (named_has u k x)
-      (λ e i. then_has M (λ (p : Meant × List Behind). M p.0 × AreBehind K p.1) (designators.front_of u x e (designators.dot_of bs)) _ (front_has u k x e (designators.dot_of bs) i) (λ m j. (j, behind_are K (designators.is_module e) bs h))))
+      (λ e i. then_has M (λ (p : Meant × List Behind). M p.0 × AreBehind K p.1) (designators.front_of u x e (designators.dot_of bs)) (λ m. sound (m, designators.behind (designators.is_module e) bs)) (front_has u k x e (designators.dot_of bs) i) (λ m j. (j, behind_are K (designators.is_module e) bs h))))
 
   -- PHRASES
 
@@ -221,29 +226,29 @@ module _ (unit : List ℕ) (shown : QName → Option Desc) (are : AreShown shown
       (then_has (λ (p : Valued × Valued). V p.0 × V p.1) V (both j (t.operand.value u)) (λ p. combined (map_of u) t.operator t.at p.0 p.1) (both_have V V j (t.operand.value u) i (h.0.value u k)) (λ p g. combined_is (map_of u) t.operator t.at p.0 p.1 g.0 g.1))
 
   -- what is tested is no constant
-  pointer_has : (x : Valued) (o : Option _) → IfThere V (Rattle.ob_rules.specs.Expressions.pointer_test x o)
+  pointer_has : (x : Valued) (o : Option (Guarded × QName)) → IfThere V (pointer_test x o)
   pointer_has x None = tt
   pointer_has x (Some g) = tt
 
-  record_has : (p : _) (o : Option _) → IfThere V (Rattle.ob_rules.specs.Expressions.record_test p o)
+  record_has : (p : Place) (o : Option (Guarded × QName)) → IfThere V (record_test p o)
   record_has p None = tt
   record_has p (Some g) = tt
 
-  place_test : (types : Map) (p : Option _) (t : TypeRef) → IfThere V (Rattle.ob_rules.specs.Expressions.test_record types p t)
+  place_test : (types : Map) (p : Option Place) (t : TypeRef) → IfThere V (test_record types p t)
   place_test types None t = tt
-  place_test types (Some p) t = record_has p _
+  place_test types (Some p) t = record_has p (designators.guard_of types p t)
 
   tested_has : (types : Map) (x : Valued) (t : TypeRef) (q : Option QName) → IfThere V (test_of types x t q)
-  tested_has types x t (Some a) = pointer_has x _
-  tested_has types x t None = place_test types (Rattle.ob_rules.specs.Values.place_in x) t
+  tested_has types x t (Some a) = pointer_has x (designators.if_extends types guarded.Pointer (Some a) (pointed_record types t))
+  tested_has types x t None = place_test types (place_in x) t
 
   found_if : (at : Pos) (o : Option Valued) → IfThere V o → Has V (found_or 23 at o)
   found_if at None h = tt
   found_if at (Some x) h = h
 
   is_has : (u : Around) (at : Pos) (x : Judged Valued) (r : Phrase) (q : Option Qualident) → Has V (is_test u at x r q)
-  is_has u at x r (Some q) = any_then V (both (untestable (map_of u) at x) (type_named u q)) _ (λ p. found_if at _ (tested_has (map_of u) p.0 p.1 _))
-  is_has u at x r None = any_then V (both x (r.value u)) _ (λ p. also_has V _ 23 at _ tt)
+  is_has u at x r (Some q) = any_then V (both (untestable (map_of u) at x) (type_named u q)) (λ p. test (map_of u) at p.0 p.1) (λ p. found_if at (test_of (map_of u) p.0 p.1 (record_if (map_of u) (type_in (type p.0)))) (tested_has (map_of u) p.0 p.1 (record_if (map_of u) (type_in (type p.0)))))
+  is_has u at x r None = any_then V (both x (r.value u)) (λ p. also (not (testable (map_of u) p.0)) 23 at (breaks 21 at)) (λ p. also_broken V (not (testable (map_of u) p.0)) 23 21 at)
 
   two_has : (u : Around) → K u → (o : Relation) (at : Pos) (x : Judged Valued) (r : Phrase) → Has V x → PhraseIs K r → Has V (both x (r.value u) ▷ λ p. related (map_of u) o at p.0 p.1)
   two_has u k o at x r h g = then_has (λ (p : Valued × Valued). V p.0 × V p.1) V (both x (r.value u)) (λ p. related (map_of u) o at p.0 p.1) (both_have V V x (r.value u) h (g.value u k)) (λ p i. related_is (map_of u) o at p.0 p.1 i.0 i.1)

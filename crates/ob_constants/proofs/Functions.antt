@@ -101,13 +101,13 @@ module _ (types : Map) (lengths : AreLengths types) where
   array_length : (t : TypeRef) → L (array_of types t)
   array_length t = shape_length (target types 201 t)
 
+  so_length : (o : Option (Option ℕ × TypeRef)) (f : Option ℕ × TypeRef → Option (Option ℕ × TypeRef)) → ((a : Option ℕ × TypeRef) → L (f a)) → L (and_so o f)
+  so_length None f h = tt
+  so_length (Some a) f h = h a
+
   dimension_length : (n : ℕ) (t : TypeRef) → L (dimension types n t)
   dimension_length zero t = array_length t
-  dimension_length (suc n) t = by (array_of types t)
-    where
-      by : (o : Option (Option ℕ × TypeRef)) → L (and_so o (λ a. dimension types n a.1))
-      by None = tt
-      by (Some a) = dimension_length n a.1
+  dimension_length (suc n) t = so_length (array_of types t) (λ a. dimension types n a.1) (λ a. dimension_length n a.1)
 
   length_is : (o : Option ℕ) (first : Bool) (p : Place) → IfThere (λ n. ConstantIs (literal.Int (pos n))) o → F (length_of o first p)
   length_is (Some n) first p h = h
