@@ -1,2 +1,3 @@
 pub mod Filed
 pub mod Strings
+pub mod Entered
