@@ -3,3 +3,4 @@ pub mod Law
 pub mod Strings
 pub mod Chosen
 pub mod Entering
+pub mod Shown

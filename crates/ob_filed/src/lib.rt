@@ -1,8 +1,9 @@
-//! What the object file of a build has of its module, of one build by itself; and that the files of
-//! builds that go together can be entered.
+//! What the object file of a build has of its module, of one build by itself; that the files of
+//! builds that go together can be entered; and that types that they show are declared.
 #![tactic(auto)]
 
 ghost use Rattle.ob_filed.specs.Filed.{FilesHave, FilesHaveCommands};
+ghost use Rattle.ob_filed.specs.Shown.{ShownAreDeclared};
 ghost use Rattle.ob_filed.specs.Strings.{StringsFit};
 ghost use Rattle.ob_filed.specs.Entered.{FilesEnter};
 
@@ -29,4 +30,10 @@ pub fn strings_fit()
 /// that compile: `BuildsAreWritten` and `BuildsAreSaid`.)
 pub fn files_enter()
     ensures { FilesEnter }
+{}
+
+/// A law, with nothing to run: what the interfaces of builds that go together have as a type is
+/// declared in the module of that name.
+pub fn shown_are_declared()
+    ensures { ShownAreDeclared }
 {}
