@@ -87,7 +87,7 @@ pub record IsFresh (u : Around) (d : Declared) : Type 0 where
   pub differ : d.part.notes.broken ≡ [] → AreDistinct (λ v. v.name) d.part.contents.variables
 
 -- what is not known behind was not before
-not_before : (a b : Bool) → (a ≡ true → b ≡ true) → b ≡ false → a ≡ false
+pub not_before : (a b : Bool) → (a ≡ true → b ≡ true) → b ≡ false → a ≡ false
 not_before true b h n = let bad : true ≡ false = sym (h refl) ∙ n in absurd cc
 not_before false b h n = refl
 

@@ -1,2 +1,7 @@
 pub mod Fresh
 pub mod Blocks
+pub mod Parts
+pub mod Quiet
+pub mod Typings
+pub mod Written
+pub mod Scopes
