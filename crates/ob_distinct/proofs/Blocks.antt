@@ -1,6 +1,6 @@
 -- The variables of a sequence of declarations, and of a module.
 use Rattle.std.proofs.Common.{◌≡◌, ℕ, Bool, true, false, List, [], ◌∷◌, ◌++◌, map, Option, Some, None, refl, sym, subst, ◌∙◌}
-use Rattle.std.specs.Prelude.{codes}
+use Rattle.std.specs.Prelude.{codes, ◌||◌}
 use Rattle.std.specs.List.{AllByRecursion, cons_option, filter_map}
 use Rattle.ob_tree.specs.declared.names.QName.{QName}
 use Rattle.ob_tree.specs.declared.ident.Ident.{Ident}
@@ -18,17 +18,17 @@ use Rattle.ob_types.specs.declared.typed.TypedVariable.{TypedVariable}
 use Rattle.ob_types.specs.declared.typed.TypedModule.{TypedModule}
 use Rattle.ob_rules.specs.declared.broken.Broken.{Broken}
 use Rattle.ob_rules.specs.declared.notes.Later.{Later}
-use Rattle.ob_rules.specs.Judged.{Judged, Notes, both, joined, ◌▷◌}
+use Rattle.ob_rules.specs.Judged.{Judged, Notes, notes_if, both, joined, ◌▷◌}
 use Rattle.ob_rules.specs.Shapes.{Map}
-use Rattle.ob_rules.specs.Names.{Around, map_of, found_in_scope}
+use Rattle.ob_rules.specs.Names.{Around, map_of, found_in_scope, is_out}
 use Rattle.ob_rules.specs.Expressions.{phrase_of, constant_value}
 use Rattle.ob_rules.specs.Phrases.{Phrase}
 use Rattle.ob_rules.specs.Types.{Typing, Written, written, is_module_level, marked, with_types}
 use Rattle.ob_rules.specs.Statements.{Judging, judging}
 use Rattle.ob_rules.specs.Headings.{Head, Heads, Binding, reversed}
-use Rattle.ob_rules.specs.Declarations.{Contents, no_contents, first_name, Part, Declared, declare, twice, constant_contents, no_nil, constant_declared, types_made, type_declared, variable_contents, variable_entity, paired_typing, variable_with, variables_with, made_in, variables_typed, variables_declared, Written_procedure, Declaration, Plain, Procedure, plain_of, procedure_of, type_name_of, in_order, headings_in_order, around_body, typed_procedure, procedure_judged, procedures_judged, block_inside, with_bound, binding_at, block_bound, heads_later, block_headed, block_declared, block, pointers_judged, decl_rule, declaration, import_declared, target_of, imports_declared, around_module, module_of, typed_module, if_unbroken, with_part, behind_part, then_declared}
-use Rattle.ob_distinct.specs.Distinct.{AreDistinct, VariablesDiffer}
-use Rattle.ob_distinct.proofs.Fresh.{front_empty, back_empty, is_known, stays_known, same_scope, is_declared, once, IsFresh, then_fresh, plain_fresh}
+use Rattle.ob_rules.specs.Declarations.{Contents, no_contents, first_name, Part, Declared, declare, twice, constant_contents, no_nil, constant_declared, types_made, type_declared, variable_contents, variable_entity, paired_typing, variable_with, variables_with, made_in, variables_typed, variables_declared, Written_procedure, Declaration, Plain, Procedure, plain_of, procedure_of, type_name_of, in_order, headings_in_order, around_body, typed_procedure, procedure_judged, procedures_judged, block_inside, with_bound, binding_at, block_bound, heads_later, block_headed, block_declared, block, pointers_judged, decl_rule, declaration, import_declared, target_of, imports_declared, around_module, module_of, typed_module, if_unbroken, is_system, name_judged, closing_judged, with_part, behind_part, then_declared}
+use Rattle.ob_distinct.specs.Distinct.{AreDistinct, VariablesDiffer, ModulesAreNotOut}
+use Rattle.ob_distinct.proofs.Fresh.{front_empty, back_empty, quiet_if, is_known, stays_known, same_scope, is_declared, once, IsFresh, then_fresh, plain_fresh}
 
 abbrev FreshPlain : (Around → Declared) → Type 0
 FreshPlain f = (u : Around) → IsFresh u (f u)
@@ -212,3 +212,16 @@ variables_differ shown tree m e =
     let k = unbroken_is p.notes.broken (typed_module shown tree.name tree.imports (map declaration tree.decls) p) m e in
     let f = order_fresh (filter_map plain_of (map declaration tree.decls)) (decls_fresh tree.decls) (start shown tree) in
     subst (λ (x : TypedModule). AreDistinct (λ v. v.name) x.variables) k.1 (subst (λ vs. AreDistinct (λ (v : TypedVariable). v.name) vs) (sym (its_variables shown tree)) (f.differ (quiet shown tree k.0)))
+
+not_either : (a b : Bool) → (a || b) ≡ false → a ≡ false
+not_either true b e = absurd cc
+not_either false b e = refl
+
+pub not_out : ModulesAreNotOut
+not_out shown tree m e =
+    let p = parts shown tree in
+    let k = unbroken_is p.notes.broken (typed_module shown tree.name tree.imports (map declaration tree.decls) p) m e in
+    let judged = notes_if (is_out tree.name.name || is_system tree.name.name) 5 tree.name.pos in
+    let a = front_empty (name_judged tree.name tree.closing).broken _ k.0 in
+    let b = front_empty judged.broken (closing_judged tree.name.name (Some tree.closing)).broken a in
+    subst (λ (x : TypedModule). is_out x.name ≡ false) k.1 (not_either (is_out tree.name.name) (is_system tree.name.name) (quiet_if (is_out tree.name.name || is_system tree.name.name) 5 tree.name.pos b))

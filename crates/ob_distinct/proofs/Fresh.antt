@@ -70,7 +70,7 @@ is_declared None u x e h =
     let here : in_scope u.scope k x.name ≡ true = ap (λ b. b && bytes_eq x.name x.name) (eq-eqb u.scope u.scope refl) ∙ bytes_same x.name in
     ap (λ b. is_some (cond b (Some k) (found_in_scope u x.name))) here
 
-quiet_if : (b : Bool) (rule : ℕ) (at : Pos) → (notes_if b rule at).broken ≡ [] → b ≡ false
+pub quiet_if : (b : Bool) (rule : ℕ) (at : Pos) → (notes_if b rule at).broken ≡ [] → b ≡ false
 quiet_if true rule at e = absurd cc
 quiet_if false rule at e = refl
 

@@ -5,3 +5,7 @@ pub mod Quiet
 pub mod Typings
 pub mod Written
 pub mod Scopes
+pub mod FieldTypings
+pub mod FieldWritten
+pub mod FieldHeads
+pub mod FieldBlocks

@@ -152,7 +152,7 @@ list_good u name base before ds h t g = λ e.
     (first_new u base before ds h t.node (back_empty t.notes.broken js.notes.broken quiet))
 
 -- names before stay among those before
-behind_has : (ds : List IdentDef) (before : List (List ℕ)) (x : List ℕ) → is_among x before ≡ true → is_among x (names_behind ds before) ≡ true
+pub behind_has : (ds : List IdentDef) (before : List (List ℕ)) (x : List ℕ) → is_among x before ≡ true → is_among x (names_behind ds before) ≡ true
 behind_has [] before x h = h
 behind_has (d ∷ ds) before x h = behind_has ds (name_in d ∷ before) x (or_true (bytes_eq (name_in d) x) (is_among x before) h)
   where
@@ -160,7 +160,7 @@ behind_has (d ∷ ds) before x h = behind_has ds (name_in d ∷ before) x (or_tr
     or_true true b h = refl
     or_true false b h = h
 
-not_behind : (ds : List IdentDef) (before : List (List ℕ)) (x : List ℕ) → is_among x (names_behind ds before) ≡ false → is_among x before ≡ false
+pub not_behind : (ds : List IdentDef) (before : List (List ℕ)) (x : List ℕ) → is_among x (names_behind ds before) ≡ false → is_among x before ≡ false
 not_behind ds before x n = by (is_among x before) refl
   where
     by : (b : Bool) → is_among x before ≡ b → b ≡ false

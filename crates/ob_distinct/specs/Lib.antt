@@ -1,3 +1,4 @@
 pub mod Distinct
 pub mod Parts
 pub mod Named
+pub mod Fields
