@@ -9,3 +9,4 @@ pub mod FieldTypings
 pub mod FieldWritten
 pub mod FieldHeads
 pub mod FieldBlocks
+pub mod Short

@@ -71,8 +71,8 @@ apart path u v w (t ∷ ts) us p q d e = (
 pub between_both : (path : List ℕ) (u v w : Around) (ts us : List TypedType) → ((x : List ℕ) → is_known u x ≡ true → is_known v x ≡ true) → ((x : List ℕ) → is_known v x ≡ true → is_known w x ≡ true) → AreBetween path u v ts → AreBetween path v w us → AreBetween path u w (ts ++ us)
 between_both path u v w ts us before behind g h = record {
   parts = all_both (λ t. IsOfName path u w t.name) ts us
-  (all_from (λ t. IsOfName path u v t.name) (λ t. IsOfName path u w t.name) (λ t o. record { name = o.name; word = o.word; new = o.new; there = behind o.name o.there; part = o.part }) ts g.parts)
-  (all_from (λ t. IsOfName path v w t.name) (λ t. IsOfName path u w t.name) (λ t o. record { name = o.name; word = o.word; new = not_before (is_known u o.name) (is_known v o.name) (before o.name) o.new; there = o.there; part = o.part }) us h.parts);
+      (all_from (λ t. IsOfName path u v t.name) (λ t. IsOfName path u w t.name) (λ t o. record { name = o.name; word = o.word; new = o.new; there = behind o.name o.there; part = o.part }) ts g.parts)
+      (all_from (λ t. IsOfName path v w t.name) (λ t. IsOfName path u w t.name) (λ t o. record { name = o.name; word = o.word; new = not_before (is_known u o.name) (is_known v o.name) (before o.name) o.new; there = o.there; part = o.part }) us h.parts);
   differ = apart path u v w ts us g.parts h.parts g.differ h.differ;
 }
 
@@ -131,6 +131,7 @@ as_good w g u name m (Some q) e =
     let t = w.typing u name m false in
     then_quiet (λ (t : Typing). t.made ≡ []) (IsIn name) t (λ t. sound (equated u name m t)) (g.alone q e u name m false)
     (λ t n. λ b. subst (λ ts. AreIn name (record { name = name; desc = desc.Alias m t.of } ∷ ts)) (sym n) (one_in name (desc.Alias m t.of)))
+
 made_types : (r : List ℕ) (o : Option (Mark × Typing)) → IfThere (λ (p : Mark × Typing). Any p.0 × IsIn r p.1) o → AreIn r (types_made o)
 made_types r None h = none_in r
 made_types r (Some p) h = h.1
@@ -150,9 +151,9 @@ type_placed d word w g u =
       path = same_path (found_in_scope v x.name) v x e;
       keeps = λ y h. stays_known (found_in_scope v x.name) v x e y h;
       types = λ b.
-      let quiet = front_empty j.notes.broken (twice u x).broken b in
-      named_between u (declare v x e) x.name ts word (once u x (back_empty j.notes.broken (twice u x).broken b)) (is_declared (found_in_scope v x.name) v x e refl)
-      (made_types r j.node (both_quiet Any (IsIn r) m t (any_quiet m) (as_good w g u r (mark_or_hidden m.node) w.name refl) quiet));
+          let quiet = front_empty j.notes.broken (twice u x).broken b in
+          named_between u (declare v x e) x.name ts word (once u x (back_empty j.notes.broken (twice u x).broken b)) (is_declared (found_in_scope v x.name) v x e refl)
+          (made_types r j.node (both_quiet Any (IsIn r) m t (any_quiet m) (as_good w g u r (mark_or_hidden m.node) w.name refl) quiet));
     }
 
 -- ---- variables
@@ -197,10 +198,10 @@ variables_declared_placed (d ∷ ds) h w g u =
       path = k.path;
       keeps = k.keeps;
       types = λ q.
-      let first = front_empty a.part.notes.broken (variables_with ds t.node a.around).part.notes.broken (back_empty t.notes.broken b.part.notes.broken q) in
-      subst (AreBetween u.path u b.around) (sym (ap (λ ts. made ++ ts) (variables_make (d ∷ ds) t.node v) ∙ append-nil made))
-      (named_between u b.around d.ident.name made h (once u d.ident (back_empty m.notes.broken (twice v d.ident).broken first)) (rest.keeps d.ident.name (is_declared (found_in_scope v d.ident.name) v d.ident e refl))
-      (made_named r t.node (g.typing u (r ++ codes ":") mark.Hidden false (front_empty t.notes.broken b.part.notes.broken q))));
+          let first = front_empty a.part.notes.broken (variables_with ds t.node a.around).part.notes.broken (back_empty t.notes.broken b.part.notes.broken q) in
+          subst (AreBetween u.path u b.around) (sym (ap (λ ts. made ++ ts) (variables_make (d ∷ ds) t.node v) ∙ append-nil made))
+          (named_between u b.around d.ident.name made h (once u d.ident (back_empty m.notes.broken (twice v d.ident).broken first)) (rest.keeps d.ident.name (is_declared (found_in_scope v d.ident.name) v d.ident e refl))
+          (made_named r t.node (g.typing u (r ++ codes ":") mark.Hidden false (front_empty t.notes.broken b.part.notes.broken q))));
     }
   where
     made_named : (r : List ℕ) (o : Option Typing) → IfThere (IsIn (r ++ codes ":")) o → AreIn r (made_in o)

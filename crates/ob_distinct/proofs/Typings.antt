@@ -202,8 +202,8 @@ lists_good (l ∷ ls) g u name base before =
     let mine = behind_mark name (first_name l.names) 46 p.0.made h.0.0.parts in
     record {
       parts = all_both (λ t. IsOfField name before t.name) p.0.made p.1.made
-      (all_from (λ t. IsPart (name ++ 46 ∷ first_name l.names) t.name) (λ t. IsOfField name before t.name) (λ t k. record { field = first_name l.names; word = w; new = h.0.1; part = k }) p.0.made mine)
-      (all_from (λ t. IsOfField name behind t.name) (λ t. IsOfField name before t.name) (λ t o. record { field = o.field; word = o.word; new = not_behind l.names before o.field o.new; part = o.part }) p.1.made h.1.parts);
+          (all_from (λ t. IsPart (name ++ 46 ∷ first_name l.names) t.name) (λ t. IsOfField name before t.name) (λ t k. record { field = first_name l.names; word = w; new = h.0.1; part = k }) p.0.made mine)
+          (all_from (λ t. IsOfField name behind t.name) (λ t. IsOfField name before t.name) (λ t o. record { field = o.field; word = o.word; new = not_behind l.names before o.field o.new; part = o.part }) p.1.made h.1.parts);
       differ = apart name (first_name l.names) behind p.0.made p.1.made w (first_behind l.names g.0.0 before) mine h.1.parts h.0.0.differ h.1.differ;
     })
 
@@ -265,11 +265,11 @@ sections_good (s ∷ ss) g u name i few =
     (sections_good ss g.1 v name k (omega (arith, few))))
     (λ p h. λ e. let own = behind_mark name (decimal i) 40 p.0.made h.0.parts in record {
       parts = all_both (λ t. IsOfSection name i t.name) p.0.made p.1.made
-      (all_from (λ t. IsPart (name ++ 40 ∷ decimal i) t.name) (λ t. IsOfSection name i t.name) (λ t q. record { at = i; behind = omega arith; small = here; part = q }) p.0.made own)
-      (all_from (λ t. IsOfSection name k t.name) (λ t. IsOfSection name i t.name) (λ t o. record { at = o.at; behind = let b = o.behind in omega (arith, b); small = o.small; part = o.part }) p.1.made h.1.parts);
+          (all_from (λ t. IsPart (name ++ 40 ∷ decimal i) t.name) (λ t. IsOfSection name i t.name) (λ t q. record { at = i; behind = omega arith; small = here; part = q }) p.0.made own)
+          (all_from (λ t. IsOfSection name k t.name) (λ t. IsOfSection name i t.name) (λ t o. record { at = o.at; behind = let b = o.behind in omega (arith, b); small = o.small; part = o.part }) p.1.made h.1.parts);
       differ = sections_apart name i p.0.made p.1.made here own
-      (all_from (λ t. IsOfSection name k t.name) (λ t. IsOfSection name (suc i) t.name) (λ t o. record { at = o.at; behind = let b = o.behind in omega (arith, b, some); small = o.small; part = o.part }) p.1.made h.1.parts)
-      h.0.differ h.1.differ;
+          (all_from (λ t. IsOfSection name k t.name) (λ t. IsOfSection name (suc i) t.name) (λ t o. record { at = o.at; behind = let b = o.behind in omega (arith, b, some); small = o.small; part = o.part }) p.1.made h.1.parts)
+          h.0.differ h.1.differ;
     })
 
 pub parameters_good : (u : Around) (name : List ℕ) (p : WrittenParameters) → AreGoodSections p.sections → 1 + names_of p.sections < 2 ^ 64 → Quiet (ParametersIn name 1) (parameters_in u name p).found

@@ -136,8 +136,8 @@ section_cases y =
     let n = fold-roll-Section Bool Bool Bool (Bool × ℕ) node_layer fields_layer parameters_layer section_layer x in (
       ap (λ (s : WrittenSection). length s.names) w ∙ sym (ap (λ (s : Bool × ℕ). s.1) n),
       λ e.
-      let p = and_parts (are_words (map (λ (x : Ident). x.name) y.names)) (type_named y.node.0) (sym (ap (λ (s : Bool × ℕ). s.0) n) ∙ e) in
-      subst (λ (s : WrittenSection). (1 ≤ length s.names) × IsGood s.node) (sym w) (has_some y.names p.0, (y.node.1 p.1).typing),
+          let p = and_parts (are_words (map (λ (x : Ident). x.name) y.names)) (type_named y.node.0) (sym (ap (λ (s : Bool × ℕ). s.0) n) ∙ e) in
+          subst (λ (s : WrittenSection). (1 ≤ length s.names) × IsGood s.node) (sym w) (has_some y.names p.0, (y.node.1 p.1).typing),
     )
 
 pub written_good : (x : TypeNode) → PN x

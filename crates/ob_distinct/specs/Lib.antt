@@ -2,3 +2,4 @@ pub mod Distinct
 pub mod Parts
 pub mod Named
 pub mod Fields
+pub mod Short
