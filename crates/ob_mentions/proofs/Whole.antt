@@ -1,0 +1,25 @@
+-- The laws.
+use Rattle.std.proofs.Common.{◌≡◌, map, true}
+use Rattle.ob_mentions.specs.Laws.{NamesAgree, ExpressionsAgree, DesignatorsAgree, ConstantsAgree, StatementsAgree}
+use Rattle.ob_rules.specs.Expressions.{phrase_of, named_of}
+use Rattle.ob_mentions.proofs.Names.{type_named_follows}
+use Rattle.ob_mentions.proofs.Nodes.{meant_follows}
+use Rattle.ob_rules.specs.Statements.{judging}
+use Rattle.ob_mentions.proofs.Bodies.{in_turn_follows}
+use Rattle.ob_mentions.proofs.Statements.{stmts_follow}
+use Rattle.ob_mentions.proofs.Expressions.{expr_follows, designator_of_follows, constant_value_follows}
+
+pub names_agree : NamesAgree
+names_agree names u s a q = type_named_follows (λ q. names q ≡ true) u s a q
+
+pub expressions_agree : ExpressionsAgree
+expressions_agree names u s a e = (expr_follows (λ q. names q ≡ true) u s a e).value
+
+pub designators_agree : DesignatorsAgree
+designators_agree names u s a w d = meant_follows (λ q. names q ≡ true) u s a w (named_of d) (designator_of_follows (λ q. names q ≡ true) u s a d)
+
+pub constants_agree : ConstantsAgree
+constants_agree names u s a e = constant_value_follows (λ q. names q ≡ true) u s a (phrase_of e) (expr_follows (λ q. names q ≡ true) u s a e)
+
+pub statements_agree : StatementsAgree
+statements_agree names u s a xs = in_turn_follows (λ q. names q ≡ true) (map judging xs) (stmts_follow (λ q. names q ≡ true) xs) u s a

@@ -1,0 +1,4 @@
+pub mod Agreement
+pub mod Said
+pub mod Followed
+pub mod Laws

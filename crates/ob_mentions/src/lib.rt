@@ -1,0 +1,20 @@
+//! What the rules look at in the descriptions of other modules is what a text mentions.
+#![tactic(auto)]
+
+ghost use Rattle.ob_mentions.specs.Laws.{TypesAgree, NamesAgree, ExpressionsAgree, DesignatorsAgree, ConstantsAgree, StatementsAgree};
+
+/// Laws, with nothing to run. Where two maps of descriptions say the same of these names, and what
+/// is near each of them is among them (`specs/Agreement.antt`), each test of types that the rules
+/// make comes out the same over both (`specs/Laws.antt`: `Alike`). And where what stands around a
+/// part of a text agrees so with another that differs in what imported modules show
+/// (`specs/Followed.antt`), the names of types, expressions, designators, constants and statements that have
+/// a node are judged the same there, if all that they mention is among these names
+/// (`specs/Said.antt`).
+pub fn judged_alike()
+    ensures types { TypesAgree }
+    ensures names { NamesAgree }
+    ensures expressions { ExpressionsAgree }
+    ensures designators { DesignatorsAgree }
+    ensures constants { ConstantsAgree }
+    ensures statements { StatementsAgree }
+{}
