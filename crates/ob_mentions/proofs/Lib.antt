@@ -21,3 +21,7 @@ pub mod Looping
 pub mod Statements
 pub mod Owners
 pub mod Typings
+pub mod Parameters
+pub mod Written
+pub mod Declaring
+pub mod Heading

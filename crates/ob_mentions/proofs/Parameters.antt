@@ -28,7 +28,9 @@ use Rattle.ob_mentions.specs.Followed.{beside, EntityIn, TypeIn, Agrees, Follows
 use Rattle.ob_mentions.proofs.Tests.{two, is_array_same, is_record_same, passing_same}
 use Rattle.ob_mentions.proofs.Following.{none_is, some_same, said_left, said_right, follows_sound, follows_unless, follows_then, follows_made, made_node, both_node, then_node, front_said}
 use Rattle.ob_mentions.proofs.Names.{maps_agree, type_named_follows}
-use Rattle.ob_mentions.proofs.Typings.{MadeIn, TypingIn, OwnIn, TF, WrittenFollows, agrees_with, all_both}
+use Rattle.ob_mentions.specs.Declared.{MadeIn, TypingIn, OwnIn}
+use Rattle.ob_mentions.specs.Headed.{ParametersIn, KnownIn}
+use Rattle.ob_mentions.proofs.Typings.{TF, WrittenFollows, agrees_with, all_both}
 use Rattle.std.specs.Prelude.{◌||◌}
 
 made_same : {A B : Type 0} (f g : A → B) (j : Judged A) (x : A) → j.node ≡ Some x → g x ≡ f x → made g j ≡ made f j
@@ -38,22 +40,15 @@ module _ (P : QName → Type 0) where
   abbrev ModeIn : Mode × TypeRef → Type 0
   ModeIn x = IsIn P x.1
 
-  -- the types of parameters and result, and what is near the types that they make, are among the names
-  abbrev pub ParametersIn : Parameters → Type 0
-  ParametersIn p = (AllByRecursion (λ (x : Mode × TypeRef). IsIn P x.1) p.signature.params × TypeIn P p.signature.result) × MadeIn P p.made
-
-  abbrev pub KnownIn : List Known → Type 0
-  KnownIn ks = AllByRecursion (λ k. EntityIn P k.what) ks
-
   params_near : (ks : List (Mode × TypeRef)) (o : Option TypeRef) → AllByRecursion (λ (x : Mode × TypeRef). IsIn P x.1) ks → TypeIn P o → AreIn P (map (λ p. p.1) ks ++ listed o)
   params_near [] None h i = tt
   params_near [] (Some t) h i = (i, tt)
   params_near (x ∷ ks) o h i = (h.0, params_near ks o h.1 i)
 
-  pub signature_near : (p : Parameters) → ParametersIn p → AreIn P (signature_types p.signature)
+  pub signature_near : (p : Parameters) → ParametersIn P p → AreIn P (signature_types p.signature)
   signature_near p h = params_near p.signature.params p.signature.result h.0.0 h.0.1
 
-  pub agrees_known : (u : Around) (s : QName → Option Desc) (ks : List Known) → Agrees P u s → KnownIn ks → Agrees P (record u { known = ks }) s
+  pub agrees_known : (u : Around) (s : QName → Option Desc) (ks : List Known) → Agrees P u s → KnownIn P ks → Agrees P (record u { known = ks }) s
   agrees_known u s ks a h = record { same = a.same; near = a.near; out = a.out; own = a.own; known = h; guards = a.guards; receiver = a.receiver; result = a.result }
 
   pub agrees_inner : (u : Around) (s : QName → Option Desc) → Agrees P u s → Agrees P (inner u) s
@@ -61,8 +56,8 @@ module _ (P : QName → Type 0) where
 
   -- WHAT SECTIONS COME TO follows, and what is known behind them is the same
   pub record SectionsFollow (x y : Sections) : Type 0 where
-    pub found : TF P ParametersIn x.found y.found
-    pub known : (p : Parameters) → x.found.node ≡ Some p → SaidIn P x.found.notes → (y.known ≡ x.known) × KnownIn x.known
+    pub found : TF P (ParametersIn P) x.found y.found
+    pub known : (p : Parameters) → x.found.node ≡ Some p → SaidIn P x.found.notes → (y.known ≡ x.known) × KnownIn P x.known
 
   module _ (s : QName → Option Desc) where
     -- ---- names that are declared
@@ -70,7 +65,7 @@ module _ (P : QName → Type 0) where
     with_passing : (u : Around) → Agrees P u s → (m : Mode) (t : Typing) → TypingIn P t → passing_of (map_of (with_types (beside u s) t.made)) m t.of ≡ passing_of (map_of (with_types u t.made)) m t.of
     with_passing u a m t h = passing_same P (map_of (with_types u t.made)) (map_of (beside (with_types u t.made) s)) (maps_agree P (with_types u t.made) s (agrees_with P u s t.made a h.1)) m t.of h.0
 
-    knows_agrees : (u : Around) (x : Ident) (e : Entity) → Agrees P u s → EntityIn P e → Agrees P (knows u x e) s
+    pub knows_agrees : (u : Around) (x : Ident) (e : Entity) → Agrees P u s → EntityIn P e → Agrees P (knows u x e) s
     knows_agrees u x e a h = agrees_known u s (record { name = x.name; scope = u.scope; what = e } ∷ u.known) a (h, a.known)
 
     -- names declared in turn: the same, and what stands around agrees
@@ -103,7 +98,7 @@ module _ (P : QName → Type 0) where
 
     sections_follow : (u : Around) → Agrees P u s → OwnIn P u.unit → (name : List ℕ) (i : ℕ) (ss : List WrittenSection) → AllByRecursion (λ x. WrittenFollows P x.node) ss → SectionsFollow (sections u name i ss) (sections (beside u s) name i ss)
     sections_follow u a own name i [] h = record {
-      found = follows_sound P ParametersIn (λ x. Unit {0}) (Unit {0}) (record { signature = record { params = []; result = None }; parameters = []; made = [] }) ((tt, tt), tt) (λ m. tt);
+      found = follows_sound P (ParametersIn P) (λ x. Unit {0}) (Unit {0}) (record { signature = record { params = []; result = None }; parameters = []; made = [] }) ((tt, tt), tt) (λ m. tt);
       known = λ p e said. (refl, a.known);
     }
     sections_follow u a own name i (k ∷ ss) h = record {
@@ -112,7 +107,7 @@ module _ (P : QName → Type 0) where
     }
       where
         by : ((w : Around) → Agrees P w s → OwnIn P w.unit → SectionsFollow (sections w name (i + length k.names) ss) (sections (beside w s) name (i + length k.names) ss)) → (p : Parameters) → (sections u name i (k ∷ ss)).found.node ≡ Some p → SaidIn P (sections u name i (k ∷ ss)).found.notes
-            → (ParametersIn p × ((sections (beside u s) name i (k ∷ ss)).found ≡ (sections u name i (k ∷ ss)).found)) × (((sections (beside u s) name i (k ∷ ss)).known ≡ (sections u name i (k ∷ ss)).known) × KnownIn (sections u name i (k ∷ ss)).known)
+            → (ParametersIn P p × ((sections (beside u s) name i (k ∷ ss)).found ≡ (sections u name i (k ∷ ss)).found)) × (((sections (beside u s) name i (k ∷ ss)).known ≡ (sections u name i (k ∷ ss)).known) × KnownIn P (sections u name i (k ∷ ss)).known)
         by ihs p e said =
             let v = beside u s in
             let m = mode_of k.is_var in
@@ -148,11 +143,11 @@ module _ (P : QName → Type 0) where
                 ∙ (ap (λ (n : Named). behind_section (made (parameters_of v m xs) ty) n.notes (next (with_made n.around (Some z.0)))) d.same
                 ∙ ap (λ j. behind_section j (declare_all u m (Some z.0) xs).notes (next (beside w s))) (made_same (parameters_of u m xs) (parameters_of v m xs) ty z.0 z.1.0 (parameters_same u a m xs z.0 tied)))) in
             let stays : sections u name i (k ∷ ss) ≡ behind_section (made (parameters_of u m xs) ty) (declare_all u m (Some z.0) xs).notes (next w) = ap (λ o. body u o) z.1.0 in
-            let joined_in : ParametersIn (parameters_joined (parameters_of u m xs z.0) n.0.1) = ((all_both (λ (x : Mode × TypeRef). IsIn P x.1) (map (λ x. (m, z.0.of)) xs) n.0.1.signature.params (same_mode m z.0.of xs tied.0) tied_rest.0.0, tt), all_both (λ t. DescIn P (Some t.desc)) z.0.made n.0.1.made tied.1 tied_rest.1) in
-            ((subst ParametersIn (ap (λ y. parameters_joined y n.0.1) first_is ∙ n.1.1) joined_in,
+            let joined_in : ParametersIn P (parameters_joined (parameters_of u m xs z.0) n.0.1) = ((all_both (λ (x : Mode × TypeRef). IsIn P x.1) (map (λ x. (m, z.0.of)) xs) n.0.1.signature.params (same_mode m z.0.of xs tied.0) tied_rest.0.0, tt), all_both (λ t. DescIn P (Some t.desc)) z.0.made n.0.1.made tied.1 tied_rest.1) in
+            ((subst (ParametersIn P) (ap (λ y. parameters_joined y n.0.1) first_is ∙ n.1.1) joined_in,
               ap (λ (r : Sections). r.found) moved_to
               ∙ (ap (λ j. both (noted (declare_all u m (Some z.0) xs).notes (made (parameters_of u m xs) ty)) j ▷ λ q. sound (parameters_joined q.0 q.1)) found_rest ∙ sym (ap (λ (r : Sections). r.found) stays))),
-             (ap (λ (r : Sections). r.known) moved_to ∙ (known.0 ∙ sym (ap (λ (r : Sections). r.known) stays)), subst (λ (r : Sections). KnownIn r.known) (sym stays) known.1))
+             (ap (λ (r : Sections). r.known) moved_to ∙ (known.0 ∙ sym (ap (λ (r : Sections). r.known) stays)), subst (λ (r : Sections). KnownIn P r.known) (sym stays) known.1))
 
     result_follows : (u : Around) → Agrees P u s → (o : Option Qualident) → TF P (TypeIn P) (result_of u o) (result_of (beside u s) o)
     result_follows u a None = follows_sound P (TypeIn P) (λ x. Unit {0}) (Unit {0}) None tt (λ m. tt)
@@ -169,7 +164,7 @@ module _ (P : QName → Type 0) where
     }
       where
         by : (q : Parameters) → (parameters_in u name p).found.node ≡ Some q → SaidIn P (parameters_in u name p).found.notes
-            → (ParametersIn q × ((parameters_in (beside u s) name p).found ≡ (parameters_in u name p).found)) × (((parameters_in (beside u s) name p).known ≡ (parameters_in u name p).known) × KnownIn (parameters_in u name p).known)
+            → (ParametersIn P q × ((parameters_in (beside u s) name p).found ≡ (parameters_in u name p).found)) × (((parameters_in (beside u s) name p).known ≡ (parameters_in u name p).known) × KnownIn P (parameters_in u name p).known)
         by q e said =
             let x = sections u name 1 p.sections in
             let y = sections (beside u s) name 1 p.sections in
@@ -183,12 +178,12 @@ module _ (P : QName → Type 0) where
             let g = result_follows (record u { known = x.known }) (agrees_known u s x.known a known.1) p.result in
             let said_r = said_right P x.found.notes r.notes t in
             let tied = f.found.keeps n.0.0 z.0 said_x in
-            ((subst ParametersIn n.1.1 ((tied.0.0, g.keeps n.0.1 z.1 said_r), tied.1),
+            ((subst (ParametersIn P) n.1.1 ((tied.0.0, g.keeps n.0.1 z.1 said_r), tied.1),
               ap (λ ks. both y.found (result_of (record (beside u s) { known = ks }) p.result) ▷ λ z. sound (with_result z.0 z.1)) known.0
               ∙ two (λ i j. both i j ▷ λ z. sound (with_result z.0 z.1)) (f.found.same n.0.0 z.0 said_x tt).1 (g.same n.0.1 z.1 said_r tt).1),
              known)
 
     pub procedure_follows : (u : Around) → Agrees P u s → OwnIn P u.unit → (name : List ℕ) (m : Mark) (p : WrittenParameters) → AllByRecursion (λ x. WrittenFollows P x.node) p.sections → TF P (TypingIn P) (procedure_type u name m p) (procedure_type (beside u s) name m p)
     procedure_follows u a own name m p h =
-        follows_made P ParametersIn (λ x. Unit {0}) (TypingIn P) (λ x. Unit {0}) (Unit {0}) (λ q. typed_as u name (desc.ProcType m q.signature) q.made) (parameters_in (inner u) name p).found (parameters_in (inner (beside u s)) name p).found
+        follows_made P (ParametersIn P) (λ x. Unit {0}) (TypingIn P) (λ x. Unit {0}) (Unit {0}) (λ q. typed_as u name (desc.ProcType m q.signature) q.made) (parameters_in (inner u) name p).found (parameters_in (inner (beside u s)) name p).found
         (parameters_follow (inner u) (agrees_inner u s a) own name p h).found (λ q t. (own name, (signature_near q t, t.1))) (λ q t n. tt)

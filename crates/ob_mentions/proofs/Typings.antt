@@ -28,6 +28,7 @@ use Rattle.ob_rules.specs.Types.{Typing, Written, typed_as, with_types, base_nam
 use Rattle.ob_mentions.specs.Agreement.{IsIn, DescIn, Agree}
 use Rattle.ob_mentions.specs.Said.{SaidIn}
 use Rattle.ob_mentions.specs.Followed.{beside, TypeIn, Agrees, Follows}
+use Rattle.ob_mentions.specs.Declared.{MadeIn, TypingIn, OwnIn}
 use Rattle.ob_mentions.proofs.Tests.{two, open_same, record_same, record_in as record_name_in, is_array_same, is_record_same, pointed_same, member_same}
 use Rattle.ob_mentions.proofs.Following.{none_is, some_same, all_left, all_right, said_left, said_right, follows_none, follows_sound, follows_to, follows_wants, follows_unless, follows_also, follows_then, follows_made, follows_both, follows_weaker, made_node, both_node, front_said, Both}
 use Rattle.ob_mentions.proofs.Names.{maps_agree, type_named_follows}
@@ -40,27 +41,16 @@ all_both P [] ys h k = k
 all_both P (x ∷ xs) ys h k = (h.0, all_both P xs ys h.1 k)
 
 module _ (P : QName → Type 0) where
-  -- what is near each of these types is among the names
-  abbrev pub MadeIn : List TypedType → Type 0
-  MadeIn ts = AllByRecursion (λ t. DescIn P (Some t.desc)) ts
-
-  abbrev pub TypingIn : Typing → Type 0
-  TypingIn t = IsIn P t.of × MadeIn t.made
-
-  -- the names of the module at hand are among the names
-  abbrev pub OwnIn : List ℕ → Type 0
-  OwnIn unit = (x : List ℕ) → P (record { «module» = unit; object = x })
-
   -- it is tied, and mentions nothing of its own
   abbrev pub TF : {A : Type 0} → (A → Type 0) → Judged A → Judged A → Type 0
   TF T i j = Follows P T (λ x. Unit {0}) (Unit {0}) i j
 
-  pub agrees_with : (u : Around) (s : QName → Option Desc) (ts : List TypedType) → Agrees P u s → MadeIn ts → Agrees P (with_types u ts) s
+  pub agrees_with : (u : Around) (s : QName → Option Desc) (ts : List TypedType) → Agrees P u s → MadeIn P ts → Agrees P (with_types u ts) s
   agrees_with u s ts a h = record { same = a.same; near = a.near; out = a.out; own = all_both (λ t. DescIn P (Some t.desc)) ts u.own h a.own; known = a.known; guards = a.guards; receiver = a.receiver; result = a.result }
 
   -- A TYPE THAT IS WRITTEN follows wherever it stands
   abbrev pub WrittenFollows : Written → Type 0
-  WrittenFollows w = (u : Around) (s : QName → Option Desc) → Agrees P u s → OwnIn u.unit → (name : List ℕ) (m : Mark) (b : Bool) → TF TypingIn (w.typing u name m b) (w.typing (beside u s) name m b)
+  WrittenFollows w = (u : Around) (s : QName → Option Desc) → Agrees P u s → OwnIn P u.unit → (name : List ℕ) (m : Mark) (b : Bool) → TF (TypingIn P) (w.typing u name m b) (w.typing (beside u s) name m b)
 
   abbrev pub LengthFollows : Phrase → Type 0
   LengthFollows p = (u : Around) (s : QName → Option Desc) (a : Agrees P u s) → PhraseFollows P u s a p
@@ -79,40 +69,40 @@ module _ (P : QName → Type 0) where
       let k = later_follows T ls i j h in
       record { keeps = λ x e said. k.keeps x e (record { objects = said.objects; types = said.types; lengths = said.lengths }); same = λ x e said m. let r = k.same x e (record { objects = said.objects; types = said.types; lengths = said.lengths }) tt in (tt, ap (noted (record { broken = []; objects = []; types = []; lengths = []; later = l ∷ [] })) r.1) }
 
-  module _ (u : Around) (s : QName → Option Desc) (a : Agrees P u s) (own : OwnIn u.unit) where
+  module _ (u : Around) (s : QName → Option Desc) (a : Agrees P u s) (own : OwnIn P u.unit) where
     abbrev v : Around
     v = beside u s
 
     abbrev maps : Agree P (map_of u) (map_of v)
     maps = maps_agree P u s a
 
-    as_in : (name : List ℕ) (d : Desc) (more : List TypedType) → DescIn P (Some d) → MadeIn more → TypingIn (typed_as u name d more)
+    as_in : (name : List ℕ) (d : Desc) (more : List TypedType) → DescIn P (Some d) → MadeIn P more → TypingIn P (typed_as u name d more)
     as_in name d more h k = (own name, (h, k))
 
     -- ---- names and arrays
 
-    named_follows : (q : Qualident) (b : Bool) → TF TypingIn (type_named u q ▷ named_typing u (first_of q) b) (type_named v q ▷ named_typing v (first_of q) b)
+    pub named_follows : (q : Qualident) (b : Bool) → TF (TypingIn P) (type_named u q ▷ named_typing u (first_of q) b) (type_named v q ▷ named_typing v (first_of q) b)
     named_follows q b =
-        follows_then P (IsIn P) (λ t. Unit {0}) TypingIn (λ t. Unit {0}) (Unit {0}) (type_named u q) (type_named v q) (named_typing u (first_of q) b) (named_typing v (first_of q) b) (type_named_follows P u s a q)
-        (λ t h. follows_unless P TypingIn (λ t. Unit {0}) (Unit {0}) (not b && is_open (map_of u) t) (not b && is_open (map_of v) t) 13 (first_of q) (record { of = t; made = [] }) (h, tt) (λ m. tt) (λ r. ap (λ x. not b && x) (open_same P (map_of u) (map_of v) maps t h)))
+        follows_then P (IsIn P) (λ t. Unit {0}) (TypingIn P) (λ t. Unit {0}) (Unit {0}) (type_named u q) (type_named v q) (named_typing u (first_of q) b) (named_typing v (first_of q) b) (type_named_follows P u s a q)
+        (λ t h. follows_unless P (TypingIn P) (λ t. Unit {0}) (Unit {0}) (not b && is_open (map_of u) t) (not b && is_open (map_of v) t) 13 (first_of q) (record { of = t; made = [] }) (h, tt) (λ m. tt) (λ r. ap (λ x. not b && x) (open_same P (map_of u) (map_of v) maps t h)))
 
     length_follows : (p : Phrase) → LengthFollows p → TF (λ n. Unit {0}) (array_length u p) (array_length v p)
     length_follows p h = follows_then P (λ c. Unit {0}) (λ c. Unit {0}) (λ n. Unit {0}) (λ n. Unit {0}) (Unit {0}) (constant_value u p) (constant_value v p) (length_of p.start) (length_of p.start) (constant_value_follows P u s a p (h u s a)) (λ c t. record { keeps = λ x e said. tt; same = λ x e said m. (tt, refl) })
 
-    fixed_follows : (name : List ℕ) (m : Mark) (ls : List Phrase) (element : Written) → AllByRecursion LengthFollows ls → WrittenFollows element → TF TypingIn (fixed_array u name m ls element) (fixed_array v name m ls element)
+    fixed_follows : (name : List ℕ) (m : Mark) (ls : List Phrase) (element : Written) → AllByRecursion LengthFollows ls → WrittenFollows element → TF (TypingIn P) (fixed_array u name m ls element) (fixed_array v name m ls element)
     fixed_follows name m [] element h k = k u s a own name m false
     fixed_follows name m (l ∷ ls) element h k =
-        two_tied (λ n. Unit {0}) TypingIn TypingIn (λ p. typed_as u name (desc.Array m p.0 p.1.of) p.1.made) (array_length u l) (array_length v l) (fixed_array u (element_name name) mark.Hidden ls element) (fixed_array v (element_name name) mark.Hidden ls element)
+        two_tied (λ n. Unit {0}) (TypingIn P) (TypingIn P) (λ p. typed_as u name (desc.Array m p.0 p.1.of) p.1.made) (array_length u l) (array_length v l) (fixed_array u (element_name name) mark.Hidden ls element) (fixed_array v (element_name name) mark.Hidden ls element)
         (length_follows l h.0) (fixed_follows (element_name name) mark.Hidden ls element h.1 k) (λ p t w. as_in name (desc.Array m p.0 p.1.of) p.1.made (w.0, tt) w.1)
 
-    open_follows : (name : List ℕ) (m : Mark) (at : Pos) (b : Bool) (element : Written) → WrittenFollows element → TF TypingIn (open_array u name m at b element) (open_array v name m at b element)
+    open_follows : (name : List ℕ) (m : Mark) (at : Pos) (b : Bool) (element : Written) → WrittenFollows element → TF (TypingIn P) (open_array u name m at b element) (open_array v name m at b element)
     open_follows name m at b element k =
-        follows_also P TypingIn (λ t. Unit {0}) (Unit {0}) (not b || element.open_array) (not b || element.open_array) 13 at
+        follows_also P (TypingIn P) (λ t. Unit {0}) (Unit {0}) (not b || element.open_array) (not b || element.open_array) 13 at
         (element.typing u (element_name name) mark.Hidden element.open_array ▷ λ t. sound (typed_as u name (desc.OpenArray m t.of) t.made)) (element.typing v (element_name name) mark.Hidden element.open_array ▷ λ t. sound (typed_as v name (desc.OpenArray m t.of) t.made))
-        (follows_made P TypingIn (λ t. Unit {0}) TypingIn (λ t. Unit {0}) (Unit {0}) (λ t. typed_as u name (desc.OpenArray m t.of) t.made) (element.typing u (element_name name) mark.Hidden element.open_array) (element.typing v (element_name name) mark.Hidden element.open_array)
+        (follows_made P (TypingIn P) (λ t. Unit {0}) (TypingIn P) (λ t. Unit {0}) (Unit {0}) (λ t. typed_as u name (desc.OpenArray m t.of) t.made) (element.typing u (element_name name) mark.Hidden element.open_array) (element.typing v (element_name name) mark.Hidden element.open_array)
             (k u s a own (element_name name) mark.Hidden element.open_array) (λ t w. as_in name (desc.OpenArray m t.of) t.made (w.0, tt) w.1) (λ t w m. tt)) (λ r. refl)
 
-    pub array_follows : (name : List ℕ) (m : Mark) (at : Pos) (b : Bool) (ls : List Phrase) (element : Written) → AllByRecursion LengthFollows ls → WrittenFollows element → TF TypingIn (array u name m at b ls element) (array v name m at b ls element)
+    pub array_follows : (name : List ℕ) (m : Mark) (at : Pos) (b : Bool) (ls : List Phrase) (element : Written) → AllByRecursion LengthFollows ls → WrittenFollows element → TF (TypingIn P) (array u name m at b ls element) (array v name m at b ls element)
     array_follows name m at b [] element h k = open_follows name m at b element k
     array_follows name m at b (l ∷ ls) element h k = fixed_follows name m (l ∷ ls) element h k
 
@@ -179,13 +169,13 @@ module _ (P : QName → Type 0) where
         all_free (x ∷ xs) = (tt, all_free xs)
 
     abbrev FieldsIn : Fields → Type 0
-    FieldsIn f = MadeIn f.made
+    FieldsIn f = MadeIn P f.made
 
     -- fields of one type, which is judged first
-    with_fields_follow : (base : Option (Option TypeRef)) (before : List (List ℕ)) (ds : List IdentDef) (i j : Judged Typing) → NodeIn base → TF TypingIn i j → TF FieldsIn (with_fields u base before ds i) (with_fields v base before ds j)
+    with_fields_follow : (base : Option (Option TypeRef)) (before : List (List ℕ)) (ds : List IdentDef) (i j : Judged Typing) → NodeIn base → TF (TypingIn P) i j → TF FieldsIn (with_fields u base before ds i) (with_fields v base before ds j)
     with_fields_follow base before ds i j h k =
         let fs = each_sound (fields_of u base before ds i.node) in
-        let f = two_tied TypingIn (λ (xs : List Field). Unit {0}) FieldsIn (λ (p : Typing × List Field). record { fields = p.1; made = p.0.made }) i j fs (each_sound (fields_of v base before ds i.node)) k (each_tied (fields_of u base before ds i.node) (fields_of v base before ds i.node) (all_fields base before ds i.node h)) (λ p t w. t.1) in
+        let f = two_tied (TypingIn P) (λ (xs : List Field). Unit {0}) FieldsIn (λ (p : Typing × List Field). record { fields = p.1; made = p.0.made }) i j fs (each_sound (fields_of v base before ds i.node)) k (each_tied (fields_of u base before ds i.node) (fields_of v base before ds i.node) (all_fields base before ds i.node h)) (λ p t w. t.1) in
         record {
           keeps = f.keeps;
           same = λ x e said m.
@@ -210,10 +200,10 @@ module _ (P : QName → Type 0) where
     node_in : (j : Judged (Option TypeRef)) (o : Option TypeRef) → j.node ≡ Some o → TypeIn P o → NodeIn j.node
     node_in j o e h = subst NodeIn (sym e) h
 
-    pub record_follows : (name : List ℕ) (m : Mark) (ls : List WrittenFields) (o : Option Qualident) → AllByRecursion (λ l. WrittenFollows l.node) ls → TF TypingIn (record_with u name m ls (base_if u o)) (record_with v name m ls (base_if v o))
+    pub record_follows : (name : List ℕ) (m : Mark) (ls : List WrittenFields) (o : Option Qualident) → AllByRecursion (λ l. WrittenFollows l.node) ls → TF (TypingIn P) (record_with u name m ls (base_if u o)) (record_with v name m ls (base_if v o))
     record_follows name m ls o k = record { keeps = λ x e said. (by x e said).0; same = λ x e said n. (tt, (by x e said).1) }
       where
-        by : (x : Typing) → (record_with u name m ls (base_if u o)).node ≡ Some x → SaidIn P (record_with u name m ls (base_if u o)).notes → TypingIn x × (record_with v name m ls (base_if v o) ≡ record_with u name m ls (base_if u o))
+        by : (x : Typing) → (record_with u name m ls (base_if u o)).node ≡ Some x → SaidIn P (record_with u name m ls (base_if u o)).notes → TypingIn P x × (record_with v name m ls (base_if v o) ≡ record_with u name m ls (base_if u o))
         by x e said =
             let i = base_if u o in
             let j = base_if v o in
@@ -225,7 +215,7 @@ module _ (P : QName → Type 0) where
             let f = base_follows o in
             let same = (f.same n.0.0 q.0 said_i tt).1 in
             let there = node_in i n.0.0 q.0 (f.keeps n.0.0 q.0 said_i) in
-            let parts = two_tied BaseIn FieldsIn TypingIn made_of i j fs (field_lists v name i.node [] ls) f (lists_follow name i.node [] ls there k) (λ p t w. as_in name (record_desc m p.0 p.1.fields) p.1.made (base_near p.0 t) w) in
+            let parts = two_tied BaseIn FieldsIn (TypingIn P) made_of i j fs (field_lists v name i.node [] ls) f (lists_follow name i.node [] ls there k) (λ p t w. as_in name (record_desc m p.0 p.1.fields) p.1.made (base_near p.0 t) w) in
             (parts.keeps x e said, ap (λ (z : Judged (Option TypeRef)). both j (field_lists v name z.node [] ls) ▷ λ p. sound (typed_as v name (record_desc m p.0 p.1.fields) p.1.made)) same ∙ (parts.same x e said tt).1)
 
     -- ---- pointers
@@ -238,31 +228,31 @@ module _ (P : QName → Type 0) where
         by None = refl
         by (Some m) = refl
 
-    judged_self : (name : List ℕ) (inline : Bool) (at : Pos) (b c : Bool) (t : Typing) → TypingIn t → TF TypingIn (base_judged name inline at b c t) (base_judged name inline at b c t)
-    judged_self name inline at true c t h = follows_sound P TypingIn (λ t. Unit {0}) (Unit {0}) t h (λ m. tt)
-    judged_self name inline at false true t h = later_follows TypingIn (later.PointsTo name at t.of inline ∷ []) (sound t) (sound t) (follows_sound P TypingIn (λ t. Unit {0}) (Unit {0}) t h (λ m. tt))
-    judged_self name inline at false false t h = tied_none TypingIn (breaks 15 at) (breaks 15 at) refl
+    judged_self : (name : List ℕ) (inline : Bool) (at : Pos) (b c : Bool) (t : Typing) → TypingIn P t → TF (TypingIn P) (base_judged name inline at b c t) (base_judged name inline at b c t)
+    judged_self name inline at true c t h = follows_sound P (TypingIn P) (λ t. Unit {0}) (Unit {0}) t h (λ m. tt)
+    judged_self name inline at false true t h = later_follows (TypingIn P) (later.PointsTo name at t.of inline ∷ []) (sound t) (sound t) (follows_sound P (TypingIn P) (λ t. Unit {0}) (Unit {0}) t h (λ m. tt))
+    judged_self name inline at false false t h = tied_none (TypingIn P) (breaks 15 at) (breaks 15 at) refl
 
     structured_same : (w : Around) (b : Agrees P w s) (t : TypeRef) → IsIn P t → is_structured (map_of (beside w s)) t ≡ is_structured (map_of w) t
     structured_same w b t h = two (λ x y. x || y) (is_array_same P (map_of w) (map_of (beside w s)) (maps_agree P w s b) t h) (is_record_same P (map_of w) (map_of (beside w s)) (maps_agree P w s b) t h)
 
-    base_type_follows : (name : List ℕ) (inline : Bool) (at : Pos) (t : Typing) → TypingIn t → TF TypingIn (pointer_base u name inline at t) (pointer_base v name inline at t)
+    base_type_follows : (name : List ℕ) (inline : Bool) (at : Pos) (t : Typing) → TypingIn P t → TF (TypingIn P) (pointer_base u name inline at t) (pointer_base v name inline at t)
     base_type_follows name inline at t h =
         let w = with_types u t.made in
         let b = agrees_with u s t.made a h.1 in
-        follows_to P TypingIn (λ t. Unit {0}) (Unit {0}) (pointer_base u name inline at t) (pointer_base v name inline at t) (judged_self name inline at (is_structured (map_of w) t.of) (is_pointer (map_of w) t.of) t h)
+        follows_to P (TypingIn P) (λ t. Unit {0}) (Unit {0}) (pointer_base u name inline at t) (pointer_base v name inline at t) (judged_self name inline at (is_structured (map_of w) t.of) (is_pointer (map_of w) t.of) t h)
         (λ r. two (λ x y. base_judged name inline at x y t) (structured_same w b t.of h.0) (ap (λ o. is_some o) (pointed_same P (map_of w) (map_of (beside w s)) (maps_agree P w s b) t.of h.0)))
 
-    pointer_by_follows : (name : List ℕ) (m : Mark) (base : Written) (o : Option Ident) → WrittenFollows base → TF TypingIn (pointer_by u name m base o) (pointer_by v name m base o)
+    pointer_by_follows : (name : List ℕ) (m : Mark) (base : Written) (o : Option Ident) → WrittenFollows base → TF (TypingIn P) (pointer_by u name m base o) (pointer_by v name m base o)
     pointer_by_follows name m base (Some x) k =
         let t : Typing = pointer_to u name m (record { of = ref.Named (in_unit u (u.path ++ x.name)); made = [] }) in
-        later_follows TypingIn (later.PointsTo name x.pos (ref.Named (in_unit u (u.path ++ x.name))) false ∷ []) (sound t) (sound t)
-        (follows_sound P TypingIn (λ t. Unit {0}) (Unit {0}) t (own name, ((own (u.path ++ x.name), tt), tt)) (λ m. tt))
+        later_follows (TypingIn P) (later.PointsTo name x.pos (ref.Named (in_unit u (u.path ++ x.name))) false ∷ []) (sound t) (sound t)
+        (follows_sound P (TypingIn P) (λ t. Unit {0}) (Unit {0}) t (own name, ((own (u.path ++ x.name), tt), tt)) (λ m. tt))
     pointer_by_follows name m base None k =
-        follows_made P TypingIn (λ t. Unit {0}) TypingIn (λ t. Unit {0}) (Unit {0}) (pointer_to u name m) (base.typing u (base_name name) mark.Hidden true ▷ pointer_base u name (is_none base.name) base.start) (base.typing v (base_name name) mark.Hidden true ▷ pointer_base v name (is_none base.name) base.start)
-        (follows_then P TypingIn (λ t. Unit {0}) TypingIn (λ t. Unit {0}) (Unit {0}) (base.typing u (base_name name) mark.Hidden true) (base.typing v (base_name name) mark.Hidden true) (pointer_base u name (is_none base.name) base.start) (pointer_base v name (is_none base.name) base.start)
+        follows_made P (TypingIn P) (λ t. Unit {0}) (TypingIn P) (λ t. Unit {0}) (Unit {0}) (pointer_to u name m) (base.typing u (base_name name) mark.Hidden true ▷ pointer_base u name (is_none base.name) base.start) (base.typing v (base_name name) mark.Hidden true ▷ pointer_base v name (is_none base.name) base.start)
+        (follows_then P (TypingIn P) (λ t. Unit {0}) (TypingIn P) (λ t. Unit {0}) (Unit {0}) (base.typing u (base_name name) mark.Hidden true) (base.typing v (base_name name) mark.Hidden true) (pointer_base u name (is_none base.name) base.start) (pointer_base v name (is_none base.name) base.start)
             (k u s a own (base_name name) mark.Hidden true) (λ t h. base_type_follows name (is_none base.name) base.start t h))
         (λ t h. as_in name (desc.Pointer m t.of) t.made (h.0, tt) h.1) (λ t h n. tt)
 
-    pub pointer_follows : (name : List ℕ) (m : Mark) (base : Written) → WrittenFollows base → TF TypingIn (pointer u name m base) (pointer v name m base)
-    pointer_follows name m base k = subst (λ o. TF TypingIn (pointer u name m base) (pointer_by v name m base o)) (sym (later_same base.name)) (pointer_by_follows name m base (is_later u base.name) k)
+    pub pointer_follows : (name : List ℕ) (m : Mark) (base : Written) → WrittenFollows base → TF (TypingIn P) (pointer u name m base) (pointer v name m base)
+    pointer_follows name m base k = subst (λ o. TF (TypingIn P) (pointer u name m base) (pointer_by v name m base o)) (sym (later_same base.name)) (pointer_by_follows name m base (is_later u base.name) k)

@@ -1,12 +1,14 @@
 -- The laws.
 use Rattle.std.proofs.Common.{◌≡◌, map, true}
-use Rattle.ob_mentions.specs.Laws.{NamesAgree, ExpressionsAgree, DesignatorsAgree, ConstantsAgree, StatementsAgree}
+use Rattle.ob_mentions.specs.Laws.{NamesAgree, ExpressionsAgree, DesignatorsAgree, ConstantsAgree, StatementsAgree, WrittenAgree, DeclarationsAgree}
 use Rattle.ob_rules.specs.Expressions.{phrase_of, named_of}
 use Rattle.ob_mentions.proofs.Names.{type_named_follows}
 use Rattle.ob_mentions.proofs.Nodes.{meant_follows}
 use Rattle.ob_rules.specs.Statements.{judging}
 use Rattle.ob_mentions.proofs.Bodies.{in_turn_follows}
 use Rattle.ob_mentions.proofs.Statements.{stmts_follow}
+use Rattle.ob_mentions.proofs.Written.{written_follows}
+use Rattle.ob_mentions.proofs.Declaring.{order_same}
 use Rattle.ob_mentions.proofs.Expressions.{expr_follows, designator_of_follows, constant_value_follows}
 
 pub names_agree : NamesAgree
@@ -23,3 +25,9 @@ constants_agree names u s a e = constant_value_follows (λ q. names q ≡ true) 
 
 pub statements_agree : StatementsAgree
 statements_agree names u s a xs = in_turn_follows (λ q. names q ≡ true) (map judging xs) (stmts_follow (λ q. names q ≡ true) xs) u s a
+
+pub written_agree : WrittenAgree
+written_agree names u s a own n name m b = written_follows (λ q. names q ≡ true) n u s a own name m b
+
+pub declarations_agree : DeclarationsAgree
+declarations_agree names u s a own fs p quiet said h = order_same (λ q. names q ≡ true) s fs p u a own quiet said h

@@ -1,11 +1,13 @@
 -- The laws: what the rules look at is what counts.
-use Rattle.std.specs.Prelude.{◌≡◌, ℕ, Bool, true, List, map, Option, Some}
+use Rattle.std.specs.Prelude.{◌≡◌, ℕ, Bool, true, List, [], map, Option, Some}
 use Rattle.std.specs.List.{AllByRecursion}
 use Rattle.ob_tree.specs.declared.names.QName.{QName}
+use Rattle.ob_tree.specs.declared.ident.Mark.{Mark}
 use Rattle.ob_tree.specs.declared.ident.Qualident.{Qualident}
 use Rattle.ob_tree.specs.declared.expr.Expr.{Expr}
 use Rattle.ob_tree.specs.declared.expr.Designator.{Designator}
 use Rattle.ob_tree.specs.declared.stmt.Stmt.{Stmt}
+use Rattle.ob_tree.specs.declared.type_node.TypeNode.{TypeNode}
 use Rattle.ob_types.specs.declared.types.Mode.{Mode}
 use Rattle.ob_types.specs.declared.types.TypeRef.{TypeRef}
 use Rattle.ob_types.specs.declared.types.Signature.{Signature}
@@ -19,9 +21,12 @@ use Rattle.ob_rules.specs.declared.meant.Where.{Where}
 use Rattle.ob_rules.specs.Names.{Around, type_named}
 use Rattle.ob_rules.specs.Values.{takes_by}
 use Rattle.ob_rules.specs.Expressions.{phrase_of, named_of, meant_by, constant_value}
+use Rattle.ob_rules.specs.Types.{written}
 use Rattle.ob_rules.specs.Statements.{judging, in_turn}
+use Rattle.ob_rules.specs.Declarations.{Declared, in_order}
 use Rattle.ob_mentions.specs.Agreement.{IsIn, Agree}
-use Rattle.ob_mentions.specs.Said.{SignatureIn, KindIn, ValuedIn, ValuedTied, MeantIn, MeantTied, StmtIn}
+use Rattle.ob_mentions.specs.Declared.{TypingIn, OwnIn, AreSound, IsPlain, DeclaredSame}
+use Rattle.ob_mentions.specs.Said.{SaidIn, SignatureIn, KindIn, ValuedIn, ValuedTied, MeantIn, MeantTied, StmtIn}
 use Rattle.ob_mentions.specs.Followed.{beside, Agrees, Follows}
 
 -- Two maps are alike for the rules on these names: each test of types that the rules make comes out the same.
@@ -72,3 +77,15 @@ ConstantsAgree = (names : QName → Bool) (u : Around) (shown : QName → Option
 abbrev pub StatementsAgree : Type 0
 StatementsAgree = (names : QName → Bool) (u : Around) (shown : QName → Option Desc) → Agrees (λ q. names q ≡ true) u shown → (xs : List Stmt) →
     Follows (λ q. names q ≡ true) (λ ys. Unit {0}) (AllByRecursion (StmtIn (λ q. names q ≡ true))) (Unit {0}) (in_turn (map judging xs) u) (in_turn (map judging xs) (beside u shown))
+
+-- TYPES AS THEY ARE WRITTEN: what one makes is judged the same there, where all that its notes mention and the names of the module at hand are among these names.
+abbrev pub WrittenAgree : Type 0
+WrittenAgree = (names : QName → Bool) (u : Around) (shown : QName → Option Desc) → Agrees (λ q. names q ≡ true) u shown → OwnIn (λ q. names q ≡ true) u.unit → (n : TypeNode) (name : List ℕ) (m : Mark) (open_ok : Bool) →
+    Follows (λ q. names q ≡ true) (TypingIn (λ q. names q ≡ true)) (λ t. Unit {0}) (Unit {0}) ((written n).typing u name m open_ok) ((written n).typing (beside u shown) name m open_ok)
+
+-- DECLARATIONS of constants, types and variables in their order: where they break no rule, and all that their notes mention is among
+-- these names, they say and add the same there, and what stands around what follows them agrees again.
+abbrev pub DeclarationsAgree : Type 0
+DeclarationsAgree = (names : QName → Bool) (u : Around) (shown : QName → Option Desc) → Agrees (λ q. names q ≡ true) u shown → OwnIn (λ q. names q ≡ true) u.unit → (fs : List (Around → Declared)) → AllByRecursion IsPlain fs →
+    (in_order fs u).part.notes.broken ≡ [] → SaidIn (λ q. names q ≡ true) (in_order fs u).part.notes → AreSound (in_order fs u).around.known →
+    DeclaredSame (λ q. names q ≡ true) u shown (in_order fs u) (in_order fs (beside u shown))

@@ -1,15 +1,16 @@
 //! What the rules look at in the descriptions of other modules is what a text mentions.
 #![tactic(auto)]
 
-ghost use Rattle.ob_mentions.specs.Laws.{TypesAgree, NamesAgree, ExpressionsAgree, DesignatorsAgree, ConstantsAgree, StatementsAgree};
+ghost use Rattle.ob_mentions.specs.Laws.{TypesAgree, NamesAgree, ExpressionsAgree, DesignatorsAgree, ConstantsAgree, StatementsAgree, WrittenAgree, DeclarationsAgree};
 
 /// Laws, with nothing to run. Where two maps of descriptions say the same of these names, and what
 /// is near each of them is among them (`specs/Agreement.antt`), each test of types that the rules
 /// make comes out the same over both (`specs/Laws.antt`: `Alike`). And where what stands around a
 /// part of a text agrees so with another that differs in what imported modules show
-/// (`specs/Followed.antt`), the names of types, expressions, designators, constants and statements that have
-/// a node are judged the same there, if all that they mention is among these names
-/// (`specs/Said.antt`).
+/// (`specs/Followed.antt`): names of types, expressions, designators, constants, statements and
+/// types as they are written are judged the same there where they have a node, and so are constants,
+/// types and variables that are declared in their order where no rule is broken
+/// (`specs/Declared.antt`), if all that they mention is among these names (`specs/Said.antt`).
 pub fn judged_alike()
     ensures types { TypesAgree }
     ensures names { NamesAgree }
@@ -17,4 +18,6 @@ pub fn judged_alike()
     ensures designators { DesignatorsAgree }
     ensures constants { ConstantsAgree }
     ensures statements { StatementsAgree }
+    ensures written { WrittenAgree }
+    ensures declarations { DeclarationsAgree }
 {}

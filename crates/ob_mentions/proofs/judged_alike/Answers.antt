@@ -1,6 +1,6 @@
 -- What the rules look at is what counts.
 use Rattle.ob_mentions.proofs.Tests.{types_agree}
-use Rattle.ob_mentions.proofs.Whole.{names_agree, expressions_agree, designators_agree, constants_agree, statements_agree}
+use Rattle.ob_mentions.proofs.Whole.{names_agree, expressions_agree, designators_agree, constants_agree, statements_agree, written_agree, declarations_agree}
 use Rattle.ob_mentions.proofs.judged_alike.Goals as goal
 
 pub returns-clause-types : goal.returns-clause-types
@@ -20,3 +20,9 @@ returns-clause-constants c = constants_agree
 
 pub returns-clause-statements : goal.returns-clause-statements
 returns-clause-statements c = statements_agree
+
+pub returns-clause-written : goal.returns-clause-written
+returns-clause-written c = written_agree
+
+pub returns-clause-declarations : goal.returns-clause-declarations
+returns-clause-declarations c = declarations_agree
