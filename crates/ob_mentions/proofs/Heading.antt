@@ -18,11 +18,12 @@ use Rattle.ob_rules.specs.Shapes.{Map, record_of, pointed, pointed_record, is_he
 use Rattle.ob_rules.specs.Names.{Around, map_of, in_unit, type_named, found_in_scope}
 use Rattle.ob_rules.specs.Types.{Parameters, Sections, WrittenParameters, is_module_level, marked, written_parameters, parameters_in, inner, knows, with_types}
 use Rattle.ob_rules.specs.Headings.{BoundAs, kind_of, received_record, is_own, if_own, own_record, silent_base, bound_to, owner_of, owner_if, self_of, knows_receiver, WrittenHeading, heading_of, Head, path_by, forward_name, bound_in, of_scope, mark_or_hidden, as_parameters, head_from, heading_parameters, head_with, head_of, entity_as, head_entity, twice_by, name_twice, declared_head, knows_procedure, known_behind, Heads, add_head, add_judged, add_named, types_of, with_head_types, add_typed, add_heading}
+use Rattle.ob_rules.specs.Declarations.{Written_procedure, headings_in_order}
 use Rattle.ob_mentions.specs.Agreement.{IsIn, DescIn, Agree}
 use Rattle.ob_mentions.specs.Said.{SaidIn}
 use Rattle.ob_mentions.specs.Followed.{beside, EntityIn, TypeIn, Agrees, Follows}
 use Rattle.ob_mentions.specs.Declared.{MadeIn, OwnIn}
-use Rattle.ob_mentions.specs.Headed.{ParametersIn, KnownIn, BoundIn, ThereIn, HeadSaid, HeadIn, HeadsSame}
+use Rattle.ob_mentions.specs.Headed.{ParametersIn, KnownIn, BoundIn, ThereIn, FromGrammar, HeadSaid, HeadIn, HeadsSame}
 use Rattle.ob_mentions.proofs.Tests.{two, held_same, pointed_same, pointed_in, record_same, record_in, pointed_record_same, pointed_record_in}
 use Rattle.ob_mentions.proofs.Following.{none_is, some_same, said_left, said_right, follows_none, follows_sound, follows_to, follows_then, follows_made, both_node}
 use Rattle.ob_mentions.proofs.Names.{maps_agree, type_named_follows}
@@ -30,7 +31,7 @@ use Rattle.ob_mentions.proofs.Typings.{TF, agrees_with}
 use Rattle.ob_mentions.proofs.Parameters.{agrees_known, agrees_inner, knows_agrees, parameters_follow}
 use Rattle.ob_mentions.proofs.Written.{written_parameters_follow}
 
-kept_filter : {A : Type 0} (P : A → Type 0) (f : A → Bool) (xs : List A) → AllByRecursion P xs → AllByRecursion P (filter f xs)
+pub kept_filter : {A : Type 0} (P : A → Type 0) (f : A → Bool) (xs : List A) → AllByRecursion P xs → AllByRecursion P (filter f xs)
 kept_filter P f [] h = tt
 kept_filter P f (x ∷ xs) h = by (f x) (kept_filter P f xs h.1)
   where
@@ -237,4 +238,35 @@ module _ (P : QName → Type 0) (s : QName → Option Desc) where
         around = ap (λ (z : Heads). z.around) moved ∙ g.around;
         agrees = g.agrees;
         heads = g.heads;
+      }
+
+  heading_unit : (hs : Heads) (g : WrittenHeading) (forward : Bool) → (add_heading hs g forward).around.unit ≡ hs.around.unit
+  heading_unit hs g forward =
+      let x = head_of hs.around g forward in
+      let w = with_types hs.around (types_of x.parameters) in
+      by w (name_twice w hs.before x) x
+    where
+      by : (w : Around) (t : Bool) (x : Head) → (known_behind w t x).unit ≡ w.unit
+      by w true x = refl
+      by w false x = procedure_unit w x x.is_bound
+
+  before_said : (ps : List Written_procedure) (hs : Heads) → AllByRecursion (HeadSaid P) (headings_in_order ps hs).before → AllByRecursion (HeadSaid P) hs.before
+  before_said [] hs k = k
+  before_said (p ∷ ps) hs k = (before_said ps (add_heading hs p.heading p.forward) k).1
+
+  -- HEADINGS in their order
+  pub headings_same : (ps : List Written_procedure) → AllByRecursion FromGrammar ps → (hs : Heads) → Agrees P hs.around s → OwnIn P hs.around.unit → AllByRecursion (HeadIn P) hs.before → AllByRecursion (HeadSaid P) (headings_in_order ps hs).before
+      → HeadsSame P s (headings_in_order ps hs) (headings_in_order ps (record { around = beside hs.around s; before = hs.before }))
+  headings_same [] g hs a own before k = record { before = refl; around = refl; agrees = a; heads = before }
+  headings_same (p ∷ ps) g hs a own before k =
+      let x = add_heading hs p.heading p.forward in
+      let said = before_said ps x k in
+      let f = subst (λ w. AllByRecursion (HeadSaid P) (add_heading hs w p.forward).before → HeadsSame P s (add_heading hs w p.forward) (add_heading (record { around = beside hs.around s; before = hs.before }) w p.forward)) (sym g.0.1) (heading_same hs a own before g.0.0 p.forward) said in
+      let i = headings_same ps g.1 x f.agrees (subst (OwnIn P) (sym (heading_unit hs p.heading p.forward)) own) f.heads k in
+      let moved = two (λ u b. headings_in_order ps (record { around = u; before = b })) f.around f.before in
+      record {
+        before = ap (λ (z : Heads). z.before) moved ∙ i.before;
+        around = ap (λ (z : Heads). z.around) moved ∙ i.around;
+        agrees = i.agrees;
+        heads = i.heads;
       }

@@ -25,3 +25,5 @@ pub mod Parameters
 pub mod Written
 pub mod Declaring
 pub mod Heading
+pub mod Counted
+pub mod Binding

@@ -1,6 +1,6 @@
 -- The laws.
-use Rattle.std.proofs.Common.{◌≡◌, map, true}
-use Rattle.ob_mentions.specs.Laws.{NamesAgree, ExpressionsAgree, DesignatorsAgree, ConstantsAgree, StatementsAgree, WrittenAgree, DeclarationsAgree}
+use Rattle.std.proofs.Common.{◌≡◌, List, [], map, Bool, true}
+use Rattle.ob_mentions.specs.Laws.{NamesAgree, ExpressionsAgree, DesignatorsAgree, ConstantsAgree, StatementsAgree, WrittenAgree, DeclarationsAgree, HeadingsAgree, CountedIsSaid}
 use Rattle.ob_rules.specs.Expressions.{phrase_of, named_of}
 use Rattle.ob_mentions.proofs.Names.{type_named_follows}
 use Rattle.ob_mentions.proofs.Nodes.{meant_follows}
@@ -9,6 +9,10 @@ use Rattle.ob_mentions.proofs.Bodies.{in_turn_follows}
 use Rattle.ob_mentions.proofs.Statements.{stmts_follow}
 use Rattle.ob_mentions.proofs.Written.{written_follows}
 use Rattle.ob_mentions.proofs.Declaring.{order_same}
+use Rattle.ob_mentions.proofs.Heading.{headings_same}
+use Rattle.ob_types.specs.TypedView.{module_view}
+use Rattle.ob_counts.specs.Counts.{counts_of_module}
+use Rattle.ob_mentions.proofs.Counted.{starts_in, module_in}
 use Rattle.ob_mentions.proofs.Expressions.{expr_follows, designator_of_follows, constant_value_follows}
 
 pub names_agree : NamesAgree
@@ -31,3 +35,9 @@ written_agree names u s a own n name m b = written_follows (λ q. names q ≡ tr
 
 pub declarations_agree : DeclarationsAgree
 declarations_agree names u s a own fs p quiet said h = order_same (λ q. names q ≡ true) s fs p u a own quiet said h
+
+pub headings_agree : HeadingsAgree
+headings_agree names u s a own ps g k = headings_same (λ q. names q ≡ true) s ps g (record { around = u; before = [] }) a own tt k
+
+pub counted_is_said : CountedIsSaid
+counted_is_said names map m h = module_in (λ q. names q ≡ true) map m (starts_in (λ q. names q ≡ true) (counts_of_module map (module_view m)) h)

@@ -2,12 +2,14 @@
 use Rattle.std.specs.Prelude.{◌≡◌, List, [], ◌∷◌, Option, Some, None}
 use Rattle.std.specs.List.{AllByRecursion}
 use Rattle.ob_tree.specs.declared.names.QName.{QName}
+use Rattle.ob_tree.specs.declared.decl.Heading.{Heading}
 use Rattle.ob_types.specs.declared.types.Mode.{Mode}
 use Rattle.ob_types.specs.declared.types.TypeRef.{TypeRef}
 use Rattle.ob_types.specs.declared.desc.Desc.{Desc}
 use Rattle.ob_rules.specs.declared.entity.Known.{Known}
 use Rattle.ob_rules.specs.Types.{Parameters}
-use Rattle.ob_rules.specs.Headings.{BoundAs, Head, Heads}
+use Rattle.ob_rules.specs.Headings.{BoundAs, heading_of, Head, Heads}
+use Rattle.ob_rules.specs.Declarations.{Written_procedure}
 use Rattle.ob_mentions.specs.Agreement.{IsIn}
 use Rattle.ob_mentions.specs.Said.{SaidIn}
 use Rattle.ob_mentions.specs.Followed.{beside, EntityIn, TypeIn, Agrees}
@@ -27,6 +29,10 @@ BoundIn P (Some b) = IsIn P b.of × P b.owner
 abbrev pub ThereIn : (QName → Type 0) → Option Parameters → Type 0
 ThereIn P None = ⊥
 ThereIn P (Some p) = ParametersIn P p
+
+-- its heading is one of the grammar
+abbrev pub FromGrammar : Written_procedure → Type 0
+FromGrammar p = (h : Heading) × (p.heading ≡ heading_of h)
 
 -- the heading keeps all rules, and what it says is among the names
 pub record HeadSaid (P : QName → Type 0) (h : Head) : Type 0 where

@@ -11,6 +11,10 @@ use Rattle.ob_tree.specs.declared.type_node.TypeNode.{TypeNode}
 use Rattle.ob_types.specs.declared.types.Mode.{Mode}
 use Rattle.ob_types.specs.declared.types.TypeRef.{TypeRef}
 use Rattle.ob_types.specs.declared.types.Signature.{Signature}
+use Rattle.ob_types.specs.declared.typed.TypedModule.{TypedModule}
+use Rattle.ob_types.specs.TypedView.{module_view}
+use Rattle.ob_counts.specs.Counts.{counts_of_module}
+use Rattle.ob_counts.specs.Noted.{names_of, shape_starts}
 use Rattle.ob_types.specs.Tests.{target, same_at, extends_at, equal_at}
 use Rattle.ob_types.specs.AssigningTests.{alike_to}
 use Rattle.ob_types.specs.declared.value.Value.{Value}
@@ -23,10 +27,11 @@ use Rattle.ob_rules.specs.Values.{takes_by}
 use Rattle.ob_rules.specs.Expressions.{phrase_of, named_of, meant_by, constant_value}
 use Rattle.ob_rules.specs.Types.{written}
 use Rattle.ob_rules.specs.Statements.{judging, in_turn}
-use Rattle.ob_rules.specs.Declarations.{Declared, in_order}
+use Rattle.ob_rules.specs.Declarations.{Declared, in_order, Written_procedure, headings_in_order}
 use Rattle.ob_mentions.specs.Agreement.{IsIn, Agree}
 use Rattle.ob_mentions.specs.Declared.{TypingIn, OwnIn, AreSound, IsPlain, DeclaredSame}
-use Rattle.ob_mentions.specs.Said.{SaidIn, SignatureIn, KindIn, ValuedIn, ValuedTied, MeantIn, MeantTied, StmtIn}
+use Rattle.ob_mentions.specs.Headed.{FromGrammar, HeadSaid, HeadsSame}
+use Rattle.ob_mentions.specs.Said.{SaidIn, SignatureIn, KindIn, ValuedIn, ValuedTied, MeantIn, MeantTied, StmtIn, ModuleIn}
 use Rattle.ob_mentions.specs.Followed.{beside, Agrees, Follows}
 
 -- Two maps are alike for the rules on these names: each test of types that the rules make comes out the same.
@@ -89,3 +94,13 @@ abbrev pub DeclarationsAgree : Type 0
 DeclarationsAgree = (names : QName → Bool) (u : Around) (shown : QName → Option Desc) → Agrees (λ q. names q ≡ true) u shown → OwnIn (λ q. names q ≡ true) u.unit → (fs : List (Around → Declared)) → AllByRecursion IsPlain fs →
     (in_order fs u).part.notes.broken ≡ [] → SaidIn (λ q. names q ≡ true) (in_order fs u).part.notes → AreSound (in_order fs u).around.known →
     DeclaredSame (λ q. names q ≡ true) u shown (in_order fs u) (in_order fs (beside u shown))
+
+-- HEADINGS in their order: where each keeps all rules, and what its notes mention is among these names, they come to the same there.
+abbrev pub HeadingsAgree : Type 0
+HeadingsAgree = (names : QName → Bool) (u : Around) (shown : QName → Option Desc) → Agrees (λ q. names q ≡ true) u shown → OwnIn (λ q. names q ≡ true) u.unit → (ps : List Written_procedure) → AllByRecursion FromGrammar ps →
+    AllByRecursion (HeadSaid (λ q. names q ≡ true)) (headings_in_order ps (record { around = u; before = [] })).before →
+    HeadsSame (λ q. names q ≡ true) shown (headings_in_order ps (record { around = u; before = [] })) (headings_in_order ps (record { around = beside u shown; before = [] }))
+
+-- WHAT COUNTS: where the names of the types whose shapes count for a module's uses are among these names, all that it mentions is.
+abbrev pub CountedIsSaid : Type 0
+CountedIsSaid = (names : QName → Bool) (map : QName → Option Desc) (m : TypedModule) → AllByRecursion (λ q. names q ≡ true) (names_of (shape_starts (counts_of_module map (module_view m)))) → ModuleIn (λ q. names q ≡ true) m

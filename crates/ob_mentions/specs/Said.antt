@@ -8,6 +8,8 @@ use Rattle.ob_types.specs.declared.typed.Designator.{Designator}
 use Rattle.ob_types.specs.declared.typed.TypedExpr.{TypedExpr}
 use Rattle.ob_types.specs.declared.typed.Actual.{Actual}
 use Rattle.ob_types.specs.declared.typed.TypedStmt.{TypedStmt}
+use Rattle.ob_types.specs.declared.typed.TypedProcedure.{TypedProcedure}
+use Rattle.ob_types.specs.declared.typed.TypedModule.{TypedModule}
 use Rattle.ob_types.specs.declared.typed.ExprType.{ExprType}
 use Rattle.ob_types.specs.declared.typed.ExprType.TheVariants as kind
 use Rattle.ob_types.specs.declared.value.Value.{Value}
@@ -101,3 +103,11 @@ MeantTied P (means.Place p) = PlaceTied P p
 MeantTied P (means.Bound c) = PlaceIn P c.receiver → ChosenIn P c
 MeantTied P (means.Call x) = ValuedTied P x
 MeantTied P m = Unit {0}
+
+-- what a checked module mentions is among these: its notes, and the statements of its procedures and its body
+pub record ModuleIn (P : QName → Type 0) (m : TypedModule) : Type 0 where
+  pub objects : AllByRecursion P m.mentioned.objects
+  pub types : AreIn P m.mentioned.types
+  pub lengths : AllByRecursion (DesignatorIn P) m.mentioned.lengths
+  pub bodies : AllByRecursion (λ (p : TypedProcedure). AllByRecursion (StmtIn P) p.body) m.procedures
+  pub body : AllByRecursion (StmtIn P) m.body

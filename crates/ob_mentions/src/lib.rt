@@ -1,7 +1,7 @@
 //! What the rules look at in the descriptions of other modules is what a text mentions.
 #![tactic(auto)]
 
-ghost use Rattle.ob_mentions.specs.Laws.{TypesAgree, NamesAgree, ExpressionsAgree, DesignatorsAgree, ConstantsAgree, StatementsAgree, WrittenAgree, DeclarationsAgree};
+ghost use Rattle.ob_mentions.specs.Laws.{TypesAgree, NamesAgree, ExpressionsAgree, DesignatorsAgree, ConstantsAgree, StatementsAgree, WrittenAgree, DeclarationsAgree, HeadingsAgree, CountedIsSaid};
 
 /// Laws, with nothing to run. Where two maps of descriptions say the same of these names, and what
 /// is near each of them is among them (`specs/Agreement.antt`), each test of types that the rules
@@ -9,8 +9,10 @@ ghost use Rattle.ob_mentions.specs.Laws.{TypesAgree, NamesAgree, ExpressionsAgre
 /// part of a text agrees so with another that differs in what imported modules show
 /// (`specs/Followed.antt`): names of types, expressions, designators, constants, statements and
 /// types as they are written are judged the same there where they have a node, and so are constants,
-/// types and variables that are declared in their order where no rule is broken
-/// (`specs/Declared.antt`), if all that they mention is among these names (`specs/Said.antt`).
+/// types and variables that are declared in their order (`specs/Declared.antt`) and headings of
+/// procedures (`specs/Headed.antt`) where no rule is broken, if all that they mention is among
+/// these names (`specs/Said.antt`). That is so where the types whose shapes count for the uses of a
+/// module are among them.
 pub fn judged_alike()
     ensures types { TypesAgree }
     ensures names { NamesAgree }
@@ -20,4 +22,6 @@ pub fn judged_alike()
     ensures statements { StatementsAgree }
     ensures written { WrittenAgree }
     ensures declarations { DeclarationsAgree }
+    ensures headings { HeadingsAgree }
+    ensures counted { CountedIsSaid }
 {}

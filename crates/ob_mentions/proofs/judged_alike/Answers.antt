@@ -1,6 +1,6 @@
 -- What the rules look at is what counts.
 use Rattle.ob_mentions.proofs.Tests.{types_agree}
-use Rattle.ob_mentions.proofs.Whole.{names_agree, expressions_agree, designators_agree, constants_agree, statements_agree, written_agree, declarations_agree}
+use Rattle.ob_mentions.proofs.Whole.{names_agree, expressions_agree, designators_agree, constants_agree, statements_agree, written_agree, declarations_agree, headings_agree, counted_is_said}
 use Rattle.ob_mentions.proofs.judged_alike.Goals as goal
 
 pub returns-clause-types : goal.returns-clause-types
@@ -26,3 +26,9 @@ returns-clause-written c = written_agree
 
 pub returns-clause-declarations : goal.returns-clause-declarations
 returns-clause-declarations c = declarations_agree
+
+pub returns-clause-headings : goal.returns-clause-headings
+returns-clause-headings c = headings_agree
+
+pub returns-clause-counted : goal.returns-clause-counted
+returns-clause-counted c = counted_is_said
