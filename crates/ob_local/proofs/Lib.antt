@@ -1,0 +1,4 @@
+pub mod Told
+pub mod Joined
+pub mod Places
+pub mod Expressions
