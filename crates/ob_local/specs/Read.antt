@@ -19,6 +19,7 @@ use Rattle.ob_types.specs.declared.typed.TypedParameter.{TypedParameter}
 use Rattle.ob_types.specs.TypedSyntax.{Desig, OfVariable, Field, Index, Deref, Guard, Expr, Constant, ValueOf, ProcedureValue, Monadic, Dyadic, Logical, CompareTexts, IsPointer, IsRecord, Length, Call, CallVariable, Actuals, NoActual, AnActual, Stmt, Assign, CallProper, Updated, Copy, New, NewOpenArray, Assert, Halt, If, Case, While, Repeat, For, Loop, Exit, Return, With, Stmts, Nothing, Then, Branches, NoBranch, Branch, Cases, NoCase, OneCase, Otherwise, NoElse, Else, Procedure, Module}
 use Rattle.ob_types.specs.TypedKinds.{variable_type}
 use Rattle.ob_types.specs.Maps.{listed}
+use Rattle.ob_counts.specs.Counts.{own_name}
 use Rattle.ob_local.specs.Agreeing.{On}
 
 module _ (Shapes Layouts : QName → Type 0) where
@@ -133,14 +134,14 @@ module _ (Shapes Layouts : QName → Type 0) where
     pub binding : BindingRead p.binding
     pub body : StmtsRead p.body
 
-  -- a record's base, and the layouts that its own is made of
-  abbrev pub DescRead : Desc → Type 0
-  DescRead (desc.Record r) = AllByRecursion (On Shapes) (listed r.base) × AllByRecursion (On Layouts) (listed r.base) × AllByRecursion (λ f. On Layouts f.of) r.fields
-  DescRead d = Unit {0}
+  -- a record's layout, and what it is made of
+  abbrev pub TypeRead : QName → Desc → Type 0
+  TypeRead q (desc.Record r) = Layouts q × AllByRecursion (On Shapes) (listed r.base) × AllByRecursion (On Layouts) (listed r.base) × AllByRecursion (λ f. On Layouts f.of) r.fields
+  TypeRead q d = Unit {0}
 
   -- ALL that is read for the layout and the code of a module
   pub record ModuleRead (m : Module) : Type 0 where
-    pub types : AllByRecursion (λ t. DescRead t.desc) m.types
+    pub types : AllByRecursion (λ t. TypeRead (own_name m t) t.desc) m.types
     pub variables : AllByRecursion (λ v. On Layouts v.of) m.variables
     pub procedures : AllByRecursion ProcedureRead m.procedures
     pub body : StmtsRead m.body
