@@ -4,3 +4,8 @@ pub mod Places
 pub mod Expressions
 pub mod Statements
 pub mod Objects
+pub mod Laid
+pub mod Reached
+pub mod Texts
+pub mod Agreed
+pub mod Whole

@@ -1,5 +1,5 @@
 -- What maps that agree tell alike of a type: its words, what it stands for, its members.
-use Rattle.std.proofs.Common.{◌≡◌, ℕ, zero, suc, ◌*◌, List, [], ◌∷◌, ◌++◌, Bool, true, false, cond, map as each, Option, Some, None, refl, sym, ap, ◌∙◌, subst}
+use Rattle.std.proofs.Common.{◌≡◌, ℕ, zero, suc, ◌*◌, List, [], ◌∷◌, ◌++◌, Bool, true, false, cond, map as each, Option, Some, None, refl, sym, ap, ◌∙◌, subst, ⊎_elim}
 use Rattle.std.specs.Prelude.{bytes_eq, unwrap_or}
 use Rattle.std.specs.Option.{option_map}
 use Rattle.std.specs.List.{AllByRecursion}
@@ -13,6 +13,8 @@ use Rattle.ob_types.specs.declared.desc.Field.{Field}
 use Rattle.ob_types.specs.declared.desc.Method.{Method}
 use Rattle.ob_types.specs.Maps.{listed}
 use Rattle.ob_types.specs.Tests.{target, target_of, alias_of, follow, shape_at}
+use Rattle.ob_desc.specs.Grammar.{same_object}
+use Rattle.ob_desc.specs.Laws.{object_decides}
 use Rattle.ob_layout.specs.Lists.{or_else}
 use Rattle.ob_layout.specs.Words.{words_within, words_of, described_words}
 use Rattle.ob_layout.specs.Members.{nearest, nearest_in, from_base, field_in_record, method_in_record, field_place_in, method_number_in, method_in}
@@ -23,7 +25,7 @@ use Rattle.ob_uses.specs.declared.way.Way.TheVariants as way
 use Rattle.ob_uses.specs.Uses.{near_types, flat_types}
 use Rattle.ob_uses.specs.Ways.{leads_by, desc_leads, is_of}
 use Rattle.ob_uses.specs.Closed.{is_among, of_found}
-use Rattle.ob_uses.proofs.Searching.{itself, left_of, in_back}
+use Rattle.ob_uses.proofs.Searching.{itself, left_of, in_back, either}
 use Rattle.ob_local.specs.Agreeing.{Map, On, Agree, as_shape}
 
 -- what holds of all names among types holds of the types
@@ -31,6 +33,12 @@ pub all_on : (P : QName → Type 0) (ts : List TypeRef) → ((q : QName) → is_
 all_on P [] f = tt
 all_on P (ref.Basic b ∷ ts) f = (tt, all_on P ts f)
 all_on P (ref.Named q ∷ ts) f = (f q (left_of _ _ (itself q)), all_on P ts (λ r i. f r (in_back (q ∷ []) (names_of ts) r i)))
+
+-- and the other way
+pub among_on : (P : QName → Type 0) (ts : List TypeRef) → AllByRecursion (On P) ts → (q : QName) → is_among (names_of ts) q ≡ true → P q
+among_on P [] all q i = absurd cc
+among_on P (ref.Basic b ∷ ts) all q i = among_on P ts all.1 q i
+among_on P (ref.Named r ∷ ts) all q i = ⊎_elim (λ (e : same_object q r ≡ true). subst P (sym ((object_decides q r).0 e)) all.0) (λ (h : is_among (names_of ts) q ≡ true). among_on P ts all.1 q h) (either (same_object q r) (is_among (names_of ts) q) i)
 
 -- a description and its shape tell these alike
 target_shape : (o : Option Desc) → target_of o ≡ target_of (option_map as_shape o)
@@ -76,10 +84,10 @@ from_base_same P f g same (Some t) on = same t (on t refl)
 module _ (map other : Map) (m : List ℕ) (Shapes Layouts : QName → Type 0) (agree : Agree map other m Shapes Layouts) where
   -- ---- what a name leads to
 
-  near_on : (q : QName) (d : Desc) → Shapes q → map q ≡ Some d → AllByRecursion (On Shapes) (near_types d)
+  pub near_on : (q : QName) (d : Desc) → Shapes q → map q ≡ Some d → AllByRecursion (On Shapes) (near_types d)
   near_on q d on e = all_on Shapes (near_types d) (λ r i. agree.near q r on (ap (λ o. is_among (of_found (desc_leads way.Near m q) o) r) e ∙ i))
 
-  flat_on : (q : QName) (d : Desc) → Layouts q → map q ≡ Some d → AllByRecursion (On Layouts) (flat_types (is_of m q) d)
+  pub flat_on : (q : QName) (d : Desc) → Layouts q → map q ≡ Some d → AllByRecursion (On Layouts) (flat_types (is_of m q) d)
   flat_on q d on e = all_on Layouts (flat_types (is_of m q) d) (λ r i. agree.flat q r on (ap (λ o. is_among (of_found (desc_leads way.Flat m q) o) r) e ∙ i))
 
   -- ---- words
