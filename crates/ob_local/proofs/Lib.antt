@@ -9,3 +9,4 @@ pub mod Reached
 pub mod Texts
 pub mod Agreed
 pub mod Whole
+pub mod Counted

@@ -1,3 +1,4 @@
 pub mod Agreeing
 pub mod Read
 pub mod Laws
+pub mod Tied
