@@ -76,7 +76,7 @@ module _ (map : Map) (m : List ℕ) (Own P L : QName → Type 0)
   leads_in t q on (first i) = among_on P (t ∷ []) (on, tt) q i
   leads_in t q on (onward {p = p} r i) = near p q (leads_in t p on r) i
 
-  leads_on : (t u : TypeRef) → On P t → On (LeadsTo map m Own t) u → On P u
+  pub leads_on : (t u : TypeRef) → On P t → On (LeadsTo map m Own t) u → On P u
   leads_on t (ref.Basic b) on l = tt
   leads_on t (ref.Named q) on l = leads_in t q on l
 
@@ -110,7 +110,7 @@ module _ (map : Map) (m : List ℕ) (Own P L : QName → Type 0)
       go (Some u) e more = subst (λ o. On L (follow o (ref.Named q) (λ u. target map n u))) (sym e) (more u (alias_in q (map q) u on refl e))
 
   -- the type of a designator counts
-  type_on : (Q : QName → Type 0) (d : Desig) → CountsOn P Q (counts_of_designator d) → On P (variable_type d)
+  pub type_on : (Q : QName → Type 0) (d : Desig) → CountsOn P Q (counts_of_designator d) → On P (variable_type d)
   type_on Q (OfVariable v t) on = on.0
   type_on Q (Field d owner name t) on = (counts_back P Q (counts_of_designator d) (Shapes t ∷ []) on).0
   type_on Q (Index d n i at t) on = (third3 P Q (counts_of_designator d) (counts_of_expr i) (both t) on).0
@@ -361,59 +361,3 @@ module _ (map : Map) (m : List ℕ) (Own P L : QName → Type 0)
   pub procedures_read : (types : Map) (ps : List Procedure) → CountsOn P L (flat_map (counts_of_procedure types) ps) → AllByRecursion (ProcedureTied map m Own) ps → AllByRecursion (ProcedureRead P L) ps
   procedures_read types [] on tied = tt
   procedures_read types (p ∷ ps) on tied = (procedure_read types p (counts_front P L (counts_of_procedure types p) (flat_map (counts_of_procedure types) ps) on) tied.0, procedures_read types ps (counts_back P L (counts_of_procedure types p) (flat_map (counts_of_procedure types) ps) on) tied.1)
-
--- ---- where all shapes that count are on P, all layouts that count are too
-
-pub counts_join : (P L : QName → Type 0) (cs ds : List Count) → CountsOn P L cs → CountsOn P L ds → CountsOn P L (cs ++ ds)
-counts_join P L [] ds a b = b
-counts_join P L (Shapes t ∷ cs) ds a b = (a.0, counts_join P L cs ds a.1 b)
-counts_join P L (Layouts t ∷ cs) ds a b = (a.0, counts_join P L cs ds a.1 b)
-
--- of any layouts
-abbrev pub Any : QName → Type 0
-Any q = Unit {0}
-
-module _ (P : QName → Type 0) where
-  two_near : (f : List Count) (g : List Count) → (CountsOn P Any f → CountsOn P P f) → (CountsOn P Any g → CountsOn P P g) → CountsOn P Any (f ++ g) → CountsOn P P (f ++ g)
-  two_near f g a b on = counts_join P P f g (a (counts_front P Any f g on)) (b (counts_back P Any f g on))
-
-  both_near : (t : TypeRef) → CountsOn P Any (both t) → CountsOn P P (both t)
-  both_near t on = (on.0, (on.0, tt))
-
-  shapes_near : (ts : List TypeRef) → CountsOn P Any (shapes ts) → CountsOn P P (shapes ts)
-  shapes_near [] on = tt
-  shapes_near (t ∷ ts) on = (on.0, shapes_near ts on.1)
-
-  formals_near : (es : Actuals) → CountsOn P Any (formals es) → CountsOn P P (formals es)
-  formals_near NoActual on = tt
-  formals_near (AnActual how t e rest) on = (on.0, formals_near rest on.1)
-
-  mutual
-    pub desig_near : (d : Desig) → CountsOn P Any (counts_of_designator d) → CountsOn P P (counts_of_designator d)
-    desig_near (OfVariable v t) on = (on.0, tt)
-    desig_near (Field d owner name t) on = two_near (counts_of_designator d) (Shapes t ∷ []) (desig_near d) (λ h. (h.0, tt)) on
-    desig_near (Index d n i at t) on = two_near (counts_of_designator d ++ counts_of_expr i) (both t) (two_near (counts_of_designator d) (counts_of_expr i) (desig_near d) (expr_near i)) (both_near t) on
-    desig_near (Deref d at t) on = two_near (counts_of_designator d) (Shapes t ∷ []) (desig_near d) (λ h. (h.0, tt)) on
-    desig_near (Guard d g aim at t) on = two_near (counts_of_designator d) (Shapes t ∷ Shapes (ref.Named aim) ∷ []) (desig_near d) (λ h. (h.0, (h.1.0, tt))) on
-
-    pub expr_near : (e : Expr) → CountsOn P Any (counts_of_expr e) → CountsOn P P (counts_of_expr e)
-    expr_near (Constant v) on = tt
-    expr_near (ValueOf d) on = desig_near d on
-    expr_near (ProcedureValue q signature) on = shapes_near (signature_types signature) on
-    expr_near (Monadic op e at) on = expr_near e on
-    expr_near (Dyadic op a b at) on = two_near (counts_of_expr a) (counts_of_expr b) (expr_near a) (expr_near b) on
-    expr_near (Logical op a b) on = two_near (counts_of_expr a) (counts_of_expr b) (expr_near a) (expr_near b) on
-    expr_near (CompareTexts r a b at) on = two_near (counts_of_expr a) (counts_of_expr b) (expr_near a) (expr_near b) on
-    expr_near (IsPointer e aim) on = two_near (counts_of_expr e) (Shapes (ref.Named aim) ∷ []) (expr_near e) (λ h. (h.0, tt)) on
-    expr_near (IsRecord d aim) on = two_near (counts_of_designator d) (Shapes (ref.Named aim) ∷ []) (desig_near d) (λ h. (h.0, tt)) on
-    expr_near (Length d) on = desig_near d on
-    expr_near (Call c es at t) on = two_near (counts_of_actuals es) (counts_of_call c es t) (actuals_near es) (two_near (formals (without_receiver (has_receiver c) es)) (shapes (listed t)) (formals_near (without_receiver (has_receiver c) es)) (shapes_near (listed t))) on
-    expr_near (CallVariable d es at t) on = two_near (counts_of_designator d ++ counts_of_actuals es) (counts_of_held_call es t) (two_near (counts_of_designator d) (counts_of_actuals es) (desig_near d) (actuals_near es)) (two_near (formals es) (shapes (listed t)) (formals_near es) (shapes_near (listed t))) on
-
-    pub actuals_near : (es : Actuals) → CountsOn P Any (counts_of_actuals es) → CountsOn P P (counts_of_actuals es)
-    actuals_near NoActual on = tt
-    actuals_near (AnActual how t e rest) on = two_near (counts_of_expr e) (counts_of_actuals rest) (expr_near e) (actuals_near rest) on
-
-  optional_near : (e : Option Expr) → CountsOn P Any (counts_of_optional e) → CountsOn P P (counts_of_optional e)
-  optional_near None on = tt
-  optional_near (Some e) on = expr_near e on

@@ -32,11 +32,11 @@ use Rattle.ob_local.proofs.Joined.{after, cons}
 use Rattle.ob_local.proofs.Told.{all_on, among_on, flat_on}
 use Rattle.ob_local.proofs.Places.{every, sum_told}
 
-front_all : {A : Type 0} (P : A → Type 0) (xs ys : List A) → AllByRecursion P (xs ++ ys) → AllByRecursion P xs
+pub front_all : {A : Type 0} (P : A → Type 0) (xs ys : List A) → AllByRecursion P (xs ++ ys) → AllByRecursion P xs
 front_all P [] ys all = tt
 front_all P (x ∷ xs) ys all = (all.0, front_all P xs ys all.1)
 
-back_all : {A : Type 0} (P : A → Type 0) (xs ys : List A) → AllByRecursion P (xs ++ ys) → AllByRecursion P ys
+pub back_all : {A : Type 0} (P : A → Type 0) (xs ys : List A) → AllByRecursion P (xs ++ ys) → AllByRecursion P ys
 back_all P [] ys all = all
 back_all P (x ∷ xs) ys all = back_all P xs ys all.1
 
@@ -61,11 +61,11 @@ put_all R P x (y ∷ ys) p all = go (R x y) (put_all R P x ys p all.1)
     go Equal h = (all.0, all.1)
     go Greater h = (all.0, h)
 
-order_all : {A : Type 0} (R : A → A → Ordering) (P : A → Type 0) (xs : List A) → AllByRecursion P xs → AllByRecursion P (in_order R xs)
+pub order_all : {A : Type 0} (R : A → A → Ordering) (P : A → Type 0) (xs : List A) → AllByRecursion P xs → AllByRecursion P (in_order R xs)
 order_all R P [] all = tt
 order_all R P (x ∷ xs) all = put_all R P x (in_order R xs) all.0 (order_all R P xs all.1)
 
-placed_all : (P : TypeRef → Type 0) (f : TypeRef → ℕ) (at : ℕ) (fs : List Field) → AllByRecursion (λ x. P x.of) fs → AllByRecursion (λ x. P x.of) (placed f at fs)
+pub placed_all : (P : TypeRef → Type 0) (f : TypeRef → ℕ) (at : ℕ) (fs : List Field) → AllByRecursion (λ x. P x.of) fs → AllByRecursion (λ x. P x.of) (placed f at fs)
 placed_all P f at [] all = tt
 placed_all P f at (x ∷ fs) all = (all.0, placed_all P f (at + f x.of) fs all.1)
 

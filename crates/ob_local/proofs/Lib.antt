@@ -10,3 +10,5 @@ pub mod Texts
 pub mod Agreed
 pub mod Whole
 pub mod Counted
+pub mod Nears
+pub mod Bridged

@@ -64,7 +64,7 @@ desc_or : Desc → Option Desc → Desc
 desc_or d None = d
 desc_or d (Some e) = e
 
-some_desc : (d e : Desc) → Some d ≡ Some e → d ≡ e
+pub some_desc : (d e : Desc) → Some d ≡ Some e → d ≡ e
 unfolding desc_or
 some_desc d e s = ap (desc_or d) s
 
@@ -88,7 +88,7 @@ module _ (Shapes Layouts : QName → Type 0) where
       go true more i = parts_read (own_name m t) r (subst (TypeRead Shapes Layouts (own_name m t)) (some_desc t.desc (desc.Record r) i) all.0)
       go false more i = more i
 
-plain_near : (b : Bool) (d : Desc) → is_record d ≡ false → (q : QName) → is_among (names_of (flat_types b d)) q ≡ true → is_among (names_of (near_types d)) q ≡ true
+pub plain_near : (b : Bool) (d : Desc) → is_record d ≡ false → (q : QName) → is_among (names_of (flat_types b d)) q ≡ true → is_among (names_of (near_types d)) q ≡ true
 plain_near b (desc.Alias k t) e q i = i
 plain_near b (desc.Array k n t) e q i = i
 plain_near b (desc.OpenArray k t) e q i = i

@@ -2,3 +2,4 @@ pub mod Agreeing
 pub mod Read
 pub mod Laws
 pub mod Tied
+pub mod Checked
