@@ -12,3 +12,4 @@ pub mod Whole
 pub mod Counted
 pub mod Nears
 pub mod Bridged
+pub mod Blanked

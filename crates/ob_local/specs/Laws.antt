@@ -12,6 +12,7 @@ use Rattle.ob_obj.specs.declared.parts.Export.{Export}
 use Rattle.ob_sym.specs.Grammar.{face}
 use Rattle.ob_layout.specs.LaidOut.{is_own, laid_out, viewed}
 use Rattle.ob_env.specs.Faces.{Face, Wanted, described, text_in, printed, interface_of}
+use Rattle.ob_env.specs.Shown.{shown}
 use Rattle.ob_uses.specs.declared.way.Way.TheVariants as way
 use Rattle.ob_uses.specs.Closed.{is_among}
 use Rattle.ob_uses.specs.Ways.{leads_by}
@@ -69,3 +70,9 @@ pub record IsSame (faces others : List (Face Text)) (m : Module) : Type 0 where
 -- THE LAW
 abbrev pub ModulesAreLocal : Type 0
 ModulesAreLocal = (faces others : List (Face Text)) (m : Module) → AreSpelled faces → AreSpelled others → HaveNoOut faces → HaveNoOut others → IsTied faces m → AreMet others (face_from text_in faces m).uses → IsSame faces others m
+
+-- THE LAW OF SHAPES: what other interfaces show to the rules of what counts is the same.
+abbrev pub ShapesAreTold : Type 0
+ShapesAreTold = (faces others : List (Face Text)) (m : Module) → AreSpelled faces → AreSpelled others → HaveNoOut faces → HaveNoOut others →
+    ((q : QName) → IsNear (view faces m) (over faces m) q → is_imported m q ≡ true → IsSome (described faces q)) → AreMet others (face_from text_in faces m).uses →
+    (q : QName) → IsNear (view faces m) (over faces m) q → is_own m q ≡ false → shown others q ≡ shown faces q
