@@ -1,6 +1,5 @@
 -- Well typed designators, expressions and actual parameters are in the slice.
-use Rattle.std.proofs.Common.{◌≡◌, ◌⊎◌, ⊎_elim, inl, inr, refl, sym, ap, ◌∙◌, subst, ℕ, List, [], ◌∷◌, length, Option, Some, None}
-use Rattle.ob_tree.specs.declared.pos.Pos.{Pos}
+use Rattle.std.proofs.Common.{◌≡◌, ◌⊎◌, ⊎_elim, refl, sym, ap, ◌∙◌, subst, ℕ, List, [], ◌∷◌, Option, Some, None}
 use Rattle.ob_tree.specs.declared.names.QName.{QName}
 use Rattle.ob_types.specs.declared.types.Mode.{Mode}
 use Rattle.ob_types.specs.declared.types.TypeRef.{TypeRef}
@@ -13,8 +12,8 @@ use Rattle.ob_types.specs.declared.typed.Callee.TheVariants as callee
 use Rattle.ob_types.specs.declared.typed.TypedParameter.{TypedParameter}
 use Rattle.ob_types.specs.TypedSyntax.{Desig, OfVariable, Field, Index, Deref, Guard, Expr, Constant, ValueOf, ProcedureValue, Monadic, Dyadic, Logical, CompareTexts, IsPointer, IsRecord, Length, Call, CallVariable, Actuals, NoActual, AnActual}
 use Rattle.ob_types.specs.TypedKinds.{variable_type}
-use Rattle.ob_meaning.specs.Values.{Program, Form, BasicForm, PointerForm, ProcedureForm, ArrayForm, OpenForm, RecordForm, fields_of, form_in, record_in, Held}
-use Rattle.ob_relation.specs.Relation.{Sub, Scalar, IsStructure}
+use Rattle.ob_meaning.specs.Values.{Program, Form, BasicForm, PointerForm, ProcedureForm, ArrayForm, OpenForm, RecordForm, form_in, record_in, Held}
+use Rattle.ob_relation.specs.Relation.{Scalar, IsStructure}
 use Rattle.ob_relation.specs.Passed.{passing_for, IsClosed, IsUnguarded}
 use Rattle.ob_relation.specs.Typed as typed
 use Rattle.ob_relation.specs.Typed.{boolean, longint, IsRecordForm, IsRecordType, TestOk, IsArrayOf}

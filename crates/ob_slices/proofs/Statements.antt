@@ -1,5 +1,5 @@
 -- Well typed statements are in the slice.
-use Rattle.std.proofs.Common.{◌≡◌, ◌⊎◌, ⊎_elim, refl, sym, subst, ℕ, List, [], ◌∷◌, Option, Some, None, Bool, true}
+use Rattle.std.proofs.Common.{◌≡◌, ◌⊎◌, ⊎_elim, sym, subst, ℕ, List, ◌∷◌, Option, Some, None, Bool, true}
 use Rattle.ob_tree.specs.declared.pos.Pos.{Pos}
 use Rattle.ob_tree.specs.declared.names.QName.{QName}
 use Rattle.ob_types.specs.declared.types.Basic.{Basic}
@@ -8,12 +8,10 @@ use Rattle.ob_types.specs.declared.types.TypeRef.{TypeRef}
 use Rattle.ob_types.specs.declared.types.TypeRef.TheVariants as ref
 use Rattle.ob_types.specs.declared.types.Signature.{Signature}
 use Rattle.ob_types.specs.declared.value.Value.TheVariants as literal
-use Rattle.ob_types.specs.declared.typed.Width.{Width}
 use Rattle.ob_types.specs.declared.typed.Passing.{Passing}
 use Rattle.ob_types.specs.declared.typed.Passing.TheVariants as passing
 use Rattle.ob_types.specs.declared.typed.OutProcedure.{OutProcedure}
 use Rattle.ob_types.specs.declared.typed.OutProcedure.TheVariants as out
-use Rattle.ob_types.specs.declared.typed.Callee.{Callee}
 use Rattle.ob_types.specs.declared.typed.Callee.TheVariants as callee
 use Rattle.ob_types.specs.declared.typed.Assigned.{Assigned}
 use Rattle.ob_types.specs.declared.typed.Assigned.TheVariants as assigned
@@ -22,11 +20,11 @@ use Rattle.ob_types.specs.declared.typed.Update.TheVariants as update
 use Rattle.ob_types.specs.declared.typed.Made.{Made}
 use Rattle.ob_types.specs.declared.typed.Made.TheVariants as made
 use Rattle.ob_types.specs.TypedSyntax.{Desig, Expr, Constant, ValueOf, ProcedureValue, Monadic, Dyadic, Logical, CompareTexts, IsPointer, IsRecord, Length, Call, CallVariable, Actuals, NoActual, AnActual, Stmt, Assign, CallProper, Updated, Copy, New, NewOpenArray, Assert, Halt, If, Case, While, Repeat, For, Loop, Exit, Return, With, Stmts, Nothing, Then, Branches, NoBranch, Branch, Cases, NoCase, OneCase, Otherwise, NoElse, Else}
-use Rattle.ob_meaning.specs.Values.{Program, Form, BasicForm, PointerForm, ArrayForm, OpenForm, form_in, record_in, Held}
+use Rattle.ob_meaning.specs.Values.{Program, Form, BasicForm, ArrayForm, form_in, record_in, Held}
 use Rattle.ob_relation.specs.Relation.{Sub, Scalar}
-use Rattle.ob_relation.specs.Passed.{IsUnguarded, AreOfBasics, AreOut}
+use Rattle.ob_relation.specs.Passed.{IsUnguarded, AreOut}
 use Rattle.ob_relation.specs.Typed as typed
-use Rattle.ob_relation.specs.Typed.{boolean, char, longint, set, integer, IsRecordForm, IsRecordType}
+use Rattle.ob_relation.specs.Typed.{boolean, char, longint, integer, IsRecordForm, IsRecordType}
 use Rattle.ob_simulation.specs.Slice.{InExpr, InOptional, InStmt, InStmts, InBranches, InCases, InElse}
 use Rattle.ob_slices.proofs.Forms.{IsArrayForm, IsPointerForm, plain_variable, no_pointer}
 use Rattle.ob_slices.proofs.Designators.{Ok, T, unguarded, unguarded_base, record_no_pointer, array_no_pointer, text_array, of_pointer, of_length, of_any, of_procedure, of_array, formed_actuals, formed_signature, in_desig, in_holder, in_tagged, in_array, in_expr, in_text, in_formed}

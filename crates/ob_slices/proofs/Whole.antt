@@ -1,8 +1,7 @@
 -- The laws, whole.
 use Rattle.ob_meaning.specs.Commands.{body_name, body_procedure}
-use Rattle.ob_types.specs.TypedSyntax.{Module}
 use Rattle.ob_relation.specs.Layout.{static_held}
-use Rattle.ob_relation.specs.Setting.{Setting, has_of}
+use Rattle.ob_relation.specs.Setting.{has_of}
 use Rattle.std.specs.Prelude.{false}
 use Rattle.ob_slices.specs.Laws.{Having, StatementsAreIn, ProceduresAreIn, BodiesAreIn}
 use Rattle.ob_slices.proofs.Statements.{in_stmts}

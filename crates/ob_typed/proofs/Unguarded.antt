@@ -7,7 +7,7 @@ use Rattle.ob_types.specs.declared.desc.Field.{Field}
 use Rattle.ob_types.specs.declared.typed.Variable.{Variable}
 use Rattle.ob_types.specs.declared.typed.Guarded.{Guarded}
 use Rattle.ob_types.specs.declared.typed.Guarded.TheVariants as guarded
-use Rattle.ob_types.specs.TypedSyntax.{Desig, Guard}
+use Rattle.ob_types.specs.TypedSyntax.{Guard}
 use Rattle.ob_types.specs.TypedView.{designator_view}
 use Rattle.ob_types.proofs.TypedViews.{view_variable, view_field, view_index, view_deref, view_guard}
 use Rattle.ob_relation.specs.Passed.{IsUnguarded}
