@@ -1,3 +1,4 @@
+pub mod Near
 pub mod Tests
 pub mod Following
 pub mod Names

@@ -1,6 +1,6 @@
 -- The laws.
 use Rattle.std.proofs.Common.{◌≡◌, List, [], map, Bool, true}
-use Rattle.ob_mentions.specs.Laws.{NamesAgree, ExpressionsAgree, DesignatorsAgree, ConstantsAgree, StatementsAgree, WrittenAgree, DeclarationsAgree, HeadingsAgree, CountedIsSaid}
+use Rattle.ob_mentions.specs.Laws.{NamesAgree, ExpressionsAgree, DesignatorsAgree, ConstantsAgree, StatementsAgree, WrittenAgree, DeclarationsAgree, HeadingsAgree, CountedIsSaid, BindingsAgree, ForwardsAgree}
 use Rattle.ob_rules.specs.Expressions.{phrase_of, named_of}
 use Rattle.ob_mentions.proofs.Names.{type_named_follows}
 use Rattle.ob_mentions.proofs.Nodes.{meant_follows}
@@ -10,6 +10,10 @@ use Rattle.ob_mentions.proofs.Statements.{stmts_follow}
 use Rattle.ob_mentions.proofs.Written.{written_follows}
 use Rattle.ob_mentions.proofs.Declaring.{order_same}
 use Rattle.ob_mentions.proofs.Heading.{headings_same}
+use Rattle.ob_rules.specs.Names.{map_of}
+use Rattle.ob_mentions.specs.Followed.{beside}
+use Rattle.ob_mentions.proofs.Names.{maps_agree}
+use Rattle.ob_mentions.proofs.Binding.{bindings_same, forwards_same}
 use Rattle.ob_types.specs.TypedView.{module_view}
 use Rattle.ob_counts.specs.Counts.{counts_of_module}
 use Rattle.ob_mentions.proofs.Counted.{starts_in, module_in}
@@ -41,3 +45,9 @@ headings_agree names u s a own ps g k = headings_same (λ q. names q ≡ true) s
 
 pub counted_is_said : CountedIsSaid
 counted_is_said names map m h = module_in (λ q. names q ≡ true) map m (starts_in (λ q. names q ≡ true) (counts_of_module map (module_view m)) h)
+
+pub bindings_agree : BindingsAgree
+bindings_agree names u s a hs h k = bindings_same (λ q. names q ≡ true) s u a hs h k
+
+pub forwards_agree : ForwardsAgree
+forwards_agree names u s a hs h = forwards_same (λ q. names q ≡ true) (map_of u) (map_of (beside u s)) (maps_agree (λ q. names q ≡ true) u s a) hs hs h h
