@@ -1,29 +1,24 @@
 -- Bound procedures and forward declarations, with other interfaces around.
-use Rattle.std.proofs.Common.{◌≡◌, refl, sym, ap, ◌∙◌, subst, ℕ, zero, suc, List, [], ◌∷◌, ◌++◌, Option, Some, None, Bool, true, false, not}
-use Rattle.std.specs.Prelude.{◌&&◌, is_some, is_none, bytes_eq, cond}
+use Rattle.std.proofs.Common.{◌≡◌, refl, ap, ◌∙◌, subst, ℕ, List, [], ◌∷◌, Option, Some, None, Bool, true, false, not}
+use Rattle.std.specs.Prelude.{◌&&◌, is_some, bytes_eq}
 use Rattle.std.specs.List.{AllByRecursion, find, filter}
 use Rattle.ob_tree.specs.declared.names.QName.{QName}
-use Rattle.ob_types.specs.declared.types.TypeRef.{TypeRef}
 use Rattle.ob_types.specs.declared.types.Signature.{Signature}
 use Rattle.ob_types.specs.declared.desc.Desc.{Desc}
 use Rattle.ob_types.specs.declared.desc.Desc.TheVariants as desc
-use Rattle.ob_types.specs.declared.desc.RecordDesc.{RecordDesc}
 use Rattle.ob_types.specs.declared.desc.Method.{Method}
 use Rattle.ob_types.specs.declared.typed.TypedType.{TypedType}
-use Rattle.ob_types.specs.Tests.{same_at}
-use Rattle.ob_types.specs.Maps.{signature_types}
-use Rattle.ob_rules.specs.declared.entity.Bound.{Bound}
-use Rattle.ob_rules.specs.Judged.{Notes, notes_if, joined, no_notes}
+use Rattle.ob_rules.specs.Judged.{notes_if, joined, no_notes}
 use Rattle.ob_rules.specs.Shapes.{Map, Member, AField, AMethod, member}
 use Rattle.ob_rules.specs.Names.{Around, map_of}
 use Rattle.ob_rules.specs.Types.{Parameters}
 use Rattle.ob_rules.specs.Operators.{signatures_match}
-use Rattle.ob_rules.specs.Headings.{BoundAs, Head, same_kind, same_receiver, signature_if, both_sound, forward_broken, forward_judged, forward_if, forwards_judged, answers, counts, counted, Binding, new_method, with_method, change_desc, changed_if, change_type, introduce, clashes, redefined, redefines, introduced_sound, bind_method, bind_by, bind_in, bind_one, bind_all, of_record, bind_records, reversed, bindings}
-use Rattle.ob_mentions.specs.Agreement.{IsIn, AreIn, DescIn, Agree}
+use Rattle.ob_rules.specs.Headings.{BoundAs, Head, same_kind, same_receiver, signature_if, both_sound, forward_broken, forward_if, forwards_judged, answers, counts, counted, Binding, new_method, with_method, change_desc, changed_if, change_type, redefined, introduced_sound, bind_method, bind_by, bind_one, bind_all, of_record, bind_records, reversed, bindings}
+use Rattle.ob_mentions.specs.Agreement.{DescIn, Agree}
 use Rattle.ob_mentions.specs.Said.{SignatureIn}
 use Rattle.ob_mentions.specs.Followed.{beside, Agrees}
 use Rattle.ob_mentions.specs.Declared.{MadeIn}
-use Rattle.ob_mentions.specs.Headed.{ParametersIn, BoundIn, ThereIn, HeadIn, StepIn, StepsIn, RecordsIn, BindingsIn}
+use Rattle.ob_mentions.specs.Headed.{BoundIn, ThereIn, HeadIn, StepIn, StepsIn, RecordsIn, BindingsIn}
 use Rattle.ob_mentions.proofs.Tests.{two, same_same, member_same}
 use Rattle.ob_mentions.proofs.Following.{none_is, some_same}
 use Rattle.ob_mentions.proofs.Names.{maps_agree, found}

@@ -28,3 +28,4 @@ pub mod Declaring
 pub mod Heading
 pub mod Counted
 pub mod Binding
+pub mod Later

@@ -1,34 +1,15 @@
 -- What a description leads to is among the names where the description is near them.
-use Rattle.std.proofs.Common.{◌≡◌, refl, sym, ap, ◌∙◌, subst, ℕ, zero, suc, List, [], ◌∷◌, ◌++◌, map as each, Option, Some, None, Bool, true, false, not}
-use Rattle.std.specs.Prelude.{◌&&◌, ◌||◌, nat_lt, nat_eq, length, is_some, pos, negsuc}
-use Rattle.std.specs.List.{AllByRecursion}
+use Rattle.std.proofs.Common.{◌≡◌, ap, subst, ℕ, List, [], ◌∷◌, ◌++◌, Option, Some, None}
 use Rattle.ob_tree.specs.declared.names.QName.{QName}
-use Rattle.ob_types.specs.declared.types.Basic.TheVariants as basic
-use Rattle.ob_types.specs.declared.types.Mode.{Mode}
-use Rattle.ob_types.specs.declared.types.Mode.TheVariants as mode
 use Rattle.ob_types.specs.declared.types.TypeRef.{TypeRef}
-use Rattle.ob_types.specs.declared.types.TypeRef.TheVariants as ref
 use Rattle.ob_types.specs.declared.types.Signature.{Signature}
-use Rattle.ob_types.specs.declared.value.Value.{Value}
-use Rattle.ob_types.specs.declared.value.Value.TheVariants as literal
 use Rattle.ob_types.specs.declared.desc.Desc.{Desc}
 use Rattle.ob_types.specs.declared.desc.Desc.TheVariants as desc
-use Rattle.ob_types.specs.declared.desc.RecordDesc.{RecordDesc}
-use Rattle.ob_types.specs.declared.typed.Width.{Width}
-use Rattle.ob_types.specs.declared.typed.Width.TheVariants as width
-use Rattle.ob_types.specs.declared.typed.ExprType.{ExprType}
-use Rattle.ob_types.specs.declared.typed.ExprType.TheVariants as kind
-use Rattle.ob_types.specs.Maps.{listed, signature_types}
-use Rattle.ob_types.specs.Relations.{is_open as is_open_desc}
-use Rattle.ob_types.specs.TypedKinds.{of_width, smallest, constant_type}
-use Rattle.ob_types.specs.Assigning.{is_extensible, has_nil}
-use Rattle.ob_types.specs.Tests.{target, target_of, alias_of, follow, type_eq, same_at, shape_at, base_of, pointer_of, element_of, signature_of, holds_of, climbs, both, extends_at, results_alike, modes_alike, params_alike, parts_alike, shapes_alike, signatures_alike, equal_at}
-use Rattle.ob_types.specs.AssigningTests.{described, is_at, widens, takes_type, takes_kind, has_room, takes_text, takes_constant, alike_to}
-use Rattle.ob_rules.specs.Shapes.{Map, Member, shape, as_basic, basic_of, record_at, record_of, pointed, record_if, pointed_record, array_at, array_of, open_at, open_element, is_open, is_array, is_record, is_structured, signature_at, is_held, by_value, by_var, passing_of, own_member, base_type, base_record, or_in_base, member_within, member, extends_record}
-use Rattle.ob_rules.specs.Values.{takes_value_of, takes_by}
-use Rattle.ob_mentions.specs.Agreement.{IsIn, AreIn, DescIn, Agree}
-use Rattle.ob_mentions.specs.Said.{SignatureIn, KindIn}
-use Rattle.ob_mentions.specs.Laws.{Alike, TypesAgree}
+use Rattle.ob_types.specs.Maps.{listed}
+use Rattle.ob_types.specs.Tests.{target_of, base_of, pointer_of, element_of, signature_of}
+use Rattle.ob_rules.specs.Shapes.{array_at, open_at, base_type}
+use Rattle.ob_mentions.specs.Agreement.{IsIn, AreIn, DescIn}
+use Rattle.ob_mentions.specs.Said.{SignatureIn}
 
 pub none_some : {A B : Type 0} {x : A} → None ≡ Some x → B
 none_some {A} {B} {x} e = absurd cc

@@ -1,7 +1,6 @@
 -- Over maps that agree each test of types comes out the same.
-use Rattle.std.proofs.Common.{◌≡◌, refl, sym, ap, ◌∙◌, subst, ℕ, zero, suc, List, [], ◌∷◌, ◌++◌, map as each, Option, Some, None, Bool, true, false, not}
+use Rattle.std.proofs.Common.{◌≡◌, refl, ap, ◌∙◌, subst, ℕ, zero, suc, List, [], ◌∷◌, ◌++◌, map as each, Option, Some, None, Bool, true, not}
 use Rattle.std.specs.Prelude.{◌&&◌, ◌||◌, nat_lt, nat_eq, length, is_some, pos, negsuc}
-use Rattle.std.specs.List.{AllByRecursion}
 use Rattle.ob_tree.specs.declared.names.QName.{QName}
 use Rattle.ob_types.specs.declared.types.Basic.TheVariants as basic
 use Rattle.ob_types.specs.declared.types.Mode.{Mode}
@@ -13,18 +12,17 @@ use Rattle.ob_types.specs.declared.value.Value.{Value}
 use Rattle.ob_types.specs.declared.value.Value.TheVariants as literal
 use Rattle.ob_types.specs.declared.desc.Desc.{Desc}
 use Rattle.ob_types.specs.declared.desc.Desc.TheVariants as desc
-use Rattle.ob_types.specs.declared.desc.RecordDesc.{RecordDesc}
 use Rattle.ob_types.specs.declared.typed.Width.{Width}
 use Rattle.ob_types.specs.declared.typed.Width.TheVariants as width
 use Rattle.ob_types.specs.declared.typed.ExprType.{ExprType}
 use Rattle.ob_types.specs.declared.typed.ExprType.TheVariants as kind
-use Rattle.ob_types.specs.Maps.{listed, signature_types}
+use Rattle.ob_types.specs.Maps.{listed}
 use Rattle.ob_types.specs.Relations.{is_open as is_open_desc}
 use Rattle.ob_types.specs.TypedKinds.{of_width, smallest, constant_type}
 use Rattle.ob_types.specs.Assigning.{is_extensible, has_nil}
 use Rattle.ob_types.specs.Tests.{target, target_of, alias_of, follow, type_eq, same_at, shape_at, base_of, pointer_of, element_of, signature_of, holds_of, climbs, both, extends_at, results_alike, modes_alike, params_alike, parts_alike, shapes_alike, signatures_alike, equal_at}
 use Rattle.ob_types.specs.AssigningTests.{described, is_at, widens, takes_type, takes_kind, has_room, takes_text, takes_constant, alike_to}
-use Rattle.ob_rules.specs.Shapes.{Map, Member, shape, as_basic, basic_of, record_at, record_of, pointed, record_if, pointed_record, array_at, array_of, open_at, open_element, is_open, is_array, is_record, is_structured, signature_at, is_held, by_value, by_var, passing_of, own_member, base_type, base_record, or_in_base, member_within, member, extends_record}
+use Rattle.ob_rules.specs.Shapes.{Map, Member, shape, as_basic, basic_of, record_at, record_of, pointed, record_if, pointed_record, array_at, array_of, open_at, open_element, is_open, is_array, is_record, signature_at, is_held, by_value, by_var, passing_of, own_member, base_type, base_record, or_in_base, member_within, member}
 use Rattle.ob_rules.specs.Values.{takes_value_of, takes_by}
 use Rattle.ob_mentions.specs.Agreement.{IsIn, AreIn, DescIn, Agree}
 use Rattle.ob_mentions.specs.Said.{SignatureIn, KindIn}

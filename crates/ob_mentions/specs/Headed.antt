@@ -49,6 +49,7 @@ pub record HeadIn (P : QName → Type 0) (h : Head) : Type 0 where
   pub parameters : ThereIn P h.parameters
   pub bound : BoundIn P h.bound
   pub inside : KnownIn P h.inside
+  pub known : KnownIn P h.known
 
 -- Headings in order come to the same there, and what stands around what follows them agrees again.
 pub record HeadsSame (P : QName → Type 0) (shown : QName → Option Desc) (x y : Heads) : Type 0 where

@@ -1,7 +1,7 @@
 //! What the rules look at in the descriptions of other modules is what a text mentions.
 #![tactic(auto)]
 
-ghost use Rattle.ob_mentions.specs.Laws.{TypesAgree, NamesAgree, ExpressionsAgree, DesignatorsAgree, ConstantsAgree, StatementsAgree, WrittenAgree, DeclarationsAgree, HeadingsAgree, CountedIsSaid, BindingsAgree, ForwardsAgree};
+ghost use Rattle.ob_mentions.specs.Laws.{TypesAgree, NamesAgree, ExpressionsAgree, DesignatorsAgree, ConstantsAgree, StatementsAgree, WrittenAgree, DeclarationsAgree, HeadingsAgree, CountedIsSaid, BindingsAgree, ForwardsAgree, LaterAgrees, BodiesAgree};
 
 /// Laws, with nothing to run. Where two maps of descriptions say the same of these names, and what
 /// is near each of them is among them (`specs/Agreement.antt`), each test of types that the rules
@@ -26,4 +26,6 @@ pub fn judged_alike()
     ensures counted { CountedIsSaid }
     ensures bindings { BindingsAgree }
     ensures forwards { ForwardsAgree }
+    ensures later { LaterAgrees }
+    ensures bodies { BodiesAgree }
 {}
