@@ -42,7 +42,7 @@ use Rattle.ob_grammar.specs.Expressions as ex
 use Rattle.ob_grammar.specs.Expressions.{joined}
 use Rattle.ob_typed.specs.Spelled.{all_true, are_bytes, expr_layer, selector_layer, designator_layer, element_layer, tail_layer, is_spelled, designator_spelled, element_spelled, tail_spelled, selector_spelled}
 use Rattle.ob_typed.specs.Bodies.{spelled_if, stmt_layer, branch_layer, case_layer, guarded_layer, stmt_spelled, branch_spelled, case_spelled, guarded_spelled}
-use Rattle.ob_strings.specs.Spelled.{node_layer, fields_layer, parameters_layer, section_layer, type_spelled, fields_spelled, parameters_spelled, section_spelled, decl_layer, decl_spelled}
+use Rattle.ob_bodies.specs.Spelled.{node_layer, fields_layer, parameters_layer, section_layer, type_spelled, fields_spelled, parameters_spelled, section_spelled, decl_layer, decl_spelled}
 
 pub both_true : (a b : Bool) → a ≡ true → b ≡ true → a && b ≡ true
 both_true true b i f = f

@@ -38,7 +38,7 @@ use Rattle.ob_reading.specs.Reading.{NoModule, fault_of, parsed, by_fault, readi
 use Rattle.ob_written.proofs.Phrases.{Holds, holds}
 use Rattle.ob_typed.specs.Spelled.{all_true, is_spelled, designator_spelled, element_spelled, tail_spelled, selector_spelled}
 use Rattle.ob_typed.specs.Bodies.{spelled_if, stmt_spelled, branch_spelled, case_spelled, guarded_spelled}
-use Rattle.ob_strings.specs.Spelled.{type_spelled, fields_spelled, parameters_spelled, section_spelled, decl_spelled, tree_spelled}
+use Rattle.ob_bodies.specs.Spelled.{type_spelled, fields_spelled, parameters_spelled, section_spelled, decl_spelled, tree_spelled}
 use Rattle.ob_strings.specs.Laws.{ReadingsAreSpelled}
 use Rattle.ob_strings.proofs.Marks.{is_str, IsSpelledToken, tokens_spelled}
 use Rattle.ob_strings.proofs.Folds.{both_true, designator_expr, int_is, char_is, str_is, nil_is, set_is, paren_is, not_is, signed_is, chain_is, relate_is, field_is, index_is, deref_is, call_is, designator_is, element_is, tail_is, else_spelled, empty_is, call_stmt_is, assign_is, if_is, case_stmt_is, while_is, repeat_is, for_is, loop_is, exit_is, return_is, with_is, branch_is, case_is, guarded_is, array_is, record_is, pointer_is, procedure_is, named_is, fields_are, parameters_are, section_is, constant_is, type_is, variables_are, procedure_decl_is, forward_is, All, all_of, all_join, all_joined, mapped}

@@ -2,7 +2,7 @@
 use Rattle.std.specs.Prelude.{◌≡◌, ℕ, List, Ok, true}
 use Rattle.ob_tree.specs.declared.decl.Module.{Module as Tree}
 use Rattle.ob_reading.specs.Reading.{reading}
-use Rattle.ob_strings.specs.Spelled.{tree_spelled}
+use Rattle.ob_bodies.specs.Spelled.{tree_spelled}
 
 -- THE STRINGS of a module that is read are of characters, of 8 bits.
 abbrev pub ReadingsAreSpelled : Type 0

@@ -1,0 +1,20 @@
+-- What compiles is written, where what is left is seen of its module.
+use Rattle.ob_written.proofs.Compiled.{compiled_written}
+use Rattle.ob_ranges.specs.Left.{LeftAreWritten}
+use Rattle.ob_ranges.proofs.Compiled.{compiled_in_range}
+
+pub left_written : LeftAreWritten
+left_written entry entries source c is spelled left =
+    let r = compiled_in_range entry entries source c is spelled in
+    compiled_written entry entries source c is spelled (record {
+      short = left.short;
+      differ = left.differ;
+      lengths = r.lengths;
+      constants = r.constants;
+      procedures = left.procedures;
+      grounded = left.grounded;
+      bodies = left.bodies;
+      body = left.body;
+      bases = left.bases;
+      numbers = left.numbers;
+    })

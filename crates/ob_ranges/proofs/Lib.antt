@@ -1,0 +1,5 @@
+pub mod Shown
+pub mod Checked
+pub mod Others
+pub mod Compiled
+pub mod Left

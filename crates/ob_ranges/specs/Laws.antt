@@ -1,0 +1,38 @@
+-- The laws of constants and lengths: those that interfaces show, and those of a module that is read and keeps the rules.
+use Rattle.std.specs.Prelude.{◌≡◌, ℕ, List, Option, Some, Ok}
+use Rattle.std.specs.List.{AllByRecursion}
+use Rattle.ob_tree.specs.declared.decl.Module.{Module as Tree}
+use Rattle.ob_types.specs.declared.typed.TypedModule.{TypedModule}
+use Rattle.ob_types.specs.TypedSyntax.{Module}
+use Rattle.ob_env.specs.Faces.{Face}
+use Rattle.ob_env.specs.Shown.{shown}
+use Rattle.ob_walk.specs.Walk.{Entry}
+use Rattle.ob_reading.specs.Reading.{reading}
+use Rattle.ob_compile.specs.Compiling.{Compiled, texts, compiled}
+use Rattle.ob_rules.specs.Declarations.{checked}
+use Rattle.ob_bodies.specs.Laws.{AreOthers}
+use Rattle.ob_constants.specs.Laws.{AreShown}
+use Rattle.ob_written.specs.Laws.{Text, IsSpelled}
+use Rattle.ob_written.specs.Seen.{AreNamedEntries, LengthFits, ValueFits}
+
+-- THE CONSTANTS AND THE LENGTHS of arrays that interfaces show are constants, where each interface has a spelling.
+abbrev pub SpelledAreShown : Type 0
+SpelledAreShown = (faces : List (Face Text)) → AllByRecursion IsSpelled faces → AreShown (shown faces)
+
+-- constants are of their types, and lengths of LONGINT
+pub record IsInRange (m : TypedModule) : Type 0 where
+  pub constants : AllByRecursion (λ c. ValueFits c.value) m.constants
+  pub lengths : AllByRecursion (λ t. LengthFits t.desc) m.types
+
+-- SO THEY ARE of a module that is read, imports others than itself, and keeps the rules against such interfaces.
+abbrev pub ModulesAreInRange : Type 0
+ModulesAreInRange = (faces : List (Face Text)) → AllByRecursion IsSpelled faces → (text : List ℕ) (tree : Tree) → reading text ≡ Ok tree → AreOthers tree.name.name tree.imports → (m : TypedModule) → checked (shown faces) tree ≡ Some m → IsInRange m
+
+-- so is a module that is laid out
+pub record AreInRange (m : Module) : Type 0 where
+  pub constants : AllByRecursion (λ c. ValueFits c.value) m.constants
+  pub lengths : AllByRecursion (λ t. LengthFits t.desc) m.types
+
+-- and that of each source that compiles, against interfaces that have a spelling
+abbrev pub CompiledAreInRange : Type 0
+CompiledAreInRange = (entry : List ℕ → Entry Text) → AreNamedEntries entry → (source : Option (List ℕ)) (c : Compiled Text) → compiled texts entry source ≡ Ok c → AllByRecursion IsSpelled c.against → AreInRange c.tree
