@@ -218,6 +218,7 @@ module _ (faces others : List (Face Text)) (m : Module) (spelled : AreSpelled fa
       by (Some d) e some i =
           let b = both_shapes q d near i e in
           ap (option_map as_shape) e ∙ ap (λ s. Some s) (shape_tells q d b.e (described_spelled faces spelled q d e) (described_spelled others spelled_too q b.e b.is) b.shape) ∙ sym (ap (option_map as_shape) b.is)
+
       go : (b : Bool) → bytes_eq q.«module» (codes "Out") ≡ b → option_map as_shape (described faces q) ≡ option_map as_shape (described others q)
       go true e = ap (option_map as_shape) (out_none faces no_out q e ∙ sym (out_none others no_out_too q e))
       go false e = let i : is_imported m q ≡ true = ap (λ b. not b && not (bytes_eq q.«module» (codes "Out"))) other ∙ ap not e in by (described faces q) refl (held i) i
@@ -228,6 +229,7 @@ module _ (faces others : List (Face Text)) (m : Module) (spelled : AreSpelled fa
     where
       at : (d : Desc) → described faces q ≡ Some d → types q ≡ Some d
       at d e = ap (λ b. cond b (type_named m.types q.object) (described faces q)) other ∙ e
+
       kind : (b : Bool) (d : Desc) → is_record d ≡ b → described faces q ≡ Some d → is_imported m q ≡ true → described faces q ≡ described others q
       kind true d r e i =
           let b = both_shapes q d near i e in
@@ -235,9 +237,11 @@ module _ (faces others : List (Face Text)) (m : Module) (spelled : AreSpelled fa
       kind false d r e i =
           let b = both_shapes q d near i e in
           e ∙ ap (λ s. Some s) (plain_tells d b.e r (shape_tells q d b.e (described_spelled faces spelled q d e) (described_spelled others spelled_too q b.e b.is) b.shape)) ∙ sym b.is
+
       by : (o : Option Desc) → described faces q ≡ o → IsSome o → is_imported m q ≡ true → described faces q ≡ described others q
       by None e some i = let none : false ≡ true = some in absurd cc
       by (Some d) e some i = kind (is_record d) d refl e i
+
       go : (b : Bool) → bytes_eq q.«module» (codes "Out") ≡ b → described faces q ≡ described others q
       go true e = out_none faces no_out q e ∙ sym (out_none others no_out_too q e)
       go false e = let i : is_imported m q ≡ true = ap (λ b. not b && not (bytes_eq q.«module» (codes "Out"))) other ∙ ap not e in by (described faces q) refl (held i) i

@@ -150,6 +150,7 @@ laid_named map m (t ∷ ts) x r e = go (bytes_eq x t.name) (laid_named map m ts 
   where
     laid : (d : Desc) → d ≡ desc.Record r → (s : RecordDesc) × (Some (laid_desc (words_in map m) (procedures_in map m) (own_name m t) d) ≡ Some (desc.Record s))
     laid d i = subst (λ k. (s : RecordDesc) × (Some (laid_desc (words_in map m) (procedures_in map m) (own_name m t) k) ≡ Some (desc.Record s))) (sym i) (_, refl)
+
     go : (b : Bool) → (type_named ts x ≡ Some (desc.Record r) → (s : RecordDesc) × (type_named (each (laid_type map m) ts) x ≡ Some (desc.Record s))) → cond b (Some t.desc) (type_named ts x) ≡ Some (desc.Record r) → (s : RecordDesc) × (cond b (Some (laid_type map m t).desc) (type_named (each (laid_type map m) ts) x) ≡ Some (desc.Record s))
     go true more i = laid t.desc (some_desc t.desc (desc.Record r) i)
     go false more i = more i

@@ -257,9 +257,10 @@ module _ (map : Map) (m : List ℕ) (Own P L : QName → Type 0)
     expr_read (Call c es at t) on tied =
         let a = counts_front P L (counts_of_actuals es) (counts_of_call c es t) on in
         (actuals_read es a (call_rooms c es (counts_front P L (formals (without_receiver (has_receiver c) es)) (shapes (listed t)) (counts_back P L (counts_of_actuals es) (counts_of_call c es t) on)) tied.0 tied.1) tied.0, callee_in c es a tied.1)
-    expr_read (CallVariable d es at t) on tied =
-        (desig_read d (first3 P L (counts_of_designator d) (counts_of_actuals es) (counts_of_held_call es t) on) tied.0,
-        actuals_read es (second3 P L (counts_of_designator d) (counts_of_actuals es) (counts_of_held_call es t) on) (rooms_read es (counts_front P L (formals es) (shapes (listed t)) (third3 P L (counts_of_designator d) (counts_of_actuals es) (counts_of_held_call es t) on)) tied.1) tied.1)
+    expr_read (CallVariable d es at t) on tied = (
+      desig_read d (first3 P L (counts_of_designator d) (counts_of_actuals es) (counts_of_held_call es t) on) tied.0,
+      actuals_read es (second3 P L (counts_of_designator d) (counts_of_actuals es) (counts_of_held_call es t) on) (rooms_read es (counts_front P L (formals es) (shapes (listed t)) (third3 P L (counts_of_designator d) (counts_of_actuals es) (counts_of_held_call es t) on)) tied.1) tied.1,
+    )
 
     pub actuals_read : (es : Actuals) → CountsOn P L (counts_of_actuals es) → RoomsRead P L es → ActualsTied map m Own es → ActualsRead P L es
     actuals_read NoActual on rooms tied = tt

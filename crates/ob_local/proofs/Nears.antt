@@ -39,7 +39,6 @@ use Rattle.ob_local.specs.Laws.{IsRoom}
 use Rattle.ob_local.specs.Read.{CalleeRead, RoomRead, DesigRead, ExprRead, ActualsRead, ResultRead, AssignedRead, MadeRead, StmtRead, StmtsRead, BranchesRead, CasesRead, ElseRead, PassedRead, ParameterRead, BindingRead, ProcedureRead}
 use Rattle.ob_local.specs.Tied.{LeadsTo, RoomTied, ReceiverTied, SuperTied, CalleeTied, DesigTied, ExprTied, ActualsTied, ResultTied, AssignedTied, MadeTied, StmtTied, StmtsTied, BranchesTied, CasesTied, ElseTied, BindingTied, ProcedureTied}
 use Rattle.ob_local.proofs.Told.{among_on}
-
 use Rattle.ob_local.proofs.Counted.{CountsOn, counts_front, counts_back, type_on, leads_on}
 
 pub counts_join : (P L : QName → Type 0) (cs ds : List Count) → CountsOn P L cs → CountsOn P L ds → CountsOn P L (cs ++ ds)

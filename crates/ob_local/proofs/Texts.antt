@@ -133,6 +133,7 @@ plain_tells d e plain same = shape_is d plain ∙ same ∙ sym (shape_is e (othe
     shape_is (desc.Pointer m t) p = refl
     shape_is (desc.ProcType m s) p = refl
     shape_is (desc.Record r) p = absurd cc
+
     kind : (d : Desc) → is_record (as_shape d) ≡ is_record d
     kind (desc.Const v) = refl
     kind (desc.Var m t) = refl
@@ -143,6 +144,7 @@ plain_tells d e plain same = shape_is d plain ∙ same ∙ sym (shape_is e (othe
     kind (desc.Pointer m t) = refl
     kind (desc.ProcType m s) = refl
     kind (desc.Record r) = refl
+
     other : (d e : Desc) → is_record d ≡ false → as_shape d ≡ as_shape e → is_record e ≡ false
     other d e p same = sym (kind e) ∙ ap is_record (sym same) ∙ kind d ∙ p
 
