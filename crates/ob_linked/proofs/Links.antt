@@ -40,7 +40,7 @@ module _ (c : Compiled Text) where
   one_more n a (StringHere text words) h = record { variables = a.variables; procedures = a.procedures; types = a.types }
   one_more n a (OtherVariable m x) h = record { variables = with_one_all (λ l. IsCounted is_variable c (linked l)) same_link n.variables (link_to m x) a.variables h; procedures = a.procedures; types = a.types }
   one_more n a (OtherProcedure m x) h = record { variables = a.variables; procedures = with_one_all (λ l. IsCounted is_procedure c (linked l)) same_link n.procedures (link_to m x) a.procedures h; types = a.types }
-  one_more n a (OtherType own q) h = record { variables = a.variables; procedures = a.procedures; types = with_one_all (IsCounted is_record c) same_type n.types q a.types h }
+  one_more n a (OtherType k q) h = record { variables = a.variables; procedures = a.procedures; types = with_one_all (IsCounted is_record c) same_type n.types q a.types h }
 
   all_counted : (ls : List Line) → AllByRecursion (IsLineCounted c) ls → (n : Named) → AreCounted n → AreCounted (with_lines n ls)
   all_counted [] h n a = a

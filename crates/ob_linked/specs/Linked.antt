@@ -41,7 +41,7 @@ IsOperandCounted c (Number z) = Unit {0}
 IsOperandCounted c (StringHere text words) = Unit {0}
 IsOperandCounted c (OtherVariable m x) = IsCounted is_variable c (record { «module» = m; object = x })
 IsOperandCounted c (OtherProcedure m x) = IsCounted is_procedure c (record { «module» = m; object = x })
-IsOperandCounted c (OtherType own q) = IsCounted is_record c q
+IsOperandCounted c (OtherType k q) = IsCounted is_record c q
 
 abbrev pub IsLineCounted : Compiled Text → Line → Type 0
 IsLineCounted c l = IsOperandCounted c l.a × IsOperandCounted c l.b
