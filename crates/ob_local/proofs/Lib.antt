@@ -1,0 +1,15 @@
+pub mod Told
+pub mod Joined
+pub mod Places
+pub mod Expressions
+pub mod Statements
+pub mod Objects
+pub mod Laid
+pub mod Reached
+pub mod Texts
+pub mod Agreed
+pub mod Whole
+pub mod Counted
+pub mod Nears
+pub mod Bridged
+pub mod Blanked
