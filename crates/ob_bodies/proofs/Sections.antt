@@ -288,15 +288,9 @@ module _ (IsConstant : Value → Type 0) (unit : List ℕ) (shown : QName → Op
       let v : Around = record u { known = s.known } in
       let l : K v = record { unit_is = k.unit_is; shown_is = k.shown_is; own = k.own; known = h.known (λ k. EntityStands IsConstant unit shown u.own k.what) k.known (λ x e i. entity_stands u.own u.own s.found.node x.what i) } in
       record {
-<<<<<<< HEAD
-        found = then_has (λ (p : Parameters × Option TypeRef). ParametersAre u.own p.0 × IfThere (S u.own) p.1) (ParametersAre u.own) (both s.found (result_of v r)) (λ p. sound (with_result p.0 p.1))
-            (both_have (ParametersAre u.own) (IfThere (S u.own)) s.found (result_of v r) h.found (result_is v l r))
-            (λ p g. record { made = g.0.made; params = g.0.params; answer = g.0.answer; result = g.1 });
-=======
         found = then_has (λ (p : Parameters × Option TypeRef). ParametersAre u.own p.0 × IfThere (R u.own) p.1) (ParametersAre u.own) (both s.found (result_of v r)) (λ p. sound (with_result p.0 p.1))
             (both_have (ParametersAre u.own) (IfThere (R u.own)) s.found (result_of v r) h.found (result_is v l r))
             (λ p g. record { made = g.0.made; params = g.0.params; answer = g.0.answer; result = there_of (R u.own) (S u.own) p.1 (λ t k. k.0) g.1; plain = there_of (R u.own) (IsPlain IsConstant unit shown) p.1 (λ t k. k.1) g.1 });
->>>>>>> h_bodies
         known = λ P g f. h.known P g (λ x e i. f x e (entity_of u.own u.own s.found.node (result_node s.found.node (result_of v r).node) (λ p q. entity_result u.own s.found.node (result_of v r).node p q) x.what i));
       }
 
