@@ -1,22 +1,17 @@
 -- How many parts a file has at most, by its bytes.
-use Rattle.std.proofs.Common.{◌≡◌, ℕ, zero, suc, ◌+◌, ◌*◌, ◌<◌, ◌≤◌, ◌^◌, true, List, [], ◌∷◌, ◌++◌, length, Option, Some, None, refl, arith, length-append}
+use Rattle.std.proofs.Common.{◌≡◌, ℕ, ◌+◌, ◌*◌, ◌≤◌, true, List, [], ◌∷◌, ◌++◌, length, None, refl, arith, length-append}
 use Rattle.std.specs.List.{AllByRecursion, flat_map}
 use Rattle.std.specs.Int.{w16, w32, to_be_bytes}
-use Rattle.ob_format.specs.Format.{word32, text16, list_of, rising}
+use Rattle.ob_format.specs.Format.{word32, text16, list_of}
 use Rattle.ob_format.specs.Names.{name, object_name, is_object}
-use Rattle.ob_types.specs.Spelled.{use_form, by_object}
 use Rattle.ob_instr.specs.Spelling.{instr}
 use Rattle.ob_instr.specs.Parts.{procedure, position}
 use Rattle.ob_obj.specs.declared.parts.Base.{Base}
 use Rattle.ob_obj.specs.declared.parts.Base.TheVariants as base
 use Rattle.ob_obj.specs.declared.parts.RecordType.{RecordType}
 use Rattle.ob_obj.specs.declared.parts.Variable.{Variable}
-use Rattle.ob_obj.specs.declared.file.Globals.{Globals}
-use Rattle.ob_obj.specs.declared.file.Links.{Links}
-use Rattle.ob_obj.specs.declared.file.Head.{Head}
-use Rattle.ob_obj.specs.declared.file.Body.{Body}
 use Rattle.ob_obj.specs.declared.file.ObjFile.{ObjFile}
-use Rattle.ob_obj.specs.Grammar.{export, by_export, string, variable, by_variable, link, base_form, base_bytes, definition, by_number, record_parts, record_type, by_type, command, by_command, head, globals, links, body, magic, file}
+use Rattle.ob_obj.specs.Grammar.{string, variable, base_form, definition, record_parts, record_type, command, head, globals, links, body, magic, file}
 use Rattle.ob_written.proofs.Lists.{flat_many}
 
 some_name : (t : List ℕ) → is_object t ≡ true → 1 ≤ length t

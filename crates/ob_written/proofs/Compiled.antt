@@ -1,5 +1,5 @@
 -- What compiles is written.
-use Rattle.std.proofs.Common.{◌≡◌, ℕ, ◌≤◌, ◌<◌, ◌^◌, Bool, true, false, cond, List, [], ◌∷◌, ◌++◌, length, map, Option, Some, None, Result, Ok, Err, refl, sym, ap, subst, ◌∙◌}
+use Rattle.std.proofs.Common.{◌≡◌, ℕ, ◌≤◌, ◌<◌, ◌^◌, Bool, true, false, cond, List, [], ◌∷◌, length, map, Option, Some, None, Result, Ok, Err, refl, sym, ap, subst}
 use Rattle.std.specs.Prelude.{nat_le, bytes_eq}
 use Rattle.std.specs.List.{AllByRecursion, IsDistinct}
 use Rattle.std.specs.Option.{option_map}
@@ -9,40 +9,41 @@ use Rattle.ob_tree.specs.declared.names.QName.{QName}
 use Rattle.ob_tree.specs.declared.which.Which.{Which}
 use Rattle.ob_tree.specs.declared.decl.Module.{Module as Tree}
 use Rattle.ob_types.specs.declared.types.TypeRef.TheVariants as ref
+use Rattle.ob_types.specs.declared.value.Value.{Value}
+use Rattle.ob_types.specs.declared.value.Value.TheVariants as literal
+use Rattle.ob_types.specs.declared.typed.TypedConstant.{TypedConstant}
 use Rattle.ob_types.specs.declared.desc.Desc.{Desc}
 use Rattle.ob_types.specs.declared.desc.Desc.TheVariants as desc
 use Rattle.ob_types.specs.declared.typed.TypedType.{TypedType}
-use Rattle.ob_types.specs.declared.typed.TypedConstant.{TypedConstant}
 use Rattle.ob_types.specs.declared.typed.TypedParameter.{TypedParameter}
 use Rattle.ob_types.specs.declared.typed.TypedProcedure.{TypedProcedure}
 use Rattle.ob_types.specs.declared.typed.TypedModule.{TypedModule}
-use Rattle.ob_types.specs.TypedSyntax.{Procedure, Module}
+use Rattle.ob_types.specs.TypedSyntax.{Module}
 use Rattle.ob_types.specs.TypedView.{procedure_view, module_view}
 use Rattle.ob_format.specs.Format.{◌>>=◌, text16}
-use Rattle.ob_format.specs.Names.{name, object_name, is_object}
-use Rattle.ob_desc.specs.Grammar.{type_fits, value_fits, param, signature}
+use Rattle.ob_format.specs.Names.{name, object_name}
+use Rattle.ob_desc.specs.Grammar.{type_fits, value_fits, param}
 use Rattle.ob_rules.specs.declared.broken.Broken.{Broken as BrokenRule}
 use Rattle.ob_rules.specs.Declarations.{Part, declaration, imports_declared, around_module, module_of, typed_module, if_unbroken, imported, first_break, checked}
 use Rattle.ob_rules.specs.Statements.{judging}
-use Rattle.ob_layout.specs.LaidOut.{is_own, laid_desc, laid_type, laid_out, viewed}
+use Rattle.ob_layout.specs.LaidOut.{laid_type, laid_out, viewed}
 use Rattle.ob_env.specs.Faces.{Face, object_named, face_named, described}
 use Rattle.ob_env.specs.Fit.{first_unfit}
 use Rattle.ob_env.specs.Stale.{StaleUse, first_stale}
-use Rattle.ob_env.specs.Answer.{Standing, Stands, Stale, Unfit, if_fit, if_coherent, standing}
+use Rattle.ob_env.specs.Answer.{if_fit, if_coherent, standing}
 use Rattle.ob_env.specs.Shown.{blank, shown}
 use Rattle.ob_walk.specs.Walk.{Entry, Walked, Left, NoInterface, Damaged, Cycle, TooMany, walk}
-use Rattle.ob_walk.specs.Answer.{Reached, Stopped, Whole, after_walk, env_answer}
+use Rattle.ob_walk.specs.Answer.{after_walk, env_answer}
 use Rattle.ob_reading.specs.Reading.{NoModule, reading}
-use Rattle.ob_uses.specs.Objects.{formal_of, signature_of, is_exported}
-use Rattle.ob_compile.specs.Compiling.{texts, Refusal, Compiled, exceeds, within, made, of_checked, of_break, by_rules, and_limits, is_deep, unless_deep, of_faces, of_standing, of_reached, most_imports, of_few, of_tree, of_reading, most_source, of_short, compiled, imported as imported_name}
-use Rattle.ob_written.specs.Trees.{IsNamed, TypeIsSpelled, TypedTypeIsSpelled, ConstantIsSpelled, VariableIsSpelled, ProcedureIsSpelled, AreImports, IsSpelledTree}
-use Rattle.ob_written.specs.Files.{IsCodedTree}
+use Rattle.ob_uses.specs.Objects.{formal_of, is_exported}
+use Rattle.ob_compile.specs.Compiling.{texts, Compiled, exceeds, within, of_checked, of_break, by_rules, and_limits, is_deep, unless_deep, of_standing, of_reached, most_imports, of_few, of_reading, most_source, of_short, compiled, imported as imported_name}
+use Rattle.ob_written.specs.Trees.{ConstantIsSpelled, IsNamed, TypeIsSpelled, TypedTypeIsSpelled, ProcedureIsSpelled, AreImports}
 use Rattle.ob_written.specs.Raw.{IsNamedTree}
-use Rattle.ob_written.specs.Ruled.{TypeNames, TypeOk, ShownOk, ConstantNamed, ProcedureTypes, ModuleOk}
+use Rattle.ob_written.specs.Ruled.{TypeNames, TypeOk, ShownOk, IsValue, ConstantOk, ProcedureTypes}
 use Rattle.ob_written.specs.Laws.{Text, IsSpelled, compiled_from, IsBuilt, IsWritten}
-use Rattle.ob_written.specs.Seen.{AreNamedEntries, LengthFits, IsSeen, CompiledAreWritten}
-use Rattle.ob_written.proofs.Lists.{all_map, all_each, both_all}
-use Rattle.ob_written.proofs.Names.{described_fits, is_named_of, is_object_of, FaceFound, face_found}
+use Rattle.ob_written.specs.Seen.{AreNamedEntries, LengthFits, ValueFits, IsSeen, CompiledAreWritten}
+use Rattle.ob_written.proofs.Lists.{all_map}
+use Rattle.ob_written.proofs.Names.{described_fits, is_named_of, is_object_of}
 use Rattle.ob_written.proofs.Limits.{within as limits_of}
 use Rattle.ob_written.proofs.File.{modules_written}
 use Rattle.ob_written.proofs.Words.{words_few}
@@ -93,6 +94,18 @@ one_spelled t h s l = ((s, h.0), type_spelled t.desc h.1 l)
 types_spelled : (ts : List TypedType) → AllByRecursion TypeOk ts → AllByRecursion (λ t. length t.name < 2 ^ 16) ts → AllByRecursion (λ t. LengthFits t.desc) ts → AllByRecursion TypedTypeIsSpelled ts
 types_spelled [] h s l = tt
 types_spelled (t ∷ ts) h s l = (one_spelled t h.0 s.0 l.0, types_spelled ts h.1 s.1 l.1)
+
+value_spelled : (v : Value) → IsValue v → ValueFits v → value_fits v
+value_spelled (literal.Bool b) h k = k
+value_spelled (literal.Char c) h k = k
+value_spelled (literal.Int z) h k = k
+value_spelled (literal.Set n) h k = k
+value_spelled (literal.Str text) h k = k
+value_spelled literal.Nil h k = absurd h
+
+constants_spelled : (cs : List TypedConstant) → AllByRecursion ConstantOk cs → AllByRecursion (λ c. ValueFits c.value) cs → AllByRecursion ConstantIsSpelled cs
+constants_spelled [] h k = tt
+constants_spelled (c ∷ cs) h k = ((h.0.0, value_spelled c.value h.0.1 k.0), constants_spelled cs h.1 k.1)
 
 formals_fit : (xs : List TypedParameter) → AllByRecursion (λ x. type_fits x.of) xs → AllByRecursion param.fits (map formal_of xs)
 formals_fit [] h = tt
@@ -163,7 +176,7 @@ is_built faces tree m a is limits spelled seen =
       tree = record {
         name = subst IsNamed (sym k.name) a.named.name;
         imports = subst AreImports (sym k.imports) (imports_are tree.imports (around_module (shown faces) tree.name.name (map declaration tree.decls)) a.few a.named.imports k.quiet);
-        constants = both_all ConstantNamed (λ c. value_fits c.value) m.constants g.constants seen.constants;
+        constants = constants_spelled m.constants g.constants seen.constants;
         variables = g.variables;
         procedures = procedures_spelled m.procedures g.procedures seen.procedures;
         types = types_spelled m.types g.types (all_before f (λ t. length t.name < 2 ^ 16) m.types seen.short) (all_map (λ t. LengthFits (f t).desc) (λ t. LengthFits t.desc) (desc_length (described faces) raw) m.types (all_before f (λ t. LengthFits t.desc) m.types seen.lengths));

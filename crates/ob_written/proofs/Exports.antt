@@ -1,5 +1,5 @@
 -- What an object file exports has a spelling.
-use Rattle.std.proofs.Common.{◌≡◌, ℕ, zero, suc, ◌+◌, ◌*◌, ◌<◌, ◌≤◌, ◌^◌, Bool, true, false, List, [], ◌∷◌, ◌++◌, length, Option, Some, None, refl, sym, ap, subst, ◌∙◌, arith, length-append}
+use Rattle.std.proofs.Common.{◌≡◌, ℕ, suc, ◌+◌, ◌*◌, ◌≤◌, Bool, true, false, List, [], ◌∷◌, ◌++◌, length, Option, Some, None, refl, sym, ap, arith, length-append}
 use Rattle.std.specs.Prelude.{if◌then◌else◌, IfSome}
 use Rattle.std.specs.List.{AllByRecursion, flat_map}
 use Rattle.std.specs.List.Sorted.{IsStrictlySortedBy}
@@ -10,7 +10,6 @@ use Rattle.std.specs.declared.cmp.Ordering.TheVariants.{Less, Equal, Greater}
 use Rattle.std.proofs.lemmas.Cmp.{nat_list_cmp_total}
 use Rattle.ob_tree.specs.declared.print.Print.{Print}
 use Rattle.ob_types.specs.declared.face.Object.{Object}
-use Rattle.ob_types.specs.declared.face.Aspect.{Aspect}
 use Rattle.ob_types.specs.declared.face.Aspect.TheVariants as aspect
 use Rattle.ob_types.specs.Spelled.{aspect as aspect_form, aspect_number, print_form}
 use Rattle.ob_format.specs.Names.{object_name}
@@ -18,7 +17,7 @@ use Rattle.ob_sym.specs.Grammar as sym
 use Rattle.ob_obj.specs.declared.parts.Export.{Export}
 use Rattle.ob_obj.specs.Grammar.{by_name, export, by_export, repeats, names_in}
 use Rattle.ob_compile.specs.Compiling.{layout_export, object_exports}
-use Rattle.ob_written.proofs.Lists.{all_joined, all_map}
+use Rattle.ob_written.proofs.Lists.{all_joined}
 
 pub record ObjectIsPrinted (o : Object) : Type 0 where
   pub name : object_name.fits o.name

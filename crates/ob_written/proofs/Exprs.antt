@@ -1,7 +1,5 @@
 -- The code of designators, expressions and actual parameters has a spelling.
-use Rattle.std.proofs.Common.{◌≡◌, ℕ, zero, suc, ◌+◌, ◌<◌, ◌≤◌, ◌^◌, Bool, true, false, List, [], ◌∷◌, ◌++◌, length, Option, Some, None, refl, sym, ap, subst, ◌∙◌, arith, length-append}
-use Rattle.std.specs.Prelude.{max, IfSome}
-use Rattle.ob_tree.specs.declared.pos.Pos.{Pos}
+use Rattle.std.proofs.Common.{◌≡◌, ℕ, suc, ◌+◌, ◌≤◌, Bool, List, [], ◌∷◌, ◌++◌, length, refl, arith}
 use Rattle.ob_tree.specs.declared.names.QName.{QName}
 use Rattle.ob_types.specs.declared.types.TypeRef.{TypeRef}
 use Rattle.ob_types.specs.declared.value.Value.{Value}
@@ -9,21 +7,19 @@ use Rattle.ob_types.specs.declared.value.Value.TheVariants as literal
 use Rattle.ob_types.specs.declared.typed.Passing.{Passing}
 use Rattle.ob_types.specs.declared.typed.Passing.TheVariants as passing
 use Rattle.ob_types.specs.declared.typed.Connective.TheVariants as connective
-use Rattle.ob_types.specs.declared.typed.Guarded.{Guarded}
 use Rattle.ob_types.specs.TypedSyntax.{Desig, OfVariable, Field, Index, Deref, Guard, Expr, Constant, ValueOf, ProcedureValue, Monadic, Dyadic, Logical, CompareTexts, IsPointer, IsRecord, Length, Call, CallVariable, Actuals, NoActual, AnActual}
 use Rattle.ob_instr.specs.declared.opcode.Opcode.TheVariants as op
-use Rattle.ob_layout.specs.Room.{slots}
 use Rattle.ob_code.specs.declared.want.Want.{Want}
 use Rattle.ob_code.specs.declared.want.Want.TheVariants as want
 use Rattle.ob_code.specs.Lines.{Line, count, plain, placed, jump, jump_if_false, behind}
 use Rattle.ob_code.specs.Context.{Context, words, type_operand}
 use Rattle.ob_code.specs.Descriptions.{field_place}
 use Rattle.ob_code.specs.Operations.{unary_code, binary_line, relation_number}
-use Rattle.ob_code.specs.Expressions.{wanted, constant_code, index_want, guard_want, words_of_actuals, from_place, from_pointer, index_line, guard_line, from_guard, procedure_line, call_line, end_desig, end_expr, end_actuals, desig_code, expr_code, actuals_code}
-use Rattle.ob_code.specs.Needs.{operands_of, need_desig, need_expr, need_actuals}
+use Rattle.ob_code.specs.Expressions.{wanted, index_want, guard_want, words_of_actuals, from_place, from_pointer, index_line, guard_line, from_guard, call_line, end_desig, end_expr, end_actuals, desig_code, expr_code, actuals_code}
+use Rattle.ob_code.specs.Needs.{need_desig, need_expr, need_actuals}
 use Rattle.ob_code.proofs.Ends.{behind_is, desig_ends, expr_ends, actuals_end}
-use Rattle.ob_written.specs.Coded.{PosFits, PassedIsCoded, DesigIsCoded, ExprIsCoded, ActualsAreCoded, RecordIsCoded}
-use Rattle.ob_written.specs.Lines.{OperandFits, LineFits, LinesFit, HasRoom, RoomFits}
+use Rattle.ob_written.specs.Coded.{PassedIsCoded, DesigIsCoded, ExprIsCoded, ActualsAreCoded, RecordIsCoded}
+use Rattle.ob_written.specs.Lines.{LineFits, LinesFit, HasRoom, RoomFits}
 use Rattle.ob_written.proofs.Lines.{word_fits, count_fits, names_one, plain_fits, placed_fits, jump_fits, jump_if_fits, lines_both}
 use Rattle.ob_written.proofs.Pieces.{int_fits, constant_fits, unary_fits, binary_fits, relation_fits, type_fits, place_fits, pointer_fits, index_fits, guard_fits, behind_fits, variable_fits, procedure_fits, call_fits}
 

@@ -1,10 +1,9 @@
 -- The object file of a module has a spelling.
-use Rattle.std.proofs.Common.{◌≡◌, ◌≢◌, ℕ, zero, suc, ◌+◌, ◌*◌, ◌<◌, ◌≤◌, ◌^◌, Bool, true, false, cond, List, [], ◌∷◌, ◌++◌, length, map, Option, Some, None, refl, sym, ap, subst, ◌∙◌, arith, length-append}
-use Rattle.std.specs.Prelude.{IfSome, IsTrue, ◌&&◌, not, nat_le, bytes_eq, codes}
+use Rattle.std.proofs.Common.{◌≡◌, ◌≢◌, ℕ, suc, ◌+◌, ◌<◌, ◌≤◌, ◌^◌, Bool, true, false, cond, List, [], ◌∷◌, length, map, Option, Some, None, refl, sym, ap, subst, ◌∙◌, arith}
+use Rattle.std.specs.Prelude.{IfSome, IsTrue, ◌&&◌, not, bytes_eq, codes}
 use Rattle.std.specs.Option.{option_map}
-use Rattle.std.specs.List.{AllByRecursion, IsDistinct, flat_map}
+use Rattle.std.specs.List.{AllByRecursion, IsDistinct}
 use Rattle.std.specs.Ordering.{is_eq}
-use Rattle.std.proofs.lemmas.Bool.{and_parts}
 use Rattle.std.proofs.lemmas.Slice.Eq.{bytes_eq-Decides}
 use Rattle.std.proofs.lemmas.Map.Text.{is_eq-slice_cmp}
 use Rattle.ob_tree.specs.declared.names.QName.{QName}
@@ -12,38 +11,33 @@ use Rattle.ob_tree.specs.declared.print.Print.{Print}
 use Rattle.ob_types.specs.declared.types.TypeRef.{TypeRef}
 use Rattle.ob_types.specs.declared.desc.Desc.{Desc}
 use Rattle.ob_types.specs.declared.typed.TypedType.{TypedType}
-use Rattle.ob_types.specs.declared.face.Object.{Object}
-use Rattle.ob_types.specs.Spelled.{use_form, by_object}
 use Rattle.ob_types.specs.TypedSyntax.{Procedure, Module}
-use Rattle.ob_format.specs.Format.{list_of, few, rising, word32, ◌>>=◌}
-use Rattle.ob_format.specs.Names.{name, object_name, is_object}
+use Rattle.ob_format.specs.Format.{list_of, few, word32, ◌>>=◌}
+use Rattle.ob_format.specs.Names.{name, is_object}
 use Rattle.ob_desc.specs.Grammar.{shape_text, layout_text, IsSpelled as HasTexts}
 use Rattle.ob_fprint.specs.Print.{print_from}
 use Rattle.ob_sym.specs.Grammar as sym
 use Rattle.ob_sym.specs.Grammar.{object_in}
 use Rattle.ob_obj.specs.declared.file.ObjFile.{ObjFile}
-use Rattle.ob_obj.specs.declared.file.Head.{Head}
-use Rattle.ob_obj.specs.Grammar.{by_name, export, by_export, names_in, words_of, is_import, IsHead, head, globals, links, body, IsSound, file, record_type, by_type, has_procedures, begins_with_body}
-use Rattle.ob_obj.specs.Images.{global_words}
+use Rattle.ob_obj.specs.Grammar.{by_name, words_of, is_import, head, globals, links, body, IsSound, file, has_procedures}
 use Rattle.ob_layout.specs.Words.{words_of as words_in}
-use Rattle.ob_layout.specs.LaidOut.{is_own, type_named, viewed, laid_type, laid_out}
-use Rattle.ob_layout.specs.Room.{variable_words, frame_words}
+use Rattle.ob_layout.specs.LaidOut.{is_own, type_named, viewed, laid_type}
+use Rattle.ob_layout.specs.Room.{frame_words}
 use Rattle.ob_env.specs.Faces.{Face, object_named, face_named, described, object_of}
 use Rattle.ob_env.specs.Fit.{count_of}
 use Rattle.ob_uses.specs.Objects.{by_name as by_object_name, objects_of}
-use Rattle.ob_code.specs.Numbers.{nothing_named, instrs_in, with_lines, positions_at}
-use Rattle.ob_code.specs.Context.{records_among, own_types, variable_place, type_index}
-use Rattle.ob_code.specs.Procedures.{body_of, all_procedures, within, module_code, module_rows}
-use Rattle.ob_code.specs.Object.{own, own_words, all_named, type_links, records_in, with_bases, variables, commands}
-use Rattle.ob_compile.specs.Compiling.{Compiled, texts, object_exports, exports_of, object_by, interface_by}
+use Rattle.ob_code.specs.Numbers.{nothing_named}
+use Rattle.ob_code.specs.Context.{records_among, own_types}
+use Rattle.ob_code.specs.Procedures.{body_of, all_procedures, within, module_code}
+use Rattle.ob_code.specs.Object.{own, own_words, all_named, type_links, variables, commands}
+use Rattle.ob_compile.specs.Compiling.{Compiled, texts, exports_of, object_by, interface_by}
 use Rattle.ob_planned.proofs.Globals.{globals_are}
-use Rattle.ob_written.specs.Trees.{TypedTypeIsSpelled, AreImports, IsLaid}
+use Rattle.ob_written.specs.Trees.{TypedTypeIsSpelled, IsLaid}
 use Rattle.ob_written.specs.Coded.{BodyIsCoded}
 use Rattle.ob_written.specs.Lines.{LinesFit, HasRoom}
-use Rattle.ob_written.specs.Files.{IsCodedTree}
-use Rattle.ob_written.specs.Laws.{Text, IsSpelled, compiled_from, IsBuilt, IsWritten, ModulesAreWritten}
-use Rattle.ob_written.proofs.Lists.{all_map, all_each, both_all, each_strict}
-use Rattle.ob_written.proofs.Names.{is_object_of, FaceFound, face_found, same_name}
+use Rattle.ob_written.specs.Laws.{Text, IsSpelled, compiled_from, IsBuilt, ModulesAreWritten}
+use Rattle.ob_written.proofs.Lists.{all_map, both_all, each_strict}
+use Rattle.ob_written.proofs.Names.{is_object_of, face_found}
 use Rattle.ob_written.proofs.Limits.{IsWithin, within as limits_of}
 use Rattle.ob_written.proofs.Uses.{print_long, uses_fit, many_uses}
 use Rattle.ob_written.proofs.Laid.{types_spelled}
@@ -52,11 +46,11 @@ use Rattle.ob_written.proofs.Fit.{have_few}
 use Rattle.ob_written.proofs.Objects.{ObjectFits, objects_fit, objects_rise}
 use Rattle.ob_written.proofs.Interface.{length_map, head_fits, holds_uses, interfaces_written}
 use Rattle.ob_written.proofs.Rooms.{DescIsSmall, texts_small, laid_small, MapIsSmall, sum_ones, rooms}
-use Rattle.ob_written.proofs.ModuleCode.{IsReady, AreReady, all_lines, rows_fit, entries_inside, rows_many}
-use Rattle.ob_written.proofs.Numbered.{IsFew, instrs_fit, instrs_many, positions_fit, positions_many, are_there, TypeIsNamed, AreNamed, lines_named, strings_fit, few_strings, links_fit, types_fit, lines_next, HasUpTo, lines_up_to}
+use Rattle.ob_written.proofs.ModuleCode.{AreReady, all_lines, rows_fit, entries_inside, rows_many}
+use Rattle.ob_written.proofs.Numbered.{IsFew, instrs_fit, instrs_many, positions_fit, positions_many, are_there, AreNamed, lines_named, strings_fit, few_strings, links_fit, types_fit, lines_next, HasUpTo, lines_up_to}
 use Rattle.ob_written.proofs.Bytes.{types_long, many_variables, holds_types, holds_variables}
 use Rattle.ob_written.proofs.Exports.{ObjectIsPrinted, exports_fit, exports_rise, names_few, exports_many}
-use Rattle.ob_written.proofs.Parts.{DescHas, bases_there, bases_named, bases_few, records_fit, records_many, records_have, records_apart, all_stand, all_inside, commands_fit, commands_procedures, variables_fit}
+use Rattle.ob_written.proofs.Parts.{bases_there, bases_named, bases_few, records_fit, records_many, records_have, records_apart, all_stand, all_inside, commands_fit, commands_procedures, variables_fit}
 
 -- ---- descriptions
 

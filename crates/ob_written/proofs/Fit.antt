@@ -1,18 +1,17 @@
 -- What interfaces that fit say of what they describe.
-use Rattle.std.proofs.Common.{◌≡◌, ℕ, ◌≤◌, Bool, true, false, cond, List, [], ◌∷◌, map, Option, Some, None, refl, sym, subst}
-use Rattle.std.specs.Prelude.{◌&&◌, nat_le, bytes_eq}
+use Rattle.std.proofs.Common.{◌≡◌, ℕ, Bool, true, false, cond, List, [], ◌∷◌, Option, Some, None, refl, sym, subst}
+use Rattle.std.specs.Prelude.{bytes_eq}
 use Rattle.std.specs.List.{AllByRecursion}
 use Rattle.std.proofs.lemmas.Bool.{leb-true, and_parts}
 use Rattle.ob_tree.specs.declared.names.QName.{QName}
 use Rattle.ob_types.specs.declared.desc.Desc.{Desc}
 use Rattle.ob_types.specs.declared.desc.Desc.TheVariants as desc
-use Rattle.ob_types.specs.declared.desc.RecordDesc.{RecordDesc}
 use Rattle.ob_format.specs.Format.{◌>>=◌}
 use Rattle.ob_layout.specs.Lists.{or_else}
 use Rattle.ob_layout.specs.Words.{most_words}
 use Rattle.ob_env.specs.Stale.{first_among}
 use Rattle.ob_env.specs.Faces.{Face, object_named, face_named, described}
-use Rattle.ob_env.specs.Fit.{fits, steps_of, misfit, unless, first_unfit, names_types, stands, has_bases, keeps_places, has_few_words, is_sound_record, has_few_procedures}
+use Rattle.ob_env.specs.Fit.{fits, steps_of, misfit, unless, first_unfit, names_types, stands, has_bases, keeps_places, has_few_words, has_few_procedures}
 use Rattle.ob_written.specs.Laws.{Text}
 use Rattle.ob_written.proofs.Sizes.{HaveFew}
 use Rattle.ob_written.proofs.Names.{same_name}

@@ -1,7 +1,7 @@
 -- The imported modules of a checked module: few, each once, none of those that no file has.
-use Rattle.std.proofs.Common.{◌≡◌, ◌≢◌, ℕ, zero, suc, ◌≤◌, Bool, true, false, cond, List, [], ◌∷◌, ◌++◌, length, map, Option, Some, None, refl, sym, ap, subst, ◌∙◌, arith, codes}
-use Rattle.std.specs.Prelude.{bytes_eq, ◌||◌, not}
-use Rattle.std.specs.List.{AllByRecursion, IsDistinct, list_any}
+use Rattle.std.proofs.Common.{◌≡◌, ◌≢◌, ℕ, suc, ◌≤◌, Bool, true, false, List, [], ◌∷◌, ◌++◌, length, map, Option, Some, None, refl, sym, subst, ◌∙◌, arith, codes}
+use Rattle.std.specs.Prelude.{bytes_eq, ◌||◌}
+use Rattle.std.specs.List.{AllByRecursion, IsDistinct}
 use Rattle.std.specs.Ordering.{nat_cmp, is_eq}
 use Rattle.std.specs.Cmp.Lexicographic.{slice_cmp}
 use Rattle.std.proofs.lemmas.Bool.{false≢true}
@@ -10,10 +10,9 @@ use Rattle.std.proofs.lemmas.Map.Text.{is_eq-slice_cmp}
 use Rattle.ob_tree.specs.declared.pos.Pos.{Pos}
 use Rattle.ob_tree.specs.declared.ident.Ident.{Ident}
 use Rattle.ob_tree.specs.declared.ident.Import.{Import}
-use Rattle.ob_rules.specs.declared.broken.Broken.{Broken}
-use Rattle.ob_rules.specs.Judged.{Notes, notes_if, joined}
+use Rattle.ob_rules.specs.Judged.{notes_if}
 use Rattle.ob_rules.specs.Names.{Around, is_out, is_among}
-use Rattle.ob_rules.specs.Declarations.{Declared, twice, in_order, is_system, import_declared, target_of, import_if, imported}
+use Rattle.ob_rules.specs.Declarations.{twice, in_order, is_system, import_declared, target_of, import_if, imported}
 use Rattle.ob_compile.specs.Compiling.{imported as imported_name}
 use Rattle.ob_written.specs.Trees.{IsNamed, AreImports}
 

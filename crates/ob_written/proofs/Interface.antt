@@ -1,34 +1,30 @@
 -- The interface of a module has a spelling.
-use Rattle.std.proofs.Common.{◌≡◌, ◌≢◌, ℕ, ◌+◌, ◌<◌, ◌≤◌, ◌^◌, Bool, true, false, List, [], ◌∷◌, ◌++◌, length, map, Option, Some, None, refl, sym, subst, arith, length-append}
-use Rattle.std.specs.Prelude.{IfSome, codes}
+use Rattle.std.proofs.Common.{◌≡◌, ℕ, ◌+◌, ◌<◌, ◌≤◌, ◌^◌, List, [], ◌∷◌, ◌++◌, length, map, Option, Some, None, refl, sym, arith, length-append}
 use Rattle.std.specs.List.{AllByRecursion, flat_map}
-use Rattle.std.specs.List.Sorted.{IsStrictlySortedBy}
 use Rattle.std.specs.Int.{w32, to_be_bytes}
 use Rattle.ob_tree.specs.declared.names.QName.{QName}
 use Rattle.ob_types.specs.declared.desc.Desc.{Desc}
 use Rattle.ob_types.specs.declared.desc.Desc.TheVariants as desc
-use Rattle.ob_types.specs.declared.desc.RecordDesc.{RecordDesc}
 use Rattle.ob_types.specs.declared.face.Object.{Object}
 use Rattle.ob_types.specs.declared.face.Use.{Use}
 use Rattle.ob_types.specs.declared.face.Interface.{Interface}
-use Rattle.ob_types.specs.Spelled.{use_form, by_object}
-use Rattle.ob_types.specs.TypedSyntax.{Module}
-use Rattle.ob_format.specs.Format.{text32, optional, list_of, few, rising}
+use Rattle.ob_types.specs.Spelled.{use_form}
+use Rattle.ob_format.specs.Format.{text32, optional, list_of, few}
 use Rattle.ob_format.specs.Names.{name, object_name}
 use Rattle.ob_desc.specs.Grammar.{shape_text, layout_text}
 use Rattle.ob_sym.specs.Grammar as sym
-use Rattle.ob_sym.specs.Grammar.{entry, object_in, texts_of, IsObjectOf, head, body, face}
-use Rattle.ob_layout.specs.LaidOut.{viewed, laid_out}
+use Rattle.ob_sym.specs.Grammar.{object_in, head, body, face}
+use Rattle.ob_layout.specs.LaidOut.{viewed}
 use Rattle.ob_env.specs.Fit.{count_of}
-use Rattle.ob_env.specs.Faces.{Face, described, object_of}
+use Rattle.ob_env.specs.Faces.{described, object_of}
 use Rattle.ob_uses.specs.Objects.{by_name, objects_of}
-use Rattle.ob_compile.specs.Compiling.{Compiled, texts, interface_by}
+use Rattle.ob_compile.specs.Compiling.{texts, interface_by}
 use Rattle.ob_written.specs.Trees.{IsNamed, AreImports}
-use Rattle.ob_written.specs.Laws.{Text, IsSpelled, compiled_from, IsBuilt, InterfacesAreWritten}
-use Rattle.ob_written.proofs.Lists.{all_map, all_each, each_strict, flat_long}
+use Rattle.ob_written.specs.Laws.{compiled_from, InterfacesAreWritten}
+use Rattle.ob_written.proofs.Lists.{all_map, each_strict, flat_long}
 use Rattle.ob_written.proofs.Names.{name_fits}
-use Rattle.ob_written.proofs.Limits.{IsWithin, within}
-use Rattle.ob_written.proofs.Uses.{as_use, uses_fit, many_uses}
+use Rattle.ob_written.proofs.Limits.{within}
+use Rattle.ob_written.proofs.Uses.{uses_fit, many_uses}
 use Rattle.ob_written.proofs.Laid.{types_spelled}
 use Rattle.ob_written.proofs.Sizes.{types_laid}
 use Rattle.ob_written.proofs.Fit.{have_few}

@@ -1,30 +1,24 @@
 -- What the layout makes of descriptions that have a spelling: places, numbers and words that have one, in their order.
-use Rattle.std.proofs.Common.{◌≡◌, ℕ, zero, suc, ◌+◌, ◌*◌, ◌<◌, ◌≤◌, ◌^◌, Bool, true, false, cond, List, [], ◌∷◌, length, map, Option, Some, None, refl, sym, ap, subst, ◌∙◌, arith}
-use Rattle.std.specs.Prelude.{bytes_eq, min}
-use Rattle.std.specs.List.{AllByRecursion, IsDistinct}
+use Rattle.std.proofs.Common.{◌≡◌, ℕ, suc, ◌+◌, ◌<◌, ◌≤◌, List, [], ◌∷◌, length, map, Option, arith}
+use Rattle.std.specs.List.{AllByRecursion}
 use Rattle.std.specs.List.Sorted.{IsStrictlySortedBy}
 use Rattle.std.specs.Ordering.{nat_cmp}
 use Rattle.std.specs.Cmp.{IsTotalOrder}
-use Rattle.std.specs.declared.cmp.Ordering.{Ordering}
 use Rattle.std.specs.declared.cmp.Ordering.TheVariants.{Less}
 use Rattle.std.proofs.lemmas.Cmp.{nat_cmp_total, nat_list_cmp_total, on_total, then_total}
 use Rattle.ob_tree.specs.declared.names.QName.{QName}
 use Rattle.ob_types.specs.declared.types.TypeRef.{TypeRef}
-use Rattle.ob_types.specs.declared.types.TypeRef.TheVariants as ref
 use Rattle.ob_types.specs.declared.desc.Desc.{Desc}
 use Rattle.ob_types.specs.declared.desc.Desc.TheVariants as desc
-use Rattle.ob_types.specs.declared.desc.RecordDesc.{RecordDesc}
 use Rattle.ob_types.specs.declared.desc.Field.{Field}
 use Rattle.ob_types.specs.declared.desc.Method.{Method}
 use Rattle.ob_types.specs.declared.typed.TypedType.{TypedType}
 use Rattle.ob_types.specs.TypedSyntax.{Module}
 use Rattle.ob_desc.specs.Grammar.{by_place, by_number}
 use Rattle.ob_layout.specs.Words.{most_words}
-use Rattle.ob_layout.specs.Lists.{in_order}
-use Rattle.ob_layout.specs.LaidOut.{type_named, is_own, viewed, base_of, declared_procedures, counted, words_in, procedures_in, kept, placed, numbered, laid_record, laid_desc, laid_type, laid_out}
-use Rattle.ob_layout.specs.Room.{bound_procedures}
-use Rattle.ob_written.specs.Trees.{FieldIsSpelled, MethodIsSpelled, RecordIsSpelled, TypeIsSpelled, TypedTypeIsSpelled, IsSmall, RecordIsLaid, IsLaid}
-use Rattle.ob_written.proofs.Lists.{all_map, all_each, all_in_order, order_strict}
+use Rattle.ob_layout.specs.LaidOut.{base_of, kept, placed, numbered, laid_desc, laid_type}
+use Rattle.ob_written.specs.Trees.{FieldIsSpelled, MethodIsSpelled, TypeIsSpelled, TypedTypeIsSpelled, IsSmall}
+use Rattle.ob_written.proofs.Lists.{all_map, all_in_order}
 
 pub places_total : IsTotalOrder by_place
 places_total = then_total (on_total (λ f. f.place) nat_cmp_total) (on_total (λ f. f.name) nat_list_cmp_total)

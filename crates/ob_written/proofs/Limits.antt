@@ -1,5 +1,5 @@
 -- What holds of a module that exceeds no limit.
-use Rattle.std.proofs.Common.{◌≡◌, ℕ, suc, ◌≤◌, Bool, true, false, cond, List, [], ◌∷◌, length, Option, Some, None, refl, arith}
+use Rattle.std.proofs.Common.{◌≡◌, ℕ, suc, ◌≤◌, Bool, true, false, List, [], ◌∷◌, length, Option, Some, None, refl}
 use Rattle.std.specs.Prelude.{nat_le, not, ◌||◌}
 use Rattle.std.specs.List.{list_any, AllByRecursion}
 use Rattle.std.proofs.lemmas.Bool.{leb-true}
@@ -10,7 +10,7 @@ use Rattle.ob_types.specs.declared.desc.Desc.{Desc}
 use Rattle.ob_types.specs.TypedSyntax.{Module}
 use Rattle.ob_layout.specs.LaidOut.{viewed}
 use Rattle.ob_layout.specs.Words.{words_of, described_words, most_words}
-use Rattle.ob_layout.specs.Room.{globals_words, hidden_of_all, frame_words, above, is_wide, bound_procedures, limits, first_of, first_limit}
+use Rattle.ob_layout.specs.Room.{globals_words, hidden_of_all, frame_words, above, is_wide, bound_procedures, first_of, first_limit}
 use Rattle.ob_env.specs.Faces.{described}
 use Rattle.ob_code.specs.Needs.{has_few_operands}
 use Rattle.ob_walk.specs.Walk.{file_limit}

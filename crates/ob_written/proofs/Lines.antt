@@ -1,14 +1,14 @@
 -- Lines of code that have a spelling, by their operations.
-use Rattle.std.proofs.Common.{◌≡◌, ℕ, suc, ◌+◌, ◌<◌, ◌≤◌, ◌^◌, Bool, true, false, List, [], ◌∷◌, ◌++◌, length, Option, Some, None, refl, sym, ap, subst, ◌∙◌, arith}
-use Rattle.std.specs.Prelude.{ℤ, pos, negsuc, ◌||◌, ◌&&◌, IfSome, is_some, int_le, FitsSigned}
+use Rattle.std.proofs.Common.{◌≡◌, ℕ, suc, ◌+◌, ◌<◌, ◌≤◌, ◌^◌, true, false, List, [], ◌∷◌, ◌++◌, length, refl, ap, subst, ◌∙◌, arith}
+use Rattle.std.specs.Prelude.{pos, ◌||◌, ◌&&◌, int_le, FitsSigned}
 use Rattle.std.specs.Int.{w32}
 use Rattle.ob_tree.specs.declared.pos.Pos.{Pos}
 use Rattle.ob_instr.specs.declared.opcode.Opcode.{Opcode}
 use Rattle.ob_instr.specs.declared.opcode.Opcode.TheVariants as op
 use Rattle.ob_instr.specs.Spelling.{operands}
-use Rattle.ob_obj.specs.Grammar.{can_stop, is_jump, has_position}
-use Rattle.ob_code.specs.Lines.{Operand, Number, Line, none, line_of, plain, placed, placed_two, count, bare, bare_at, jump, jump_if_false, jump_back, jump_back_if_false}
-use Rattle.ob_code.specs.Numbers.{Named, number_in, instr_in}
+use Rattle.ob_obj.specs.Grammar.{can_stop, is_jump}
+use Rattle.ob_code.specs.Lines.{Operand, Line, none, plain, placed, placed_two, count, jump, jump_if_false, jump_back, jump_back_if_false}
+use Rattle.ob_code.specs.Numbers.{number_in}
 use Rattle.ob_written.specs.Coded.{PosFits}
 use Rattle.ob_written.specs.Lines.{OperandFits, LineFits, LinesFit}
 

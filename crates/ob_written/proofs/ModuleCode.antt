@@ -1,6 +1,6 @@
 -- The code of a module, and the rows of its procedures, have a spelling.
-use Rattle.std.proofs.Common.{◌≡◌, ℕ, zero, suc, ◌+◌, ◌<◌, ◌≤◌, ◌^◌, Bool, true, false, List, [], ◌∷◌, ◌++◌, length, map, Option, Some, None, refl, sym, ap, subst, ◌∙◌, arith, length-append}
-use Rattle.std.specs.Prelude.{◌&&◌, nat_le}
+use Rattle.std.proofs.Common.{◌≡◌, ℕ, ◌+◌, ◌<◌, ◌≤◌, ◌^◌, true, false, List, [], ◌∷◌, length, map, Option, Some, None, refl, arith, length-append}
+use Rattle.std.specs.Prelude.{nat_le}
 use Rattle.std.specs.List.{AllByRecursion}
 use Rattle.std.proofs.lemmas.Bool.{false≢true, and_parts, leb-true}
 use Rattle.ob_tree.specs.declared.pos.Pos.{Pos}
@@ -14,23 +14,19 @@ use Rattle.ob_types.specs.declared.typed.TypedParameter.{TypedParameter}
 use Rattle.ob_types.specs.TypedSyntax.{Procedure, Module}
 use Rattle.ob_format.specs.Format.{list_of, word32}
 use Rattle.ob_instr.specs.declared.opcode.Opcode.TheVariants as op
-use Rattle.ob_instr.specs.declared.procedure.Param.{Param}
-use Rattle.ob_instr.specs.declared.procedure.Param.TheVariants as param
-use Rattle.ob_instr.specs.declared.procedure.Procedure.{Procedure as Row}
-use Rattle.ob_instr.specs.Parts.{most_words, slots_of, slots as slots_in, ParamFits, param_form, flag, procedure}
+use Rattle.ob_instr.specs.Parts.{slots_of, slots as slots_in, ParamFits, param_form, flag, procedure}
 use Rattle.ob_layout.specs.Lists.{sum_of}
 use Rattle.ob_layout.specs.Words.{words_of}
-use Rattle.ob_layout.specs.Room.{slots, frame_words, hidden_of_all}
-use Rattle.ob_code.specs.Lines.{Line, none, count, bare, placed_two}
-use Rattle.ob_code.specs.Descriptions.{description, open_words_in, open_words}
-use Rattle.ob_code.specs.Context.{Context, words, local_words, first_hidden}
-use Rattle.ob_code.specs.Statements.{end_stmts, next_stmts, stmts_code}
+use Rattle.ob_layout.specs.Room.{slots, frame_words}
+use Rattle.ob_code.specs.Lines.{none, count}
+use Rattle.ob_code.specs.Descriptions.{description, open_words_in}
+use Rattle.ob_code.specs.Context.{Context, local_words, first_hidden}
+use Rattle.ob_code.specs.Statements.{end_stmts, stmts_code}
 use Rattle.ob_code.specs.Needs.{have_few_operands, need_stmts, most_operands}
-use Rattle.ob_code.specs.Procedures.{has_result, closing, within, end_procedure, procedure_code, procedures_code, param_for, all_local_words, row_of, rows_of}
+use Rattle.ob_code.specs.Procedures.{closing, within, end_procedure, procedure_code, procedures_code, param_for, row_of, rows_of}
 use Rattle.ob_code.proofs.Ends.{stmts_end}
 use Rattle.ob_written.specs.Coded.{PosFits, BodyIsCoded}
 use Rattle.ob_written.specs.Lines.{LineFits, LinesFit, HasRoom}
-use Rattle.ob_written.proofs.Lists.{all_map}
 use Rattle.ob_written.proofs.Lines.{count_fits, none_fits, plain_fits, two_fit, lines_both}
 use Rattle.ob_written.proofs.Exprs.{top}
 use Rattle.ob_written.proofs.Stmts.{stmts_next, stmts_lines}

@@ -1,16 +1,16 @@
 -- Identifiers are names of objects, and names in interfaces that have a spelling have one.
-use Rattle.std.proofs.Common.{◌≡◌, ℕ, suc, ◌<◌, ◌≤◌, ◌^◌, Bool, true, false, cond, List, [], ◌∷◌, length, map, Option, Some, None, refl, sym, subst, arith}
+use Rattle.std.proofs.Common.{◌≡◌, ℕ, ◌<◌, ◌≤◌, ◌^◌, Bool, true, false, cond, List, [], ◌∷◌, length, map, Option, Some, None, refl, sym, subst, arith}
 use Rattle.std.specs.Prelude.{◌&&◌, ◌||◌, nat_le, bytes_eq}
-use Rattle.std.specs.List.{list_all, list_any, AllByRecursion}
+use Rattle.std.specs.List.{list_all, AllByRecursion}
 use Rattle.std.specs.Char.{is_ascii_alphanumeric}
 use Rattle.std.proofs.lemmas.Bool.{and_parts, leb-true}
 use Rattle.std.proofs.lemmas.Slice.Eq.{bytes_eq-Decides}
 use Rattle.ob_tree.specs.declared.names.QName.{QName}
 use Rattle.ob_types.specs.declared.desc.Desc.{Desc}
 use Rattle.ob_format.specs.Format.{list_of, text16, ◌>>=◌}
-use Rattle.ob_format.specs.Names.{is_letters, is_identifier, is_object_byte, is_object, name, object_name}
+use Rattle.ob_format.specs.Names.{is_letters, is_object_byte, is_object, name, object_name}
 use Rattle.ob_sym.specs.Grammar.{face as face_form, head, body, object_in}
-use Rattle.ob_env.specs.Faces.{Face, object_named, face_named, described, object_of, printed}
+use Rattle.ob_env.specs.Faces.{Face, object_named, face_named, described, object_of}
 use Rattle.ob_written.specs.Trees.{IsNamed}
 use Rattle.ob_written.specs.Laws.{Text, IsSpelled}
 

@@ -1,7 +1,5 @@
 -- The objects of an interface have texts.
-use Rattle.std.proofs.Common.{◌≡◌, ℕ, ◌<◌, ◌≤◌, ◌^◌, Bool, true, false, cond, List, [], ◌∷◌, ◌++◌, length, map, Option, Some, None, refl, sym, subst, arith}
-use Rattle.std.specs.Prelude.{IfSome, ◌&&◌, not, is_none}
-use Rattle.std.specs.Option.{option_map}
+use Rattle.std.proofs.Common.{◌≡◌, ℕ, ◌<◌, ◌^◌, Bool, true, List, ◌++◌, map, refl, arith}
 use Rattle.std.specs.List.{AllByRecursion, filter}
 use Rattle.std.specs.List.Sorted.{IsStrictlySortedBy}
 use Rattle.std.specs.Cmp.{IsTotalOrder}
@@ -13,18 +11,17 @@ use Rattle.ob_tree.specs.declared.ident.Mark.{Mark}
 use Rattle.ob_tree.specs.declared.ident.Mark.TheVariants as mark
 use Rattle.ob_types.specs.declared.desc.Desc.{Desc}
 use Rattle.ob_types.specs.declared.desc.Desc.TheVariants as desc
-use Rattle.ob_types.specs.declared.desc.RecordDesc.{RecordDesc}
 use Rattle.ob_types.specs.declared.desc.Field.{Field}
 use Rattle.ob_types.specs.declared.desc.Method.{Method}
 use Rattle.ob_types.specs.declared.typed.TypedConstant.{TypedConstant}
 use Rattle.ob_types.specs.declared.typed.TypedVariable.{TypedVariable}
 use Rattle.ob_types.specs.declared.typed.TypedType.{TypedType}
 use Rattle.ob_types.specs.TypedSyntax.{Procedure, Module}
-use Rattle.ob_format.specs.Names.{is_identifier, is_object, object_name}
-use Rattle.ob_desc.specs.Grammar.{dotted, value_fits, type_fits, field, method, is_shown, by_place, by_number, seen, shape_fits, layout_fits, IsSpelled}
+use Rattle.ob_format.specs.Names.{is_object, object_name}
+use Rattle.ob_desc.specs.Grammar.{value_fits, type_fits, field, method, is_shown, by_place, by_number, seen, IsSpelled}
 use Rattle.ob_described.specs.Described.{is_whole}
-use Rattle.ob_uses.specs.Objects.{signature_of, is_exported, by_name, constant_object, variable_object, procedure_object, type_object, types_among, reached_types, objects_of}
-use Rattle.ob_written.specs.Trees.{IsNamed, FieldIsSpelled, MethodIsSpelled, RecordIsSpelled, TypeIsSpelled, ConstantIsSpelled, VariableIsSpelled, ProcedureIsSpelled, TypedTypeIsSpelled, RecordIsLaid, IsLaid}
+use Rattle.ob_uses.specs.Objects.{is_exported, by_name, constant_object, variable_object, procedure_object, type_object, types_among, reached_types, objects_of}
+use Rattle.ob_written.specs.Trees.{IsNamed, FieldIsSpelled, MethodIsSpelled, TypeIsSpelled, ConstantIsSpelled, VariableIsSpelled, ProcedureIsSpelled, TypedTypeIsSpelled, IsLaid}
 use Rattle.ob_written.proofs.Lists.{all_map, all_each, all_joined, all_filtered, all_in_order, order_strict, both_all}
 use Rattle.ob_written.proofs.Names.{named_object, object_fits, is_object_of}
 

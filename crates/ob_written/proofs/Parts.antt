@@ -1,9 +1,8 @@
 -- The record types, exported variables and exported procedures of an object file have a spelling.
-use Rattle.std.proofs.Common.{◌≡◌, ℕ, zero, suc, ◌+◌, ◌*◌, ◌<◌, ◌≤◌, ◌^◌, Bool, true, false, List, [], ◌∷◌, ◌++◌, length, map, Option, Some, None, refl, sym, ap, subst, ◌∙◌, arith, length-append}
-use Rattle.std.specs.Prelude.{if◌then◌else◌, ◌&&◌, nat_lt, nat_eq, not, is_none, bytes_eq}
+use Rattle.std.proofs.Common.{◌≡◌, ℕ, suc, ◌+◌, ◌<◌, ◌≤◌, ◌^◌, Bool, true, false, List, [], ◌∷◌, ◌++◌, length, map, Option, Some, None, refl, sym, ap, subst, ◌∙◌, arith, length-append}
+use Rattle.std.specs.Prelude.{if◌then◌else◌, ◌&&◌, nat_lt, not, is_none, bytes_eq}
 use Rattle.std.specs.List.{AllByRecursion, IsDistinct, list_all}
-use Rattle.std.specs.List.Sorted.{IsStrictlySortedBy}
-use Rattle.std.specs.Ordering.{nat_cmp, is_eq}
+use Rattle.std.specs.Ordering.{is_eq}
 use Rattle.std.specs.Cmp.{IsTotalOrder}
 use Rattle.std.specs.declared.cmp.Ordering.{Ordering}
 use Rattle.std.specs.declared.cmp.Ordering.TheVariants.{Less, Equal, Greater}
@@ -13,7 +12,6 @@ use Rattle.std.proofs.lemmas.Map.Text.{is_eq-slice_cmp}
 use Rattle.ob_tree.specs.declared.names.QName.{QName}
 use Rattle.ob_tree.specs.declared.ident.Mark.{Mark}
 use Rattle.ob_tree.specs.declared.ident.Mark.TheVariants as mark
-use Rattle.ob_types.specs.declared.types.TypeRef.{TypeRef}
 use Rattle.ob_types.specs.declared.desc.Desc.{Desc}
 use Rattle.ob_types.specs.declared.desc.Desc.TheVariants as desc
 use Rattle.ob_types.specs.declared.typed.Binding.{Binding}
@@ -27,24 +25,20 @@ use Rattle.ob_layout.specs.Lists.{put_before, put_in, in_order}
 use Rattle.ob_layout.specs.Words.{words_of, described_words}
 use Rattle.ob_layout.specs.Room.{bound_procedures}
 use Rattle.ob_uses.specs.Objects.{is_exported}
-use Rattle.ob_obj.specs.declared.parts.Variable.{Variable}
-use Rattle.ob_obj.specs.declared.parts.Base.{Base}
 use Rattle.ob_obj.specs.declared.parts.Base.TheVariants as base
 use Rattle.ob_obj.specs.declared.parts.Definition.{Definition}
 use Rattle.ob_obj.specs.declared.parts.RecordType.{RecordType}
 use Rattle.ob_obj.specs.declared.parts.Command.{Command}
-use Rattle.ob_obj.specs.Grammar.{by_name, variable, by_variable, base_form, definition, by_number, IsRecord, record_parts, record_type, by_type, command, by_command, base_stands, bases_stand, has_procedures}
+use Rattle.ob_obj.specs.Grammar.{by_name, variable, by_variable, base_form, definition, by_number, record_parts, record_type, by_type, command, by_command, base_stands, bases_stand, has_procedures}
 use Rattle.ob_code.specs.Numbers.{same_type, number_among, with_one}
 use Rattle.ob_code.specs.Context.{is_own, variable_place, type_index, own_types, records_among, is_record}
 use Rattle.ob_code.specs.Object.{is_seen, is_full, is_free, own, seen_variables, variables, commands_among, commands, is_bound_to, bound_number, definitions_among, definitions, base_type, base_in, record_in, records_in, with_base, with_record, with_bases}
-use Rattle.ob_written.specs.Trees.{IsNamed, VariableIsSpelled, ProcedureIsSpelled, TypedTypeIsSpelled}
-use Rattle.ob_written.specs.Coded.{RecordIsCoded}
-use Rattle.ob_written.specs.Lines.{HasRoom}
+use Rattle.ob_written.specs.Trees.{VariableIsSpelled, ProcedureIsSpelled, TypedTypeIsSpelled}
 use Rattle.ob_written.specs.Files.{BaseFits, DescBaseFits, number_behind, BasesFit, NumbersFit}
-use Rattle.ob_written.proofs.Lists.{all_map, all_joined, all_in_order, order_strict, both_all}
+use Rattle.ob_written.proofs.Lists.{all_map, all_joined, all_in_order, order_strict}
 use Rattle.ob_written.proofs.Names.{name_fits}
 use Rattle.ob_written.proofs.Sizes.{eq_itself}
-use Rattle.ob_written.proofs.Numbered.{TypeIsNamed, among_few, one_few, with_one_all, with_one_more}
+use Rattle.ob_written.proofs.Numbered.{TypeIsNamed, one_few, with_one_all}
 
 definitions_total : IsTotalOrder by_number
 definitions_total = on_total (λ d. d.number) nat_cmp_total

@@ -1,5 +1,5 @@
 -- The small pieces of code have a spelling.
-use Rattle.std.proofs.Common.{◌≡◌, ℕ, zero, suc, ◌+◌, ◌-◌, ◌<◌, ◌≤◌, ◌^◌, Bool, true, false, List, [], ◌∷◌, ◌++◌, length, Option, Some, None, refl, sym, ap, subst, ◌∙◌, arith}
+use Rattle.std.proofs.Common.{◌≡◌, ℕ, suc, ◌-◌, ◌<◌, ◌≤◌, ◌^◌, Bool, true, false, List, length, Option, Some, None, refl, arith}
 use Rattle.std.specs.Prelude.{ℤ, pos, negsuc, nat_lt, if◌then◌else◌, IfSome, FitsSigned}
 use Rattle.std.specs.Int.{w32}
 use Rattle.ob_tree.specs.declared.pos.Pos.{Pos}
@@ -28,16 +28,15 @@ use Rattle.ob_types.specs.declared.typed.Guarded.{Guarded}
 use Rattle.ob_types.specs.declared.typed.Guarded.TheVariants as guarded
 use Rattle.ob_types.specs.declared.typed.Callee.{Callee}
 use Rattle.ob_types.specs.declared.typed.Callee.TheVariants as callee
-use Rattle.ob_types.specs.TypedSyntax.{Expr, Constant, Actuals, NoActual, AnActual}
-use Rattle.ob_instr.specs.declared.opcode.Opcode.{Opcode}
+use Rattle.ob_types.specs.TypedSyntax.{Constant, Actuals, NoActual, AnActual}
 use Rattle.ob_instr.specs.declared.opcode.Opcode.TheVariants as op
 use Rattle.ob_code.specs.declared.want.Want.{Want}
 use Rattle.ob_code.specs.declared.want.Want.TheVariants as want
-use Rattle.ob_code.specs.Lines.{Operand, Number, StringHere, OtherVariable, OtherProcedure, OtherType, Line, none, plain, placed, placed_two, count, bare, bare_at}
+use Rattle.ob_code.specs.Lines.{Number, StringHere, OtherVariable, OtherProcedure, OtherType, none, plain, placed, count, bare, bare_at}
 use Rattle.ob_code.specs.Context.{Context, words, is_own, variable_place, parameter_slot, local_slot, procedure_index, type_index, own_types, type_operand, named_operand, record_operand}
-use Rattle.ob_code.specs.Descriptions.{own_name, elements_of, field_place, method_number}
-use Rattle.ob_code.specs.Operations.{bytes_of, set_word, truth_word, word_of, unary_code, comparison_code, binary_line, relation_number, out_number, update_line}
-use Rattle.ob_code.specs.Expressions.{first_word, both_words, second_word, string_line, text_code, constant_code, behind_guard, pair_code, length_operand, measured_behind, words_of_actuals, words_behind_receiver, from_place, from_pointer, index_line, guard_line, from_guard, own_place, held_place, parameter_code, module_line, variable_code, procedure_line, declared_line, call_line}
+use Rattle.ob_code.specs.Descriptions.{own_name, elements_of}
+use Rattle.ob_code.specs.Operations.{bytes_of, set_word, truth_word, unary_code, comparison_code, binary_line, relation_number, out_number, update_line}
+use Rattle.ob_code.specs.Expressions.{string_line, text_code, constant_code, behind_guard, pair_code, length_operand, measured_behind, words_of_actuals, words_behind_receiver, from_place, from_pointer, index_line, guard_line, from_guard, own_place, held_place, parameter_code, module_line, variable_code, procedure_line, declared_line, call_line}
 use Rattle.ob_written.specs.Coded.{PosFits, ConstantIsCoded, OtherNames, ProcedureIsCoded, VariableIsCoded, RecordIsCoded, TypeIsCoded, CalleeIsCoded}
 use Rattle.ob_written.specs.Lines.{OperandFits, LineFits, LinesFit, HasRoom, RoomFits}
 use Rattle.ob_written.proofs.Lines.{word_fits, count_fits, none_fits, names_one, plain_fits, placed_fits, two_fit}

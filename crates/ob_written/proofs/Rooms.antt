@@ -1,5 +1,5 @@
 -- What code looks up in a module has room.
-use Rattle.std.proofs.Common.{◌≡◌, ℕ, zero, suc, ◌+◌, ◌<◌, ◌≤◌, ◌^◌, Bool, true, false, cond, List, [], ◌∷◌, length, map, Option, Some, None, refl, sym, ap, subst, ◌∙◌, arith}
+use Rattle.std.proofs.Common.{◌≡◌, ℕ, zero, suc, ◌+◌, ◌<◌, ◌≤◌, ◌^◌, Bool, true, false, cond, List, [], ◌∷◌, length, Option, Some, None, refl, subst, ◌∙◌, arith}
 use Rattle.std.specs.Prelude.{if◌then◌else◌, unwrap_or, bytes_eq}
 use Rattle.std.specs.Option.{option_map}
 use Rattle.std.specs.List.{AllByRecursion}
@@ -11,24 +11,18 @@ use Rattle.ob_types.specs.declared.desc.Desc.TheVariants as desc
 use Rattle.ob_types.specs.declared.desc.RecordDesc.{RecordDesc}
 use Rattle.ob_types.specs.declared.desc.Field.{Field}
 use Rattle.ob_types.specs.declared.desc.Method.{Method}
-use Rattle.ob_types.specs.declared.typed.TypedType.{TypedType}
-use Rattle.ob_types.specs.declared.typed.TypedVariable.{TypedVariable}
-use Rattle.ob_types.specs.declared.typed.TypedParameter.{TypedParameter}
 use Rattle.ob_types.specs.Tests.{target, shape_at}
 use Rattle.ob_types.specs.TypedSyntax.{Procedure, Module}
 use Rattle.ob_desc.specs.Grammar.{field, method, IsSpelled as HasTexts}
 use Rattle.ob_layout.specs.Lists.{or_else, sum_of}
 use Rattle.ob_layout.specs.Words.{words_of}
-use Rattle.ob_layout.specs.LaidOut.{type_named, is_own, viewed}
-use Rattle.ob_layout.specs.Room.{slots, variable_words, frame_words, hidden_of_all}
-use Rattle.ob_layout.specs.Members.{field_named, method_named, from_base, nearest_in, nearest, field_in_record, method_in_record, field_in, field_place_in, method_in, method_number_in}
+use Rattle.ob_layout.specs.Room.{slots, variable_words, frame_words}
+use Rattle.ob_layout.specs.Members.{field_named, method_named, from_base, nearest_in, nearest, field_in_record, method_in_record, field_in, method_in}
 use Rattle.ob_code.specs.Descriptions.{description, elements_in, elements_of, field_place, method_number}
-use Rattle.ob_code.specs.Context.{Context, before, records_among, variable_place, parameter_slot, all_slots, local_slot, local_words, procedure_index, records, type_index, own_types}
+use Rattle.ob_code.specs.Context.{before, records, own_types}
 use Rattle.ob_code.specs.Procedures.{within}
-use Rattle.ob_written.specs.Trees.{TypeIsSpelled, TypedTypeIsSpelled, IsLaid}
+use Rattle.ob_written.specs.Trees.{TypeIsSpelled, IsLaid}
 use Rattle.ob_written.specs.Lines.{HasRoom}
-use Rattle.ob_written.proofs.Lists.{all_map}
-use Rattle.ob_written.proofs.Sizes.{named_has}
 
 -- ---- descriptions whose numbers have room
 

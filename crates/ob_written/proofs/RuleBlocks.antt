@@ -1,6 +1,6 @@
 -- Declarations in their order, procedures, and modules: names and types that have a spelling.
-use Rattle.std.proofs.Common.{◌≡◌, ℕ, Bool, true, false, cond, List, [], ◌∷◌, ◌++◌, map, Option, Some, None, refl, sym, ap, subst, ◌∙◌, codes}
-use Rattle.std.specs.Prelude.{bytes_eq, ◌&&◌, IfSome}
+use Rattle.std.proofs.Common.{◌≡◌, ℕ, Bool, true, false, List, [], ◌∷◌, ◌++◌, map, Option, Some, None, refl, sym, subst, ◌∙◌, codes}
+use Rattle.std.specs.Prelude.{bytes_eq}
 use Rattle.std.specs.List.{AllByRecursion, cons_option, find, filter_map}
 use Rattle.std.proofs.lemmas.Bool.{false≢true, and_parts}
 use Rattle.ob_tree.specs.declared.names.QName.{QName}
@@ -12,14 +12,13 @@ use Rattle.ob_tree.specs.declared.ident.Qualident.{Qualident}
 use Rattle.ob_tree.specs.declared.decl.Decl.{Decl, roll-Decl, map-Decl}
 use Rattle.ob_tree.specs.declared.decl.Decl.TheOpen.{Decl-F}
 use Rattle.ob_tree.specs.declared.decl.Decl.TheFolds.{ind-Decl, fold-roll-Decl}
-use Rattle.ob_tree.specs.declared.decl.Module.{Module as Tree}
-use Rattle.ob_types.specs.declared.types.TypeRef.TheVariants as ref
 use Rattle.ob_types.specs.declared.desc.Desc.{Desc}
 use Rattle.ob_types.specs.declared.desc.Receiver.{Receiver}
 use Rattle.ob_types.specs.declared.desc.Receiver.TheVariants as receiver
 use Rattle.ob_types.specs.declared.value.Value.{Value}
+use Rattle.ob_types.specs.declared.value.Value.TheVariants as literal
+use Rattle.ob_tree.specs.declared.pos.Pos.{Pos}
 use Rattle.ob_types.specs.declared.typed.TypedType.{TypedType}
-use Rattle.ob_types.specs.declared.typed.TypedParameter.{TypedParameter}
 use Rattle.ob_types.specs.declared.typed.TypedModule.{TypedModule}
 use Rattle.ob_format.specs.Names.{is_object}
 use Rattle.ob_desc.specs.Grammar.{type_fits}
@@ -29,27 +28,27 @@ use Rattle.ob_rules.specs.declared.broken.Broken.{Broken}
 use Rattle.ob_rules.specs.declared.notes.Later.{Later}
 use Rattle.ob_rules.specs.Judged.{Judged, sound, both, ◌▷◌}
 use Rattle.ob_rules.specs.Shapes.{Map}
-use Rattle.ob_rules.specs.Names.{Around, map_of, in_unit, found_in_scope, predeclared}
+use Rattle.ob_rules.specs.Names.{Around, map_of, found_in_scope, predeclared}
 use Rattle.ob_rules.specs.Expressions.{phrase_of, constant_value}
 use Rattle.ob_rules.specs.Phrases.{Phrase}
 use Rattle.ob_rules.specs.Types.{Parameters, Typing, Written, written, is_module_level, marked, with_types}
 use Rattle.ob_rules.specs.Statements.{Judging, judging}
-use Rattle.ob_rules.specs.Headings.{BoundAs, Head, Heads, Binding, self_by, self_parameter, add_heading, heading_of, reversed, mark_or_hidden}
-use Rattle.ob_rules.specs.Declarations.{Contents, no_contents, together, Part, Declared, declare_if, declare, constant_contents, constant_entity, no_nil, constant_declared, equated, typing_as, types_made, type_entity, type_declared, variable_of, variable_entity, variable_contents, paired_typing, first_name, variables_with, made_in, variables_typed, variables_declared, Written_procedure, Declaration, Plain, Procedure, plain_of, procedure_of, type_name_of, in_order, headings_in_order, around_body, self_parameters, typed_procedure, types_of_head, procedure_contents, procedure_judged, procedures_judged, block_inside, with_bound, binding_at, block_bound, heads_later, block_headed, block_declared, block, decl_rule, declaration, import_entity, import_declared, target_of, is_system, imports_declared, around_module, module_of, described, all_described, typed_module, if_unbroken}
+use Rattle.ob_rules.specs.Headings.{BoundAs, Head, Heads, Binding, self_by, add_heading, reversed, mark_or_hidden}
+use Rattle.ob_rules.specs.Declarations.{Contents, no_contents, together, Part, Declared, declare_if, declare, constant_contents, constant_entity, no_nil, constant_declared, equated, typing_as, types_made, type_entity, type_declared, variable_entity, variable_contents, paired_typing, first_name, variables_with, made_in, variables_typed, variables_declared, Written_procedure, Declaration, Plain, Procedure, plain_of, procedure_of, type_name_of, in_order, headings_in_order, around_body, self_parameters, typed_procedure, types_of_head, procedure_contents, procedure_judged, procedures_judged, block_inside, with_bound, binding_at, block_bound, heads_later, block_headed, block_declared, block, decl_rule, declaration, import_entity, import_declared, target_of, is_system, imports_declared, around_module, module_of, described, all_described, typed_module, if_unbroken}
 use Rattle.ob_described.proofs.Nodes.{IfThere, Has, all_both, then_has, second_has}
 use Rattle.ob_written.specs.Trees.{IsNamed, VariableIsSpelled}
-use Rattle.ob_written.specs.Raw.{all_true, is_named, all_named, are_named, type_named, parameters_named, heading_named, decl_layer, decl_named, IsNamedTree}
-use Rattle.ob_written.specs.Ruled.{TypeNames, TypeOk, EntityOk, KnownOk, ShownOk, AroundOk, ConstantNamed, ProcedureTypes, ModuleOk, ModulesAreNamed}
+use Rattle.ob_written.specs.Raw.{all_true, is_named, all_named, are_named, type_named, parameters_named, heading_named, decl_layer, decl_named}
+use Rattle.ob_written.specs.Ruled.{IsValue, TypeOk, EntityOk, KnownOk, ShownOk, AroundOk, ConstantOk, ProcedureTypes, ModuleOk, ModulesAreNamed}
 use Rattle.ob_written.proofs.Names.{named_object}
 use Rattle.ob_written.proofs.RuleNames.{object_more, object_bytes, find_all}
-use Rattle.ob_written.proofs.RuleTypes.{AreOk, TypingOk, HasTyping, IsOk, AreOkSections, typed_around, ParametersOk}
+use Rattle.ob_written.proofs.RuleTypes.{AreOk, TypingOk, HasTyping, IsOk, typed_around, ParametersOk}
 use Rattle.ob_written.proofs.RuleWritten.{written_ok, written_parameters_ok}
 use Rattle.ob_written.proofs.RuleHeads.{BoundOk, HeadingOk, HeadOk, AreOkHeads, HeadsOk, add_ok, reversed_ok, bindings_ok}
 
 -- ---- what a part adds
 
 record ContentsOk (c : Contents) : Type 0 where
-  pub constants : AllByRecursion ConstantNamed c.constants
+  pub constants : AllByRecursion ConstantOk c.constants
   pub types : AreOk c.types
   pub variables : AllByRecursion VariableIsSpelled c.variables
   pub procedures : AllByRecursion ProcedureTypes c.procedures
@@ -63,7 +62,7 @@ ok_types ts h = record { constants = tt; types = h; variables = tt; procedures =
 
 ok_both : (a b : Contents) → ContentsOk a → ContentsOk b → ContentsOk (together a b)
 ok_both a b g h = record {
-  constants = all_both ConstantNamed a.constants b.constants g.constants h.constants;
+  constants = all_both ConstantOk a.constants b.constants g.constants h.constants;
   types = all_both TypeOk a.types b.types g.types h.types;
   variables = all_both VariableIsSpelled a.variables b.variables g.variables h.variables;
   procedures = all_both ProcedureTypes a.procedures b.procedures g.procedures h.procedures;
@@ -86,10 +85,22 @@ name_declared u g x e h = if_declared (found_in_scope u x.name) u g x e h
 
 -- ---- constants
 
-constants_ok : (b : Bool) (x : Ident) (p : Option (Mark × Value)) → IsNamed x.name → ContentsOk (constant_contents b x p)
-constants_ok true x None n = ok_none
-constants_ok true x (Some p) n = record { constants = (n, tt); types = tt; variables = tt; procedures = tt; bound = tt }
-constants_ok false x p n = ok_none
+value_ok : (at : Pos) (v : Value) → Has IsValue (no_nil at v)
+value_ok at (literal.Bool b) = tt
+value_ok at (literal.Char c) = tt
+value_ok at (literal.Int z) = tt
+value_ok at (literal.Set n) = tt
+value_ok at (literal.Str text) = tt
+value_ok at literal.Nil = tt
+
+any_value : (o : Option Value) → IfThere (λ v. Unit {0}) o
+any_value None = tt
+any_value (Some v) = tt
+
+constants_ok : (b : Bool) (x : Ident) (p : Option (Mark × Value)) → IsNamed x.name → IfThere (λ p. Unit {0} × IsValue p.1) p → ContentsOk (constant_contents b x p)
+constants_ok true x None n h = ok_none
+constants_ok true x (Some p) n h = record { constants = ((n, h.1), tt); types = tt; variables = tt; procedures = tt; bound = tt }
+constants_ok false x p n h = ok_none
 
 constant_known : (o : Option (Mark × Value)) → EntityOk (constant_entity o)
 constant_known None = tt
@@ -97,8 +108,10 @@ constant_known (Some p) = tt
 
 constant_ok : (d : IdentDef) (x : Phrase) → is_named d ≡ true → PlainOk (constant_declared d x)
 constant_ok d x n u g =
-    let j = both (marked u false d) (constant_value u x ▷ no_nil x.start) in
-    record { contents = constants_ok (is_module_level u) d.ident j.node n; around = name_declared u g d.ident (constant_entity j.node) (constant_known j.node) }
+    let v = constant_value u x ▷ no_nil x.start in
+    let h = then_has (λ v. Unit {0}) IsValue (constant_value u x) (no_nil x.start) (any_value (constant_value u x).node) (λ v k. value_ok x.start v) in
+    let j = both (marked u false d) v in
+    record { contents = constants_ok (is_module_level u) d.ident j.node n (second_has IsValue (marked u false d) v h); around = name_declared u g d.ident (constant_entity j.node) (constant_known j.node) }
 
 -- ---- types
 

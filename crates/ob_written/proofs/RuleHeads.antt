@@ -1,8 +1,8 @@
 -- Headings, and what is bound, have names and types that have a spelling.
 use Rattle.std.proofs.Common.{◌≡◌, ℕ, Bool, true, false, cond, List, [], ◌∷◌, ◌++◌, Option, Some, None, refl, sym, ap, subst, ◌∙◌, codes}
-use Rattle.std.specs.Prelude.{bytes_eq, ◌&&◌, nat_lt, IfSome}
+use Rattle.std.specs.Prelude.{bytes_eq, ◌&&◌, nat_lt}
 use Rattle.std.specs.List.{AllByRecursion, filter, find}
-use Rattle.std.proofs.lemmas.Bool.{false≢true, and_parts}
+use Rattle.std.proofs.lemmas.Bool.{and_parts}
 use Rattle.std.proofs.lemmas.Slice.Eq.{bytes_eq-Decides}
 use Rattle.ob_tree.specs.declared.pos.Pos.{Pos}
 use Rattle.ob_tree.specs.declared.names.QName.{QName}
@@ -22,12 +22,11 @@ use Rattle.ob_types.specs.Tests.{target, shape_at}
 use Rattle.ob_format.specs.Names.{is_object}
 use Rattle.ob_desc.specs.Grammar.{type_fits, signature}
 use Rattle.ob_rules.specs.declared.entity.Entity.{Entity}
-use Rattle.ob_rules.specs.declared.entity.Known.{Known}
-use Rattle.ob_rules.specs.Judged.{Judged, sound, both, ◌▷◌}
-use Rattle.ob_rules.specs.Shapes.{Map, Member, AField, AMethod, member, record_at, record_of, pointed, record_if, pointed_record, same_name}
+use Rattle.ob_rules.specs.Judged.{sound, both}
+use Rattle.ob_rules.specs.Shapes.{Map, Member, AField, AMethod, member, record_at, pointed, record_if, same_name}
 use Rattle.ob_rules.specs.Names.{Around, own_desc, type_desc, map_of, in_unit, type_named, out_string}
-use Rattle.ob_rules.specs.Types.{Parameters, Sections, with_types, is_module_level, marked, parameters_in, inner, knows}
-use Rattle.ob_rules.specs.Headings.{BoundAs, received_record, is_own, if_own, own_record, bound_to, silent_base, owner_of, owner_if, self_of, knows_receiver, WrittenHeading, Head, path_by, forward_name, bound_in, of_scope, as_parameters, head_from, heading_parameters, head_with, head_of, entity_as, head_entity, declared_head, knows_procedure, known_behind, Heads, name_twice, types_of, add_heading, counts, counted, signature_if, Binding, no_signature, signature_or_none, exported_mark, new_method, with_method, change_desc, changed_if, change_type, redefined, bind_method, bind_by, bind_one, bind_all, of_record, bind_records, reversed, bindings}
+use Rattle.ob_rules.specs.Types.{Parameters, with_types, is_module_level, marked, inner, knows}
+use Rattle.ob_rules.specs.Headings.{BoundAs, received_record, is_own, if_own, own_record, bound_to, owner_of, owner_if, knows_receiver, WrittenHeading, Head, path_by, forward_name, bound_in, as_parameters, heading_parameters, head_of, entity_as, head_entity, declared_head, knows_procedure, known_behind, Heads, name_twice, types_of, add_heading, counts, counted, signature_if, Binding, signature_or_none, exported_mark, new_method, with_method, change_desc, changed_if, change_type, redefined, bind_method, bind_by, bind_one, bind_all, of_record, bind_records, reversed, bindings}
 use Rattle.ob_described.specs.Described.{is_whole}
 use Rattle.ob_described.proofs.Nodes.{IfThere, Has, all_both, then_has, second_has}
 use Rattle.ob_written.specs.Trees.{IsNamed, MethodIsSpelled, RecordIsSpelled}
@@ -36,7 +35,7 @@ use Rattle.ob_written.specs.Ruled.{TypeNames, TypeOk, EntityOk, KnownOk, AroundO
 use Rattle.ob_written.proofs.Lists.{all_filtered, all_map}
 use Rattle.ob_written.proofs.Names.{named_object}
 use Rattle.ob_written.proofs.RuleNames.{object_more, object_bytes, type_has}
-use Rattle.ob_written.proofs.RuleTypes.{AreOk, AreOkSections, typed_around, ParametersOk, SectionsOk, parameters_ok, inner_around}
+use Rattle.ob_written.proofs.RuleTypes.{AreOk, AreOkSections, typed_around, ParametersOk, parameters_ok, inner_around}
 
 -- ---- the record that a receiver is of
 

@@ -1,6 +1,6 @@
 -- Derived names are names of objects, and a type that is named has a spelling.
-use Rattle.std.proofs.Common.{◌≡◌, ℕ, zero, suc, ◌<◌, Bool, true, false, cond, List, [], ◌∷◌, ◌++◌, Option, Some, None, refl, sym, ap, subst, ◌∙◌, arith, codes}
-use Rattle.std.specs.Prelude.{◌&&◌, ◌||◌, ◌/◌, ◌%◌, ◌==◌, if◌then◌else◌, bytes_eq, IfSome, pos}
+use Rattle.std.proofs.Common.{◌≡◌, ℕ, zero, suc, ◌<◌, Bool, true, false, cond, List, [], ◌∷◌, ◌++◌, Option, Some, None, refl, subst, arith, codes}
+use Rattle.std.specs.Prelude.{◌&&◌, ◌||◌, ◌/◌, ◌%◌, ◌==◌, if◌then◌else◌, bytes_eq, pos}
 use Rattle.std.specs.Fmt.{digit_glyph, digits_onto, digits, signed_decimal}
 use Rattle.std.specs.List.{list_all, list_any, find, AllByRecursion}
 use Rattle.std.specs.Char.{is_ascii_alphabetic, is_ascii_alphanumeric}
@@ -10,27 +10,23 @@ use Rattle.std.proofs.lemmas.Slice.Eq.{bytes_eq-Decides}
 use Rattle.ob_tree.specs.declared.pos.Pos.{Pos}
 use Rattle.ob_tree.specs.declared.names.QName.{QName}
 use Rattle.ob_tree.specs.declared.ident.Ident.{Ident}
-use Rattle.ob_tree.specs.declared.ident.Mark.{Mark}
-use Rattle.ob_tree.specs.declared.ident.Mark.TheVariants as mark
 use Rattle.ob_tree.specs.declared.ident.Qualident.{Qualident}
 use Rattle.ob_types.specs.declared.types.TypeRef.{TypeRef}
 use Rattle.ob_types.specs.declared.types.TypeRef.TheVariants as ref
 use Rattle.ob_types.specs.declared.desc.Desc.{Desc}
 use Rattle.ob_types.specs.declared.desc.Desc.TheVariants as desc
-use Rattle.ob_types.specs.declared.typed.TypedType.{TypedType}
 use Rattle.ob_types.specs.declared.typed.OutProcedure.{OutProcedure}
 use Rattle.ob_format.specs.Names.{is_object_byte, is_object}
 use Rattle.ob_desc.specs.Grammar.{type_fits}
 use Rattle.ob_rules.specs.declared.entity.Entity.{Entity}
 use Rattle.ob_rules.specs.declared.entity.Entity.TheVariants as entity
 use Rattle.ob_rules.specs.declared.entity.Known.{Known}
-use Rattle.ob_rules.specs.Judged.{Judged, ◌▷◌}
-use Rattle.ob_rules.specs.Names.{Around, in_unit, find_name, is_enclosing, variable_known, entity_known, shown_of, record_unless_hidden, export_known, exported, type_of_desc, out_type, out_procedure, type_in, type_of_entity, type_behind, unless_variable_is, unless_variable, type_by, type_named, is_out, is_among, is_declared}
+use Rattle.ob_rules.specs.Judged.{Judged}
+use Rattle.ob_rules.specs.Names.{Around, find_name, is_enclosing, variable_known, entity_known, shown_of, record_unless_hidden, export_known, exported, type_of_desc, out_type, out_procedure, type_in, type_of_entity, type_behind, unless_variable_is, unless_variable, type_by, type_named, is_out, is_among}
 use Rattle.ob_rules.specs.Types.{base_name, element_name, field_name, section_name, later_if, later_by, is_later}
 use Rattle.ob_described.proofs.Nodes.{IfThere, Has, then_has}
 use Rattle.ob_written.specs.Trees.{IsNamed}
 use Rattle.ob_written.specs.Ruled.{EntityOk, KnownOk, AroundOk}
-use Rattle.ob_written.proofs.Names.{named_object}
 
 pub both_true : (a b : Bool) → a ≡ true → b ≡ true → a && b ≡ true
 both_true true b e f = f

@@ -1,10 +1,9 @@
 -- What the rules make of types as they are written has a spelling.
-use Rattle.std.proofs.Common.{◌≡◌, ℕ, zero, suc, ◌+◌, ◌<◌, Bool, true, false, List, [], ◌∷◌, ◌++◌, length, map, Option, Some, None, refl, sym, subst, arith}
-use Rattle.std.specs.Prelude.{is_none, IfSome, pos, negsuc, ℤ, ◌&&◌}
+use Rattle.std.proofs.Common.{◌≡◌, ℕ, zero, suc, ◌+◌, ◌<◌, Bool, true, false, List, [], ◌∷◌, ◌++◌, length, map, Option, Some, None, refl, arith}
+use Rattle.std.specs.Prelude.{is_none, IfSome, pos, negsuc}
 use Rattle.std.specs.List.{AllByRecursion}
 use Rattle.std.proofs.lemmas.Bool.{and_parts}
 use Rattle.ob_tree.specs.declared.pos.Pos.{Pos}
-use Rattle.ob_tree.specs.declared.names.QName.{QName}
 use Rattle.ob_tree.specs.declared.ident.Ident.{Ident}
 use Rattle.ob_tree.specs.declared.ident.IdentDef.{IdentDef}
 use Rattle.ob_tree.specs.declared.ident.Mark.{Mark}
@@ -13,27 +12,25 @@ use Rattle.ob_tree.specs.declared.ident.Qualident.{Qualident}
 use Rattle.ob_types.specs.declared.types.Mode.{Mode}
 use Rattle.ob_types.specs.declared.types.TypeRef.{TypeRef}
 use Rattle.ob_types.specs.declared.types.TypeRef.TheVariants as ref
-use Rattle.ob_types.specs.declared.types.Signature.{Signature}
 use Rattle.ob_types.specs.declared.value.Value.{Value}
 use Rattle.ob_types.specs.declared.value.Value.TheVariants as literal
 use Rattle.ob_types.specs.declared.desc.Desc.TheVariants as desc
-use Rattle.ob_types.specs.declared.desc.Field.{Field}
 use Rattle.ob_types.specs.declared.typed.TypedType.{TypedType}
 use Rattle.ob_types.specs.declared.typed.TypedParameter.{TypedParameter}
 use Rattle.ob_desc.specs.Grammar.{type_fits, param, signature}
 use Rattle.ob_format.specs.Names.{is_object}
-use Rattle.ob_rules.specs.Judged.{Judged, Notes, sound, silent, both, made, noted, each_sound, wants, judge_later, ◌▷◌}
+use Rattle.ob_rules.specs.Judged.{Judged, sound, silent, both, made, noted, each_sound, wants, ◌▷◌}
 use Rattle.ob_rules.specs.Names.{Around, map_of, type_named, in_unit}
 use Rattle.ob_rules.specs.Phrases.{Phrase}
 use Rattle.ob_rules.specs.Expressions.{constant_value}
 use Rattle.ob_rules.specs.Shapes.{is_structured, is_pointer}
-use Rattle.ob_rules.specs.Types.{Typing, Written, typed_as, with_types, base_name, element_name, field_name, section_name, marked, named_typing, length_of, array_length, fixed_array, array, first_of, base_of, base_if, inherits, field_declared, field_if, fields_of, names_behind, WrittenFields, first_name, Fields, with_fields, field_lists, record_with, record_desc, pointer_to, base_judged, pointer_base, pointer_by, is_later, Parameters, WrittenSection, WrittenParameters, Sections, mode_of, parameter_as, knows, Named, declare_all, parameters_of, with_made, sections, result_fits, result_of, parameters_in, inner, procedure_type}
-use Rattle.ob_described.proofs.Nodes.{IfThere, Has, all_both, then_has, any_then, paired_has, both_have, second_has, also_has, unless_has, later_has}
+use Rattle.ob_rules.specs.Types.{Typing, Written, typed_as, with_types, base_name, element_name, field_name, section_name, marked, named_typing, length_of, array_length, fixed_array, array, first_of, base_of, base_if, inherits, field_declared, field_if, fields_of, names_behind, WrittenFields, first_name, Fields, with_fields, field_lists, record_with, record_desc, pointer_to, base_judged, pointer_base, pointer_by, Parameters, WrittenSection, WrittenParameters, Sections, mode_of, parameter_as, knows, Named, declare_all, parameters_of, with_made, sections, result_fits, result_of, parameters_in, inner, procedure_type}
+use Rattle.ob_described.proofs.Nodes.{IfThere, Has, all_both, then_has, any_then, paired_has, both_have, also_has, unless_has, later_has}
 use Rattle.ob_written.specs.Trees.{IsNamed, FieldIsSpelled}
 use Rattle.ob_written.specs.Raw.{is_named, all_named, are_named}
 use Rattle.ob_written.specs.Ruled.{TypeOk, KnownOk, AroundOk}
 use Rattle.ob_written.proofs.Names.{named_object}
-use Rattle.ob_written.proofs.RuleNames.{AreBytes, object_bytes, base_object, element_object, field_object, section_object, type_has, later_named}
+use Rattle.ob_written.proofs.RuleNames.{AreBytes, object_bytes, base_object, element_object, field_object, section_object, type_has}
 
 abbrev pub AreOk : List TypedType → Type 0
 AreOk ts = AllByRecursion TypeOk ts

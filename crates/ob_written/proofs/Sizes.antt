@@ -1,5 +1,5 @@
 -- How many bound procedures a record has at most, and what is laid out has sizes that have a spelling.
-use Rattle.std.proofs.Common.{◌≡◌, ℕ, zero, suc, ◌+◌, ◌*◌, ◌<◌, ◌≤◌, ◌^◌, Bool, true, false, cond, List, [], ◌∷◌, length, map, Option, Some, None, refl, sym, ap, subst, ◌∙◌, arith}
+use Rattle.std.proofs.Common.{◌≡◌, ℕ, zero, suc, ◌+◌, ◌*◌, ◌<◌, ◌≤◌, Bool, true, false, cond, List, [], ◌∷◌, length, map, Option, Some, None, refl, sym, ap, subst, ◌∙◌, arith}
 use Rattle.std.specs.Prelude.{bytes_eq}
 use Rattle.std.specs.List.{AllByRecursion, IsDistinct}
 use Rattle.std.proofs.lemmas.Slice.Eq.{bytes_eq-Decides}
@@ -13,9 +13,9 @@ use Rattle.ob_types.specs.declared.typed.TypedType.{TypedType}
 use Rattle.ob_types.specs.TypedSyntax.{Module}
 use Rattle.ob_desc.specs.Grammar.{by_place}
 use Rattle.ob_layout.specs.Words.{most_words}
-use Rattle.ob_layout.specs.LaidOut.{type_named, is_own, viewed, base_of, declared_procedures, counted, words_in, procedures_in, kept, placed, numbered, laid_type, laid_out}
+use Rattle.ob_layout.specs.LaidOut.{type_named, is_own, base_of, declared_procedures, counted, words_in, procedures_in, placed, numbered, laid_type, laid_out}
 use Rattle.ob_layout.specs.Room.{bound_procedures}
-use Rattle.ob_written.specs.Trees.{IsSmall, RecordIsLaid, IsLaid}
+use Rattle.ob_written.specs.Trees.{IsSmall, IsLaid}
 use Rattle.ob_written.proofs.Lists.{all_map, all_in_order, order_strict}
 use Rattle.ob_written.proofs.Laid.{places_total, kept_few, placed_few, few_small, numbers_below, numbers_rise}
 

@@ -1,17 +1,13 @@
 -- The code of statements has a spelling.
-use Rattle.std.proofs.Common.{◌≡◌, ℕ, zero, suc, ◌+◌, ◌<◌, ◌≤◌, ◌^◌, Bool, true, false, List, [], ◌∷◌, ◌++◌, length, Option, Some, None, refl, sym, ap, subst, ◌∙◌, arith, length-append}
-use Rattle.std.specs.Prelude.{max, IfSome, ℤ, pos, negsuc, FitsSigned}
-use Rattle.std.specs.Int.{w32}
+use Rattle.std.proofs.Common.{◌≡◌, ℕ, suc, ◌+◌, ◌<◌, ◌≤◌, ◌^◌, Bool, true, false, List, [], ◌∷◌, ◌++◌, Option, Some, None, refl, arith}
+use Rattle.std.specs.Prelude.{IfSome, ℤ, pos, negsuc}
 use Rattle.std.specs.List.{AllByRecursion}
 use Rattle.ob_tree.specs.declared.pos.Pos.{Pos}
 use Rattle.ob_tree.specs.declared.names.QName.{QName}
-use Rattle.ob_types.specs.declared.types.TypeRef.{TypeRef}
 use Rattle.ob_types.specs.declared.types.TypeRef.TheVariants as ref
 use Rattle.ob_types.specs.declared.types.Basic.TheVariants as basic
 use Rattle.ob_types.specs.declared.value.Value.{Value}
 use Rattle.ob_types.specs.declared.value.Value.TheVariants as literal
-use Rattle.ob_types.specs.declared.typed.Width.{Width}
-use Rattle.ob_types.specs.declared.typed.Variable.{Variable}
 use Rattle.ob_types.specs.declared.typed.Label.{Label}
 use Rattle.ob_types.specs.declared.typed.Assigned.{Assigned}
 use Rattle.ob_types.specs.declared.typed.Assigned.TheVariants as assigned
@@ -20,21 +16,19 @@ use Rattle.ob_types.specs.declared.typed.Made.TheVariants as made
 use Rattle.ob_types.specs.Tests.{target}
 use Rattle.ob_types.specs.TypedKinds.{variable_type}
 use Rattle.ob_types.specs.TypedSyntax.{Desig, Expr, Constant, ValueOf, ProcedureValue, Monadic, Dyadic, Logical, CompareTexts, IsPointer, IsRecord, Length, Call, CallVariable, Stmt, Assign, CallProper, Updated, Copy, New, NewOpenArray, Assert, Halt, If, Case, While, Repeat, For, Loop, Exit, Return, With, Stmts, Nothing, Then, Branches, NoBranch, Branch, Cases, NoCase, OneCase, Otherwise, NoElse, Else}
-use Rattle.ob_instr.specs.declared.opcode.Opcode.{Opcode}
 use Rattle.ob_instr.specs.declared.opcode.Opcode.TheVariants as op
 use Rattle.ob_layout.specs.Room.{hidden_words, hidden_of_all, hidden_of_branches, hidden_of_cases, hidden_of_else}
-use Rattle.ob_code.specs.declared.want.Want.{Want}
 use Rattle.ob_code.specs.declared.want.Want.TheVariants as want
-use Rattle.ob_code.specs.Lines.{Line, Number, none, count, plain, placed, placed_two, bare, bare_at, jump, jump_if_false, jump_back, jump_back_if_false, behind}
+use Rattle.ob_code.specs.Lines.{Number, none, count, plain, placed, bare, bare_at, jump, jump_if_false, jump_back, jump_back_if_false, behind}
 use Rattle.ob_code.specs.Context.{Context, words, type_operand}
 use Rattle.ob_code.specs.Operations.{bytes_of, update_line}
 use Rattle.ob_code.specs.Expressions.{end_desig, end_expr, desig_code, expr_code}
-use Rattle.ob_code.specs.Statements.{has_tag, record_want, target_want, source_want, text_words_of, text_words, copy_record, assign_line, new_line, for_place, for_value, within, end_for_test, end_for_step, end_label, label_code, end_labels, labels_code, end_result, result_code, end_stmt, end_stmts, end_branches, end_cases, end_else, next_stmt, next_stmts, next_branches, next_cases, next_else, stmt_code, stmts_code, branches_code, cases_code, else_code}
-use Rattle.ob_code.specs.Needs.{operands_of, label_operands, need_desig, need_expr, need_result, need_stmt, need_stmts, need_branches, need_cases, need_else}
+use Rattle.ob_code.specs.Statements.{has_tag, target_want, source_want, text_words, copy_record, assign_line, new_line, for_place, for_value, within, end_for_test, end_for_step, end_label, label_code, end_labels, labels_code, end_result, result_code, end_stmt, end_stmts, end_branches, end_cases, end_else, next_stmt, next_stmts, next_branches, next_cases, next_else, stmt_code, stmts_code, branches_code, cases_code, else_code}
+use Rattle.ob_code.specs.Needs.{need_result, need_stmt, need_stmts, need_branches, need_cases, need_else}
 use Rattle.ob_code.proofs.Ends.{behind_is, desig_ends, expr_ends, labels_end, stmt_ends, stmts_end, branches_end, cases_end, else_ends}
-use Rattle.ob_written.specs.Coded.{PosFits, ConstantIsCoded, LabelIsCoded, VariableIsCoded, RecordIsCoded, TypeIsCoded, DesigIsCoded, ExprIsCoded, AssignedIsCoded, MadeIsCoded, StmtIsCoded, StmtsAreCoded, BranchesAreCoded, CasesAreCoded, ElseIsCoded}
-use Rattle.ob_written.specs.Lines.{OperandFits, LineFits, LinesFit, HasRoom, RoomFits}
-use Rattle.ob_written.proofs.Lines.{word_fits, count_fits, none_fits, names_one, plain_fits, placed_fits, two_fit, jump_fits, jump_if_fits, back_fits, back_if_fits, lines_both}
+use Rattle.ob_written.specs.Coded.{PosFits, LabelIsCoded, RecordIsCoded, TypeIsCoded, ExprIsCoded, AssignedIsCoded, MadeIsCoded, StmtIsCoded, StmtsAreCoded, BranchesAreCoded, CasesAreCoded, ElseIsCoded}
+use Rattle.ob_written.specs.Lines.{LineFits, LinesFit, HasRoom, RoomFits}
+use Rattle.ob_written.proofs.Lines.{count_fits, none_fits, names_one, plain_fits, placed_fits, two_fit, jump_fits, jump_if_fits, back_fits, back_if_fits, lines_both}
 use Rattle.ob_written.proofs.Pieces.{load_fits, store_fits, local_fits, int_fits, inc_fits, update_fits, type_fits, variable_fits}
 use Rattle.ob_written.proofs.Exprs.{top, desig_lines, expr_lines}
 

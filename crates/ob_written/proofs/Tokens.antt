@@ -1,8 +1,8 @@
 -- A token that is an identifier has the text of one.
-use Rattle.std.proofs.Common.{◌≡◌, ℕ, zero, suc, ◌≤◌, Bool, true, false, cond, [], ◌∷◌, length, take, Option, Some, None, Result, Err, refl, sym, ap, ◌∙◌, arith}
+use Rattle.std.proofs.Common.{◌≡◌, ℕ, zero, suc, Bool, true, false, cond, [], ◌∷◌, length, take, Option, Some, None, Result, Err, refl, sym, ap, ◌∙◌}
 use Rattle.std.specs.Prelude.{◌&&◌, ◌||◌, ◌==◌, nat_le}
 use Rattle.std.specs.List.{list_all, AllByRecursion}
-use Rattle.std.proofs.lemmas.Bool.{false≢true, and_parts, leb-true}
+use Rattle.std.proofs.lemmas.Bool.{false≢true, and_parts}
 use Rattle.ob_tree.specs.declared.symbol.Symbol.{Symbol}
 use Rattle.ob_tree.specs.declared.symbol.Symbol.TheVariants as s
 use Rattle.ob_tree.specs.declared.token.Token.{Token}

@@ -1,9 +1,8 @@
 -- The uses of a module have a spelling, and rise.
-use Rattle.std.proofs.Common.{◌≡◌, ℕ, ◌<◌, ◌≤◌, ◌^◌, List, [], ◌∷◌, ◌++◌, length, map, take, Option, Some, None, refl, sym, ap, subst, ◌∙◌, arith, length-append, length-take}
+use Rattle.std.proofs.Common.{◌≡◌, ℕ, ◌<◌, ◌≤◌, ◌^◌, List, [], ◌∷◌, ◌++◌, length, map, take, Option, Some, None, refl, sym, ap, subst, arith, length-append, length-take}
 use Rattle.std.specs.Option.{option_map}
 use Rattle.std.specs.List.{AllByRecursion, flat_map}
 use Rattle.std.specs.List.Sorted.{IsStrictlySortedBy}
-use Rattle.std.specs.declared.cmp.Ordering.{Ordering}
 use Rattle.std.specs.declared.cmp.Ordering.TheVariants.{Less}
 use Rattle.sha2.specs.Sha256.{sha256}
 use Rattle.sha2.proofs.Facts256.{length-sha256}
@@ -15,7 +14,7 @@ use Rattle.ob_types.specs.declared.face.Use.{Use}
 use Rattle.ob_types.specs.Maps.{listed}
 use Rattle.ob_types.specs.Spelled.{aspect, print_form, use_form, by_object}
 use Rattle.ob_types.specs.TypedSyntax.{Module}
-use Rattle.ob_format.specs.Format.{list_of, rising, fixed, byte, ◌>>=◌}
+use Rattle.ob_format.specs.Format.{list_of, rising, byte, ◌>>=◌}
 use Rattle.ob_format.specs.Names.{qname}
 use Rattle.ob_desc.specs.Grammar.{text_of}
 use Rattle.ob_fprint.specs.Print.{print_from}
@@ -25,7 +24,7 @@ use Rattle.ob_uses.specs.Order.{by_pair, pairs_total}
 use Rattle.ob_uses.specs.Uses.{with_kept, shape_pairs, layout_pairs, pairs_of, uses_of}
 use Rattle.ob_counts.specs.Counts.{counts_of_module}
 use Rattle.ob_written.specs.Laws.{Text, IsSpelled}
-use Rattle.ob_written.proofs.Lists.{all_map, all_flat, all_each, all_joined, order_strict, flat_many}
+use Rattle.ob_written.proofs.Lists.{all_map, all_each, all_joined, order_strict, flat_many}
 use Rattle.ob_written.proofs.Names.{QNameFits, described_fits}
 
 abbrev pub as_print : Wanted Text → Wanted Print

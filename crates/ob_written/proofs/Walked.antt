@@ -1,11 +1,11 @@
 -- A walk leaves no interface of the module from which it starts.
-use Rattle.std.proofs.Common.{◌≡◌, ℕ, zero, suc, ◌+◌, Bool, true, false, cond, List, [], ◌∷◌, ◌++◌, length, Option, Some, None, refl, sym, ap, subst, ◌∙◌}
+use Rattle.std.proofs.Common.{◌≡◌, ℕ, zero, suc, ◌+◌, Bool, true, false, List, [], ◌∷◌, ◌++◌, length, refl, sym, ap, subst, ◌∙◌}
 use Rattle.std.specs.Prelude.{◌||◌, nat_le, bytes_eq}
-use Rattle.std.specs.List.{list_any, AllByRecursion}
+use Rattle.std.specs.List.{AllByRecursion}
 use Rattle.std.proofs.lemmas.Bool.{false≢true}
 use Rattle.std.proofs.lemmas.Slice.Eq.{bytes_eq-Decides}
 use Rattle.ob_env.specs.Faces.{Face}
-use Rattle.ob_walk.specs.Walk.{Entry, Missing, Junk, Holds, Walked, Left, NoInterface, Damaged, Cycle, TooMany, go_on, is_among, is_passed_over, importer_of, through, entered, at_entry, at_module, entering, visit, walk}
+use Rattle.ob_walk.specs.Walk.{Entry, Missing, Junk, Holds, Walked, Left, NoInterface, Damaged, Cycle, TooMany, go_on, is_among, is_passed_over, through, entered, at_entry, at_module, visit, walk}
 use Rattle.ob_written.specs.Laws.{Text}
 use Rattle.ob_written.specs.Seen.{AreNamedEntries}
 use Rattle.ob_written.proofs.Lists.{all_joined}
@@ -36,7 +36,7 @@ module _ (root : List ℕ) (find : List ℕ → Entry Text) (named : AreNamedEnt
   through_apart at k (m ∷ ms) left h = go_apart (at m left) (λ more. through at ms more) (k m left h) (λ more a. through_apart at k ms more a)
 
   -- a module that is not on the path is another one than the first
-  other : (path : List (List ℕ)) (m : List ℕ) → is_among root path ≡ true → is_among m path ≡ false → bytes_eq m root ≡ false
+  pub other : (path : List (List ℕ)) (m : List ℕ) → is_among root path ≡ true → is_among m path ≡ false → bytes_eq m root ≡ false
   other path m r n = go (bytes_eq m root) refl
     where
       go : (b : Bool) → bytes_eq m root ≡ b → b ≡ false
@@ -66,7 +66,7 @@ module _ (root : List ℕ) (find : List ℕ → Entry Text) (named : AreNamedEnt
       go true = refl
       go false = e
 
-  visit_apart : (n : ℕ) (path : List (List ℕ)) → is_among root path ≡ true → KeepsApart (visit find n path)
+  pub visit_apart : (n : ℕ) (path : List (List ℕ)) → is_among root path ≡ true → KeepsApart (visit find n path)
   unfolding visit
   visit_apart zero path r m left h = tt
   visit_apart (suc n) path r m left h =
@@ -75,7 +75,7 @@ module _ (root : List ℕ) (find : List ℕ → Entry Text) (named : AreNamedEnt
       (λ ms. through_apart (visit find n (m ∷ path)) (visit_apart n (m ∷ path) (among_more m path r)) ms left h)
       (λ f e. subst (λ (x : List ℕ). bytes_eq x root ≡ false) (named m f e) (other path m r o)))
 
-  itself : is_among root (root ∷ []) ≡ true
+  pub itself : is_among root (root ∷ []) ≡ true
   itself = ap (λ b. b || false) ((bytes_eq-Decides root root).1 refl)
 
   pub walk_apart : (imports : List (List ℕ)) → LeavesApart (walk find root imports)

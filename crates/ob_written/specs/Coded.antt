@@ -1,6 +1,6 @@
 -- What the rules have seen to of the statements of a module, so that their code has a spelling: numbers and positions have room, and
 -- names of other modules are names.
-use Rattle.std.specs.Prelude.{◌≡◌, ℕ, suc, ◌<◌, ◌^◌, List, [], ◌∷◌, length, Option, Some, None, IfSome, Bool, true, false, FitsSigned}
+use Rattle.std.specs.Prelude.{◌≡◌, ℕ, suc, ◌<◌, ◌^◌, List, length, Option, Some, IfSome, Bool, true, false, FitsSigned}
 use Rattle.std.specs.Int.{w32}
 use Rattle.std.specs.List.{AllByRecursion}
 use Rattle.ob_tree.specs.declared.pos.Pos.{Pos}
@@ -24,7 +24,7 @@ use Rattle.ob_types.specs.TypedSyntax.{Desig, OfVariable, Field, Index, Deref, G
 use Rattle.ob_format.specs.Names.{name, object_name}
 use Rattle.ob_code.specs.Context.{Context, words, is_own}
 use Rattle.ob_code.specs.Descriptions.{own_name}
-use Rattle.ob_code.specs.Procedures.{body_of, within}
+use Rattle.ob_code.specs.Procedures.{within}
 
 abbrev pub PosFits : Pos → Type 0
 PosFits at = (at.line < 2 ^ 32) × (at.col < 2 ^ 32)

@@ -29,7 +29,7 @@
 --   positions                line and column below 2^32 (Coded.PosFits; a source is at most most_source bytes); just where has_position
 --                            says: of the code scheme; EXIT stands in a LOOP (Coded.StmtIsCoded)
 -- No conjunct was found false of a valid build.
-use Rattle.std.specs.Prelude.{◌≡◌, ℕ, List, None, Option, Ok}
+use Rattle.std.specs.Prelude.{◌≡◌, ℕ, List, None}
 use Rattle.std.specs.List.{AllByRecursion}
 use Rattle.ob_sym.specs.Grammar.{face}
 use Rattle.ob_obj.specs.Grammar.{file}

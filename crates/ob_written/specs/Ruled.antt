@@ -1,15 +1,16 @@
 -- What the rules make of names and types, so that they have a spelling.
-use Rattle.std.specs.Prelude.{◌≡◌, ℕ, ◌<◌, List, [], ◌∷◌, ◌++◌, Option, Some, None, true, IfSome}
+use Rattle.std.specs.Prelude.{◌≡◌, ℕ, ◌<◌, List, ◌++◌, Option, Some, true, IfSome}
 use Rattle.std.specs.List.{AllByRecursion}
 use Rattle.ob_tree.specs.declared.names.QName.{QName}
 use Rattle.ob_tree.specs.declared.decl.Module.{Module as Tree}
 use Rattle.ob_types.specs.declared.types.TypeRef.TheVariants as ref
+use Rattle.ob_types.specs.declared.value.Value.{Value}
+use Rattle.ob_types.specs.declared.value.Value.TheVariants as literal
 use Rattle.ob_types.specs.declared.desc.Desc.{Desc}
 use Rattle.ob_types.specs.declared.desc.Desc.TheVariants as desc
 use Rattle.ob_types.specs.declared.typed.TypedConstant.{TypedConstant}
 use Rattle.ob_types.specs.declared.typed.TypedType.{TypedType}
 use Rattle.ob_types.specs.declared.typed.TypedProcedure.{TypedProcedure}
-use Rattle.ob_types.specs.declared.typed.TypedParameter.{TypedParameter}
 use Rattle.ob_types.specs.declared.typed.TypedModule.{TypedModule}
 use Rattle.ob_format.specs.Names.{is_object}
 use Rattle.ob_desc.specs.Grammar.{type_fits, signature}
@@ -55,8 +56,13 @@ pub record AroundOk (u : Around) : Type 0 where
   pub own : AllByRecursion TypeOk u.own
   pub shown : ShownOk u.shown
 
-abbrev pub ConstantNamed : TypedConstant → Type 0
-ConstantNamed c = IsNamed c.name
+-- not NIL
+abbrev pub IsValue : Value → Type 0
+IsValue literal.Nil = ⊥
+IsValue v = Unit {0}
+
+abbrev pub ConstantOk : TypedConstant → Type 0
+ConstantOk c = IsNamed c.name × IsValue c.value
 
 -- the types of parameters and of the result
 pub record ProcedureTypes (p : TypedProcedure) : Type 0 where
@@ -64,7 +70,7 @@ pub record ProcedureTypes (p : TypedProcedure) : Type 0 where
   pub result : IfSome p.result type_fits
 
 pub record ModuleOk (m : TypedModule) : Type 0 where
-  pub constants : AllByRecursion ConstantNamed m.constants
+  pub constants : AllByRecursion ConstantOk m.constants
   pub types : AllByRecursion TypeOk m.types
   pub variables : AllByRecursion VariableIsSpelled m.variables
   pub procedures : AllByRecursion ProcedureTypes m.procedures

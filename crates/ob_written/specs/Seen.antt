@@ -1,11 +1,13 @@
 -- What is still to be seen of a checked module, and the law of what compiles.
-use Rattle.std.specs.Prelude.{◌≡◌, ℕ, ◌+◌, ◌<◌, ◌^◌, List, [], ◌∷◌, length, map, Option, Some, true, false, Ok, bytes_eq}
+use Rattle.std.specs.Prelude.{◌≡◌, ℕ, ◌<◌, ◌^◌, List, length, map, Option, true, false, Ok, bytes_eq}
 use Rattle.std.specs.List.{AllByRecursion, IsDistinct}
 use Rattle.ob_tree.specs.declared.names.QName.{QName}
 use Rattle.ob_types.specs.declared.types.TypeRef.TheVariants as ref
+use Rattle.ob_types.specs.declared.value.Value.{Value}
+use Rattle.ob_types.specs.declared.value.Value.TheVariants as literal
 use Rattle.ob_types.specs.declared.desc.Desc.{Desc}
 use Rattle.ob_types.specs.declared.desc.Desc.TheVariants as desc
-use Rattle.ob_types.specs.TypedSyntax.{Procedure, Module}
+use Rattle.ob_types.specs.TypedSyntax.{Module}
 use Rattle.ob_desc.specs.Grammar.{value_fits}
 use Rattle.ob_layout.specs.LaidOut.{viewed}
 use Rattle.ob_env.specs.Faces.{Face, described}
@@ -27,6 +29,11 @@ abbrev pub LengthFits : Desc → Type 0
 LengthFits (desc.Array m n t) = n < 2 ^ 31
 LengthFits d = Unit {0}
 
+-- a value of its type; of NIL nothing is asked
+abbrev pub ValueFits : Value → Type 0
+ValueFits literal.Nil = Unit {0}
+ValueFits v = value_fits v
+
 -- WHAT IS STILL TO BE SEEN of a module that is laid out, by its descriptions
 module _ (types : QName → Option Desc) (m : Module) where
   pub record IsSeen : Type 0 where
@@ -35,7 +42,7 @@ module _ (types : QName → Option Desc) (m : Module) where
     pub differ : IsDistinct bytes_eq (map (λ t. t.name) m.types)
     -- array lengths and constants are of LONGINT
     pub lengths : AllByRecursion (λ t. LengthFits t.desc) m.types
-    pub constants : AllByRecursion (λ c. value_fits c.value) m.constants
+    pub constants : AllByRecursion (λ c. ValueFits c.value) m.constants
     -- procedures that others see are named by identifiers
     pub procedures : AllByRecursion (λ p. is_exported p ≡ true → IsNamed p.name) m.procedures
     -- the chains of own types end
