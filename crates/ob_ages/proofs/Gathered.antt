@@ -1,7 +1,8 @@
 -- Builds that go together, taken afresh.
-use Rattle.std.proofs.Common.{◌≡◌, ℕ, List, [], ◌∷◌, ◌++◌, Bool, true, false, refl, sym, ap, ◌∙◌, subst, append_assoc, Option, Some, None, Result, Ok, Err}
-use Rattle.std.specs.Prelude.{map, nat_le, length, Contains}
+use Rattle.std.proofs.Common.{◌≡◌, ℕ, zero, suc, ◌<◌, arith, codes, List, [], ◌∷◌, ◌++◌, Bool, true, false, refl, sym, ap, ◌∙◌, subst, append_assoc, Option, Some, None, Result, Ok, Err}
+use Rattle.std.specs.Prelude.{map, nat_le, length, Contains, slice_index_or}
 use Rattle.std.specs.List.{AllByRecursion}
+use Rattle.std.proofs.lemmas.Bool.{false≢true}
 use Rattle.std.proofs.lemmas.List.{append-nil}
 use Rattle.ob_tree.specs.declared.names.QName.{QName}
 use Rattle.ob_tree.specs.declared.decl.Module.{Module as Tree}
@@ -11,12 +12,14 @@ use Rattle.ob_desc.specs.Grammar.{text_of}
 use Rattle.ob_types.specs.TypedSyntax.{Module}
 use Rattle.ob_env.specs.Faces.{Face, Wanted, face_named, object_named, text_in}
 use Rattle.ob_walk.specs.Walk.{Entry}
+use Rattle.ob_rules.specs.Names.{is_out}
 use Rattle.ob_reading.specs.Reading.{NoModule, reading}
 use Rattle.ob_compile.specs.Compiling as c
-use Rattle.ob_compile.specs.Compiling.{Compiled, Refusal, compiled, texts, by_rules, of_reading, of_short, most_source}
+use Rattle.ob_compile.specs.Compiling.{Compiled, compiled, texts, of_reading, of_short, most_source}
 use Rattle.ob_ages.specs.Builds.{Text, Build, IsSpelled, IsValid, of, shows_of, tree_of, name_of}
-use Rattle.ob_ages.specs.Laws.{Together, IsBehind, AreTogether, AreAround, AreAsWanted, IsSame, Locality, Afresh, BuildsAreWritten, and_one, on_reading, of_source, and_all, taken_afresh}
-use Rattle.ob_ages.proofs.Compiled.{err_no}
+use Rattle.ob_ages.specs.Laws.{Together, IsBehind, AreTogether, AreAround, AreAsWanted, Locality, Afresh, BuildsAreWritten, and_one, on_reading, of_source, and_all, taken_afresh}
+use Rattle.ob_ages.proofs.Apart.{build_apart}
+use Rattle.ob_ages.proofs.Compiled.{Comes, comes, err_no}
 use Rattle.ob_ages.proofs.Stood.{of_is}
 use Rattle.ob_ages.proofs.Kept.{none_no}
 use Rattle.ob_ages.proofs.Again.{extends_more}
@@ -71,9 +74,32 @@ all_last : {A : Type 0} (P : A → Type 0) (xs : List A) (x : A) → AllByRecurs
 all_last P [] x h p = (p, tt)
 all_last P (y ∷ ys) x h p = (h.0, all_last P ys x h.1 p)
 
+-- ---- none is named Out
+
+abbrev IsNotOut : Face Text → Type 0
+IsNotOut f = is_out f.«module» ≡ false
+
+none_out : (fs : List (Face Text)) → AllByRecursion IsNotOut fs → (n : ℕ) → n < length fs → slice_index_or (map (λ (f : Face Text). f.«module») fs) n (codes "Out") ≡ codes "Out" → ⊥
+none_out [] h n k e = omega (arith, k)
+none_out (f ∷ fs) h zero k e = false≢true (sym h.0 ∙ ap is_out e)
+none_out (f ∷ fs) h (suc n) k e = none_out fs h.1 n (omega (arith, k)) e
+
+mapped_length : (fs : List (Face Text)) → length (map (λ (f : Face Text). f.«module») fs) ≡ length fs
+mapped_length [] = refl
+mapped_length (f ∷ fs) = ap suc (mapped_length fs)
+
+not_there : (fs : List (Face Text)) → AllByRecursion IsNotOut fs → Contains (map (λ (f : Face Text). f.«module») fs) (codes "Out") → ⊥
+not_there fs h c = none_out fs h c.0 (subst (λ n. c.0 < n) (mapped_length fs) c.1) c.2
+
+build_named : (b : Build) (c : Compiled Text) → IsValid b c → IsNotOut c.shows
+build_named b c v =
+    let h : Comes texts c = comes texts _ (Some b.source) c v.is in
+    subst (λ n. is_out n ≡ false) (subst (λ (x : Compiled Text). x.tree.name ≡ x.shows.«module») (sym h.is) refl) (build_apart b c v).out
+
 record Standing (before : List Build) : Type 0 where
   spelled : AllByRecursion IsSpelled (map shows_of before)
   met : AllByRecursion (λ f. AreAsWanted (map shows_of before) f.uses) (map shows_of before)
+  named : AllByRecursion IsNotOut (map shows_of before)
 
 stand_more : BuildsAreWritten → (before : List Build) (b : Build) → Standing before → IsBehind before b → Standing (before ++ b ∷ [])
 stand_more written before b s h =
@@ -87,6 +113,7 @@ stand_more written before b s h =
     record {
       spelled = subst (λ gs. AllByRecursion IsSpelled gs) e spelled;
       met = subst (λ gs. AllByRecursion (λ f. AreAsWanted gs f.uses) gs) e met;
+      named = subst (AllByRecursion IsNotOut) e (all_last IsNotOut fs (shows_of b) s.named (subst IsNotOut o (build_named b x h.valid.1)));
     }
 
 names_of : (bs : List Build) → map (λ (f : Face Text). f.«module») (map shows_of bs) ≡ map name_of bs
@@ -102,6 +129,7 @@ one_more locality before b s h =
     let around : AreAround x.shows.«module» (map shows_of before) = record {
       spelled = s.spelled;
       other = λ c. h.new (subst (λ ns. Contains ns (name_of b)) (names_of before) (subst (Contains (map (λ (f : Face Text). f.«module») (map shows_of before))) (ap (λ (y : Compiled Text). y.shows.«module») (sym o)) c));
+      out = not_there (map shows_of before) s.named;
       met = s.met;
     } in
     let d = locality b x m.0 v m.1 (map shows_of before) around (subst (λ (f : Face Text). AreAsWanted (map shows_of before) f.uses) (ap (λ (y : Compiled Text). y.shows) o) h.uses) in
@@ -127,4 +155,4 @@ all_more written locality (b ∷ bs) before s h =
     ∙ ap (λ xs. Some (gathered xs)) (append_assoc before (b ∷ []) bs)
 
 pub afresh_so : BuildsAreWritten → Locality → Afresh
-afresh_so written locality bs h = all_more written locality bs [] (record { spelled = tt; met = tt }) h
+afresh_so written locality bs h = all_more written locality bs [] (record { spelled = tt; met = tt; named = tt }) h

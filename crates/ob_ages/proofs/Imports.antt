@@ -1,5 +1,5 @@
 -- The imports of a module that is read are named by identifiers.
-use Rattle.std.proofs.Common.{◌≡◌, ℕ, suc, true, List, [], ◌∷◌, ◌++◌, length, Option, Some, None, Result, Ok, Err, refl, sym, ap, subst}
+use Rattle.std.proofs.Common.{◌≡◌, ℕ, suc, true, List, [], ◌∷◌, length, Option, Some, None, Result, Ok, Err, refl, sym, ap, subst}
 use Rattle.std.specs.Prelude.{map as each}
 use Rattle.std.specs.List.{AllByRecursion}
 use Rattle.ob_tree.specs.declared.symbol.Symbol.{Symbol}
@@ -22,24 +22,8 @@ use Rattle.ob_reading.specs.Reading.{NoModule, fault_of, parsed, by_fault, readi
 use Rattle.ob_compile.specs.Compiling.{target_of, imported}
 use Rattle.ob_lines.specs.Lines.{is_identifier}
 use Rattle.ob_ages.specs.Named.{AreIdentifiers, ImportsAreNamed}
-use Rattle.ob_ages.proofs.Tokens.{is_name, IsNamed, tokens_named}
-
-abbrev AreNamed : Tokens → Type 0
-AreNamed ts = AllByRecursion IsNamed ts
-
-left : (a b ts : Tokens) → ts ≡ a ++ b → AreNamed ts → AreNamed a
-left a b ts e all = go a (subst AreNamed e all)
-  where
-    go : (a : Tokens) → AreNamed (a ++ b) → AreNamed a
-    go [] all = tt
-    go (t ∷ a) all = (all.0, go a all.1)
-
-right : (a b ts : Tokens) → ts ≡ a ++ b → AreNamed ts → AreNamed b
-right a b ts e all = go a (subst AreNamed e all)
-  where
-    go : (a : Tokens) → AreNamed (a ++ b) → AreNamed b
-    go [] all = all
-    go (t ∷ a) all = go a all.1
+use Rattle.ob_said.proofs.Tokens.{is_name, tokens_named}
+use Rattle.ob_said.proofs.Texts.{AreNamed, left, right}
 
 abbrev IsNamedImport : Import → Type 0
 IsNamedImport i = is_identifier (imported i) ≡ true

@@ -1,40 +1,40 @@
 -- What a load is told of valid builds.
-use Rattle.std.proofs.Common.{◌≡◌, ℕ, ◌≤◌, List, [], ◌∷◌, ◌++◌, map, length, Bool, true, false, cond, not, refl, sym, ap, ◌∙◌, subst, Option, Some, None, Result, Ok, Err, inl, inr}
+use Rattle.std.proofs.Common.{◌≡◌, ℕ, ◌≤◌, List, [], ◌∷◌, map, length, Bool, true, false, cond, not, refl, sym, ap, ◌∙◌, subst, Option, Some, None, inl}
 use Rattle.std.specs.Prelude.{nat_le, bytes_eq, Contains, ◌⊎◌}
 use Rattle.std.specs.List.{AllByRecursion}
 use Rattle.std.proofs.lemmas.Bool.{false≢true, leb-true}
-use Rattle.ob_tree.specs.declared.print.Print.{Print}
 use Rattle.ob_tree.specs.declared.which.Which.{Which}
 use Rattle.ob_tree.specs.declared.names.QName.{QName}
 use Rattle.ob_types.specs.declared.face.Aspect.{Aspect}
 use Rattle.ob_fprint.specs.Print.{print_from}
-use Rattle.ob_obj.specs.declared.file.ObjFile.{ObjFile}
 use Rattle.ob_layout.specs.LaidOut.{viewed}
 use Rattle.ob_layout.specs.Room.{above, first_of, first_limit, limits, globals_words}
-use Rattle.ob_env.specs.Faces.{Face, Wanted, described, text_in}
+use Rattle.ob_env.specs.Faces.{Wanted, described, text_in}
 use Rattle.ob_uses.specs.Made.{face_of_laid}
 use Rattle.ob_link.specs.Walk as walk
 use Rattle.ob_link.specs.Walk.{first_of as first_refusal}
 use Rattle.ob_link.specs.Plan.{Asks, most_globals, named, kept_by, present, use_against, use_fails}
 use Rattle.ob_link.specs.Files as files
-use Rattle.ob_compile.specs.Compiling.{Compiled, Refusal, texts, or_first, limit_of_operands, exceeds, exports_of, interface_by}
-use Rattle.ob_planned.specs.Alike.{FindsAlike, AreMet, AreAskedAlike}
+use Rattle.ob_compile.specs.Compiling.{Compiled, texts, or_first, limit_of_operands, exceeds, exports_of, interface_by}
+use Rattle.ob_planned.specs.Alike.{FindsAlike, AreAskedAlike}
 use Rattle.ob_types.specs.Maps.{is_type}
-use Rattle.ob_planned.specs.Compiled.{AreApart, IsKnown, AreLinksUsed, AreProceduresNamed, asks_by, text_shown}
+use Rattle.ob_planned.specs.Compiled.{IsKnown, AreLinksUsed, AreProceduresNamed, asks_by}
 use Rattle.ob_planned.specs.Laws.{IsMarked}
 use Rattle.ob_planned.proofs.Checked.{compiled_marked}
 use Rattle.ob_planned.proofs.Fitting.{names_spelled}
 use Rattle.ob_planned.proofs.Instance.{compiled_alike}
 use Rattle.ob_planned.proofs.Links.{links_named}
-use Rattle.ob_ages.specs.Builds.{Text, Build, IsValid, compiled_of, or_none, of, shows_of, name_of, file_of, asks}
+use Rattle.ob_ages.specs.Builds.{Text, Build, IsValid, of, shows_of, name_of, file_of, asks}
 use Rattle.ob_ages.specs.Library.{Library}
-use Rattle.ob_ages.specs.Laws.{Apart, IsTextOfBuild, AreAsWanted, BuildsAreWritten}
+use Rattle.ob_ages.specs.Laws.{Apart, AreAsWanted, BuildsAreWritten}
 use Rattle.ob_ages.specs.Headline.{IsIn}
 use Rattle.ob_ages.specs.Composing.{IsTextIn}
 use Rattle.ob_ages.proofs.Compiled.{Comes, comes}
 use Rattle.ob_ages.proofs.Stood.{of_is}
 use Rattle.ob_ages.proofs.Kept.{uses_kept, kept_text}
-use Rattle.ob_ages.specs.Loads.{IsSaid, BuildsAreSaid}
+use Rattle.ob_ages.specs.Loads.{BuildsAreLinked}
+use Rattle.ob_ages.proofs.Apart.{build_apart}
+use Rattle.ob_said.specs.Named.{AreNamedApart}
 
 -- ROOM
 
@@ -66,17 +66,17 @@ all_texts : (l : Library) (loaded : List Build) (b : Build) (c : Compiled Text) 
 all_texts l loaded b c v i [] h = tt
 all_texts l loaded b c v i (u ∷ us) h = ((b, i, kept_text b c v u h.0), all_texts l loaded b c v i us h.1)
 
-known : BuildsAreWritten → BuildsAreSaid → (l : Library) (loaded : List Build) (b : Build) (c : Compiled Text) → IsValid b c → IsIn l b ⊎ Contains loaded b → IsKnown (IsTextIn l loaded) (of b)
-known written said l loaded b c v i =
+known : BuildsAreWritten → (l : Library) (loaded : List Build) (b : Build) (c : Compiled Text) → IsValid b c → IsIn l b ⊎ Contains loaded b → IsKnown (IsTextIn l loaded) (of b)
+known written l loaded b c v i =
     let o : of b ≡ c = of_is b c v in
     let h : Comes texts c = comes texts _ (Some b.source) c v.is in
-    let s : IsSaid c = said b c v in
+    let s : AreNamedApart c = build_apart b c v in
     let m : IsMarked c = compiled_marked _ (Some b.source) c v.is in
-    let spelled = names_spelled (viewed (described c.against) c.tree) c.tree (exports_of (interface_by texts c)) (interface_by texts c).uses s.names (written b c v).object in
+    let spelled = names_spelled (viewed (described c.against) c.tree) c.tree (exports_of (interface_by texts c)) (interface_by texts c).uses s.procedures (written b c v).object in
     record {
       shows = subst (λ (x : Compiled Text). x.shows ≡ face_of_laid (text_in x.against) x.against x.tree) (sym (o ∙ h.is)) refl;
       room = subst (λ (x : Compiled Text). globals_words (viewed (described x.against) x.tree) x.tree ≤ most_globals) (sym o) (has_room c h.limits);
-      procedures = subst (λ (x : Compiled Text). AreProceduresNamed x.tree.procedures) (sym o) (record { names = s.names; identifiers = spelled; marks = m.marks });
+      procedures = subst (λ (x : Compiled Text). AreProceduresNamed x.tree.procedures) (sym o) (record { names = s.procedures; identifiers = spelled; marks = m.marks });
       types = subst (λ (x : Compiled Text). AllByRecursion (λ t. is_type t.desc ≡ true) x.tree.types) (sym o) m.types;
       has = λ name aspect t e. (b, i, inl (record { «module» = name_of b; object = name }, aspect, e));
       uses = subst (λ (x : Compiled Text). AllByRecursion (λ u. IsTextIn l loaded u.kept) x.shows.uses) (sym o) (all_texts l loaded b c v i c.shows.uses (uses_kept b c v));
@@ -87,8 +87,8 @@ pub record IsFit (l : Library) (loaded : List Build) (b : Build) : Type 0 where
   pub known : IsKnown (IsTextIn l loaded) (of b)
   pub valid : (c : Compiled Text) × IsValid b c
 
-pub fit : BuildsAreWritten → BuildsAreSaid → (l : Library) (loaded : List Build) (b : Build) (c : Compiled Text) → IsValid b c → IsIn l b ⊎ Contains loaded b → IsFit l loaded b
-fit written said l loaded b c v i = record { known = known written said l loaded b c v i; valid = (c, v) }
+pub fit : BuildsAreWritten → (l : Library) (loaded : List Build) (b : Build) (c : Compiled Text) → IsValid b c → IsIn l b ⊎ Contains loaded b → IsFit l loaded b
+fit written l loaded b c v i = record { known = known written l loaded b c v i; valid = (c, v) }
 
 -- ---- the builds that a load may meet, and no others
 
@@ -142,14 +142,14 @@ module _ (l : Library) (loaded : List Build) where
   finds [] h = tt
   finds (u ∷ us) h = (λ y k. h.0 (fit_of y k) k.known, finds us h.1)
 
-  links_said : BuildsAreSaid → (y : Fit) → AreLinksUsed (kept_of y)
-  links_said said y =
+  links_used : BuildsAreLinked → (y : Fit) → AreLinksUsed (kept_of y)
+  links_used linked y =
       let v = y.is.valid in
-      subst AreLinksUsed (sym (of_is y.build v.0 v.1)) (said y.build v.0 v.1).links
+      subst AreLinksUsed (sym (of_is y.build v.0 v.1)) (linked y.build v.0 v.1)
 
-  pub asked_alike : BuildsAreSaid → Apart (IsTextIn l loaded) → AreAskedAlike asks files.asks file_of print_from (IsFit l loaded)
-  asked_alike said apart =
-      let a : AreAskedAlike fit_asks files.asks (λ y. file_of y.build) print_from One = compiled_alike (IsTextIn l loaded) apart kept_of (links_named (IsTextIn l loaded) kept_of (λ y k. links_said said y)) in
+  pub asked_alike : BuildsAreLinked → Apart (IsTextIn l loaded) → AreAskedAlike asks files.asks file_of print_from (IsFit l loaded)
+  asked_alike linked apart =
+      let a : AreAskedAlike fit_asks files.asks (λ y. file_of y.build) print_from One = compiled_alike (IsTextIn l loaded) apart kept_of (links_named (IsTextIn l loaded) kept_of (λ y k. links_used linked y)) in
       record {
         name = λ x k. a.name (fit_of x k) k.known;
         imports = λ x k. a.imports (fit_of x k) k.known;

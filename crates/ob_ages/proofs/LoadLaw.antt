@@ -1,16 +1,16 @@
 -- The law of loads.
-use Rattle.std.proofs.Common.{◌≡◌, ℕ, ◌+◌, ◌≤◌, List, [], ◌∷◌, ◌++◌, map, Bool, true, refl, sym, ap, ◌∙◌, subst, arith, Option, Some, None, Result, Ok, Err, inl, inr}
-use Rattle.std.specs.Prelude.{Contains, ◌⊎◌}
+use Rattle.std.proofs.Common.{◌≡◌, ℕ, List, [], ◌∷◌, map, true, refl, sym, ap, subst, arith, Result, Ok, Err, inl, inr}
+use Rattle.std.specs.Prelude.{Contains}
 use Rattle.std.specs.List.{AllByRecursion}
 use Rattle.ob_tree.specs.declared.print.Print.{Print}
 use Rattle.ob_fprint.specs.Print.{print_from}
 use Rattle.ob_obj.specs.declared.file.ObjFile.{ObjFile}
 use Rattle.ob_env.specs.Faces.{Face}
 use Rattle.ob_link.specs.Plan as load
-use Rattle.ob_link.specs.Plan.{Entry, Missing, TooLong, Junk, Holds, plan, most_globals, words_of}
+use Rattle.ob_link.specs.Plan.{Entry, Missing, TooLong, Junk, Holds, plan}
 use Rattle.ob_link.specs.Files as files
 use Rattle.ob_link.specs.Files.{Files, object_entry, file_plan}
-use Rattle.ob_compile.specs.Compiling.{Compiled, texts}
+use Rattle.ob_compile.specs.Compiling.{Compiled}
 use Rattle.ob_lines.specs.Lines.{is_identifier}
 use Rattle.ob_printing.specs.Texts.{load_refused}
 use Rattle.ob_planned.specs.Alike.{refusal_as, answer_as, EntryHas, AreEntriesAlike, Agrees}
@@ -25,7 +25,7 @@ use Rattle.ob_ages.specs.Composing.{IsTextIn, SameBuilds, SamePlan}
 use Rattle.ob_ages.proofs.Members.{In, of_in, to_in}
 use Rattle.ob_ages.proofs.Stood.{of_is}
 use Rattle.ob_ages.proofs.Spelled.{AreIdentifiers, imports_named}
-use Rattle.ob_ages.specs.Loads.{BuildsAreSaid, LoadsAlike}
+use Rattle.ob_ages.specs.Loads.{BuildsAreLinked, LoadsAlike}
 use Rattle.ob_ages.proofs.ObjectEntries.{entries_same}
 use Rattle.ob_ages.proofs.Known.{IsFit, fit, asked_alike}
 use Rattle.ob_ages.proofs.Gone.{go_together, all_valid, words_both}
@@ -42,7 +42,7 @@ same_refusal m (load.TooMany count) = refl
 same_refusal m (load.NoCommand n command) = refl
 same_refusal m (load.Long n) = refl
 
-module _ (written : BuildsAreWritten) (said : BuildsAreSaid) (folder : Files) (l : Library) (loaded : List Build) (library : IsLibrary l) (kept : Kept folder l) (together : AreTogether [] loaded) (apart : Apart (IsTextIn l loaded)) where
+module _ (written : BuildsAreWritten) (linked : BuildsAreLinked) (folder : Files) (l : Library) (loaded : List Build) (library : IsLibrary l) (kept : Kept folder l) (together : AreTogether [] loaded) (apart : Apart (IsTextIn l loaded)) where
   abbrev One : Build → Type 0
   One b = IsFit l loaded b
 
@@ -53,7 +53,7 @@ module _ (written : BuildsAreWritten) (said : BuildsAreSaid) (folder : Files) (l
   entry_fit n Missing e i = tt
   entry_fit n TooLong e i = tt
   entry_fit n Junk e i = tt
-  entry_fit n (Holds b) e i = fit written said l loaded b i.0 i.1 (inl (n, inl e))
+  entry_fit n (Holds b) e i = fit written l loaded b i.0 i.1 (inl (n, inl e))
 
   imports_asked : (b : Build) → One b → AllByRecursion IsAsked (shows_of b).imports
   imports_asked b k =
@@ -69,7 +69,7 @@ module _ (written : BuildsAreWritten) (said : BuildsAreSaid) (folder : Files) (l
 
   loaded_fit : (bs : List Build) → ((b : Build) → In bs b → Contains loaded b) → AllByRecursion (λ b. (c : Compiled Text) × IsValid b c) bs → AllByRecursion One bs
   loaded_fit [] i v = tt
-  loaded_fit (b ∷ bs) i v = (fit written said l loaded b v.0.0 v.0.1 (inr (i b (inl refl))), loaded_fit bs (λ x j. i x (inr j)) v.1)
+  loaded_fit (b ∷ bs) i v = (fit written l loaded b v.0.0 v.0.1 (inr (i b (inl refl))), loaded_fit bs (λ x j. i x (inr j)) v.1)
 
   -- what a plan brings in
   abbrev IsFound : Build → Type 0
@@ -111,8 +111,8 @@ module _ (written : BuildsAreWritten) (said : BuildsAreSaid) (folder : Files) (l
   unfolding file_plan
   load_so m name i =
       let a : Agrees file_of print_from One (plan asks l.objects loaded m name) (plan files.asks (object_entry folder) (map file_of loaded) m name) =
-      plans_agree Build ObjFile Text Print asks files.asks file_of print_from One IsAsked l.objects (object_entry folder) (asked_alike l loaded said apart) entries loaded (loaded_fit loaded (λ b j. of_in loaded b j) (all_valid loaded together)) m name i in
+      plans_agree Build ObjFile Text Print asks files.asks file_of print_from One IsAsked l.objects (object_entry folder) (asked_alike l loaded linked apart) entries loaded (loaded_fit loaded (λ b j. of_in loaded b j) (all_valid loaded together)) m name i in
       subst (λ r. SamePlan l loaded m name r (plan asks l.objects loaded m name)) (sym a.is) (by_answer m name (plan asks l.objects loaded m name) refl)
 
 pub loads_so : LoadsAlike
-loads_so written said folder l loaded m name i j library kept together apart = load_so written said folder l loaded library kept together apart m name i
+loads_so written linked folder l loaded m name i j library kept together apart = load_so written linked folder l loaded library kept together apart m name i

@@ -46,11 +46,12 @@ pub record IsSame (c d : Compiled Text) : Type 0 where
   pub shows : d.shows ≡ c.shows
   pub object : object_by texts d ≡ object_by texts c
 
--- interfaces around a module of this name: each can stand in a symbol file, none is of that module, and each of their uses has its
--- text among them
+-- interfaces around a module of this name: each can stand in a symbol file, none is of that module or of Out, and each of their uses
+-- has its text among them
 pub record AreAround (m : List ℕ) (faces : List (Face Text)) : Type 0 where
   pub spelled : AllByRecursion IsSpelled faces
   pub other : Contains (map (λ f. f.«module») faces) m → ⊥
+  pub out : Contains (map (λ f. f.«module») faces) (codes "Out") → ⊥
   pub met : AllByRecursion (λ f. AreAsWanted faces f.uses) faces
 
 -- A valid build whose uses have the same texts in other interfaces keeps the rules against those too, with the same checked

@@ -220,9 +220,9 @@ module _ (c : Setting) where
     length_by_variable_case x t goal pc at ops os s w le has ok st =
         let p = a.active.places x in
         let u = ok.1.0.0 in
-        let k = same_alike (IsReferred 2) (referred_fixed 2) _ _ x (call_alike c.program a.procedure a.active a.call) ok.0.0 in
+        let k = same_alike (IsReferred 2) (referred_fixed 2) _ _ x (call_alike c.program a.procedure a.active a.call) ok.0.0.0 in
         let r = ref_place c s.made a.cs a.active.places a.active.held 2 x (s.store.locals (length a.cs)) k.as_it st.all.calls_fine.1.1 in
-        let up = place_of_up c s.made a.cs a.active (OpenForm u) p (subst (λ u. PlaceOf c.program (has_of c) c.img s.made a.cs u p) (k.form ∙ ok.0.1 ∙ ok.1.0.1) r) in
+        let up = place_of_up c s.made a.cs a.active (OpenForm u) p (subst (λ u. PlaceOf c.program (has_of c) c.img s.made a.cs u p) (k.form ∙ ok.0.0.1 ∙ ok.1.0.1) r) in
         let two = two_referred s.made a.cs a.active.places a.active.held (fb c a + slots_words a.active.held) x (s.store.locals (length a.cs)) k.as_it in
         let form_it = form_up c s.made a.cs a.active p r.0 in
         subst (λ k. Follows c (go c a pc ops w) (ValueTo c a n call b (suc (suc pc)) ops) (ValueKept c a n call b goal os) (Gives (Integer (pos (length_of (value_at s.store (place_of (variable.Parameter passing.VariableOpenArray x) k))))) s)) (sym st.calls)
@@ -234,7 +234,7 @@ module _ (c : Setting) where
     length_by_value_case x t goal pc at ops os s w le has ok st =
         let p = At (OfCall (length a.cs) x) [] in
         let u = ok.1.0.0 in
-        let k = call_copy c.program a.procedure a.active x u a.call ok.0.0.0 (ok.0.1 ∙ ok.1.0.1) in
+        let k = call_copy c.program a.procedure a.active x u a.call ok.0.0.0.0 (ok.0.0.1 ∙ ok.1.0.1) in
         let there = copy_there a.active.held x 2 k.as_it in
         let two = two_copied s.made a.cs a.active.places a.active.held (fb c a + slots_words a.active.held) x (s.store.locals (length a.cs)) k.as_it in
         let form_it = own_form c s.made a.cs a.active x in

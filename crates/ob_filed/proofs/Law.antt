@@ -1,6 +1,6 @@
 -- What the object file of a build has of its module.
 use Rattle.std.proofs.Common.{◌≡◌, ℕ, suc, ◌+◌, ◌≤◌, Bool, true, false, List, [], ◌∷◌, length, Option, Some, None, refl, sym, ap, subst, ◌∙◌, arith}
-use Rattle.std.specs.Prelude.{if◌then◌else◌, bytes_eq, ◌&&◌, not}
+use Rattle.std.specs.Prelude.{if◌then◌else◌, bytes_eq, not}
 use Rattle.std.proofs.lemmas.Bool.{false≢true, and_parts}
 use Rattle.std.proofs.lemmas.Slice.Eq.{bytes_eq-Decides}
 use Rattle.ob_types.specs.TypedSyntax.{Procedure, Module}
@@ -19,11 +19,11 @@ use Rattle.ob_planned.specs.Laws.{IsMarked}
 use Rattle.ob_planned.proofs.Checked.{compiled_marked}
 use Rattle.ob_planned.proofs.Globals.{globals_are}
 use Rattle.ob_planned.proofs.Numbered.{numbered_by_names}
-use Rattle.ob_ages.specs.Builds.{Text, Build, IsValid, of, tree_of, name_of, file_of, asks}
+use Rattle.ob_ages.specs.Builds.{Text, of}
 use Rattle.ob_ages.proofs.Compiled.{Comes, comes}
 use Rattle.ob_ages.proofs.Stood.{of_is}
-use Rattle.ob_ages.specs.Loads.{IsSaid, BuildsAreSaid}
-use Rattle.ob_filed.specs.Filed.{HasOfFile, FilesHave}
+use Rattle.ob_ages.specs.Loads.{IsSaid}
+use Rattle.ob_filed.specs.Filed.{FilesHave, FilesHaveCommands}
 use Rattle.ob_filed.proofs.Limits.{room_kept, code_kept}
 
 -- ---- a command has a name
@@ -74,14 +74,17 @@ compiled_has c s k x p e =
     ∙ ap (λ i. Some i) (index_same c.tree x p e)
 
 pub files_have : FilesHave
-files_have said b c v =
+files_have b c v =
     let o : of b ≡ c = of_is b c v in
     let h : Comes texts c = comes texts _ (Some b.source) c v.is in
-    let s : IsSaid c = said b c v in
-    let k : IsMarked c = compiled_marked _ (Some b.source) c v.is in
     record {
       name = subst (λ (x : Compiled Text). x.tree.name ≡ x.shows.«module») (sym (o ∙ h.is)) refl;
       words = subst (λ (x : Compiled Text). globals_words (viewed (described x.against) x.tree) x.tree ≡ global_words (object_by texts x)) (sym o) (sym (globals_are (viewed (described c.against) c.tree) c.tree (exports_of (interface_by texts c)) (interface_by texts c).uses (room_kept c h.limits)));
       short = subst (λ (x : Compiled Text). length (object_by texts x).body.code ≤ 262144) (sym o) (code_kept c h.limits);
-      commands = subst (λ (x : Compiled Text). (y : List ℕ) (p : Procedure) → command_named x.tree y ≡ Some p → command_in (object_by texts x) y ≡ Some (procedure_index x.tree.procedures y)) (sym o) (compiled_has c s k);
     }
+
+pub files_have_commands : FilesHaveCommands
+files_have_commands said b c v =
+    let s : IsSaid c = said b c v in
+    let k : IsMarked c = compiled_marked _ (Some b.source) c v.is in
+    subst (λ (x : Compiled Text). (y : List ℕ) (p : Procedure) → command_named x.tree y ≡ Some p → command_in (object_by texts x) y ≡ Some (procedure_index x.tree.procedures y)) (sym (of_is b c v)) (compiled_has c s k)

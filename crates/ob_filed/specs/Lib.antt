@@ -1,2 +1,4 @@
 pub mod Filed
 pub mod Strings
+pub mod Entered
+pub mod Shown

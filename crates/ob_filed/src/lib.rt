@@ -1,19 +1,39 @@
-//! What the object file of a build has of its module, of one build by itself.
+//! What the object file of a build has of its module, of one build by itself; that the files of
+//! builds that go together can be entered; and that types that they show are declared.
 #![tactic(auto)]
 
-ghost use Rattle.ob_filed.specs.Filed.{FilesHave};
+ghost use Rattle.ob_filed.specs.Filed.{FilesHave, FilesHaveCommands};
+ghost use Rattle.ob_filed.specs.Shown.{ShownAreDeclared};
 ghost use Rattle.ob_filed.specs.Strings.{StringsFit};
+ghost use Rattle.ob_filed.specs.Entered.{FilesEnter};
 
 /// A law, with nothing to run: the object file of a valid build is of the module of its name, with
-/// the words of globals that a load is told of and with no more code than a module may have; its
-/// command of a name is the procedure of that name, by its number. (Taken for granted of modules that
-/// compile: `BuildsAreSaid`.)
+/// the words of globals that a load is told of and with no more code than a module may have.
 pub fn files_have()
     ensures { FilesHave }
+{}
+
+/// A law, with nothing to run: the command of a name is in the object file the procedure of that
+/// name, by its number. (Taken for granted of modules that compile: `BuildsAreSaid`.)
+pub fn files_have_commands()
+    ensures { FilesHaveCommands }
 {}
 
 /// A law, with nothing to run: no string in the object file of a valid build is longer than its
 /// words, where all builds can be written.
 pub fn strings_fit()
     ensures { StringsFit }
+{}
+
+/// A law, with nothing to run: the object files of builds that go together, with no more words of
+/// globals than may be loaded, can be entered one behind the other. (Taken for granted of modules
+/// that compile: `BuildsAreWritten` and `BuildsAreSaid`.)
+pub fn files_enter()
+    ensures { FilesEnter }
+{}
+
+/// A law, with nothing to run: what the interfaces of builds that go together have as a type is
+/// declared in the module of that name.
+pub fn shown_are_declared()
+    ensures { ShownAreDeclared }
 {}

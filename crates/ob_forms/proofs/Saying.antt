@@ -19,7 +19,7 @@ use Rattle.ob_meaning.specs.Values.{same_name, Program, Form, RecordForm, Fields
 use Rattle.ob_meaning.specs.Meaning.{declared_for}
 use Rattle.ob_relation.specs.Layout.{field_form}
 use Rattle.ob_relation.specs.Relation.{OrElse, FieldIn, FormOk}
-use Rattle.ob_relation.specs.Typed.{IsRecordForm, ReceiverOk}
+use Rattle.ob_relation.specs.Typed.{IsRecordForm, ReceiverOk, result_form}
 use Rattle.ob_relation.proofs.Names.{bytes_true, name_true, field_same}
 use Rattle.ob_rules.specs.Shapes as rules
 use Rattle.ob_rules.specs.Names.{out_string}
@@ -133,7 +133,7 @@ module _ (program : Program) (sound : IsSound program) where
         declared = ap (λ f. declared_for program q f) (sym f) ∙ k.declared;
         found = k.found;
         receives = subst (λ r. ReceiverOk program r q k.p.parameters) h.receiver k.receives;
-        result = k.result ∙ ap (λ (g : Signature). g.result) h.signature;
+        result = k.result ∙ ap (λ (g : Signature). result_form program g.result) h.signature;
         parameters = subst (λ (g : Signature). AreParameters program (behind k.p.parameters) g.params) h.signature k.parameters;
       }
 

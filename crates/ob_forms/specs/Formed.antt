@@ -20,7 +20,7 @@ use Rattle.ob_meaning.specs.Values.{Program, procedure_of, PointerForm, Procedur
 use Rattle.ob_meaning.specs.Meaning.{declared_for}
 use Rattle.ob_relation.specs.Layout.{field_form, form_named, variables_in}
 use Rattle.ob_relation.specs.Relation.{IsLength, FormOk, FieldIn, ValueIn}
-use Rattle.ob_relation.specs.Typed.{passing_for, ReceiverOk, IsRecordForm}
+use Rattle.ob_relation.specs.Typed.{passing_for, result_form, ReceiverOk, IsRecordForm}
 use Rattle.ob_rules.specs.Shapes.{same_name}
 use Rattle.ob_rules.specs.Names.{out_string}
 
@@ -29,12 +29,12 @@ abbrev pub IsDeclared : TypeRef → Type 0
 IsDeclared (ref.Basic b) = Unit {0}
 IsDeclared (ref.Named q) = same_name q out_string ≡ false
 
--- the parameters of a procedure are those of a signature
+-- the parameters of a procedure are those of a signature, by their forms
 abbrev pub AreParameters : Program → List TypedParameter → List (Mode × TypeRef) → Type 0
 AreParameters program [] [] = Unit {0}
 AreParameters program [] (k ∷ ks) = ⊥
 AreParameters program (p ∷ ps) [] = ⊥
-AreParameters program (p ∷ ps) (k ∷ ks) = (p.of ≡ k.1) × ((p.passing ≡ passing_for k.0 (form_in program k.1)) × AreParameters program ps ks)
+AreParameters program (p ∷ ps) (k ∷ ks) = (form_in program p.of ≡ form_in program k.1) × ((p.passing ≡ passing_for k.0 (form_in program k.1)) × AreParameters program ps ks)
 
 abbrev pub behind : {A : Type 0} → List A → List A
 behind [] = []
@@ -44,7 +44,7 @@ behind (x ∷ xs) = xs
 pub record IsProcedureOf (program : Program) (q : QName) (s : Signature) : Type 0 where
   pub p : Procedure
   pub found : procedure_of program q ≡ Some p
-  pub result : p.result ≡ s.result
+  pub result : result_form program p.result ≡ result_form program s.result
   pub parameters : AreParameters program p.parameters s.params
 
 abbrev pub introduced : QName → Method → Family
@@ -57,7 +57,7 @@ pub record IsMethodOf (program : Program) (q : QName) (m : Method) : Type 0 wher
   pub declared : declared_for program q (introduced q m) ≡ Some name
   pub found : procedure_of program name ≡ Some p
   pub receives : ReceiverOk program m.receiver q p.parameters
-  pub result : p.result ≡ m.signature.result
+  pub result : result_form program p.result ≡ result_form program m.signature.result
   pub parameters : AreParameters program (behind p.parameters) m.signature.params
 
 -- the record type has the field, of that type

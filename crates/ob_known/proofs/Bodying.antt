@@ -152,3 +152,6 @@ drop_front (x ∷ xs) ys (suc n) e = drop_front xs ys n (omega arith)
 -- the last so many of a list
 pub last_of : {A : Type 0} (xs ys all : List A) (n : ℕ) → xs ++ ys ≡ all → length ys ≡ n → ys ≡ drop (length all - n) all
 last_of xs ys all n e f = let long = length-append xs ys in sym (ap (λ l. drop (length l - n) l) (sym e) ∙ drop_front xs ys (length (xs ++ ys) - n) (omega (arith, long, f)))
+
+pub none_dropped : {A : Type 0} (xs : List A) (n : ℕ) → n ≡ length xs → drop (length xs - n) xs ≡ xs
+none_dropped xs n e = let none : length xs - n ≡ 0 = omega (arith, e) in ap (λ k. drop k xs) none

@@ -1,8 +1,8 @@
 -- Names in a stack: each has a place, counted from the oldest, and is found by its latest place.
 use Rattle.std.specs.Prelude.{◌≡◌, ℕ, List, [], ◌∷◌, length, map, reverse, drop, Option, Some, None, bytes_eq, if◌then◌else◌, Vec}
-use Rattle.std.specs.Ordering.{nat_cmp}
-use Rattle.std.specs.Cmp.Lexicographic.{slice_cmp}
-use Rattle.std.specs.BTreeMap.{BTreeMap, get_by}
+use Rattle.std.specs.HashMap.{HashMap, get_by}
+use Rattle.std.specs.declared.hash.BuildHasherDefault.{BuildHasherDefault}
+use Rattle.std.specs.declared.hash.FoldHasher.{FoldHasher}
 use Rattle.std.specs.declared.alloc.Global.{Global}
 use Rattle.ob_known.specs.declared.stack.Key.{Key}
 
@@ -36,11 +36,11 @@ abbrev pub AreLinked : List Key → Type 0
 AreLinked ks = AreLinkedBack (reverse ks)
 
 abbrev pub Places : Type 0
-Places = BTreeMap (Vec ℕ Global) ℕ
+Places = HashMap (Vec ℕ Global) ℕ (BuildHasherDefault FoldHasher)
 
 -- the place at a name
 abbrev pub place_at : Places → List ℕ → Option ℕ
-place_at m x = get_by (λ k. slice_cmp nat_cmp x k.items) m
+place_at m x = get_by (λ k. bytes_eq x k.items) m
 
 -- each name has its latest place
 abbrev pub IsIndexed : Places → List Key → Type 0

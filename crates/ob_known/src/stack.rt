@@ -4,7 +4,7 @@ ghost use Rattle.ob_known.specs.Stacks.{latest, before_at, place_at, Puts};
 
 use ob_tree::ObjName;
 use std::alloc::{AllocError, Global};
-use std::collections::BTreeMap;
+use std::collections::HashMap;
 use std::marker::Model;
 
 /// A name in its place, and the place of the one before it of the same name.
@@ -21,7 +21,7 @@ struct Key {
 #[derive(Drop)]
 pub struct Stack {
     keys: Vec<Key>,
-    last: BTreeMap<Vec<u8>, usize>,
+    last: HashMap<Vec<u8>, usize>,
 }
 
 impl Model for Stack {
@@ -38,7 +38,7 @@ impl Model for Stack {
 // Puts a place at a name.
 fn put_place(
     alloc: Global,
-    places: &mut BTreeMap<Vec<u8>, usize>,
+    places: &mut HashMap<Vec<u8>, usize>,
     name: &[u8],
     place: usize,
 ) -> Result<(), AllocError>
@@ -51,7 +51,7 @@ fn put_place(
 }
 
 // Puts the place that a name had before, or none.
-fn put_back(places: &mut BTreeMap<Vec<u8>, usize>, name: &[u8], before: Option<usize>)
+fn put_back(places: &mut HashMap<Vec<u8>, usize>, name: &[u8], before: Option<usize>)
     requires { IsSome (place_at places.old name.now) }
     ensures { Puts places.old places.new name.now before }
 {
@@ -73,7 +73,7 @@ impl Stack {
     {
         Stack {
             keys: Vec::new(alloc),
-            last: BTreeMap::new(alloc),
+            last: HashMap::new(alloc),
         }
     }
 

@@ -28,7 +28,7 @@ use Rattle.ob_code.specs.Lines.{OtherVariable, Line, plain, placed, placed_two, 
 use Rattle.ob_code.specs.Context.{Context, before, words, is_own, variable_place, local_slot, type_operand, named_operand, all_slots}
 use Rattle.ob_code.specs.Operations.{unary_code, binary_line, relation_number}
 use Rattle.ob_code.specs.Expressions.{wanted, length_operand, measured_behind, index_want, guard_want, from_place, from_pointer, index_line, guard_line, from_guard, parameter_code, module_line, variable_code, call_line, words_of_actuals, words_behind_receiver, end_desig, end_expr, end_actuals, desig_code, expr_code, actuals_code}
-use Rattle.ob_linking.specs.Same.{IsSame, CalleeSame, DesigSame, ExprSame, ActualsSame}
+use Rattle.ob_linking.specs.Same.{IsSame, IsSameSize, PassedSame, CalleeSame, DesigSame, ExprSame, ActualsSame}
 
 -- WORDS BEFORE A NAME
 
@@ -41,11 +41,7 @@ sum_same f g [] h = refl
 sum_same f g (v ∷ vs) h = ap (λ n. n + sum_of f vs) h.0 ∙ ap (λ n. g v + n) (sum_same f g vs h.1)
 
 module _ (a b : QName → Option Desc) where
-  pub words_same : (vs : List TypedVariable) → AllByRecursion (λ v. IsSame a b v.of) vs → AllByRecursion (λ v. words_of a v.of ≡ words_of b v.of) vs
-  words_same [] h = tt
-  words_same (v ∷ vs) h = (h.0.words, words_same vs h.1)
-
-  module _ (m : Module) (ps : List TypedParameter) (ls : List TypedVariable) (vs_same : AllByRecursion (λ v. IsSame a b v.of) m.variables) (ls_same : AllByRecursion (λ v. IsSame a b v.of) ls) where
+  module _ (m : Module) (ps : List TypedParameter) (ls : List TypedVariable) (vs_same : AllByRecursion (λ v. IsSameSize a b v.of) m.variables) (ls_same : AllByRecursion (λ v. IsSameSize a b v.of) ls) where
     abbrev pub first : Context
     first = record { types = a; unit = m; parameters = ps; locals = ls }
 
@@ -53,10 +49,10 @@ module _ (a b : QName → Option Desc) where
     second = record { types = b; unit = m; parameters = ps; locals = ls }
 
     pub place_same : (x : List ℕ) → variable_place first x ≡ variable_place second x
-    place_same x = before_same (λ v. words_of a v.of) (λ v. words_of b v.of) m.variables x (words_same m.variables vs_same)
+    place_same x = before_same (λ v. words_of a v.of) (λ v. words_of b v.of) m.variables x vs_same
 
     pub slot_same : (x : List ℕ) → local_slot first x ≡ local_slot second x
-    slot_same x = ap (λ n. all_slots first + n) (before_same (λ v. words_of a v.of) (λ v. words_of b v.of) ls x (words_same ls ls_same))
+    slot_same x = ap (λ n. all_slots first + n) (before_same (λ v. words_of a v.of) (λ v. words_of b v.of) ls x ls_same)
 
     -- SMALL PIECES
 
@@ -78,9 +74,9 @@ module _ (a b : QName → Option Desc) where
     from_pointer_same want.PlaceAndLength t p s = ap (λ o. measured_behind o p) s.elements
     from_pointer_same want.Length t p s = refl
 
-    index_same : (n : Option ℕ) (t : TypeRef) (p : Pos) → IsSame a b t → index_line first n t p ≡ index_line second n t p
-    index_same None t p s = ap (λ k. placed op.IndexO (count k) p) s.words
-    index_same (Some n) t p s = ap (λ k. placed_two op.Index (count n) (count k) p) s.words
+    index_same : (n : Option ℕ) (t : TypeRef) (p : Pos) → IsSameSize a b t → index_line first n t p ≡ index_line second n t p
+    index_same None t p s = ap (λ k. placed op.IndexO (count k) p) s
+    index_same (Some n) t p s = ap (λ k. placed_two op.Index (count n) (count k) p) s
 
     guard_same : (g : Guarded) (q : QName) (p : Pos) → guard_line first g q p ≡ guard_line second g q p
     guard_same guarded.Pointer q p = refl
@@ -113,9 +109,9 @@ module _ (a b : QName → Option Desc) where
     call_same (callee.Super base f r) es p s = ap (λ n. placed_two op.CallS (type_operand second base) (count n) p) s
     call_same (callee.Out o) es p s = refl
 
-    wanted_same : (how : Passing) (t : TypeRef) → IsSame a b t → wanted (words first) how t ≡ wanted (words second) how t
+    wanted_same : (how : Passing) (t : TypeRef) → PassedSame a b how t → wanted (words first) how t ≡ wanted (words second) how t
     wanted_same passing.Scalar t s = refl
-    wanted_same passing.Structure t s = ap want.Room s.words
+    wanted_same passing.Structure t s = ap want.Room s
     wanted_same passing.OpenArray t s = refl
     wanted_same passing.Variable t s = refl
     wanted_same passing.VariableRecord t s = refl
@@ -168,7 +164,7 @@ module _ (a b : QName → Option Desc) where
       pub desig_same : (w : Want) (d : Desig) (pc : ℕ) → DesigSame a b d → desig_code first w d pc ≡ desig_code second w d pc
       desig_same w (OfVariable v t) pc s = variable_same w v t s
       desig_same w (Field d o x t) pc s = both _ _ _ _ (desig_same want.Place d pc s.0) (lines_two _ _ _ _ (ap (λ n. plain op.Offset (count n)) s.1.0) (from_place_same w t s.1.1))
-      desig_same w (Index d n i at t) pc s = both _ _ _ _ (desig_same (index_want n) d pc s.0) (both _ _ _ _ (after want.Value i _ _ (desig_end (index_want n) d pc s.0) (λ p. expr_same want.Value i p s.1.0)) (lines_two _ _ _ _ (index_same n t at s.1.1) (from_place_same w t s.1.1)))
+      desig_same w (Index d n i at t) pc s = both _ _ _ _ (desig_same (index_want n) d pc s.0) (both _ _ _ _ (after want.Value i _ _ (desig_end (index_want n) d pc s.0) (λ p. expr_same want.Value i p s.1.0)) (lines_two _ _ _ _ (index_same n t at s.1.2) (from_place_same w t s.1.1)))
       desig_same w (Deref d at t) pc s = both _ _ _ _ (desig_same want.Value d pc s.0) (from_pointer_same w t at s.1)
       desig_same w (Guard d g q at t) pc s = both _ _ _ _ (desig_same (guard_want g w) d pc s.0) (lines_two _ _ _ _ (guard_same g q at) (from_guard_same g w t s.1))
 

@@ -31,8 +31,8 @@ use Rattle.ob_code.specs.Context.{variable_place, local_words, all_slots}
 use Rattle.ob_code.specs.Statements.{next_stmts}
 use Rattle.ob_code.specs.Procedures.{all_procedures, has_result, closing, within, end_procedure, procedure_code, procedures_code, module_code, param_for, all_local_words, row_of, rows_of, module_rows}
 use Rattle.ob_code.specs.Object.{is_seen, is_full, is_free, own, own_words, seen_variables, variables, commands_among, commands, is_bound_to, bound_number, definitions_among, definitions, base_type, base_in, record_in, records_in, with_base, with_record, with_bases, all_named, type_links, object_file}
-use Rattle.ob_linking.specs.Same.{IsSame, BindingSame, ProcedureSame, BaseSame, DescSame, ModuleSame, FilesSame}
-use Rattle.ob_linking.proofs.SameCode.{before_same, sum_same, words_same}
+use Rattle.ob_linking.specs.Same.{ParameterSame, BindingSame, ProcedureSame, BaseSame, DescSame, ModuleSame, FilesSame}
+use Rattle.ob_linking.proofs.SameCode.{before_same, sum_same}
 use Rattle.ob_linking.proofs.SameStatements.{stmts_next, stmts_end, stmts_same}
 
 -- a file of these parts
@@ -52,10 +52,10 @@ made m exports uses w ls vs cs ts rs rows = record {
 
 module _ (a b : QName → Option Desc) (m : Module) (h : ModuleSame a b m) where
   words_are : own_words a m ≡ own_words b m
-  words_are = sum_same (λ v. words_of a v.of) (λ v. words_of b v.of) m.variables (words_same a b m.variables h.variables)
+  words_are = sum_same (λ v. words_of a v.of) (λ v. words_of b v.of) m.variables h.variables
 
   place_is : (x : List ℕ) → variable_place (own a m) x ≡ variable_place (own b m) x
-  place_is x = before_same (λ v. words_of a v.of) (λ v. words_of b v.of) m.variables x (words_same a b m.variables h.variables)
+  place_is x = before_same (λ v. words_of a v.of) (λ v. words_of b v.of) m.variables x h.variables
 
   seen_are : (vs : List TypedVariable) → seen_variables a m vs ≡ seen_variables b m vs
   seen_are [] = refl
@@ -85,7 +85,7 @@ module _ (a b : QName → Option Desc) (m : Module) (h : ModuleSame a b m) where
 
   base_is : (o : Option TypeRef) → BaseSame a b o → base_type a m o ≡ base_type b m o
   base_is None s = refl
-  base_is (Some t) s = s.name
+  base_is (Some t) s = s
 
   record_is : (links : List QName) (x : List ℕ) (d : Desc) → DescSame a b d → record_in a m links x d ≡ record_in b m links x d
   record_is links x (desc.Record r) s =
@@ -112,7 +112,7 @@ module _ (a b : QName → Option Desc) (m : Module) (h : ModuleSame a b m) where
   -- PROCEDURES
 
   locals_are : (p : Procedure) → ProcedureSame a b p → local_words (within a m p) ≡ local_words (within b m p)
-  locals_are p s = sum_same (λ v. words_of a v.of) (λ v. words_of b v.of) p.locals (words_same a b p.locals s.locals)
+  locals_are p s = sum_same (λ v. words_of a v.of) (λ v. words_of b v.of) p.locals s.locals
 
   end_is : (p : Procedure) (i j : ℕ) → i ≡ j → ProcedureSame a b p → end_procedure a m p i ≡ end_procedure b m p j
   end_is p i j e s = ap suc (stmts_end a b m p.parameters p.locals h.variables s.locals p.body i j e s.body)
@@ -124,15 +124,15 @@ module _ (a b : QName → Option Desc) (m : Module) (h : ModuleSame a b m) where
   codes_are [] i j e s = refl
   codes_are (p ∷ ps) i j e s = ap (λ l. l ++ procedures_code a m ps (end_procedure a m p i)) (code_is p i j e s.0) ∙ ap (λ l. procedure_code b m p j ++ l) (codes_are ps _ _ (end_is p i j e s.0) s.1)
 
-  param_is : (p : Procedure) (how : Passing) (t : TypeRef) → IsSame a b t → param_for a m (within a m p) how t ≡ param_for b m (within b m p) how t
+  param_is : (p : Procedure) (how : Passing) (t : TypeRef) → ParameterSame a b how t → param_for a m (within a m p) how t ≡ param_for b m (within b m p) how t
   param_is p passing.Scalar t s = refl
-  param_is p passing.Structure t s = ap param.Value s.words
-  param_is p passing.OpenArray t s = ap param.ValueArray s.element_words
+  param_is p passing.Structure t s = ap param.Value s
+  param_is p passing.OpenArray t s = ap param.ValueArray s
   param_is p passing.Variable t s = refl
   param_is p passing.VariableRecord t s = refl
   param_is p passing.VariableOpenArray t s = refl
 
-  params_are : (p : Procedure) (xs : List TypedParameter) → AllByRecursion (λ x. IsSame a b x.of) xs → map (λ x. param_for a m (within a m p) x.passing x.of) xs ≡ map (λ x. param_for b m (within b m p) x.passing x.of) xs
+  params_are : (p : Procedure) (xs : List TypedParameter) → AllByRecursion (λ x. ParameterSame a b x.passing x.of) xs → map (λ x. param_for a m (within a m p) x.passing x.of) xs ≡ map (λ x. param_for b m (within b m p) x.passing x.of) xs
   params_are p [] s = refl
   params_are p (x ∷ xs) s = ap (λ k. k ∷ map (λ x. param_for a m (within a m p) x.passing x.of) xs) (param_is p x.passing x.of s.0) ∙ ap (λ l. param_for b m (within b m p) x.passing x.of ∷ l) (params_are p xs s.1)
 

@@ -25,7 +25,7 @@ use Rattle.ob_code.specs.Context.{Context, type_operand}
 use Rattle.ob_code.specs.Operations.{bytes_of, update_line}
 use Rattle.ob_code.specs.Expressions.{end_desig, end_expr, desig_code, expr_code}
 use Rattle.ob_code.specs.Statements.{target_want, source_want, has_tag, copy_record, assign_line, new_line, for_place, for_value, end_for_test, end_for_step, end_label, end_labels, label_code, labels_code, end_result, result_code, within, end_stmt, end_stmts, end_branches, end_cases, end_else, next_stmt, next_stmts, next_branches, next_cases, next_else, stmt_code, stmts_code, branches_code, cases_code, else_code}
-use Rattle.ob_linking.specs.Same.{IsSame, DesigSame, ExprSame, ResultSame, AssignedSame, MadeSame, StmtSame, StmtsSame, BranchesSame, CasesSame, ElseSame}
+use Rattle.ob_linking.specs.Same.{IsSame, IsSameSize, DesigSame, ExprSame, ResultSame, AssignedSame, MadeSame, StmtSame, StmtsSame, BranchesSame, CasesSame, ElseSame}
 use Rattle.ob_linking.proofs.SameCode as code
 
 -- what does not look at descriptions
@@ -64,7 +64,7 @@ mutual
   else_next c d NoElse t = refl
   else_next c d (Else body) t = stmts_next c d body t
 
-module _ (a b : QName → Option Desc) (m : Module) (ps : List TypedParameter) (ls : List TypedVariable) (vs_same : AllByRecursion (λ v. IsSame a b v.of) m.variables) (ls_same : AllByRecursion (λ v. IsSame a b v.of) ls) where
+module _ (a b : QName → Option Desc) (m : Module) (ps : List TypedParameter) (ls : List TypedVariable) (vs_same : AllByRecursion (λ v. IsSameSize a b v.of) m.variables) (ls_same : AllByRecursion (λ v. IsSameSize a b v.of) ls) where
   abbrev first : Context
   first = record { types = a; unit = m; parameters = ps; locals = ls }
 
@@ -85,7 +85,7 @@ module _ (a b : QName → Option Desc) (m : Module) (ps : List TypedParameter) (
 
   longint_same : IsSame a b (ref.Basic basic.LongInt)
   unfolding target
-  longint_same = record { words = refl; name = refl; elements = refl; element_words = refl }
+  longint_same = record { name = refl; elements = refl }
 
   place_same : (v : Variable) → for_place first v ≡ for_place second v
   place_same v = code.variable_same a b m ps ls vs_same ls_same want.Place v (ref.Basic basic.LongInt) longint_same
@@ -164,19 +164,19 @@ module _ (a b : QName → Option Desc) (m : Module) (ps : List TypedParameter) (
   lines_two : (x y : Line) (u v : List Line) → x ≡ y → u ≡ v → x ∷ u ≡ y ∷ v
   lines_two x y u v e f = ap (λ l. l ∷ u) e ∙ ap (λ l. y ∷ l) f
 
-  copy_same : (t : Bool) (q : QName) (p : Pos) → IsSame a b (ref.Named q) → copy_record first t q p ≡ copy_record second t q p
-  copy_same true q p s = ap (λ n. placed_two op.CopyRec (count n) (type_operand second q) p) s.words
-  copy_same false q p s = ap (λ n. plain op.Copy (count n)) s.words
+  copy_same : (t : Bool) (q : QName) (p : Pos) → IsSameSize a b (ref.Named q) → copy_record first t q p ≡ copy_record second t q p
+  copy_same true q p s = ap (λ n. placed_two op.CopyRec (count n) (type_operand second q) p) s
+  copy_same false q p s = ap (λ n. plain op.Copy (count n)) s
 
   assign_same : (how : Assigned) (d : Desig) (e : Expr) (p : Pos) → AssignedSame a b how d → assign_line first how d e p ≡ assign_line second how d e p
   assign_same assigned.Scalar d e p s = refl
   assign_same assigned.Text d e p s = refl
-  assign_same assigned.Array d e p s = ap (λ n. plain op.Copy (count n)) s.words
+  assign_same assigned.Array d e p s = ap (λ n. plain op.Copy (count n)) s
   assign_same (assigned.Record q) d e p s = copy_same (has_tag d) q p s
 
   new_same : (what : Made) (p : Pos) → MadeSame a b what → new_line first what p ≡ new_line second what p
   new_same (made.Record q) p s = refl
-  new_same (made.Array t) p s = ap (λ n. placed op.NewA (count n) p) s.words
+  new_same (made.Array t) p s = ap (λ n. placed op.NewA (count n) p) s
 
   result_same : (e : Option Expr) (pc : ℕ) → ResultSame a b e → result_code first e pc ≡ result_code second e pc
   result_same None pc s = refl
@@ -189,7 +189,7 @@ module _ (a b : QName → Option Desc) (m : Module) (ps : List TypedParameter) (
     stmt_same (Updated o d e at) p q t u x y i j k s = both _ _ _ _ (desig_after want.Place d p q i s.0) (ap (λ l. l ++ update_line o at ∷ []) (place_after want.Value e _ _ (on_desig want.Place d p q i s.0) s.1))
     stmt_same (Copy e d at) p q t u x y i j k s = both _ _ _ _ (place_after want.PlaceAndLength e p q i s.0) (both _ _ _ _ (desig_after want.PlaceAndLength d _ _ (on_expr want.PlaceAndLength e p q i s.0) s.1) refl)
     stmt_same (New d what at) p q t u x y i j k s = both _ _ _ _ (desig_after want.Place d p q i s.0) (ap (λ l. l ∷ []) (new_same what at s.1))
-    stmt_same (NewOpenArray d r n at) p q t u x y i j k s = both _ _ _ _ (desig_after want.Place d p q i s.0) (both _ _ _ _ (place_after want.Value n _ _ (on_desig want.Place d p q i s.0) s.1.0) (ap (λ z. placed op.NewO (count z) at ∷ []) s.1.1.words))
+    stmt_same (NewOpenArray d r n at) p q t u x y i j k s = both _ _ _ _ (desig_after want.Place d p q i s.0) (both _ _ _ _ (place_after want.Value n _ _ (on_desig want.Place d p q i s.0) s.1.0) (ap (λ z. placed op.NewO (count z) at ∷ []) s.1.1))
     stmt_same (Assert e number at) p q t u x y i j k s = ap (λ l. l ++ placed op.Assert (Number number) at ∷ []) (place_after want.Value e p q i s)
     stmt_same (Halt number at) p q t u x y i j k s = refl
     stmt_same (If branches otherwise) p q t u x y i j k s =

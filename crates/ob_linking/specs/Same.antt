@@ -7,6 +7,8 @@ use Rattle.ob_types.specs.declared.types.TypeRef.TheVariants as ref
 use Rattle.ob_types.specs.declared.desc.Desc.{Desc}
 use Rattle.ob_types.specs.declared.desc.Desc.TheVariants as desc
 use Rattle.ob_types.specs.declared.face.Use.{Use}
+use Rattle.ob_types.specs.declared.typed.Passing.{Passing}
+use Rattle.ob_types.specs.declared.typed.Passing.TheVariants as passing
 use Rattle.ob_types.specs.declared.typed.Binding.{Binding}
 use Rattle.ob_types.specs.declared.typed.Callee.{Callee}
 use Rattle.ob_types.specs.declared.typed.Callee.TheVariants as callee
@@ -23,12 +25,24 @@ use Rattle.ob_code.specs.Descriptions.{own_name, elements_of, field_place, metho
 use Rattle.ob_code.specs.Object.{object_file}
 
 module _ (a b : QName → Option Desc) where
-  -- of a type its words, its name, its elements and their words
+  -- of a type its name and its elements
   pub record IsSame (t : TypeRef) : Type 0 where
-    pub words : words_of a t ≡ words_of b t
     pub name : own_name a t ≡ own_name b t
     pub elements : elements_of a t ≡ elements_of b t
-    pub element_words : open_words a t ≡ open_words b t
+
+  -- its words: only where code takes them, since a client may name a part of a type that has grown
+  abbrev pub IsSameSize : TypeRef → Type 0
+  IsSameSize t = words_of a t ≡ words_of b t
+
+  -- of a parameter's type what its way of passing takes
+  abbrev pub PassedSame : Passing → TypeRef → Type 0
+  PassedSame passing.Structure t = IsSameSize t
+  PassedSame how t = Unit {0}
+
+  abbrev pub ParameterSame : Passing → TypeRef → Type 0
+  ParameterSame passing.Structure t = IsSameSize t
+  ParameterSame passing.OpenArray t = open_words a t ≡ open_words b t
+  ParameterSame how t = Unit {0}
 
   abbrev pub IsSameField : QName → List ℕ → Type 0
   IsSameField o x = field_place a o x ≡ field_place b o x
@@ -46,7 +60,7 @@ module _ (a b : QName → Option Desc) where
     pub DesigSame : Desig → Type 0
     DesigSame (OfVariable v t) = IsSame t
     DesigSame (Field d o x t) = DesigSame d × (IsSameField o x × IsSame t)
-    DesigSame (Index d n i at t) = DesigSame d × (ExprSame i × IsSame t)
+    DesigSame (Index d n i at t) = DesigSame d × (ExprSame i × IsSame t × IsSameSize t)
     DesigSame (Deref d at t) = DesigSame d × IsSame t
     DesigSame (Guard d g q at t) = DesigSame d × IsSame t
 
@@ -66,7 +80,7 @@ module _ (a b : QName → Option Desc) where
 
     pub ActualsSame : Actuals → Type 0
     ActualsSame NoActual = Unit {0}
-    ActualsSame (AnActual how t e rest) = IsSame t × (ExprSame e × ActualsSame rest)
+    ActualsSame (AnActual how t e rest) = PassedSame how t × (ExprSame e × ActualsSame rest)
 
   abbrev pub ResultSame : Option Expr → Type 0
   ResultSame None = Unit {0}
@@ -75,12 +89,12 @@ module _ (a b : QName → Option Desc) where
   abbrev pub AssignedSame : Assigned → Desig → Type 0
   AssignedSame assigned.Scalar d = Unit {0}
   AssignedSame assigned.Text d = Unit {0}
-  AssignedSame assigned.Array d = IsSame (variable_type d)
-  AssignedSame (assigned.Record q) d = IsSame (ref.Named q)
+  AssignedSame assigned.Array d = IsSameSize (variable_type d)
+  AssignedSame (assigned.Record q) d = IsSameSize (ref.Named q)
 
   abbrev pub MadeSame : Made → Type 0
   MadeSame (made.Record q) = Unit {0}
-  MadeSame (made.Array t) = IsSame t
+  MadeSame (made.Array t) = IsSameSize t
 
   abbrev mutual
     pub StmtSame : Stmt → Type 0
@@ -89,7 +103,7 @@ module _ (a b : QName → Option Desc) where
     StmtSame (Updated o d e at) = DesigSame d × ExprSame e
     StmtSame (Copy e d at) = ExprSame e × DesigSame d
     StmtSame (New d what at) = DesigSame d × MadeSame what
-    StmtSame (NewOpenArray d t n at) = DesigSame d × (ExprSame n × IsSame t)
+    StmtSame (NewOpenArray d t n at) = DesigSame d × (ExprSame n × IsSameSize t)
     StmtSame (Assert e number at) = ExprSame e
     StmtSame (Halt number at) = Unit {0}
     StmtSame (If branches otherwise) = BranchesSame branches × StmtsSame otherwise
@@ -124,13 +138,13 @@ module _ (a b : QName → Option Desc) where
 
   pub record ProcedureSame (p : Procedure) : Type 0 where
     pub binding : BindingSame p.binding
-    pub parameters : AllByRecursion (λ x. IsSame x.of) p.parameters
-    pub locals : AllByRecursion (λ v. IsSame v.of) p.locals
+    pub parameters : AllByRecursion (λ x. ParameterSame x.passing x.of) p.parameters
+    pub locals : AllByRecursion (λ v. IsSameSize v.of) p.locals
     pub body : StmtsSame p.body
 
   abbrev pub BaseSame : Option TypeRef → Type 0
   BaseSame None = Unit {0}
-  BaseSame (Some t) = IsSame t
+  BaseSame (Some t) = own_name a t ≡ own_name b t
 
   -- the base of a record type
   abbrev pub DescSame : Desc → Type 0
@@ -139,7 +153,7 @@ module _ (a b : QName → Option Desc) where
 
   pub record ModuleSame (m : Module) : Type 0 where
     pub types : AllByRecursion (λ t. DescSame t.desc) m.types
-    pub variables : AllByRecursion (λ v. IsSame v.of) m.variables
+    pub variables : AllByRecursion (λ v. IsSameSize v.of) m.variables
     pub procedures : AllByRecursion ProcedureSame m.procedures
     pub body : StmtsSame m.body
 

@@ -27,15 +27,15 @@ use Rattle.ob_relation.specs.Stands as code
 use Rattle.ob_relation.specs.Stands.{instr, operands_of, behind_receiver, slots_passed}
 use Rattle.ob_relation.specs.Typed as typed
 use Rattle.ob_relation.specs.Typed.{IsRecordType, ReceiverOk}
-use Rattle.ob_relation.proofs.Steps.{here, Follows, follows_bind, follows_value, follows_stop, stands_any}
-use Rattle.ob_relation.proofs.Statements.{Activation, scope, go, K, here_in, Keeps, onto, ExprFollows, ActualsFollow, StmtFollows, LongPlaceFits, ArgumentFits, ArgumentsFit, CallsFollow, ResultFine, result_words}
+use Rattle.ob_relation.proofs.Steps.{here, Follows, follows_bind, follows_map, follows_value, follows_stop, stands_any}
+use Rattle.ob_relation.proofs.Statements.{Activation, scope, go, K, here_in, Keeps, onto, ExprFollows, ActualsFollow, StmtFollows, LongPlaceFits, ArgumentFits, ArgumentsFit, CallsFollow, ResultFine, result_fine, result_words}
 use Rattle.ob_relation.proofs.Moves.{traps, effect}
 use Rattle.ob_relation.proofs.Sources.{place_ok}
 use Rattle.ob_relation.specs.Setting.{Setting, StandIn, has_of}
 use Rattle.ob_records.proofs.Tags.{IsRecord, one_less, record_below, record_above, type_at, object_tag}
 use Rattle.ob_methods.specs.Tables.{TablesStand, FamiliesStand, Redefinition, Redefined, ReceiverTakes}
 use Rattle.ob_methods.proofs.Fits.{args_are, all_alike, counted, ValueFits}
-use Rattle.ob_methods.proofs.Named.{NamedGoes, named_value, named_proper}
+use Rattle.ob_methods.proofs.Named.{NamedGoes, result_goes, named_value, named_proper}
 use Rattle.ob_methods.proofs.Supers.{known_goes}
 
 module _ (c : Setting) (a : Activation c) (n : ℕ) (call : Caller) (b : ℕ) where
@@ -66,8 +66,8 @@ module _ (c : Setting) (a : Activation c) (n : ℕ) (call : Caller) (b : ℕ) wh
         Follows c (go c a pc (onto ws ops) w) (λ r s w. go c a (suc pc) (result_words c s.made r ++ ops) w) (λ r s w. ResultFine c p.result s.made r × Keeps c a n call b os s w) (call_found (nearest c.program (bases_in c.program d) f) xs (here_in c a n call b) at s)
     reached f k t p d built e xs ws ops at pc os s w number o has place is fit le st =
         subst (λ z. Follows c (go c a pc (onto ws ops) w) (λ r s w. go c a (suc pc) (result_words c s.made r ++ ops) w) (λ r s w. ResultFine c p.result s.made r × Keeps c a n call b os s w) (call_found z xs (here_in c a n call b) at s)) (sym e.near)
-        (subst (λ z. Follows c (go c a pc (onto ws ops) w) (λ r s w. go c a (suc pc) (result_words c s.made r ++ ops) w) (λ r s w. ResultFine c z s.made r × Keeps c a n call b os s w) (call e.q xs a.unit at s)) e.result
-        (known_goes c a n call b calls_follow e.q e.procedure xs ws ops (onto ws ops) at pc (instr o (pos (a.methods f)) (pos number)) os s w e.is has.has place (is ∙ ap (λ m. on_found m (λ r. calls c.img r ws ops w)) (tables d f e.q built e.near)) fit le st))
+        (follows_map c (known_goes c a n call b calls_follow e.q e.procedure xs ws ops (onto ws ops) at pc (instr o (pos (a.methods f)) (pos number)) os s w e.is has.has place (is ∙ ap (λ m. on_found m (λ r. calls c.img r ws ops w)) (tables d f e.q built e.near)) fit le st)
+        (λ r s w k. here c _) (λ r s w k. (result_fine c e.procedure.result p.result s.made r e.result k.0, k.1)))
 
     module _ (t q : QName) (p : Procedure) (f : Family) (built : IsRecordType c.program t) (near : nearest c.program (bases_in c.program t) f ≡ Some q) (found : values.procedure_of c.program q ≡ Some p) where
       -- the record type of what the receiver stands for
@@ -177,7 +177,7 @@ module _ (c : Setting) (a : Activation c) (n : ℕ) (call : Caller) (b : ℕ) wh
         let p = ok.0.2 in
         let p1 = end_actuals c.program es pc in
         let goes = bound_goes f k es at p1 ops os ok.0.0 ok.0.1 p ok.0.3 ok.0.4 ok.0.5 ok.0.6 ok.0.8 has.1 (omega (arith, le)) in
-        named_value c a n call b (callee.Bound f k) es at r t p.parameters pc j ops os s w ih (omega (arith, le)) has.0 ok.0.8 ok.1 (subst (λ z. NamedGoes c a n call b (callee.Bound f k) at z p.parameters p1 ops os) ok.0.7 goes) st
+        named_value c a n call b (callee.Bound f k) es at r t p.parameters pc j ops os s w ih (omega (arith, le)) has.0 ok.0.8 ok.1 (result_goes c a n call b (callee.Bound f k) at p.result r p.parameters p1 ops os ok.0.7 goes) st
 
     pub bound_proper_case : (f : Family) (k : Receiver) (es : Actuals) (at : Pos) (r : Option TypeRef) → ActualsFollow c a n call b es → StmtFollows c a n call b (CallProper (Call (callee.Bound f k) es at r))
     bound_proper_case f k es at r ih l exit pc j os s w le inside lies has ok st =
@@ -185,5 +185,5 @@ module _ (c : Setting) (a : Activation c) (n : ℕ) (call : Caller) (b : ℕ) wh
         let p1 = end_actuals c.program es pc in
         let goes = bound_goes f k es at p1 [] os ok.0.0 ok.0.1 p ok.0.3 ok.0.4 ok.0.5 ok.0.6 ok.0.8 has.1 (omega arith) in
         follows_bind c
-        (named_proper c a n call b (callee.Bound f k) es at p.parameters pc j os s w r ok.1 ih (omega (arith, le)) has.0 ok.0.8 (subst (λ z. NamedGoes c a n call b (callee.Bound f k) at z p.parameters p1 [] os) ok.0.7 goes) st)
+        (named_proper c a n call b (callee.Bound f k) es at p.parameters pc j os s w r ok.1 ih (omega (arith, le)) has.0 ok.0.8 (result_goes c a n call b (callee.Bound f k) at p.result r p.parameters p1 [] os ok.0.7 goes) st)
         λ v s2 w2 k2. follows_value c w2 (here c _) (tt, k2)

@@ -15,8 +15,9 @@ use Rattle.ob_relation.specs.Need.{need_actuals}
 use Rattle.ob_relation.specs.Ends.{end_actuals}
 use Rattle.ob_relation.specs.Stands as code
 use Rattle.ob_relation.specs.Typed as typed
-use Rattle.ob_relation.proofs.Steps.{here, Follows, follows_bind, follows_value, by_bind}
-use Rattle.ob_relation.proofs.Statements.{Activation, scope, go, K, here_in, Keeps, onto, ActualsFollow, ArgumentsFit, ResultFine, result_words}
+use Rattle.ob_relation.specs.Typed.{result_form}
+use Rattle.ob_relation.proofs.Steps.{here, Follows, follows_bind, follows_map, follows_value, by_bind}
+use Rattle.ob_relation.proofs.Statements.{Activation, scope, go, K, here_in, Keeps, onto, ActualsFollow, ArgumentsFit, ResultFine, result_fine, result_words}
 use Rattle.ob_relation.proofs.Values.{widen}
 use Rattle.ob_relation.specs.Setting.{Setting, has_of}
 
@@ -25,6 +26,10 @@ module _ (c : Setting) (a : Activation c) (n : ℕ) (call : Caller) (b : ℕ) wh
   abbrev pub NamedGoes : Callee → Pos → Option TypeRef → List TypedParameter → ℕ → List ℤ → List AnObject → Type 0
   NamedGoes e at r ps pc ops os = (xs : List Passed) (ws : List ℤ) (s : State) (w : World) → ArgumentsFit c s.made (K c a) ps xs ws → Keeps c a n call b os s w →
       Follows c (go c a pc (onto ws ops) w) (λ r s w. go c a (suc pc) (result_words c s.made r ++ ops) w) (λ v s w. ResultFine c r s.made v × Keeps c a n call b os s w) (call_named e xs (here_in c a n call b) at s)
+
+  -- by the form of the result alone
+  pub result_goes : (e : Callee) (at : Pos) (r z : Option TypeRef) (ps : List TypedParameter) (pc : ℕ) (ops : List ℤ) (os : List AnObject) → result_form c.program r ≡ result_form c.program z → NamedGoes e at r ps pc ops os → NamedGoes e at z ps pc ops os
+  result_goes e at r z ps pc ops os same goes xs ws s w fit st = follows_map c (goes xs ws s w fit st) (λ v s w k. here c _) (λ v s w k. (result_fine c r z s.made v same k.0, k.1))
 
   abbrev Ok : Actuals → List TypedParameter → Type 0
   Ok es ps = typed.ActualsOk c.program (has_of c) a.unit (static_held c.program a.procedure) a.procedure.result es ps

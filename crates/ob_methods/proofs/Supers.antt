@@ -33,7 +33,7 @@ use Rattle.ob_relation.specs.Linked.{Linked}
 use Rattle.ob_relation.specs.Setting.{Setting, has_of}
 use Rattle.ob_methods.specs.Tables.{TablesStand}
 use Rattle.ob_methods.proofs.Fits.{args_are}
-use Rattle.ob_methods.proofs.Named.{NamedGoes, named_value, named_proper}
+use Rattle.ob_methods.proofs.Named.{NamedGoes, result_goes, named_value, named_proper}
 
 module _ (c : Setting) (a : Activation c) (n : ℕ) (call : Caller) (b : ℕ) where
   -- an instruction that calls a procedure of the program
@@ -65,7 +65,7 @@ module _ (c : Setting) (a : Activation c) (n : ℕ) (call : Caller) (b : ℕ) wh
         let q = ok.0.0 in
         let p = ok.0.1 in
         let goes = super_goes base f k es at (end_actuals c.program es pc) ops os q p ok.0.2 ok.0.3 ok.0.4 has.1 (omega (arith, le)) in
-        named_value c a n call b (callee.Super base f k) es at r t p.parameters pc j ops os s w ih (omega (arith, le)) has.0 ok.0.6 ok.1 (subst (λ z. NamedGoes c a n call b (callee.Super base f k) at z p.parameters (end_actuals c.program es pc) ops os) ok.0.5 goes) st
+        named_value c a n call b (callee.Super base f k) es at r t p.parameters pc j ops os s w ih (omega (arith, le)) has.0 ok.0.6 ok.1 (result_goes c a n call b (callee.Super base f k) at p.result r p.parameters (end_actuals c.program es pc) ops os ok.0.5 goes) st
 
     pub super_proper_case : (base : QName) (f : Family) (k : Receiver) (es : Actuals) (at : Pos) (r : Option TypeRef) → ActualsFollow c a n call b es → StmtFollows c a n call b (CallProper (Call (callee.Super base f k) es at r))
     super_proper_case base f k es at r ih l exit pc j os s w le inside lies has ok st =
@@ -73,5 +73,5 @@ module _ (c : Setting) (a : Activation c) (n : ℕ) (call : Caller) (b : ℕ) wh
         let p = ok.0.1 in
         let goes = super_goes base f k es at (end_actuals c.program es pc) [] os q p ok.0.2 ok.0.3 ok.0.4 has.1 (omega arith) in
         follows_bind c
-        (named_proper c a n call b (callee.Super base f k) es at p.parameters pc j os s w r ok.1 ih (omega (arith, le)) has.0 ok.0.6 (subst (λ z. NamedGoes c a n call b (callee.Super base f k) at z p.parameters (end_actuals c.program es pc) [] os) ok.0.5 goes) st)
+        (named_proper c a n call b (callee.Super base f k) es at p.parameters pc j os s w r ok.1 ih (omega (arith, le)) has.0 ok.0.6 (result_goes c a n call b (callee.Super base f k) at p.result r p.parameters (end_actuals c.program es pc) [] os ok.0.5 goes) st)
         λ v s2 w2 k2. follows_value c w2 (here c _) (tt, k2)

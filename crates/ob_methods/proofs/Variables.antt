@@ -24,9 +24,10 @@ use Rattle.ob_relation.specs.Ends.{end_place, end_actuals}
 use Rattle.ob_relation.specs.Stands as code
 use Rattle.ob_relation.specs.Stands.{operands_of}
 use Rattle.ob_relation.specs.Typed as typed
-use Rattle.ob_relation.specs.Typed.{passing_for}
-use Rattle.ob_relation.proofs.Steps.{here, Follows, follows_bind, follows_value, follows_stop, by_bind, stands_any}
-use Rattle.ob_relation.proofs.Statements.{Activation, scope, go, fb, K, here_in, Keeps, onto, ExprFollows, ActualsFollow, StmtFollows, ArgumentsFit, CallsFollow, ResultFine, result_words, result_slots, DesigOk}
+use Rattle.ob_relation.specs.Typed.{passing_for, result_form}
+use Rattle.ob_relation.proofs.Steps.{here, Follows, follows_bind, follows_map, follows_value, follows_stop, by_bind, stands_any}
+use Rattle.ob_relation.proofs.Statements.{Activation, scope, go, fb, K, here_in, Keeps, onto, ExprFollows, ActualsFollow, StmtFollows, ArgumentsFit, CallsFollow, ResultFine, result_fine, result_words, result_slots, DesigOk}
+use Rattle.ob_relation.proofs.Passings.{formal_is}
 use Rattle.ob_relation.proofs.Needs.{need_one}
 use Rattle.ob_relation.proofs.Moves.{has_it, traps, effect}
 use Rattle.ob_relation.proofs.Values.{widen}
@@ -68,22 +69,14 @@ module _ (c : Setting) (a : Activation c) (n : ℕ) (call : Caller) (b : ℕ) wh
   parameters_of (t ∷ ts) = record { name = []; passing = passing_for t.0 (form_in c.program t.1); of = t.1 } ∷ parameters_of ts
 
   -- what is asked of an actual parameter by how it is passed
-  abbrev Passes : Passing → Expr → TypeRef → Type 0
-  Passes how e t = typed.ByPassing how (typed.ExprOk c.program (has_of c) a.unit (static_held c.program a.procedure) a.procedure.result e (form_in c.program t) × Scalar (form_in c.program t)) (typed.StructureOk c.program (has_of c) a.unit (static_held c.program a.procedure) a.procedure.result e (form_in c.program t)) (typed.ArrayOk c.program (has_of c) a.unit (static_held c.program a.procedure) a.procedure.result e (form_in c.program t)) (typed.ReferredOk c.program (has_of c) a.unit (static_held c.program a.procedure) a.procedure.result e (form_in c.program t)) (typed.RecordOk c.program (has_of c) a.unit (static_held c.program a.procedure) a.procedure.result e (form_in c.program t)) (typed.VariableArrayOk c.program (has_of c) a.unit (static_held c.program a.procedure) a.procedure.result e (form_in c.program t))
-
-  formal_is : (how : Passing) (t u : TypeRef) → t ≡ u → typed.IsFormal how t u
-  formal_is passing.Structure t u e = e
-  formal_is passing.Scalar t u e = tt
-  formal_is passing.OpenArray t u e = tt
-  formal_is passing.Variable t u e = tt
-  formal_is passing.VariableRecord t u e = tt
-  formal_is passing.VariableOpenArray t u e = tt
+  abbrev Passes : Passing → Expr → Form → Type 0
+  Passes how e t = typed.ByPassing how (typed.ExprOk c.program (has_of c) a.unit (static_held c.program a.procedure) a.procedure.result e t × Scalar t) (typed.StructureOk c.program (has_of c) a.unit (static_held c.program a.procedure) a.procedure.result e t) (typed.ArrayOk c.program (has_of c) a.unit (static_held c.program a.procedure) a.procedure.result e t) (typed.ReferredOk c.program (has_of c) a.unit (static_held c.program a.procedure) a.procedure.result e t) (typed.RecordOk c.program (has_of c) a.unit (static_held c.program a.procedure) a.procedure.result e t) (typed.VariableArrayOk c.program (has_of c) a.unit (static_held c.program a.procedure) a.procedure.result e t)
 
   actuals_ok : (es : Actuals) (ts : List (Mode × TypeRef)) → Sg es ts → typed.ActualsOk c.program (has_of c) a.unit (static_held c.program a.procedure) a.procedure.result es (parameters_of ts)
   actuals_ok NoActual [] ok = ok
   actuals_ok NoActual (t ∷ ts) ok = ok
   actuals_ok (AnActual how t e rest) [] ok = ok
-  actuals_ok (AnActual how t e rest) (u ∷ ts) ok = (ok.0, (formal_is how t u.1 ok.1.0, (subst (λ z. Passes how e z) ok.1.0 ok.1.1.0, actuals_ok rest ts ok.1.1.1)))
+  actuals_ok (AnActual how t e rest) (u ∷ ts) ok = (ok.0, (formal_is c.program how u.0 t u.1 ok.0 ok.1.0, (subst (λ z. Passes how e z) ok.1.0 ok.1.1.0, actuals_ok rest ts ok.1.1.1)))
 
   match_alike : (os : List AnObject) (ps : List TypedParameter) (ts : List (Mode × TypeRef)) → ParametersMatch c.program ps ts → Alike c.program (parameters_of ts) ps
   match_alike os [] [] k = k
@@ -121,11 +114,11 @@ module _ (c : Setting) (a : Activation c) (n : ℕ) (call : Caller) (b : ℕ) wh
             let is : effect c a pc (onto ws (proc_value r ∷ ops)) w (code.with_a op.CallV (operands_of es)) ≡ calls c.img r ws ops w = taken (proc_value r) ∙ ap (λ z. if is_zero z then Traps 2 (pos 0) w else on_found (proc_of_value z) (λ r. calls c.img r ws ops w)) (value_is r) ∙ ap (λ o. on_found o (λ r. calls c.img r ws ops w)) (value_tells r num.below) in
             let fits = all_alike c s.made (K c a) (parameters_of sig.params) num.p.parameters xs ws (match_alike s.made num.p.parameters sig.params m.1) fit in
             let depth : length (K c a) ≡ suc (length a.acts) = ap suc a.depth in
-            subst (λ z. Follows c (go c a pc (onto ws (proc_value r ∷ ops)) w) (λ r s w. go c a (suc pc) (result_words c s.made r ++ ops) w) (λ r s w. ResultFine c z s.made r × Keeps c a n call b os s w) (call q xs a.unit at s)) m.0
-            (calls_follow q num.p xs ws ops a.unit at a.m a.p (fb c a) pc a.u (code.with_a op.CallV (operands_of es)) (K c a) a.acts (onto ws (proc_value r ∷ ops)) os s w a.is a.named (has_it c a has.has) has.place is num.is fits (by num.p.result) depth st)
+            follows_map c (calls_follow q num.p xs ws ops a.unit at a.m a.p (fb c a) pc a.u (code.with_a op.CallV (operands_of es)) (K c a) a.acts (onto ws (proc_value r ∷ ops)) os s w a.is a.named (has_it c a has.has) has.place is num.is fits (by num.p.result) depth st)
+            (λ r s w k. here c _) (λ r s w k. (result_fine c num.p.result sig.result s.made r m.0 k.0, k.1))
 
     abbrev VariableOk : Desig → Actuals → Option TypeRef → Type 0
-    VariableOk d es r = DesigOk c a n call b d × ((s : Signature) × (T d ≡ ProcedureForm s) × (s.result ≡ r) × Sg es s.params)
+    VariableOk d es r = DesigOk c a n call b d × ((s : Signature) × (T d ≡ ProcedureForm s) × (result_form c.program s.result ≡ result_form c.program r) × Sg es s.params)
 
     pub call_variable_case : (d : Desig) (es : Actuals) (at : Pos) (r : Option TypeRef) → HolderFollows c a n call b d → ActualsFollow c a n call b es → ExprFollows c a n call b (CallVariable d es at r)
     call_variable_case d es at r ih_d ih_es t pc k ops os s w le has ok st = by r refl ok.1
@@ -142,12 +135,12 @@ module _ (c : Setting) (a : Activation c) (n : ℕ) (call : Caller) (b : ℕ) wh
         by : (z : Option TypeRef) → r ≡ z → typed.ResultOk c.program (has_of c) a.unit (static_held c.program a.procedure) a.procedure.result z t → Follows c (go c a pc ops w) (λ v s w. go c a (suc p2) (W s.made v ∷ ops) w) (λ v s w. Fine c.program (has_of c) s.made t v × Keeps c a n call b os s w) (value (CallVariable d es at r) (here_in c a n call b) s)
         by None e h = absurd h
         by (Some u) e h =
-            let is : sig.result ≡ Some u = ok.0.1.2 ∙ e in
+            let is : result_form c.program sig.result ≡ result_form c.program (Some u) = ok.0.1.2 ∙ ap (result_form c.program) e in
             follows_bind c (ih_d pc k ops os s w (omega (arith, le)) has.0 ok.0.0 (subst (λ u. Scalar u) (sym ok.0.1.1) tt) st) λ p s1 w1 k1.
             follows_bind c (holder_load c a n call b p (T d) p1 ops os s1 w1 (omega (arith, le, need_one d)) has.1.0 k1) λ v s2 w2 k2.
             by_bind c (ih_es (parameters_of sig.params) (suc p1) _ (W s2.made v ∷ ops) os s2 w2 (omega (arith, le)) has.1.1.0 (actuals_ok es sig.params ok.0.1.3) k2.1) λ ws xs s3 w3 k3.
             follows_bind c (held_goes v sig es xs ws ops at p2 os s2.made s3 w3 (subst (λ u. Fine c.program (has_of c) s2.made u v) ok.0.1.1 k2.0) has.1.1.1 ok.0.1.3 k3.0 (omega (arith, le)) k3.1) λ v s4 w4 k4.
-            let g : ResultFine c (Some u) s4.made v = subst (λ r. ResultFine c r s4.made v) is k4.0 in
+            let g : ResultFine c (Some u) s4.made v = result_fine c sig.result (Some u) s4.made v is k4.0 in
             subst (λ v. Follows c (go c a (suc p2) (result_words c s4.made v ++ ops) w4) (λ v s w. go c a (suc p2) (W s.made v ∷ ops) w) (λ v s w. Fine c.program (has_of c) s.made t v × Keeps c a n call b os s w) (give (result_of v) s4)) (sym g.1)
             (follows_value c w4 (here c _) (widen c s4.made a (form_in c.program u) t g.0 h.1 g.3, k4.1))
 
@@ -156,13 +149,13 @@ module _ (c : Setting) (a : Activation c) (n : ℕ) (call : Caller) (b : ℕ) wh
         let p1 = end_place c.program d pc in
         let p2 = end_actuals c.program es (suc p1) in
         let sig = ok.0.1.0 in
-        let is : sig.result ≡ None = ok.0.1.2 ∙ ok.1 in
+        let is : result_form c.program sig.result ≡ result_form c.program None = ok.0.1.2 ∙ ap (result_form c.program) ok.1 in
         follows_bind c
         (follows_bind c (ih_d pc k [] os s w (omega (arith, le)) has.0 ok.0.0 (subst (λ u. Scalar u) (sym ok.0.1.1) tt) st) λ p s1 w1 k1.
         follows_bind c (holder_load c a n call b p (T d) p1 [] os s1 w1 (omega arith) has.1.0 k1) λ v s2 w2 k2.
         by_bind c (ih_es (parameters_of sig.params) (suc p1) _ (W s2.made v ∷ []) os s2 w2 (omega (arith, le)) has.1.1.0 (actuals_ok es sig.params ok.0.1.3) k2.1) λ ws xs s3 w3 k3.
         follows_bind c (held_goes v sig es xs ws [] at p2 os s2.made s3 w3 (subst (λ u. Fine c.program (has_of c) s2.made u v) ok.0.1.1 k2.0) has.1.1.1 ok.0.1.3 k3.0 (omega arith) k3.1) λ v s4 w4 k4.
-        let g : v ≡ None = subst (λ r. ResultFine c r s4.made v) is k4.0 in
+        let g : v ≡ None = result_fine c sig.result None s4.made v is k4.0 in
         subst (λ v. Follows c (go c a (suc p2) (result_words c s4.made v ++ []) w4) (λ v s w. go c a (suc p2) [] w) (λ v s w. Keeps c a n call b os s w) (give (result_of v) s4)) (sym g)
         (follows_value c w4 (here c _) k4.1))
         λ v s5 w5 k5. follows_value c w5 (here c _) (tt, k5)

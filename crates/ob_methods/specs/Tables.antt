@@ -10,7 +10,7 @@ use Rattle.ob_meaning.specs.Values.{Program, procedure_of, bases_in, record_in}
 use Rattle.ob_meaning.specs.Meaning.{nearest}
 use Rattle.ob_relation.specs.Layout.{type_number}
 use Rattle.ob_relation.specs.Relation.{Sub, number_of}
-use Rattle.ob_relation.specs.Typed.{IsRecordType, ReceiverOk}
+use Rattle.ob_relation.specs.Typed.{IsRecordType, ReceiverOk, result_form}
 use Rattle.ob_relation.specs.Setting.{Setting, has_of}
 use Rattle.ob_methods.specs.Signatures.{Alike}
 
@@ -34,7 +34,7 @@ pub record Redefinition (c : Setting) (f : Family) (k : Receiver) (p : Procedure
   pub procedure : Procedure
   pub near : nearest c.program (bases_in c.program d) f ≡ Some q
   pub is : procedure_of c.program q ≡ Some procedure
-  pub result : procedure.result ≡ p.result
+  pub result : result_form c.program procedure.result ≡ result_form c.program p.result
   pub parameters : Redefined c.program k d p.parameters procedure.parameters
 
 -- each record type that extends one to which a procedure is bound has a procedure of that family, alike but for the receiver

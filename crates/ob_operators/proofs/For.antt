@@ -153,7 +153,7 @@ module _ (c : Setting) (a : Activation c) (n : ℕ) (call : Caller) where
         Follows c (go c a (loop_start v start end pc) [] m) (RoundTo c a n call b (λ m. go c a (loop_back v start end body pc) [] m) (suc (loop_back v start end body pc)) exit) (RoundKept c a n call b l os)
         (bind (for_test v step at s) (λ t. choose t (execs body (here_in c a n call b) >>= λ f. after_body f (find v >>= λ q. update_at (update.Inc w) q (Integer step) (here_in c a n call b) at >>= λ x. give Again)) (give (Leaving Done))))
     round_follows v w start end step body at pl ih l exit pc k os s m le inside lies has ok st =
-        follows_bind c (test_follows v w step at l0 (suc back) os s m pl has.1.1.1.1.1.1.0 ok.0 ok.1.1.1.0 st) λ t s1 m1 k1. by t s1 m1 k1
+        follows_bind c (test_follows v w step at l0 (suc back) os s m pl has.1.1.1.1.1.1.0 ok.0.0 ok.1.1.1.0 st) λ t s1 m1 k1. by t s1 m1 k1
       where
         l0 : ℕ
         l0 = loop_start v start end pc
@@ -181,7 +181,7 @@ module _ (c : Setting) (a : Activation c) (n : ℕ) (call : Caller) where
 
         after : (f : Flow) (s2 : State) (m2 : World) → FlowKept c a n call b l os f s2 m2 → Follows c (FlowTo c a n call b p4 exit f s2 m2) To Keep (after_body f rest s2)
         after Done s2 m2 h =
-            follows_map c (step_follows v w step at p4 os s2 m2 pl has.1.1.1.1.1.1.1.1.0 has.1.1.1.1.1.1.1.1.1.0 has.1.1.1.1.1.1.1.1.1.1.0 ok.0 h.1)
+            follows_map c (step_follows v w step at p4 os s2 m2 pl has.1.1.1.1.1.1.1.1.0 has.1.1.1.1.1.1.1.1.1.0 has.1.1.1.1.1.1.1.1.1.1.0 ok.0.0 h.1)
             (λ r s m k. subst (λ r. Reach c (go c a back [] m) (To r s m)) (sym k.0) (here c _)) (λ r s m k. subst (λ r. Keep r s m) (sym k.0) k.1)
         after Leaves s2 m2 h = follows_value c m2 (here c _) h
         after (Back v) s2 m2 h = follows_value c m2 (here c _) h
@@ -208,7 +208,7 @@ module _ (c : Setting) (a : Activation c) (n : ℕ) (call : Caller) where
       follows_bind c
       (subst (λ z. Follows c (go c a p1 (W s1.made e ∷ pos z ∷ []) m1) (λ u s m. go c a (suc p1) [] m) (λ u s m. Kp b os s m × (value_at s.store (hidden_at at) ≡ e)) (keep at e s1)) (address_same c s.made s1.made k1.1.objects (K c a) (hidden_at at) hidden_in.0)
       (keep_follows b at e p1 os s1 m1 has.1.1.0 hid k1.0 (since c a n call b st.objects k1.1))) λ u s2 m2 k2.
-      follows_bind c (find_follows b v (integer w) pl (suc p1) [] os s2 m2 (omega arith) has.1.1.1.0 ok.0 k2.0) λ p s3 m3 k3.
+      follows_bind c (find_follows b v (integer w) pl (suc p1) [] os s2 m2 (omega arith) has.1.1.1.0 ok.0.0 k2.0) λ p s3 m3 k3.
       follows_bind c (ih_start b le_b (integer w) p2 _ (at_place b s3 p ∷ []) s3.made s3 m3 (omega (arith, le)) has.1.1.1.1.0 ok.1.0 (from_here c a n call b k3.1)) λ i s4 m4 k4.
       follows_bind c
       (subst (λ z. Follows c (go c a p3 (W s4.made i ∷ pos z ∷ []) m4) (λ u s m. go c a (suc p3) [] m) (λ u s m. Kp b os s m) (assign p i s4)) (address_same c s3.made s4.made k4.1.objects (K c a) p k3.0.0)

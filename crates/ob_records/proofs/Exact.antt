@@ -92,13 +92,13 @@ module _ (c : Setting) (a : Activation c) (n : ℕ) (call : Caller) (b : ℕ) wh
   own_exact x t s h e = let k = same_alike IsOwn own_fixed _ _ x (call_alike c.program a.procedure a.active a.call) h in own_form c s.made a.cs a.active x ∙ k.form ∙ e
 
   variable_exact : (v : Variable) (t : TypeRef) (s : State) (w : World) → StandIn c (K c a) s w → Plain v → DesigOk c a n call b (OfVariable v t) → IsRecordForm (form_in c.program t) → form_at s (place_of v (K c a)) ≡ form_in c.program t
-  variable_exact (variable.Module m x) t s w st pl ok is = ok.1
-  variable_exact (variable.Local x) t s w st pl ok is = own_exact x (form_in c.program t) s ok.0 ok.1
-  variable_exact (variable.Parameter passing.Scalar x) t s w st pl ok is = own_exact x (form_in c.program t) s ok.0 ok.1
+  variable_exact (variable.Module m x) t s w st pl ok is = ok.0.1
+  variable_exact (variable.Local x) t s w st pl ok is = own_exact x (form_in c.program t) s ok.0.0 ok.0.1
+  variable_exact (variable.Parameter passing.Scalar x) t s w st pl ok is = own_exact x (form_in c.program t) s ok.0.0 ok.0.1
   variable_exact (variable.Parameter passing.Variable x) t s w st pl ok is =
-      let k = same_alike (IsReferred 1) (referred_fixed 1) _ _ x (call_alike c.program a.procedure a.active a.call) ok.0 in
+      let k = same_alike (IsReferred 1) (referred_fixed 1) _ _ x (call_alike c.program a.procedure a.active a.call) ok.0.0 in
       let fits = slots_fit c s.made a.cs a.active.places a.active.held 1 x (s.store.locals (length a.cs)) k.as_it st.calls_fine.1.1 in
-      let two : 1 ≡ 2 = subst (λ u. SlotsFit c.program (has_of c) c.img 1 u) (k.form ∙ ok.1 ∙ is.1) fits in
+      let two : 1 ≡ 2 = subst (λ u. SlotsFit c.program (has_of c) c.img 1 u) (k.form ∙ ok.0.1 ∙ is.1) fits in
       absurd (omega (arith, two))
   variable_exact (variable.Parameter passing.Structure x) t s w st pl ok is = absurd pl
   variable_exact (variable.Parameter passing.OpenArray x) t s w st pl ok is = absurd pl
@@ -108,7 +108,7 @@ module _ (c : Setting) (a : Activation c) (n : ℕ) (call : Caller) (b : ℕ) wh
   pub exact_variable_case : (v : Variable) (t : TypeRef) → Plain v → ExactFollows (OfVariable v t)
   exact_variable_case v t pl pc at ops os s w le has ok is st =
       subst (λ k. Follows c (go c a pc ops w) (PlaceTo c a n call b (end_variable v pc) ops) (ExactKept (form_in c.program t) os) (Gives (place_of v k) s)) (sym st.calls)
-      (follows_value c w (variable_goes c a s w st.all v (form_in c.program t) pc ops le pl has ok) (((variable_of c a s w st.all v (form_in c.program t) pl ok).0, variable_exact v t s w st.all pl ok is), st))
+      (follows_value c w (variable_goes c a s w st.all v (form_in c.program t) pc ops le pl has ok.0) (((variable_of c a s w st.all v (form_in c.program t) pl ok.0).0, variable_exact v t s w st.all pl ok is), st))
 
   -- of a variable at whose place the static type stands
   pub exact_at_case : (v : Variable) (t : TypeRef) → PlaceFollows c a n call b (OfVariable v t) → ((s : State) → DesigOk c a n call b (OfVariable v t) → form_at s (place_of v (K c a)) ≡ form_in c.program t) → ExactFollows (OfVariable v t)
@@ -120,7 +120,7 @@ module _ (c : Setting) (a : Activation c) (n : ℕ) (call : Caller) (b : ℕ) wh
   pub exact_structure_case : (x : List ℕ) (t : TypeRef) → ExactFollows (OfVariable (variable.Parameter passing.Structure x) t)
   exact_structure_case x t =
       exact_at_case (variable.Parameter passing.Structure x) t (structure_parameter_case c a n call b x t)
-      (λ s ok. let k = copy_held c.program a.procedure a.active 1 x a.call ok.0 in own_form c s.made a.cs a.active x ∙ k.form ∙ ok.1)
+      (λ s ok. let k = copy_held c.program a.procedure a.active 1 x a.call ok.0.0 in own_form c s.made a.cs a.active x ∙ k.form ∙ ok.0.1)
 
   -- FIELDS AND ELEMENTS
 

@@ -124,7 +124,7 @@ module _ (c : Setting) (a : Activation c) (n : ℕ) (call : Caller) (b : ℕ) wh
   pub variable_record_case : (x : List ℕ) (t : TypeRef) → PlaceFollows c a n call b (the_record x t)
   variable_record_case x t pc at ops os s w le has ok st =
       subst (λ k. Follows c (go c a pc ops w) (PlaceTo c a n call b (suc (suc pc)) ops) (PKept (form_in c.program t) os) (Gives (place_of (variable.Parameter passing.VariableRecord x) k) s)) (sym st.calls)
-      (follows_value c w (address_goes c a s w st.all x pc ops le has.0 has.1 ok.0) (ref_of c a s w st.all 2 x (form_in c.program t) ok.0 ok.1, st))
+      (follows_value c w (address_goes c a s w st.all x pc ops le has.0 has.1 ok.0.0) (ref_of c a s w st.all 2 x (form_in c.program t) ok.0.0 ok.0.1, st))
 
   -- RECORDS BY ADDRESS AND TAG
 
@@ -132,8 +132,8 @@ module _ (c : Setting) (a : Activation c) (n : ℕ) (call : Caller) (b : ℕ) wh
   tagged_record_case x t pc at ops os s w le has ok is st =
       subst (λ k. Follows c (go c a pc ops w) (LongTo c a n call b (suc (suc (suc (suc pc)))) ops) (PKept (form_in c.program t) os) (Gives (place_of (variable.Parameter passing.VariableRecord x) k) s)) (sym st.calls)
       (follows_value c w
-      (then_reach c (address_goes c a s w st.all x pc ops (omega (arith, le)) has.0.0 has.0.1 ok.0) (second_goes c a s w st.all x (suc (suc pc)) (pos (address c.program c.img s.made (K c a) (a.active.places x)) ∷ ops) (omega (arith, le)) has.1 ok.0))
-      (ref_of c a s w st.all 2 x (form_in c.program t) ok.0 ok.1, st))
+      (then_reach c (address_goes c a s w st.all x pc ops (omega (arith, le)) has.0.0 has.0.1 ok.0.0) (second_goes c a s w st.all x (suc (suc pc)) (pos (address c.program c.img s.made (K c a) (a.active.places x)) ∷ ops) (omega (arith, le)) has.1 ok.0.0))
+      (ref_of c a s w st.all 2 x (form_in c.program t) ok.0.0 ok.0.1, st))
 
   -- GUARDS
 
@@ -181,7 +181,7 @@ module _ (c : Setting) (a : Activation c) (n : ℕ) (call : Caller) (b : ℕ) wh
   pub tag_follows : (stand : BasesStand c) (d : Desig) → IsVariableRecord d → TagFollows c a n call b d
   tag_follows stand (OfVariable (variable.Parameter passing.VariableRecord x) t) i pc ops os s w le has ok st =
       subst (λ k. Follows c (go c a pc ops w) (λ p s w. go c a (suc (suc pc)) (tag_of_place s p ∷ ops) w) (PKept (form_in c.program t) os) (Gives (place_of (variable.Parameter passing.VariableRecord x) k) s)) (sym st.calls)
-      (follows_value c w (second_goes c a s w st.all x pc ops le has ok.0) (ref_of c a s w st.all 2 x (form_in c.program t) ok.0 ok.1, st))
+      (follows_value c w (second_goes c a s w st.all x pc ops le has ok.0.0) (ref_of c a s w st.all 2 x (form_in c.program t) ok.0.0 ok.0.1, st))
   tag_follows stand (Guard d guarded.Record q at t) i pc ops os s w le has ok st =
       follows_bind c (tag_follows stand d i pc ops os s w le has.0 ok.0 st) λ p s1 w1 k1.
       on_tag stand (λ p s. ops) p (T d) (form_in c.program t) q at (end_tag c.program d pc) os s1 w1 le has.1 ok.1.1 ok.1.0 k1

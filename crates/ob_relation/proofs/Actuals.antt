@@ -33,12 +33,12 @@ use Rattle.ob_relation.specs.Need.{need_place, need_open, need_expr, need_passed
 use Rattle.ob_relation.specs.Ends.{is_open, end_place, end_tagged, end_open, end_array, end_expr, end_actuals}
 use Rattle.ob_relation.specs.Stands as code
 use Rattle.ob_relation.specs.Typed as typed
-use Rattle.ob_relation.specs.Typed.{IsOpen, char}
+use Rattle.ob_relation.specs.Typed.{IsOpen, char, result_form}
 use Rattle.ob_relation.specs.Texts.{text_words}
 use Rattle.ob_types.specs.declared.value.Value.TheVariants as literal
 use Rattle.ob_relation.proofs.Names.{bytes_true}
 use Rattle.ob_relation.proofs.Steps.{Reach, here, then_reach, Follows, follows_bind, follows_map, follows_value, FollowsBy, by_value, by_after, bind_by, by_bind_by, by_bind}
-use Rattle.ob_relation.proofs.Statements.{AlwaysAt, PlaceTo, LongTo, PlaceKept, DesigOk, RecordFollows, OpenArrayFollows, onto, result_slots, Activation, scope, go, fb, K, here_in, Keeps, PlaceFollows, ExprFollows, ActualsFollow, StmtFollows, PlaceFits, LongPlaceFits, TextFits, LongTextFits, ArgumentFits, ArgumentsFit, CallsFollow, result_words, ResultFine}
+use Rattle.ob_relation.proofs.Statements.{AlwaysAt, PlaceTo, LongTo, PlaceKept, DesigOk, RecordFollows, OpenArrayFollows, onto, result_slots, Activation, scope, go, fb, K, here_in, Keeps, PlaceFollows, ExprFollows, ActualsFollow, StmtFollows, PlaceFits, LongPlaceFits, TextFits, LongTextFits, ArgumentFits, ArgumentsFit, CallsFollow, result_words, ResultFine, result_fine}
 use Rattle.ob_relation.proofs.Grow.{scalar_word, fine_more, address_same, form_same, place_of_more}
 use Rattle.ob_relation.proofs.Moves.{has_it, goes, all_length, small_word}
 use Rattle.ob_relation.proofs.Modules.{texts_at}
@@ -302,7 +302,7 @@ module _ (c : Setting) (a : Activation c) (n : ℕ) (call : Caller) (b : ℕ) wh
   string_actual_case t text es ih_es [] pc at ops os s w le has ok st = absurd ok
   string_actual_case t text es ih_es (p ∷ ps) pc at ops os s w le has ok st =
       let m = ok.1.1.0.0 in
-      let form : form_in c.program t ≡ ArrayForm m char = ap (form_in c.program) ok.1.0 ∙ ok.1.1.0.1 in
+      let form : form_in c.program t ≡ ArrayForm m char = ok.1.0.0 ∙ ok.1.1.0.1 in
       let size : words (form_in c.program t) ≡ m = ap words form ∙ omega arith in
       let always = always_filled text m at (subst (λ k. code.FilledStands (scope c a) text k at) size has.0.1) in
       let x = pos (a.u.first + at) in
@@ -398,10 +398,10 @@ module _ (c : Setting) (a : Activation c) (n : ℕ) (call : Caller) (b : ℕ) wh
           by : (z : Option TypeRef) → r ≡ z → typed.ResultOk c.program (has_of c) a.unit (static_held c.program a.procedure) a.procedure.result z t → Follows c (go c a pc ops w) (λ v s w. go c a (suc p1) (W s.made v ∷ ops) w) (λ v s w. Fine c.program (has_of c) s.made t v × Keeps c a n call b os s w) (bind (actuals es (here_in c a n call b) s) (λ xs s. bind (call q xs a.unit at s) (λ v. give (result_of v))))
           by None e h = absurd h
           by (Some u) e h =
-              let is : p.result ≡ Some u = ok.0.2 ∙ e in
+              let is : result_form c.program p.result ≡ result_form c.program (Some u) = ok.0.2 ∙ ap (result_form c.program) e in
               by_bind c (ih p.parameters pc k ops os s w (omega (arith, le)) has.0 ok.0.3 st) λ ws xs s1 w1 k1.
               follows_bind c (call_goes q p xs ws ops at p1 os s1 w1 ok.0.1 has.1 k1.0 (omega (arith, le)) k1.1) λ v s2 w2 k2.
-              let g : ResultFine c (Some u) s2.made v = subst (λ r. ResultFine c r s2.made v) is k2.0 in
+              let g : ResultFine c (Some u) s2.made v = result_fine c p.result (Some u) s2.made v is k2.0 in
               subst (λ v. Follows c (go c a (suc p1) (result_words c s2.made v ++ ops) w2) (λ v s w. go c a (suc p1) (W s.made v ∷ ops) w) (λ v s w. Fine c.program (has_of c) s.made t v × Keeps c a n call b os s w) (give (result_of v) s2)) (sym g.1)
               (follows_value c w2 (here c _) (widen c s2.made a (form_in c.program u) t g.0 h.1 g.3, k2.1))
 
@@ -409,11 +409,11 @@ module _ (c : Setting) (a : Activation c) (n : ℕ) (call : Caller) (b : ℕ) wh
       call_proper_case q es at r ih l exit pc k os s w le inside lies has ok st =
           let p = ok.0.0 in
           let p1 = end_actuals c.program es pc in
-          let is : p.result ≡ None = ok.0.2 ∙ ok.1 in
+          let is : result_form c.program p.result ≡ result_form c.program None = ok.0.2 ∙ ap (result_form c.program) ok.1 in
           follows_bind c
           (by_bind c (ih p.parameters pc k [] os s w (omega (arith, le)) has.0 ok.0.3 st) λ ws xs s1 w1 k1.
           follows_bind c (call_goes q p xs ws [] at p1 os s1 w1 ok.0.1 has.1 k1.0 (omega arith) k1.1) λ v s2 w2 k2.
-          let g : v ≡ None = subst (λ r. ResultFine c r s2.made v) is k2.0 in
+          let g : v ≡ None = result_fine c p.result None s2.made v is k2.0 in
           subst (λ v. Follows c (go c a (suc p1) (result_words c s2.made v ++ []) w2) (λ v s w. go c a (suc p1) [] w) (λ v s w. Keeps c a n call b os s w) (give (result_of v) s2)) (sym g)
           (follows_value c w2 (here c _) k2.1))
           λ v s3 w3 k3. follows_value c w3 (here c _) (tt, k3)

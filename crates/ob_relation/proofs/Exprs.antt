@@ -79,7 +79,7 @@ module _ (c : Setting) (a : Activation c) (n : ℕ) (call : Caller) (b : ℕ) wh
   pub variable_case : (v : Variable) (t : TypeRef) → Plain v → P (OfVariable v t)
   variable_case v t pl pc at ops os s w le has ok st =
       subst (λ k. Follows c (go c a pc ops w) (PlaceTo c a n call b (end_variable v pc) ops) (PlaceKept c a n call b (form_in c.program t) os) (Gives (place_of v k) s)) (sym st.calls)
-      (follows_value c w (variable_goes c a s w st.all v (form_in c.program t) pc ops le pl has ok) (variable_of c a s w st.all v (form_in c.program t) pl ok, st))
+      (follows_value c w (variable_goes c a s w st.all v (form_in c.program t) pc ops le pl has ok.0) (variable_of c a s w st.all v (form_in c.program t) pl ok.0, st))
 
   -- a scalar at a place
   pub load_follows : (p : Place) (t : Form) (pc : ℕ) (ops : List ℤ) (os : List AnObject) (s : State) (w : World) → length ops + 1 ≤ 256 → code.Has (scope c a) pc (code.plain op.Load) → Scalar t → PlaceKept c a n call b t os p s w → Follows c (PlaceTo c a n call b pc ops p s w) (VTo (suc pc) ops) (VKept t os) (read p s)

@@ -1,5 +1,6 @@
 pub mod Steps
 pub mod Statements
+pub mod Passings
 pub mod Names
 pub mod Parts
 pub mod Lengths

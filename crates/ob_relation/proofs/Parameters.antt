@@ -143,38 +143,38 @@ module _ (c : Setting) (a : Activation c) (n : ℕ) (call : Caller) (b : ℕ) wh
   pub structure_parameter_case : (x : List ℕ) (t : TypeRef) → PlaceFollows c a n call b (OfVariable (variable.Parameter passing.Structure x) t)
   structure_parameter_case x t pc at ops os s w le has ok st =
       subst (λ k. Follows c (go c a pc ops w) (PlaceTo c a n call b (suc (suc pc)) ops) (PKept (form_in c.program t) os) (Gives (place_of (variable.Parameter passing.Structure x) k) s)) (sym st.calls)
-      (follows_value c w (copy_first c a s w st.all 0 x pc ops le has.0 has.1 ok.0) (structure_of c a s w st.all x (form_in c.program t) ok.0 ok.1, st))
+      (follows_value c w (copy_first c a s w st.all 0 x pc ops le has.0 has.1 ok.0.0) (structure_of c a s w st.all x (form_in c.program t) ok.0.0 ok.0.1, st))
 
   -- open arrays by value, by address and length
   pub open_parameter_case : (x : List ℕ) (t : TypeRef) → OpenArrayFollows c a n call b (OfVariable (variable.Parameter passing.OpenArray x) t)
   open_parameter_case x t u pc at ops os s w le has ok is st =
       subst (λ k. Follows c (go c a pc ops w) (LongTo c a n call b (suc (suc (suc (suc pc)))) ops) (PKept (form_in c.program t) os) (Gives (place_of (variable.Parameter passing.OpenArray x) k) s)) (sym st.calls)
       (follows_value c w
-      (then_reach c (copy_first c a s w st.all 1 x pc ops (omega (arith, le)) has.0.0 has.0.1 ok.0.0) (copy_length c a s w st.all 0 x (suc (suc pc)) _ (omega (arith, le)) has.1 ok.0.0))
-      (array_of c a s w st.all x (form_in c.program t) u ok.0.0 ok.1 is, st))
+      (then_reach c (copy_first c a s w st.all 1 x pc ops (omega (arith, le)) has.0.0 has.0.1 ok.0.0.0) (copy_length c a s w st.all 0 x (suc (suc pc)) _ (omega (arith, le)) has.1 ok.0.0.0))
+      (array_of c a s w st.all x (form_in c.program t) u ok.0.0.0 ok.0.1 is, st))
 
   pub open_place_case : (x : List ℕ) (t : TypeRef) → PlaceFollows c a n call b (OfVariable (variable.Parameter passing.OpenArray x) t)
   open_place_case x t pc at ops os s w le has ok st =
-      let is : form_in c.program t ≡ OpenForm (element_form (form_in c.program t)) = open_is (form_in c.program t) (subst IsOpen ok.1 ok.0.1) in
+      let is : form_in c.program t ≡ OpenForm (element_form (form_in c.program t)) = open_is (form_in c.program t) (subst IsOpen ok.0.1 ok.0.0.1) in
       subst (λ k. Follows c (go c a pc ops w) (PlaceTo c a n call b (suc (suc pc)) ops) (PKept (form_in c.program t) os) (Gives (place_of (variable.Parameter passing.OpenArray x) k) s)) (sym st.calls)
-      (follows_value c w (copy_first c a s w st.all 1 x pc ops le has.0 has.1 ok.0.0) (array_of c a s w st.all x (form_in c.program t) _ ok.0.0 ok.1 is, st))
+      (follows_value c w (copy_first c a s w st.all 1 x pc ops le has.0 has.1 ok.0.0.0) (array_of c a s w st.all x (form_in c.program t) _ ok.0.0.0 ok.0.1 is, st))
 
   -- and by VAR
   pub variable_open_parameter_case : (x : List ℕ) (t : TypeRef) → OpenArrayFollows c a n call b (OfVariable (variable.Parameter passing.VariableOpenArray x) t)
   variable_open_parameter_case x t u pc at ops os s w le has ok is st =
       subst (λ k. Follows c (go c a pc ops w) (LongTo c a n call b (suc (suc (suc (suc pc)))) ops) (PKept (form_in c.program t) os) (Gives (place_of (variable.Parameter passing.VariableOpenArray x) k) s)) (sym st.calls)
       (follows_value c w
-      (then_reach c (referred_first c a s w st.all 1 x pc ops (omega (arith, le)) has.0.0 has.0.1 ok.0) (referred_second c a s w st.all 0 x (suc (suc pc)) _ (omega (arith, le)) has.1 ok.0))
-      (ref_of c a s w st.all 2 x (form_in c.program t) ok.0 ok.1, st))
+      (then_reach c (referred_first c a s w st.all 1 x pc ops (omega (arith, le)) has.0.0 has.0.1 ok.0.0) (referred_second c a s w st.all 0 x (suc (suc pc)) _ (omega (arith, le)) has.1 ok.0.0))
+      (ref_of c a s w st.all 2 x (form_in c.program t) ok.0.0 ok.0.1, st))
 
   pub variable_open_place_case : (x : List ℕ) (t : TypeRef) → PlaceFollows c a n call b (OfVariable (variable.Parameter passing.VariableOpenArray x) t)
   variable_open_place_case x t pc at ops os s w le has ok st =
       subst (λ k. Follows c (go c a pc ops w) (PlaceTo c a n call b (suc (suc pc)) ops) (PKept (form_in c.program t) os) (Gives (place_of (variable.Parameter passing.VariableOpenArray x) k) s)) (sym st.calls)
-      (follows_value c w (referred_first c a s w st.all 1 x pc ops le has.0 has.1 ok.0) (ref_of c a s w st.all 2 x (form_in c.program t) ok.0 ok.1, st))
+      (follows_value c w (referred_first c a s w st.all 1 x pc ops le has.0 has.1 ok.0.0) (ref_of c a s w st.all 2 x (form_in c.program t) ok.0.0 ok.0.1, st))
 
   -- other variables are no open arrays
   pub closed_case : (v : Variable) (t : TypeRef) → Plain v → OpenArrayFollows c a n call b (OfVariable v t)
-  closed_case v t pl u pc at ops os s w le has ok is st = absurd (closed c a s w st.all v (form_in c.program t) u pl ok is)
+  closed_case v t pl u pc at ops os s w le has ok is st = absurd (closed c a s w st.all v (form_in c.program t) u pl ok.0 is)
 
   pub closed_structure_case : (x : List ℕ) (t : TypeRef) → OpenArrayFollows c a n call b (OfVariable (variable.Parameter passing.Structure x) t)
-  closed_structure_case x t u pc at ops os s w le has ok is st = absurd (closed_structure c a s w st.all x (form_in c.program t) u ok.0 ok.1 is)
+  closed_structure_case x t u pc at ops os s w le has ok is st = absurd (closed_structure c a s w st.all x (form_in c.program t) u ok.0.0 ok.0.1 is)

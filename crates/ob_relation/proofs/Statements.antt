@@ -1,5 +1,5 @@
 -- What is to be proved of each kind of tree: its code follows its meaning.
-use Rattle.std.proofs.Common.{◌≡◌, ◌⊎◌, ℕ, suc, ◌+◌, ◌≤◌, ◌<◌, List, [], ◌∷◌, ◌++◌, length, Option, Some, None, ℤ}
+use Rattle.std.proofs.Common.{◌≡◌, ◌⊎◌, ℕ, suc, ◌+◌, ◌≤◌, ◌<◌, List, [], ◌∷◌, ◌++◌, length, Option, Some, None, ℤ, subst}
 use Rattle.std.specs.Prelude.{pos, Bool, true, false, map, slice_get}
 use Rattle.ob_tree.specs.declared.pos.Pos.{Pos}
 use Rattle.ob_tree.specs.declared.names.QName.{QName}
@@ -27,7 +27,7 @@ use Rattle.ob_relation.specs.Stands as code
 use Rattle.ob_relation.specs.Stands.{Scope}
 use Rattle.ob_relation.specs.Need.{need_place, need_tagged, need_open, need_expr, need_actuals, need_stmt, need_stmts, need_branches}
 use Rattle.ob_relation.specs.Typed as typed
-use Rattle.ob_relation.specs.Typed.{AreCharacters, char}
+use Rattle.ob_relation.specs.Typed.{AreCharacters, char, result_form}
 use Rattle.ob_relation.proofs.Copies.{WordsAt}
 use Rattle.ob_relation.proofs.Steps.{Follows, FollowsBy}
 use Rattle.ob_relation.specs.Linked.{has_one}
@@ -134,6 +134,15 @@ module _ (c : Setting) where
   abbrev pub ResultFine : Option TypeRef → List AnObject → Option Value → Type 0
   ResultFine None os r = r ≡ None
   ResultFine (Some t) os r = (v : Value) × (r ≡ Some v) × Scalar (form_in c.program t) × Fine c.program (has_of c) os (form_in c.program t) v
+
+  -- by the form of the result alone
+  pub result_fine : (r z : Option TypeRef) (os : List AnObject) (v : Option Value) → result_form c.program r ≡ result_form c.program z → ResultFine r os v → ResultFine z os v
+  result_fine None None os v e h = h
+  result_fine None (Some u) os v e h = absurd (cc)
+  result_fine (Some t) None os v e h = absurd (cc)
+  result_fine (Some t) (Some u) os v e h =
+      let f : form_in c.program t ≡ form_in c.program u = cc in
+      (h.0, h.1, subst (λ z. Scalar z) f h.2, subst (λ z. Fine c.program (has_of c) os z h.0) f h.3)
 
   abbrev pub result_slots : Option TypeRef → ℕ
   result_slots None = 0

@@ -4,6 +4,7 @@ pub mod Relation
 pub mod Ends
 pub mod Stands
 pub mod Need
+pub mod Passed
 pub mod Typed
 pub mod Setting
 pub mod Linked

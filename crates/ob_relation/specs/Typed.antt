@@ -41,7 +41,8 @@ use Rattle.ob_meaning.specs.Values.{Program, procedure_of, Form, BasicForm, Poin
 use Rattle.ob_meaning.specs.Operators.{is_in}
 use Rattle.ob_meaning.specs.Meaning.{nearest, hidden}
 use Rattle.ob_relation.specs.Layout.{field_offset, field_form, held_name, form_named, variables_in}
-use Rattle.ob_relation.specs.Relation.{OrElse, FormOk, LengthFits, Sub, Scalar, FieldIn, ValueIn}
+use Rattle.ob_relation.specs.Relation.{OrElse, FormOk, LengthFits, Sub, Scalar, IsStructure, FieldIn, ValueIn}
+pub use Rattle.ob_relation.specs.Passed.{passing_for, IsOpen, IsClosed, IsPassed, IsUnguarded, IsString, IsVariable, CalleeTakes}
 
 abbrev pub basic_of : Width → Basic
 basic_of width.ShortInt = basic.ShortInt
@@ -80,15 +81,6 @@ IsEquality comparison.Equal = Unit {0}
 IsEquality comparison.NotEqual = Unit {0}
 IsEquality r = ⊥
 
-abbrev pub passing_for : Mode → Form → Passing
-passing_for mode.Value (OpenForm t) = passing.OpenArray
-passing_for mode.Value (ArrayForm n t) = passing.Structure
-passing_for mode.Value (RecordForm line fs) = passing.Structure
-passing_for mode.Value t = passing.Scalar
-passing_for mode.Var (OpenForm t) = passing.VariableOpenArray
-passing_for mode.Var (RecordForm line fs) = passing.VariableRecord
-passing_for mode.Var t = passing.Variable
-
 abbrev pub ByPassing : Passing → (scalar structure array referred referred_record referred_array : Type 0) → Type 0
 ByPassing passing.Scalar A B C D E F = A
 ByPassing passing.Structure A B C D E F = B
@@ -97,11 +89,16 @@ ByPassing passing.Variable A B C D E F = D
 ByPassing passing.VariableRecord A B C D E F = E
 ByPassing passing.VariableOpenArray A B C D E F = F
 
--- the type of the parameter, as an actual one names it: only that of a record or an array by value must be the parameter's own, since a
--- receiver names its own type, which may extend the parameter's
-abbrev pub IsFormal : Passing → TypeRef → TypeRef → Type 0
-IsFormal passing.Structure t u = t ≡ u
-IsFormal how t u = Unit {0}
+-- the type of the parameter, as an actual one names it: only that of a record or an array by value must be of the parameter's own form,
+-- since a receiver names its own type, which may extend the parameter's
+abbrev pub IsFormal : Program → Passing → TypeRef → TypeRef → Type 0
+IsFormal program passing.Structure t u = (form_in program t ≡ form_in program u) × IsStructure (form_in program u)
+IsFormal program how t u = Unit {0}
+
+-- the form of a result, where there is one
+abbrev pub result_form : Program → Option TypeRef → Option Form
+result_form program None = None
+result_form program (Some t) = Some (form_in program t)
 
 abbrev pub As : (Held → Type 0) → List Held → List ℕ → Type 0
 As Kind [] x = ⊥
@@ -141,10 +138,6 @@ IsVariableRecord d = ⊥
 
 abbrev pub IsRecordForm : Form → Type 0
 IsRecordForm t = (line : List QName) × (t ≡ RecordForm line (fields_of t))
-
-abbrev pub IsOpen : Form → Type 0
-IsOpen (OpenForm t) = Unit {0}
-IsOpen t = ⊥
 
 -- an array of such elements, open or of a length
 abbrev pub IsArrayOf : Form → Form → Type 0
@@ -249,18 +242,18 @@ module _ (program : Program) (Has : Signature → QName → Type 0) (unit : List
 
   -- what is called, with what is asked of its parameters
   abbrev pub CallOk : Callee → Option TypeRef → (List TypedParameter → Type 0) → Type 0 → Type 0
-  CallOk (callee.Declared q) r Fits Out = (p : Procedure) × (procedure_of program q ≡ Some p) × (p.result ≡ r) × Fits p.parameters
-  CallOk (callee.Bound f k) r Fits Out = (t : QName) × (q : QName) × (p : Procedure) × IsRecordType program t × (nearest program (bases_in program t) f ≡ Some q) × (procedure_of program q ≡ Some p) × ReceiverOk program k t p.parameters × (p.result ≡ r) × Fits p.parameters
-  CallOk (callee.Super base f k) r Fits Out = (q : QName) × (p : Procedure) × IsRecordType program base × (nearest program (bases_in program base) f ≡ Some q) × (procedure_of program q ≡ Some p) × (p.result ≡ r) × Fits p.parameters
+  CallOk (callee.Declared q) r Fits Out = (p : Procedure) × (procedure_of program q ≡ Some p) × (result_form program p.result ≡ result_form program r) × Fits p.parameters
+  CallOk (callee.Bound f k) r Fits Out = (t : QName) × (q : QName) × (p : Procedure) × IsRecordType program t × (nearest program (bases_in program t) f ≡ Some q) × (procedure_of program q ≡ Some p) × ReceiverOk program k t p.parameters × (result_form program p.result ≡ result_form program r) × Fits p.parameters
+  CallOk (callee.Super base f k) r Fits Out = (q : QName) × (p : Procedure) × IsRecordType program base × (nearest program (bases_in program base) f ≡ Some q) × (procedure_of program q ≡ Some p) × (result_form program p.result ≡ result_form program r) × Fits p.parameters
   CallOk (callee.Out o) r Fits Out = (r ≡ None) × Out
 
   abbrev mutual
     -- a designator whose own type is the form of its type's name
     pub DesigOk : Desig → Type 0
-    DesigOk (OfVariable v t) = VariableOk v (form_in program t)
-    DesigOk (Field d o x t) = DesigOk d × FieldOk (form_of d) o x (form_in program t)
-    DesigOk (Index d (Some n) i at t) = DesigOk d × (ExprOk i longint × (form_of d ≡ ArrayForm n (form_in program t)))
-    DesigOk (Index d None i at t) = DesigOk d × (ExprOk i longint × (form_of d ≡ OpenForm (form_in program t)))
+    DesigOk (OfVariable v t) = VariableOk v (form_in program t) × IsPassed v (form_in program t)
+    DesigOk (Field d o x t) = DesigOk d × FieldOk (form_of d) o x (form_in program t) × IsClosed (form_in program t)
+    DesigOk (Index d (Some n) i at t) = DesigOk d × (ExprOk i longint × (form_of d ≡ ArrayForm n (form_in program t)) × IsClosed (form_in program t))
+    DesigOk (Index d None i at t) = DesigOk d × (ExprOk i longint × (form_of d ≡ OpenForm (form_in program t)) × IsClosed (form_in program t))
     DesigOk (Deref d at t) = DesigOk d × IsPointerTo (form_of d) (form_in program t)
     DesigOk (Guard d guarded.Pointer q at t) = DesigOk d × (IsPointerTo (form_in program t) (record_in program q) × ((r : TypeRef) × (form_of d ≡ PointerForm r) × TestOk program q (form_in program r)))
     DesigOk (Guard d guarded.Record q at t) = DesigOk d × ((form_in program t ≡ record_in program q) × TestOk program q (form_of d))
@@ -278,7 +271,7 @@ module _ (program : Program) (Has : Signature → QName → Type 0) (unit : List
     ExprOk (IsRecord d q) t = DesigOk d × (IsVariableRecord d × (TestOk program q (form_of d) × Widens boolean t))
     ExprOk (Length d) t = DesigOk d × (((u : Form) × (form_of d ≡ OpenForm u)) × Widens longint t)
     ExprOk (Call c es at r) t = CallOk c r (ActualsOk es) (OutOk es) × ResultOk r t
-    ExprOk (CallVariable d es at r) t = (DesigOk d × ((s : Signature) × (form_of d ≡ ProcedureForm s) × (s.result ≡ r) × SignatureOk es s.params)) × ResultOk r t
+    ExprOk (CallVariable d es at r) t = (DesigOk d × ((s : Signature) × (form_of d ≡ ProcedureForm s) × (result_form program s.result ≡ result_form program r) × SignatureOk es s.params)) × ResultOk r t
 
     pub TextOk : Expr → Type 0
     TextOk (ValueOf d) = DesigOk d × IsText (form_of d)
@@ -295,14 +288,14 @@ module _ (program : Program) (Has : Signature → QName → Type 0) (unit : List
     ActualsOk NoActual [] = Unit {0}
     ActualsOk NoActual (p ∷ ps) = ⊥
     ActualsOk (AnActual how t e rest) [] = ⊥
-    ActualsOk (AnActual how t e rest) (p ∷ ps) = (how ≡ p.passing) × (IsFormal how t p.of × (ByPassing how (ExprOk e (form_in program p.of) × Scalar (form_in program p.of)) (StructureOk e (form_in program p.of)) (ArrayOk e (form_in program p.of)) (ReferredOk e (form_in program p.of)) (RecordOk e (form_in program p.of)) (VariableArrayOk e (form_in program p.of)) × ActualsOk rest ps))
+    ActualsOk (AnActual how t e rest) (p ∷ ps) = (how ≡ p.passing) × (IsFormal program how t p.of × (ByPassing how (ExprOk e (form_in program p.of) × Scalar (form_in program p.of)) (StructureOk e (form_in program p.of)) (ArrayOk e (form_in program p.of)) (ReferredOk e (form_in program p.of)) (RecordOk e (form_in program p.of)) (VariableArrayOk e (form_in program p.of)) × ActualsOk rest ps))
 
     -- by a signature alone, as procedure variables are called
     pub SignatureOk : Actuals → List (Mode × TypeRef) → Type 0
     SignatureOk NoActual [] = Unit {0}
     SignatureOk NoActual (p ∷ ps) = ⊥
     SignatureOk (AnActual how t e rest) [] = ⊥
-    SignatureOk (AnActual how t e rest) (p ∷ ps) = (how ≡ passing_for p.0 (form_in program p.1)) × ((t ≡ p.1) × (ByPassing how (ExprOk e (form_in program t) × Scalar (form_in program t)) (StructureOk e (form_in program t)) (ArrayOk e (form_in program t)) (ReferredOk e (form_in program t)) (RecordOk e (form_in program t)) (VariableArrayOk e (form_in program t)) × SignatureOk rest ps))
+    SignatureOk (AnActual how t e rest) (p ∷ ps) = (how ≡ passing_for p.0 (form_in program p.1)) × ((form_in program t ≡ form_in program p.1) × (ByPassing how (ExprOk e (form_in program t) × Scalar (form_in program t)) (StructureOk e (form_in program t)) (ArrayOk e (form_in program t)) (ReferredOk e (form_in program t)) (RecordOk e (form_in program t)) (VariableArrayOk e (form_in program t)) × SignatureOk rest ps))
 
     pub StructureOk : Expr → Form → Type 0
     StructureOk (ValueOf d) t = DesigOk d × Sub (form_of d) t
@@ -315,7 +308,7 @@ module _ (program : Program) (Has : Signature → QName → Type 0) (unit : List
     ArrayOk e t = ⊥
 
     pub ReferredOk : Expr → Form → Type 0
-    ReferredOk (ValueOf d) t = DesigOk d × ((a : Form) → Sub a (form_of d) → Sub a t)
+    ReferredOk (ValueOf d) t = DesigOk d × ((a : Form) → Sub a (form_of d) → Sub a t) × IsUnguarded d
     ReferredOk e t = ⊥
 
     pub RecordOk : Expr → Form → Type 0
@@ -328,8 +321,8 @@ module _ (program : Program) (Has : Signature → QName → Type 0) (unit : List
 
   abbrev pub AssignedOk : Assigned → Desig → Expr → Type 0
   AssignedOk assigned.Scalar d e = ExprOk e (form_of d) × Scalar (form_of d)
-  AssignedOk assigned.Text d e = (n : ℕ) × (form_of d ≡ ArrayForm n char) × StructureOk e (form_of d)
-  AssignedOk assigned.Array d e = ((n : ℕ) × (u : Form) × (form_of d ≡ ArrayForm n u)) × StructureOk e (form_of d)
+  AssignedOk assigned.Text d e = (n : ℕ) × (form_of d ≡ ArrayForm n char) × StructureOk e (form_of d) × IsString e
+  AssignedOk assigned.Array d e = ((n : ℕ) × (u : Form) × (form_of d ≡ ArrayForm n u)) × StructureOk e (form_of d) × IsVariable e
   AssignedOk (assigned.Record q) d e = (form_of d ≡ record_in program q) × (IsRecordType program q × StructureOk e (form_of d))
 
   abbrev pub UpdateOk : Update → Desig → Expr → Type 0
@@ -361,8 +354,8 @@ module _ (program : Program) (Has : Signature → QName → Type 0) (unit : List
 
   -- a call of a proper procedure
   abbrev pub ProperOk : Expr → Type 0
-  ProperOk (Call c es at r) = CallOk c r (ActualsOk es) (OutOk es) × (r ≡ None)
-  ProperOk (CallVariable d es at r) = (DesigOk d × ((s : Signature) × (form_of d ≡ ProcedureForm s) × (s.result ≡ r) × SignatureOk es s.params)) × (r ≡ None)
+  ProperOk (Call c es at r) = CallOk c r (ActualsOk es) (OutOk es) × (r ≡ None) × CalleeTakes c es
+  ProperOk (CallVariable d es at r) = (DesigOk d × ((s : Signature) × (form_of d ≡ ProcedureForm s) × (result_form program s.result ≡ result_form program r) × SignatureOk es s.params)) × (r ≡ None)
   ProperOk e = ⊥
 
   -- inside a LOOP or not
@@ -380,7 +373,7 @@ module _ (program : Program) (Has : Signature → QName → Type 0) (unit : List
     StmtOk (Case e cases otherwise at) l = CaseOk e × (HiddenOk at × (CasesOk cases l × ElseOk otherwise l))
     StmtOk (While e body at) l = ExprOk e boolean × StmtsOk body l
     StmtOk (Repeat body e at) l = StmtsOk body l × ExprOk e boolean
-    StmtOk (For v w start end step body at) l = VariableOk v (integer w) × (ExprOk start (integer w) × (ExprOk end longint × (HiddenOk at × (StepOk step w × StmtsOk body l))))
+    StmtOk (For v w start end step body at) l = (VariableOk v (integer w) × IsPassed v (integer w)) × (ExprOk start (integer w) × (ExprOk end longint × (HiddenOk at × (StepOk step w × StmtsOk body l))))
     StmtOk (Loop body at) l = StmtsOk body true
     StmtOk Exit l = l ≡ true
     StmtOk (Return e) l = ReturnOk e result

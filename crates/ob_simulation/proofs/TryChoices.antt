@@ -207,7 +207,7 @@ go_stands = record {
   need = omega arith;
   ok = (
     (
-      (tt, refl),
+      ((tt, refl), tt),
       (
         (width.LongInt, refl, refl),
         (
@@ -218,13 +218,13 @@ go_stands = record {
               refl,
               (
                 (
-                  inl ((tt, refl), (tt, typed.itself)),
+                  inl (((tt, refl), tt), (tt, typed.itself)),
                   (
                     (tt, refl),
                     (
                       (
-                        (((tt, refl), ((width.LongInt, refl, refl), refl)), tt),
-                        ((((tt, refl), ((set, set, set, typed.union, ((tt, refl), (tt, typed.itself)), (((tt, refl), (tt, typed.itself)), typed.itself), typed.itself), tt)), tt), tt),
+                        ((((tt, refl), tt), ((width.LongInt, refl, refl), refl)), tt),
+                        (((((tt, refl), tt), ((set, set, set, typed.union, (((tt, refl), tt), (tt, typed.itself)), ((((tt, refl), tt), (tt, typed.itself)), typed.itself), typed.itself), tt)), tt), tt),
                       ),
                       tt,
                     ),
@@ -238,8 +238,8 @@ go_stands = record {
       ),
     ),
     (
-      (set, set, boolean, typed.sets comparison.Equal tt, ((tt, refl), (tt, typed.itself)), (omega arith, refl), typed.itself),
-      (((refl, (((tt, refl), (tt, typed.itself)), ((width.LongInt, refl, refl), tt))), refl), tt),
+      (set, set, boolean, typed.sets comparison.Equal tt, (((tt, refl), tt), (tt, typed.itself)), (omega arith, refl), typed.itself),
+      (((refl, ((((tt, refl), tt), (tt, typed.itself)), ((width.LongInt, refl, refl), tt))), refl, (refl, refl, (refl, refl, tt))), tt),
     ),
   );
   different = ((refl, tt), (tt, tt));

@@ -188,10 +188,10 @@ go_stands = record {
   inside = omega arith;
   need = omega arith;
   ok = (
-    ((tt, refl), (4, refl, (4, refl, omega arith, (omega arith, (omega arith, tt))))),
+    (((tt, refl), tt), (4, refl, (4, refl, omega arith, (omega arith, (omega arith, tt))), tt)),
     (
-      ((refl, (((tt, refl), refl), tt)), refl),
-      (((refl, ((omega arith, tt), tt)), refl), tt),
+      ((refl, ((((tt, refl), tt), refl), tt)), refl, refl),
+      (((refl, ((omega arith, tt), tt)), refl, refl), tt),
     ),
   );
   different = tt;

@@ -14,6 +14,7 @@ use Rattle.ob_relation.specs.Setting.{Setting}
 use Rattle.ob_linking.specs.Files as linking
 use Rattle.ob_linking.proofs.SameFile.{files_same}
 use Rattle.ob_linking.proofs.Contents.{files_have}
+use Rattle.ob_slices.proofs.Whole.{procedures_are_in, bodies_are_in}
 use Rattle.ob_tables.specs.Image as tables
 use Rattle.ob_tables.proofs.Image.{program_from_files}
 use Rattle.ob_link.specs.Members.{empty_image}
@@ -78,8 +79,8 @@ module _ (o : Owed) where
       }) (o.rules bs more l c is) in
       record {
         image = r.image;
-        forms = o.forms bs more l c is;
-        bodies = λ b i. let s = body_at c p bs b r.bodies (to_in bs b i) in record { stands = s.stands; tables = s.tables; forms = o.bodies bs more l b i };
+        forms = procedures_are_in c r.image.linked;
+        bodies = λ b i. let s = body_at c p bs b r.bodies (to_in bs b i) in record { stands = s.stands; tables = s.tables; forms = bodies_are_in c (tree_of b) s.stands };
       }
 
 pub builds_stand : OwedGives

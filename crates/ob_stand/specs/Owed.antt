@@ -12,7 +12,6 @@ use Rattle.ob_relation.specs.Layout.{procedure_index, module_held}
 use Rattle.ob_relation.specs.Relation.{ModulesOk}
 use Rattle.ob_relation.specs.Setting.{Setting}
 use Rattle.ob_relation.specs.Linked.{OwnFormsOk}
-use Rattle.ob_simulation.specs.Slice.{InStmts, AllIn}
 use Rattle.ob_standing.specs.Described.{IsDescribed}
 use Rattle.ob_linking.specs.Files as linking
 use Rattle.ob_linking.specs.Same.{ModuleSame}
@@ -40,9 +39,6 @@ pub record Owed : Type 0 where
   pub described : (bs : List Build) → AreLoaded bs → IsDescribed (description (program_of bs)) (program_of bs)
   -- the modules keep the rules
   pub rules : (bs more : List Build) → AreLoaded (bs ++ more) → (c : Setting) → IsOf c values bs more → RulesKept c (map (in_program (program_of bs)) bs)
-  -- their procedures and bodies are of the forms that the law of simulation has
-  pub forms : (bs more : List Build) → AreLoaded (bs ++ more) → (c : Setting) → IsOf c values bs more → AllIn c
-  pub bodies : (bs more : List Build) → AreLoaded (bs ++ more) → (b : Build) → Contains bs b → InStmts (tree_of b).body
   -- a module shows its own name
   pub names : (bs : List Build) → AreLoaded bs → (b : Build) → Contains bs b → (tree_of b).name ≡ name_of b
   -- the words of a file's globals are those that the plan counts

@@ -7,7 +7,7 @@ use Rattle.ob_types.specs.declared.typed.TypedParameter.{TypedParameter}
 use Rattle.ob_types.specs.TypedSyntax.{Procedure}
 use Rattle.ob_meaning.specs.Values.{Program, procedure_of, bases_in}
 use Rattle.ob_meaning.specs.Meaning.{declared_for, nearest}
-use Rattle.ob_relation.specs.Typed.{IsRecordType, ReceiverOk}
+use Rattle.ob_relation.specs.Typed.{IsRecordType, ReceiverOk, result_form}
 use Rattle.ob_methods.specs.Signatures.{Alike}
 use Rattle.ob_tables.specs.Declared.{above}
 
@@ -22,7 +22,7 @@ AlikeBehind program (p ∷ ps) (q ∷ qs) = Alike program ps qs
 pub record Redefines (program : Program) (d : QName) (f : Family) (p : Procedure) (r : QName) : Type 0 where
   pub procedure : Procedure
   pub is : procedure_of program r ≡ Some procedure
-  pub result : procedure.result ≡ p.result
+  pub result : result_form program procedure.result ≡ result_form program p.result
   pub parameters : AlikeBehind program p.parameters procedure.parameters
   pub receiver : (k : Receiver) (t : QName) → ReceiverOk program k t p.parameters → ReceiverOk program k d procedure.parameters
 

@@ -23,12 +23,13 @@ use Rattle.ob_types.specs.declared.typed.ExprType.{ExprType}
 use Rattle.ob_types.specs.declared.typed.ExprType.TheVariants as kind
 use Rattle.ob_types.specs.declared.typed.Designator.TheFolds.{fold-roll-Actual}
 use Rattle.ob_types.specs.Tests.{same_at}
-use Rattle.ob_types.specs.TypedSyntax.{Desig, Expr, ValueOf}
+use Rattle.ob_types.specs.TypedSyntax.{Desig, Expr, ValueOf, Actuals, NoActual, AnActual}
 use Rattle.ob_types.specs.TypedKinds.{constant_type, variable_type}
 use Rattle.ob_types.specs.TypedView.{OneActual, designator_layer, expr_layer, actual_layer, designator_view, expr_view, actual_view, actuals_view}
 use Rattle.ob_types.proofs.TypedViews.{view_constant, view_value_of}
 use Rattle.ob_meaning.specs.Values.{Program, Form, BasicForm, PointerForm, ProcedureForm, ArrayForm, OpenForm, RecordForm, fields_of, form_in, record_in, Held}
 use Rattle.ob_relation.specs.Relation.{Scalar, Sub}
+use Rattle.ob_relation.specs.Passed.{IsUnguarded}
 use Rattle.ob_relation.specs.Typed as typed
 use Rattle.ob_relation.specs.Typed.{ByPassing, passing_for, char, IsArrayOf, IsRecordForm, IsRecordType}
 use Rattle.ob_relation.proofs.Actuals.{sub_on}
@@ -49,7 +50,7 @@ use Rattle.ob_typed.specs.Makes.{IfThere, Makes}
 use Rattle.ob_typed.specs.Forms.{IsDeclared, IsKnown, AreKnown, ArrayIs, Forms}
 use Rattle.ob_typed.specs.Known.{IsScoped}
 use Rattle.ob_typed.specs.Kept.{DesignatorIs, PlaceIs, NodeIs, ValuedIs}
-use Rattle.ob_typed.specs.Meant.{MeantIs, MeantBy, PhraseIs, ArePhrases}
+use Rattle.ob_typed.specs.Meant.{GuardIs, MeantIs, MeantBy, PhraseIs, ArePhrases}
 use Rattle.ob_typed.proofs.Makes.{makes_then, makes_both, makes_wants, makes_also}
 use Rattle.ob_typed.proofs.Basics.{form_basic, none_some, not_true, some_is}
 use Rattle.ob_typed.proofs.Values.{Fits}
@@ -96,6 +97,13 @@ open_by_value false b e = absurd (not_open_value b e)
 open_by_var : (a b : Bool) → by_var a b ≡ passing.VariableOpenArray → a ≡ true
 open_by_var true b e = refl
 open_by_var false b e = absurd (not_open_var b e)
+
+-- the types of parameters as they are named
+abbrev pub AreFormals : Actuals → List (Mode × TypeRef) → Type 0
+AreFormals NoActual [] = Unit {0}
+AreFormals NoActual (p ∷ ps) = ⊥
+AreFormals (AnActual how t x rest) [] = ⊥
+AreFormals (AnActual how t x rest) (p ∷ ps) = (t ≡ p.1) × AreFormals rest ps
 
 module _ (program : Program) (Has : Signature → QName → Type 0) (unit : List ℕ) (held : List Held) (result : Option TypeRef) where
   abbrev Ex : Expr → Form → Type 0
@@ -253,8 +261,8 @@ module _ (program : Program) (Has : Signature → QName → Type 0) (unit : List
         by None f g = not_true g
         by (Some a) f g = record_by s a f
 
-    variable_passes : (t : TypeRef) (p : Place) → IsKnown map t → P p → takes_variable map (open_element map t) t p.of ≡ true → Passes (passing_for mode.Var (form_in program t)) (expr_view (e.Designator p.designator.inner)) (form_in program t)
-    variable_passes t p d h e = subst (λ y. Passes (passing_for mode.Var (form_in program t)) y (form_in program t)) (sym (view_value_of p.designator.inner)) (by (form_in program t) refl)
+    variable_passes : (t : TypeRef) (p : Place) → IsKnown map t → P p → IsUnguarded (designator_view p.designator.inner) → takes_variable map (open_element map t) t p.of ≡ true → Passes (passing_for mode.Var (form_in program t)) (expr_view (e.Designator p.designator.inner)) (form_in program t)
+    variable_passes t p d h un e = subst (λ y. Passes (passing_for mode.Var (form_in program t)) y (form_in program t)) (sym (view_value_of p.designator.inner)) (by (form_in program t) refl)
       where
         dd : Desig
         dd = designator_view p.designator.inner
@@ -273,24 +281,24 @@ module _ (program : Program) (Has : Signature → QName → Type 0) (unit : List
         open_by (Some el) f g k = (h.fits, (form_in program el, element_form t el d.0 f, subst (λ y. IsArrayOf y (form_in program el)) (sym i) (array_by p.of el h.declared.0 k)))
 
         by : (f : Form) → form_in program t ≡ f → Passes (passing_for mode.Var f) (ValueOf dd) (form_in program t)
-        by (BasicForm b) g = (h.fits, closed (BasicForm b) g (λ u q. absurd cc))
-        by (PointerForm r) g = (h.fits, closed (PointerForm r) g (λ u q. absurd cc))
-        by (ProcedureForm r) g = (h.fits, closed (ProcedureForm r) g (λ u q. absurd cc))
-        by (ArrayForm n r) g = (h.fits, closed (ArrayForm n r) g (λ u q. absurd cc))
+        by (BasicForm b) g = (h.fits, closed (BasicForm b) g (λ u q. absurd cc), un)
+        by (PointerForm r) g = (h.fits, closed (PointerForm r) g (λ u q. absurd cc), un)
+        by (ProcedureForm r) g = (h.fits, closed (ProcedureForm r) g (λ u q. absurd cc), un)
+        by (ArrayForm n r) g = (h.fits, closed (ArrayForm n r) g (λ u q. absurd cc), un)
         by (RecordForm line fs) g =
             let r : IsRecordForm (form_in program t) = (line, g ∙ ap (λ f. RecordForm line (fields_of f)) (sym g)) in
             (h.fits, (subst IsRecordForm (sym i) (record_side p.of t r (taken (RecordForm line fs) g (λ u q. absurd cc))), closed (RecordForm line fs) g (λ u q. absurd cc)))
         by (OpenForm r) g = open_by (open_element map t) refl (is_open_by t r d g) e
 
-    variable_actual_is : (t : TypeRef) (start : Pos) (p : Place) → IsKnown map t → P p → Makes (λ a. ActualIs mode.Var t (actual_view a)) (variable_actual map t start p)
-    variable_actual_is t start p d h =
+    variable_actual_is : (t : TypeRef) (start : Pos) (p : Place) → IsKnown map t → P p → GuardIs p → Makes (λ a. ActualIs mode.Var t (actual_view a)) (variable_actual map t start p)
+    variable_actual_is t start p d h un =
         makes_also _ (not (takes_variable map (open_element map t) t p.of)) 25 start (unless_read_only map t start p) λ f.
         makes_also _ p.read_only 26 start (unless_guarded map t start p) λ g.
         makes_also _ p.guarded 38 start (sound (actual_of (passing_of map mode.Var t) t (e.Designator p.designator.inner))) λ k.
-        record { node = passed_so mode.Var t (e.Designator p.designator.inner) d (variable_passes t p d h (not_false (takes_variable map (open_element map t) t p.of) f)) }
+        record { node = passed_so mode.Var t (e.Designator p.designator.inner) d (variable_passes t p d h (un k) (not_false (takes_variable map (open_element map t) t p.of) f)) }
 
     meant_actual_is : (o : Option Received) (t : TypeRef) (start : Pos) (m : Meant) → IsKnown map t → MeantIs program Has unit held result map o InExpression m → Makes (λ a. ActualIs mode.Var t (actual_view a)) (meant_actual map t start m)
-    meant_actual_is z t start (means.Place p) d h = variable_actual_is t start p d h.0
+    meant_actual_is z t start (means.Place p) d h = variable_actual_is t start p d h.0 h.2
     meant_actual_is z t start (means.Call x) d h = record { node = tt }
     meant_actual_is z t start (means.Constant v) d h = record { node = tt }
     meant_actual_is z t start (means.Procedure q s) d h = record { node = tt }
@@ -310,15 +318,16 @@ module _ (program : Program) (Has : Signature → QName → Type 0) (unit : List
     actual_is mode.Var t p d h = var_is t p p.meant d h (h.meant u scoped)
     actual_is mode.Value t p d h = makes_then (ValuedIs program Has unit held result (map_of u)) _ (p.value u) (value_actual (map_of u) t p.start) (h.value u scoped) (λ x k. value_actual_is (map_of u) scoped.forms t p.start x d k)
 
+    -- by a signature, and with the types that it names
     abbrev Signed : List Actual → List (Mode × TypeRef) → Type 0
-    Signed xs fs = typed.SignatureOk program Has unit held result (actuals_view xs) fs
+    Signed xs fs = typed.SignatureOk program Has unit held result (actuals_view xs) fs × AreFormals (actuals_view xs) fs
 
     one_more : (f : Mode × TypeRef) (fs : List (Mode × TypeRef)) (a : Actual) (xs : List Actual) → ActualIs f.0 f.1 (actual_view a) → Signed xs fs → Signed (a ∷ xs) (f ∷ fs)
-    one_more f fs a xs h k = (h.how, (h.formal, (subst (λ t. Passes (actual_view a).passing (actual_view a).e (form_in program t)) (sym h.formal) h.passes, k)))
+    one_more f fs a xs h k = ((h.how, (ap (form_in program) h.formal, (subst (λ t. Passes (actual_view a).passing (actual_view a).e (form_in program t)) (sym h.formal) h.passes, k.0))), (h.formal, k.1))
 
     -- each actual parameter fits, where there are as many as formal ones
     pub actuals_are : (fs : List (Mode × TypeRef)) (ps : List Phrase) → AreKnown (map_of u) fs → ArePhrases program Has unit held result ps → Makes (λ xs. length ps ≡ length fs → Signed xs fs) (actuals u fs ps)
-    actuals_are [] [] d h = record { node = λ e. tt }
+    actuals_are [] [] d h = record { node = λ e. (tt, tt) }
     actuals_are (f ∷ fs) [] d h = record { node = λ e. absurd (none_of e) }
       where
         none_of : 0 ≡ suc (length fs) → ⊥

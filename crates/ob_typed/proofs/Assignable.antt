@@ -146,7 +146,7 @@ module _ (program : Program) (Has : Signature → QName → Type 0) (unit : List
       where
         go : (o : Option Signature) → signature_at map v ≡ o → alike_to map s o ≡ true → (t : Signature) × (form_in program v ≡ ProcedureForm t) × Ex x (form_in program v)
         go None f g = not_true g
-        go (Some t) f g = let p = (forms.procedures v t f).0 in (t, p, subst (λ y. Ex x y) (sym p) (h.1 t g))
+        go (Some t) f g = let k = forms.procedures v t f in let p = k.0 in (t, p, subst (λ y. Ex x y) (sym p) (h.1 t k.1 g))
 
     node_scalar : (x : Expr) (k : ExprType) (v : TypeRef) → NodeIs program Has unit held result map x k → takes_value_of map v k ≡ true → Scalar (form_in program v) → Ex x (form_in program v)
     node_scalar x (kind.Of t) v h e s = h.2 (form_in program v) (forms.scalars v t e s).1

@@ -25,9 +25,10 @@ use Rattle.ob_types.specs.Tests.{target, same_at, extends_at, shape_at}
 use Rattle.ob_types.specs.TypedSyntax.{Desig, Expr, Assign}
 use Rattle.ob_types.specs.TypedKinds.{variable_type}
 use Rattle.ob_types.specs.TypedView.{designator_view, expr_view, stmt_view}
-use Rattle.ob_types.proofs.TypedViews.{view_constant, view_assign}
+use Rattle.ob_types.proofs.TypedViews.{view_constant, view_value_of, view_assign}
 use Rattle.ob_meaning.specs.Values.{Program, Form, BasicForm, PointerForm, ProcedureForm, ArrayForm, OpenForm, RecordForm, form_in, record_in, Held}
 use Rattle.ob_relation.specs.Relation.{Scalar}
+use Rattle.ob_relation.specs.Passed.{IsString, IsVariable}
 use Rattle.ob_relation.specs.Typed as typed
 use Rattle.ob_relation.specs.Typed.{char, passing_for}
 use Rattle.ob_rules.specs.declared.values.Place.{Place}
@@ -139,6 +140,33 @@ module _ (program : Program) (Has : Signature → QName → Type 0) (unit : List
   string_stands true (valued.Node n) t e f h = not_true f
   string_stands false x t e f h = not_true e
 
+  -- what is assigned to an array is a string, or else a variable
+  string_tree : (b : Bool) (x : Valued) → b ≡ true → is_some (text_of x) ≡ true → IsString (expr_view (assigned_tree b x))
+  string_tree true (valued.Constant (literal.Str text)) e f = subst IsString (sym (view_constant (literal.Str text))) tt
+  string_tree true (valued.Constant (literal.Char c)) e f = subst IsString (sym (view_constant (literal.Str (c ∷ [])))) tt
+  string_tree true (valued.Constant (literal.Bool c)) e f = not_true f
+  string_tree true (valued.Constant (literal.Int z)) e f = not_true f
+  string_tree true (valued.Constant (literal.Set n)) e f = not_true f
+  string_tree true (valued.Constant literal.Nil) e f = not_true f
+  string_tree true (valued.Place p) e f = not_true f
+  string_tree true (valued.Node n) e f = not_true f
+  string_tree false x e f = not_true e
+
+  variable_tree : (v : TypeRef) (b : Bool) (x : Valued) (t : Form) → b ≡ true → is_some (text_of x) ≡ false → Is x → fits map v x ≡ true → (Scalar (form_in program v) → ⊥) → Stands (expr_view (assigned_tree b x)) t → IsVariable (expr_view (assigned_tree b x))
+  variable_tree v true (valued.Place p) t e f h k s z = subst IsVariable (sym (view_value_of p.designator.inner)) tt
+  variable_tree v true (valued.Node n) t e f h k s z = node_structure program Has unit held result map forms {B = IsVariable (expr_view n.tree.inner)} (expr_view n.tree.inner) n.of v h k s
+  variable_tree v true (valued.Constant (literal.Str text)) t e f h k s z = not_true (sym f)
+  variable_tree v true (valued.Constant (literal.Char c)) t e f h k s z = not_true (sym f)
+  variable_tree v true (valued.Constant (literal.Bool c)) t e f h k s z = absurd (subst (λ y. Stands y t) (view_constant (literal.Bool c)) z)
+  variable_tree v true (valued.Constant (literal.Int c)) t e f h k s z = absurd (subst (λ y. Stands y t) (view_constant (literal.Int c)) z)
+  variable_tree v true (valued.Constant (literal.Set n)) t e f h k s z = absurd (subst (λ y. Stands y t) (view_constant (literal.Set n)) z)
+  variable_tree v true (valued.Constant literal.Nil) t e f h k s z = absurd (subst (λ y. Stands y t) (view_constant literal.Nil) z)
+  variable_tree v false x t e f h k s z = not_true e
+
+  other_false : (a b : Bool) → a && b ≡ false → a ≡ true → b ≡ false
+  other_false true b e f = e
+  other_false false b e f = not_true f
+
   -- no value is assigned to an open array
   no_open_assigned : (v u : TypeRef) (x : Valued) (b : Bool) → b ≡ true → IsDeclared v → Is x → fits map v x ≡ true → open_element map v ≡ Some u → form_in program v ≡ OpenForm (form_in program u) → Stands (expr_view (tree_for b x)) (form_in program v) → ⊥
   no_open_assigned v u (valued.Place p) b c d h e f g k = no_open_taken map v p.of u f e
@@ -190,16 +218,16 @@ module _ (program : Program) (Has : Signature → QName → Type 0) (unit : List
     text_case a b =
         let s = structure (array_there a) in
         let n = string_stands (is_array map p.of) x (form_in program (variable_type d)) a b (subst (λ t. Stands (expr_view t) (form_in program (variable_type d))) (same_tree (is_array map p.of) x) s) in
-        (n.0, n.1, s)
+        (n.0, n.1, s, string_tree (is_array map p.of) x a b)
 
     record_case : (q : QName) → record_of map p.of ≡ Some q → Ok (assigned.Record q)
     record_case q e = let r = forms.records p.of q e in (i ∙ r.0, (r.1, structure (record_there q e)))
 
-    array_case : is_array map p.of ≡ true → Ok assigned.Array
-    array_case e = let a = some_of (array_of map p.of) e in by a.0.0 a.0.1 a.1 (forms.arrays p.of a.0.1 a.0.0 h.declared.0 a.1)
+    array_case : is_array map p.of ≡ true → is_array map p.of && is_some (text_of x) ≡ false → Ok assigned.Array
+    array_case e w = let a = some_of (array_of map p.of) e in by a.0.0 a.0.1 a.1 (forms.arrays p.of a.0.1 a.0.0 h.declared.0 a.1)
       where
         by : (n : Option ℕ) (u : TypeRef) → array_of map p.of ≡ Some (n, u) → ArrayIs program map (form_in program p.of) n u → Ok assigned.Array
-        by (Some n) u g a = ((n, form_in program u, i ∙ a.0), structure (array_there e))
+        by (Some n) u g a = ((n, form_in program u, i ∙ a.0), structure (array_there e), variable_tree p.of (is_array map p.of) x (form_in program (variable_type d)) e (other_false (is_array map p.of) (is_some (text_of x)) w e) k f (array_there e) (structure (array_there e)))
         by None u g a = absurd (no_open_assigned p.of u x (is_array map p.of) e h.declared.0 k f (array_open map p.of u g) a.0 (structure_fits program Has unit held result map forms p.of x h.declared.0 k f (array_there e)))
 
     scalar_case : is_array map p.of ≡ false → record_of map p.of ≡ None → Ok assigned.Scalar
@@ -211,7 +239,7 @@ module _ (program : Program) (Has : Signature → QName → Type 0) (unit : List
     assigned_so : (b : Bool) (q : Option QName) (a : Bool) → is_array map p.of && is_some (text_of x) ≡ b → record_of map p.of ≡ q → is_array map p.of ≡ a → Ok (assigned_as b q a)
     assigned_so true q a e g c = let r = and_is (is_array map p.of) (is_some (text_of x)) e in text_case r.0 r.1
     assigned_so false (Some q) a e g c = record_case q g
-    assigned_so false None true e g c = array_case c
+    assigned_so false None true e g c = array_case c e
     assigned_so false None false e g c = scalar_case c g
 
     pub assigned_is : Ok (assignment_of map p x)

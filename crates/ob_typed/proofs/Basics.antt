@@ -12,8 +12,10 @@ use Rattle.ob_types.specs.declared.value.Value.{Value as Literal}
 use Rattle.ob_types.specs.declared.value.Value.TheVariants as literal
 use Rattle.ob_types.specs.Tests.{target, basic_number}
 use Rattle.ob_types.specs.TypedKinds.{of_basic, of_width, smallest, constant_type}
-use Rattle.ob_meaning.specs.Values.{Program, Form, BasicForm, number_of_types, description, form_within, form_in}
+use Rattle.ob_meaning.specs.Values.{Program, Form, BasicForm, PointerForm, ProcedureForm, ArrayForm, OpenForm, RecordForm, number_of_types, description, form_within, form_in}
 use Rattle.ob_meaning.specs.Operators.{is_in, bits_but_one}
+use Rattle.ob_relation.specs.Relation.{FormOk}
+use Rattle.ob_relation.specs.Passed.{IsClosed}
 use Rattle.ob_relation.specs.Typed as typed
 use Rattle.ob_relation.specs.Typed.{Within}
 use Rattle.ob_rules.specs.Shapes.{Map, basic_of, as_basic, is_basic, is_this, same_basic, width_of, wider}
@@ -135,3 +137,12 @@ right_within width.Integer width.LongInt = typed.same
 right_within width.LongInt width.ShortInt = typed.shorter
 right_within width.LongInt width.Integer = typed.middle
 right_within width.LongInt width.LongInt = typed.same
+
+-- what is built as a variable or a part of one is no open array
+pub closed_form : (program : Program) (t : Form) → FormOk program t → IsClosed t
+closed_form program (OpenForm t) h = h
+closed_form program (BasicForm b) h = tt
+closed_form program (PointerForm t) h = tt
+closed_form program (ProcedureForm s) h = tt
+closed_form program (ArrayForm n t) h = tt
+closed_form program (RecordForm line fs) h = tt

@@ -13,10 +13,11 @@ use Rattle.ob_types.specs.declared.desc.RecordDesc.{RecordDesc}
 use Rattle.ob_types.specs.declared.desc.Field.{Field}
 use Rattle.ob_types.specs.declared.desc.Method.{Method}
 use Rattle.ob_types.specs.Maps.{IsHeld, listed, signature_types, stands_on, named_by}
-use Rattle.ob_types.specs.Relations.{IsPlainResult, IsGrounded}
+use Rattle.ob_types.specs.Relations.{Is, is_open, IsPlainResult, IsGrounded}
 use Rattle.ob_types.specs.AssigningTests.{takes_type}
 use Rattle.ob_meaning.specs.Values.{Program, Form, ArrayForm, OpenForm, form_in, record_in, Held}
 use Rattle.ob_relation.specs.Relation.{IsLength, FormOk, Sub, Scalar}
+use Rattle.ob_relation.specs.Passed.{IsClosed}
 use Rattle.ob_relation.specs.Typed as typed
 use Rattle.ob_relation.specs.Typed.{passing_for}
 use Rattle.ob_rules.specs.Shapes.{Map, Member, AField, AMethod, shape, pointed, signature_at, array_of, record_of, own_member, field_or, base_record, or_in_base, member, member_within, passing_of, extends_record, is_held}
@@ -30,7 +31,7 @@ use Rattle.ob_forms.proofs.Sorts.{passing_form, plain_form, form_ok}
 use Rattle.ob_forms.proofs.Taking.{array_length, scalar_takes, takes_sub}
 use Rattle.ob_typed.specs.Forms.{IsDeclared, IsKnown, AreKnown, ResultIs, SignatureIs, ArrayIs, Forms}
 use Rattle.ob_typed.specs.Known.{MethodIs}
-use Rattle.ob_typed.proofs.Basics.{none_some, some_is}
+use Rattle.ob_typed.proofs.Basics.{none_some, some_is, closed_form}
 use Rattle.ob_typed.proofs.Bodies.{all_split}
 
 fields_each : (P : TypeRef → Type 0) (fs : List Field) → AllByRecursion P (each (λ f. f.of) fs) → AllByRecursion (λ f. P f.of) fs
@@ -59,7 +60,7 @@ module _ (map : Map) (program : Program) (formed : Formed map program) (grounded
   signature_is s h k p =
       let a = all_split IsDeclared (each (λ p. p.1) s.params) (listed s.result) h in
       let b = all_split (IsHeld map) (each (λ p. p.1) s.params) (listed s.result) k in
-      record { params = known_params s.params (listed s.result) h k; result = result_known s.result a.1 b.1 p }
+      record { params = known_params s.params (listed s.result) h k; result = result_known s.result a.1 b.1 p; result_held = b.1 }
 
   -- WHAT A DESCRIPTION NAMES
 
@@ -91,7 +92,7 @@ module _ (map : Map) (program : Program) (formed : Formed map program) (grounded
 
   -- the types in a member are held
   abbrev MemberHeld : Member → Type 0
-  MemberHeld (AField o f) = IsHeld map f.of
+  MemberHeld (AField o f) = IsHeld map f.of × (Is map is_open f.of → ⊥)
   MemberHeld (AMethod o m) = AllByRecursion (IsHeld map) (signature_types m.signature) × IsPlainResult map m.signature
 
   two_all : {A : Type 0} (P Q : A → Type 0) (xs : List A) → AllByRecursion P xs → AllByRecursion Q xs → AllByRecursion (λ x. P x × Q x) xs
@@ -102,14 +103,14 @@ module _ (map : Map) (program : Program) (formed : Formed map program) (grounded
   own_held q r x m is a b ea eb e =
       let all = held_all q (desc.Record r) is in
       let s = all_split (IsHeld map) (listed r.base ++ each (λ f. f.of) r.fields) (flat_map (λ m. signature_types m.signature) r.methods) all in
-      let fs = fields_each (IsHeld map) r.fields (all_split (IsHeld map) (listed r.base) (each (λ f. f.of) r.fields) s.0).1 in
+      let fs = two_all (λ f. IsHeld map f.of) (λ f. Is map is_open f.of → ⊥) r.fields (fields_each (IsHeld map) r.fields (all_split (IsHeld map) (listed r.base) (each (λ f. f.of) r.fields) s.0).1) (grounded.keeps q (desc.Record r) is).1.0 in
       let ms = two_all (λ m. AllByRecursion (IsHeld map) (signature_types m.signature)) (λ m. IsPlainResult map m.signature) r.methods (methods_each (IsHeld map) r.methods s.1) (grounded.keeps q (desc.Record r) is).1.1 in
       by a b ea eb e fs ms
     where
-      by : (a : Option Field) (b : Option Method) → find (λ f. bytes_eq f.name x) r.fields ≡ a → find (λ m. bytes_eq m.name x) r.methods ≡ b → field_or q a b ≡ Some m → AllByRecursion (λ f. IsHeld map f.of) r.fields → AllByRecursion (λ m. AllByRecursion (IsHeld map) (signature_types m.signature) × IsPlainResult map m.signature) r.methods → MemberHeld m
+      by : (a : Option Field) (b : Option Method) → find (λ f. bytes_eq f.name x) r.fields ≡ a → find (λ m. bytes_eq m.name x) r.methods ≡ b → field_or q a b ≡ Some m → AllByRecursion (λ f. IsHeld map f.of × (Is map is_open f.of → ⊥)) r.fields → AllByRecursion (λ m. AllByRecursion (IsHeld map) (signature_types m.signature) × IsPlainResult map m.signature) r.methods → MemberHeld m
       by None None ea eb e fs ms = none_some e
       by None (Some k) ea eb e fs ms = subst MemberHeld (some_is e) (found (λ m. AllByRecursion (IsHeld map) (signature_types m.signature) × IsPlainResult map m.signature) (λ m. bytes_eq m.name x) r.methods k ms eb).0
-      by (Some f) b ea eb e fs ms = subst MemberHeld (some_is e) (found (λ f. IsHeld map f.of) (λ f. bytes_eq f.name x) r.fields f fs ea).0
+      by (Some f) b ea eb e fs ms = subst MemberHeld (some_is e) (found (λ f. IsHeld map f.of × (Is map is_open f.of → ⊥)) (λ f. bytes_eq f.name x) r.fields f fs ea).0
 
   desc_held : (q : QName) (x : List ℕ) (m : Member) (o : Option Desc) → map q ≡ o → own_member q o x ≡ Some m → MemberHeld m
   desc_held q x m (Some (desc.Record r)) is e = own_held q r x m is (find (λ f. bytes_eq f.name x) r.fields) (find (λ m. bytes_eq m.name x) r.methods) refl refl e
@@ -134,12 +135,13 @@ module _ (map : Map) (program : Program) (formed : Formed map program) (grounded
       by None (Some b) f e ih = ih b e
 
   module _ (Has : Signature → QName → Type 0) (unit : List ℕ) (held : List Held) (result : Option TypeRef) where
-    field_known : (q o : QName) (x : List ℕ) (f : Field) (t : TypeRef) → record_of map t ≡ Some q → member map q x ≡ Some (AField o f) → typed.FieldOk program Has unit held result (record_in program q) o f.name (form_in program f.of) × IsKnown map f.of
+    field_known : (q o : QName) (x : List ℕ) (f : Field) (t : TypeRef) → record_of map t ≡ Some q → member map q x ≡ Some (AField o f) → typed.FieldOk program Has unit held result (record_in program q) o f.name (form_in program f.of) × IsKnown map f.of × IsClosed (form_in program f.of)
     field_known q o x f t e k =
         let r = shapes.record_form map program formed t q e in
         let m = members.member_is map program formed 201 q x (AField o f) k in
         let ok = members.field_ok map program formed Has unit held result (record_in program q) q r.r x o f refl r.has k in
-        (subst (λ y. typed.FieldOk program Has unit held result (record_in program q) o y (form_in program f.of)) (sym m.1.1.0) ok, (m.1.1.1.0, member_held 201 q x (AField o f) k))
+        let h = member_held 201 q x (AField o f) k in
+        (subst (λ y. typed.FieldOk program Has unit held result (record_in program q) o y (form_in program f.of)) (sym m.1.1.0) ok, (m.1.1.1.0, h.0), closed_form program (form_in program f.of) (form_ok map program formed grounded f.of h.0 h.1))
 
     -- the forms of the program, by the map
     pub forms_are : Forms program Has unit held result map

@@ -44,14 +44,14 @@ use Rattle.ob_typed.proofs.Basics.{none_some, some_is}
 use Rattle.ob_typed.proofs.Values.{Fits, W, place_fits}
 use Rattle.ob_typed.proofs.Designators.{form_is, deref_is}
 use Rattle.ob_typed.proofs.Relations.{some_of}
-use Rattle.ob_typed.proofs.Actuals.{Passes, actual_seen, actuals_are}
+use Rattle.ob_typed.proofs.Actuals.{AreFormals, Passes, actual_seen, actuals_are}
 use Rattle.ob_typed.proofs.Predeclared.{makes_any}
 use Rattle.ob_typed.proofs.Calls.{CallIs, declared_actuals, called_is, by_callee}
 
 module _ (program : Program) (Has : Signature → QName → Type 0) (unit : List ℕ) (held : List Held) (result : Option TypeRef) where
   -- one actual parameter, of one parameter of a procedure
   abbrev OneFits : OneActual → TypedParameter → Type 0
-  OneFits x p = (x.passing ≡ p.passing) × IsFormal x.passing x.formal p.of × Passes program Has unit held result x.passing x.e (form_in program p.of)
+  OneFits x p = (x.passing ≡ p.passing) × IsFormal program x.passing x.formal p.of × Passes program Has unit held result x.passing x.e (form_in program p.of)
 
   module _ (map : Map) (forms : Forms program Has unit held result map) where
     abbrev P : Place → Type 0
@@ -97,7 +97,7 @@ module _ (program : Program) (Has : Signature → QName → Type 0) (unit : List
     Called w x = CalledIs program Has unit held result (map_of u) w x
 
     abbrev Signed : List Actual → List (Mode × TypeRef) → Type 0
-    Signed xs fs = typed.SignatureOk program Has unit held result (actuals_view xs) fs
+    Signed xs fs = typed.SignatureOk program Has unit held result (actuals_view xs) fs × AreFormals (actuals_view xs) fs
 
     all_fit : (c : Chosen) (k : Receiver) (o : QName) (ps : List TypedParameter) (xs : List Actual) (fs : List (Mode × TypeRef)) → ChosenIs program Has unit held result (map_of u) u.receiver c → c.method.receiver ≡ k → ReceiverOk program k o ps → Sub (record_in program c.owner) (record_in program o) → IsRecordType program o → AreParameters program (behind ps) fs → Signed xs fs → typed.ActualsOk program Has unit held result (actuals_view (receiver_actual k c ∷ xs)) ps
     all_fit c k o [] xs fs h e r s y a g = absurd (none k r)
@@ -107,7 +107,7 @@ module _ (program : Program) (Has : Signature → QName → Type 0) (unit : List
         none receiver.Pointer r = r
     all_fit c k o (p1 ∷ ps) xs fs h e r s y a g =
         let one = receiver_fits (map_of u) scoped.forms u.receiver c k o p1 ps h e r s y in
-        (one.0, (one.1, (one.2, declared_actuals program Has unit held result (actuals_view xs) ps fs a g)))
+        (one.0, (one.1, (one.2, declared_actuals program Has unit held result (actuals_view xs) ps fs a g.0)))
 
     abbrev Tree : Pos → Chosen → List Actual → Option QName → Type 0
     Tree at c xs b = CallIs program Has unit held result c.method.signature.result (expr_view (e.Call (bound_callee c b) (receiver_actual c.method.receiver c ∷ xs) at c.method.signature.result))
@@ -117,11 +117,11 @@ module _ (program : Program) (Has : Signature → QName → Type 0) (unit : List
         let m = scoped.methods c.owner c.introduced x.0 c.method x.1 in
         let k = m.0 in
         by_callee program Has unit held result u scoped (callee.Bound (family_of c) c.method.receiver) (receiver_actual c.method.receiver c ∷ xs) at c.method.signature.result
-        (c.introduced, k.name, k.p, k.type_is, k.near, k.found, k.receives, k.result_is, all_fit c c.method.receiver c.introduced k.p.parameters xs c.method.signature.params h refl k.receives m.1 k.type_is k.parameters g)
+        (c.introduced, k.name, k.p, k.type_is, k.near, k.found, k.receives, k.result_is, all_fit c c.method.receiver c.introduced k.p.parameters xs c.method.signature.params h refl k.receives m.1 k.type_is k.parameters g) tt
     tree_at at c xs (Some b) h x g =
         let k = x.1 in
         by_callee program Has unit held result u scoped (callee.Super b (family_of c) c.method.receiver) (receiver_actual c.method.receiver c ∷ xs) at c.method.signature.result
-        (k.name, k.p, k.base_is, k.near, k.found, k.result_is, all_fit c c.method.receiver k.t k.p.parameters xs c.method.signature.params h refl k.receives (sub_on x.2 k.above) k.type_is k.parameters g)
+        (k.name, k.p, k.base_is, k.near, k.found, k.result_is, all_fit c c.method.receiver k.t k.p.parameters xs c.method.signature.params h refl k.receives (sub_on x.2 k.above) k.type_is k.parameters g) tt
 
     signature_at_call : (c : Chosen) (b : Option QName) → CallsAt program Has unit held result (map_of u) c b → SignatureIs program (map_of u) c.method.signature
     signature_at_call c None x = (scoped.methods c.owner c.introduced x.0 c.method x.1).0.signature

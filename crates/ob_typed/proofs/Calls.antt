@@ -32,8 +32,10 @@ use Rattle.ob_types.specs.TypedView.{OneActual, designator_view, expr_view, actu
 use Rattle.ob_types.proofs.TypedViews.{view_call, view_call_variable}
 use Rattle.ob_meaning.specs.Values.{Program, Form, BasicForm, ProcedureForm, form_in, Held}
 use Rattle.ob_relation.specs.Relation.{Scalar}
+use Rattle.ob_relation.specs.Passed.{AreOfBasics, IsOneText, AreOut, CalleeTakes}
 use Rattle.ob_relation.specs.Typed as typed
-use Rattle.ob_relation.specs.Typed.{IsFormal, passing_for}
+use Rattle.ob_relation.specs.Typed.{passing_for}
+use Rattle.ob_relation.proofs.Passings.{formal_is}
 use Rattle.ob_rules.specs.declared.meant.Where.{Where}
 use Rattle.ob_rules.specs.declared.meant.Where.TheVariants.{InExpression, AsStatement, Elsewhere}
 use Rattle.ob_rules.specs.declared.values.Place.{Place}
@@ -59,15 +61,7 @@ use Rattle.ob_typed.proofs.Designators.{form_is}
 use Rattle.ob_typed.proofs.Relations.{or_is, text_fits}
 use Rattle.ob_typed.proofs.Operators.{and_is}
 use Rattle.ob_typed.proofs.Assignable.{nat_is}
-use Rattle.ob_typed.proofs.Actuals.{Passes, not_false, actual_seen, actuals_are}
-
-formal_is : (how : Passing) (t u : TypeRef) → t ≡ u → IsFormal how t u
-formal_is passing.Structure t u e = e
-formal_is passing.Scalar t u e = tt
-formal_is passing.OpenArray t u e = tt
-formal_is passing.Variable t u e = tt
-formal_is passing.VariableRecord t u e = tt
-formal_is passing.VariableOpenArray t u e = tt
+use Rattle.ob_typed.proofs.Actuals.{AreFormals, Passes, not_false, actual_seen, actuals_are}
 
 -- parameters of basic types by value
 abbrev all_basic : List Basic → List (Mode × TypeRef)
@@ -96,15 +90,15 @@ module _ (program : Program) (Has : Signature → QName → Type 0) (unit : List
   declared_actuals (AnActual how t x rest) ps [] k h = absurd h
   declared_actuals (AnActual how t x rest) [] (f ∷ fs) k h = absurd k
   declared_actuals (AnActual how t x rest) (p ∷ ps) (f ∷ fs) k h =
-      let i : t ≡ p.of = h.1.0 ∙ sym k.0 in
-      (h.0 ∙ sym k.1.0, (formal_is how t p.of i, (subst (λ z. Passes program Has unit held result how x (form_in program z)) i h.1.1.0, declared_actuals rest ps fs k.1.1 h.1.1.1)))
+      let i : form_in program t ≡ form_in program p.of = h.1.0 ∙ sym k.0 in
+      (h.0 ∙ sym k.1.0, (formal_is program how f.0 t p.of (h.0 ∙ ap (passing_for f.0) (sym k.0)) i, (subst (λ z. Passes program Has unit held result how x z) i h.1.1.0, declared_actuals rest ps fs k.1.1 h.1.1.1)))
 
   module _ (u : Around) (scoped : IsScoped program Has unit held result u) where
     abbrev Called : Where → Valued → Type 0
     Called w x = CalledIs program Has unit held result (map_of u) w x
 
     abbrev Signed : List Actual → List (Mode × TypeRef) → Type 0
-    Signed xs fs = typed.SignatureOk program Has unit held result (actuals_view xs) fs
+    Signed xs fs = typed.SignatureOk program Has unit held result (actuals_view xs) fs × AreFormals (actuals_view xs) fs
 
     value_node : (x : Expr) (r : Option TypeRef) → ResultIs program r → CallIs r x → is_some r ≡ true → NodeIs program Has unit held result (map_of u) x (result_type r)
     value_node x None d h e = not_true e
@@ -128,13 +122,13 @@ module _ (program : Program) (Has : Signature → QName → Type 0) (unit : List
         record { node = call_there w (f ys) s.result d (k ys q) e }
 
     -- of a call by its view
-    pub by_callee : (c : Callee) (xs : List Actual) (at : Pos) (r : Option TypeRef) → typed.CallOk program Has unit held result c r (typed.ActualsOk program Has unit held result (actuals_view xs)) (typed.OutOk program Has unit held result (actuals_view xs)) → CallIs r (expr_view (e.Call c xs at r))
-    by_callee c xs at r h = subst (CallIs r) (sym (view_call c xs at r)) (record { value = λ v k. (h, k); proper = λ e. (h, e) })
+    pub by_callee : (c : Callee) (xs : List Actual) (at : Pos) (r : Option TypeRef) → typed.CallOk program Has unit held result c r (typed.ActualsOk program Has unit held result (actuals_view xs)) (typed.OutOk program Has unit held result (actuals_view xs)) → CalleeTakes c (actuals_view xs) → CallIs r (expr_view (e.Call c xs at r))
+    by_callee c xs at r h g = subst (CallIs r) (sym (view_call c xs at r)) (record { value = λ v k. (h, k); proper = λ e. (h, e, g) })
 
     pub call_procedure_is : (w : Where) (at : Pos) (name : QName) (s : Signature) (ps : List Phrase) → ProcedureIs program Has unit held result (map_of u) name s → ArePhrases program Has unit held result ps → Makes (Called w) (call_procedure u w at name s ps)
     call_procedure_is w at name s ps h k =
         called_is (λ xs. Signed xs s.params) w at s ps (λ xs. e.Call (callee.Declared name) xs at s.result) h.signature.result (actuals_are program Has unit held result u scoped s.params ps h.signature.params k) λ xs g.
-        by_callee (callee.Declared name) xs at s.result (h.p, h.found, h.result_is, declared_actuals (actuals_view xs) h.p.parameters s.params h.parameters g)
+        by_callee (callee.Declared name) xs at s.result (h.p, h.found, h.result_is, declared_actuals (actuals_view xs) h.p.parameters s.params h.parameters g.0) tt
 
     by_variable : (d : Desig) (s : Signature) (es : Actuals) (at : Pos) → typed.DesigOk program Has unit held result d → form_in program (variable_type d) ≡ ProcedureForm s → typed.SignatureOk program Has unit held result es s.params → CallIs s.result (CallVariable d es at s.result)
     by_variable d s es at h f g = record { value = λ v k. ((h, (s, f, refl, g)), k); proper = λ e. ((h, (s, f, refl, g)), e) }
@@ -144,7 +138,7 @@ module _ (program : Program) (Has : Signature → QName → Type 0) (unit : List
         let i = scoped.forms.procedures p.of s f in
         let d = designator_view p.designator.inner in
         called_is (λ xs. Signed xs s.params) w at s ps (λ xs. e.CallVariable p.designator.inner xs at s.result) i.1.result (actuals_are program Has unit held result u scoped s.params ps i.1.params k) λ xs g.
-        subst (CallIs s.result) (sym (view_call_variable p.designator.inner xs at s.result)) (by_variable d s (actuals_view xs) at h.fits (form_is program Has unit held result (map_of u) scoped.forms d p.of p.var_record h ∙ i.0) g)
+        subst (CallIs s.result) (sym (view_call_variable p.designator.inner xs at s.result)) (by_variable d s (actuals_view xs) at h.fits (form_is program Has unit held result (map_of u) scoped.forms d p.of p.var_record h ∙ i.0) g.0)
 
     -- OUT
 
@@ -170,11 +164,18 @@ module _ (program : Program) (Has : Signature → QName → Type 0) (unit : List
     basics_out (AnActual how t x rest) [] h = absurd h
     basics_out (AnActual how t x rest) (b ∷ bs) h = scalar_out how t x rest (h.0 ∙ basic_scalar b) h.1.1.0 (basics_out rest bs h.1.1.1)
 
-    out_call : (o : OutProcedure) (at : Pos) (xs : List Actual) → OutFits (actuals_view xs) → CallIs None (expr_view (e.Call (callee.Out o) xs at None))
-    out_call o at xs h = by_callee (callee.Out o) xs at None (refl, h)
+    -- parameters of basic types by value, as they are named
+    basics_named : (es : Actuals) (bs : List Basic) → typed.SignatureOk program Has unit held result es (all_basic bs) → AreFormals es (all_basic bs) → AreOfBasics bs es
+    basics_named NoActual [] h k = tt
+    basics_named NoActual (b ∷ bs) h k = absurd h
+    basics_named (AnActual how t x rest) [] h k = absurd h
+    basics_named (AnActual how t x rest) (b ∷ bs) h k = (h.0 ∙ basic_scalar b, k.0, basics_named rest bs h.1.1.1 k.1)
 
-    basic_out : (o : OutProcedure) (bs : List Basic) (w : Where) (at : Pos) (ps : List Phrase) → ArePhrases program Has unit held result ps → Makes (Called w) (called u w at (record { params = all_basic bs; result = None }) ps (λ xs. e.Call (callee.Out o) xs at None))
-    basic_out o bs w at ps k = called_is (λ xs. Signed xs (all_basic bs)) w at (record { params = all_basic bs; result = None }) ps (λ xs. e.Call (callee.Out o) xs at None) tt (actuals_are program Has unit held result u scoped (all_basic bs) ps (all_known (map_of u) bs) k) (λ xs g. out_call o at xs (basics_out (actuals_view xs) bs g))
+    out_call : (o : OutProcedure) (at : Pos) (xs : List Actual) → OutFits (actuals_view xs) → AreOut o (actuals_view xs) → CallIs None (expr_view (e.Call (callee.Out o) xs at None))
+    out_call o at xs h g = by_callee (callee.Out o) xs at None (refl, h) g
+
+    basic_out : (o : OutProcedure) (bs : List Basic) → ((es : Actuals) → AreOfBasics bs es → AreOut o es) → (w : Where) (at : Pos) (ps : List Phrase) → ArePhrases program Has unit held result ps → Makes (Called w) (called u w at (record { params = all_basic bs; result = None }) ps (λ xs. e.Call (callee.Out o) xs at None))
+    basic_out o bs is w at ps k = called_is (λ xs. Signed xs (all_basic bs)) w at (record { params = all_basic bs; result = None }) ps (λ xs. e.Call (callee.Out o) xs at None) tt (actuals_are program Has unit held result u scoped (all_basic bs) ps (all_known (map_of u) bs) k) (λ xs g. out_call o at xs (basics_out (actuals_view xs) bs g.0) (is (actuals_view xs) (basics_named (actuals_view xs) bs g.0 g.1)))
 
     -- the type of the parameter of Out.String, as the rules' map has it
     out_desc : map_of u out_string ≡ Some (desc.OpenArray mark.Hidden (ref.Basic basic.Char))
@@ -221,13 +222,16 @@ module _ (program : Program) (Has : Signature → QName → Type 0) (unit : List
         (or_is (array_takes (map_of u) (ref.Basic basic.Char) (type_in (type x))) (same_at (map_of u) (ref.Basic basic.Char) (ref.Basic basic.Char) && is_some (text_of x)) e)
 
     abbrev StringIs : OneActual → Type 0
-    StringIs o = OutFits (AnActual o.passing o.formal o.e NoActual)
+    StringIs o = OutFits (AnActual o.passing o.formal o.e NoActual) × (o.passing ≡ passing.OpenArray)
+
+    abbrev StringsAre : Actuals → Type 0
+    StringsAre es = OutFits es × IsOneText es
 
     string_actual : (x : Valued) → ValuedIs program Has unit held result (map_of u) x → takes_value (map_of u) (open_element (map_of u) (ref.Named out_string)) (ref.Named out_string) x ≡ true → StringIs (actual_view (actual_of (passing_of (map_of u) mode.Value (ref.Named out_string)) (ref.Named out_string) (tree_for (is_array (map_of u) (ref.Named out_string)) x)))
     string_actual x h e =
         let f : is_text (map_of u) x ≡ true = is_text_by x (sym (ap (λ o. takes_value (map_of u) o (ref.Named out_string) x) out_element) ∙ e) in
         let g : typed.TextOk program Has unit held result (expr_view (text_tree x)) = text_fits program Has unit held result (map_of u) scoped.forms x h f in
-        let s : StringIs (record { passing = passing.OpenArray; formal = ref.Named out_string; e = expr_view (tree_for true x) }) = (g, tt) in
+        let s : StringIs (record { passing = passing.OpenArray; formal = ref.Named out_string; e = expr_view (tree_for true x) }) = ((g, tt), refl) in
         subst StringIs (sym (actual_seen (passing_of (map_of u) mode.Value (ref.Named out_string)) (ref.Named out_string) (tree_for (is_array (map_of u) (ref.Named out_string)) x)))
         (subst (λ w. StringIs (record { passing = w; formal = ref.Named out_string; e = expr_view (tree_for (is_array (map_of u) (ref.Named out_string)) x) })) (sym out_passing)
         (subst (λ b. StringIs (record { passing = passing.OpenArray; formal = ref.Named out_string; e = expr_view (tree_for b x) })) (sym (ap is_some out_array)) s))
@@ -235,25 +239,28 @@ module _ (program : Program) (Has : Signature → QName → Type 0) (unit : List
     abbrev string_params : List (Mode × TypeRef)
     string_params = (mode.Value, ref.Named out_string) ∷ []
 
-    string_actuals : (ps : List Phrase) → ArePhrases program Has unit held result ps → Makes (λ xs. length ps ≡ 1 → OutFits (actuals_view xs)) (actuals u string_params ps)
-    string_actuals [] k = record { node = λ e. tt }
+    string_actuals : (ps : List Phrase) → ArePhrases program Has unit held result ps → Makes (λ xs. length ps ≡ 1 → StringsAre (actuals_view xs)) (actuals u string_params ps)
+    string_actuals [] k = record { node = λ e. absurd (none_at e) }
+      where
+        none_at : zero ≡ suc zero → ⊥
+        none_at e = absurd cc
     string_actuals (p ∷ []) k =
         makes_then (λ r. StringIs (actual_view r.0) × (r.1 ≡ [])) _ (both (actual u mode.Value (ref.Named out_string) p) (sound [])) (λ r. sound (r.0 ∷ r.1))
         (makes_both (λ a. StringIs (actual_view a)) (λ xs. xs ≡ []) (actual u mode.Value (ref.Named out_string) p) (sound [])
         (makes_then (ValuedIs program Has unit held result (map_of u)) _ (p.value u) (value_actual (map_of u) (ref.Named out_string) p.start) (k.0.value u scoped) (λ x h. makes_wants _ (takes_value (map_of u) (open_element (map_of u) (ref.Named out_string)) (ref.Named out_string) x) 25 p.start (actual_of (passing_of (map_of u) mode.Value (ref.Named out_string)) (ref.Named out_string) (tree_for (is_array (map_of u) (ref.Named out_string)) x)) (string_actual x h)))
         (record { node = refl }))
-        (λ r h. record { node = λ e. subst (λ xs. OutFits (actuals_view (r.0 ∷ xs))) (sym h.1) h.0 })
+        (λ r h. record { node = λ e. subst (λ xs. StringsAre (actuals_view (r.0 ∷ xs))) (sym h.1) h.0 })
     string_actuals (p ∷ q ∷ qs) k = record { node = anything (actuals u string_params (p ∷ q ∷ qs)).node }
       where
         none_of : suc (suc (length qs)) ≡ 1 → ⊥
         none_of e = omega (arith, e)
 
-        anything : (o : Option (List Actual)) → IfThere (λ xs. suc (suc (length qs)) ≡ 1 → OutFits (actuals_view xs)) o
+        anything : (o : Option (List Actual)) → IfThere (λ xs. suc (suc (length qs)) ≡ 1 → StringsAre (actuals_view xs)) o
         anything None = tt
         anything (Some xs) = λ e. absurd (none_of e)
 
     pub call_out_is : (w : Where) (at : Pos) (o : OutProcedure) (ps : List Phrase) → ArePhrases program Has unit held result ps → Makes (Called w) (call_out u w at o ps)
-    call_out_is w at out.Char ps k = basic_out out.Char (basic.Char ∷ []) w at ps k
-    call_out_is w at out.Int ps k = basic_out out.Int (basic.LongInt ∷ basic.LongInt ∷ []) w at ps k
-    call_out_is w at out.Ln ps k = basic_out out.Ln [] w at ps k
-    call_out_is w at out.Str ps k = called_is (λ xs. OutFits (actuals_view xs)) w at (record { params = string_params; result = None }) ps (λ xs. e.Call (callee.Out out.Str) xs at None) tt (string_actuals ps k) (λ xs g. out_call out.Str at xs g)
+    call_out_is w at out.Char ps k = basic_out out.Char (basic.Char ∷ []) (λ es h. h) w at ps k
+    call_out_is w at out.Int ps k = basic_out out.Int (basic.LongInt ∷ basic.LongInt ∷ []) (λ es h. h) w at ps k
+    call_out_is w at out.Ln ps k = basic_out out.Ln [] (λ es h. h) w at ps k
+    call_out_is w at out.Str ps k = called_is (λ xs. StringsAre (actuals_view xs)) w at (record { params = string_params; result = None }) ps (λ xs. e.Call (callee.Out out.Str) xs at None) tt (string_actuals ps k) (λ xs g. out_call out.Str at xs g.0 g.1)

@@ -39,9 +39,11 @@ use Rattle.ob_typed.specs.Forms.{IsKnown, ArrayIs, Forms}
 use Rattle.ob_typed.specs.Known.{VariableIs}
 use Rattle.ob_typed.specs.Kept.{DesignatorIs, PlaceIs, ValuedIs}
 use Rattle.ob_typed.specs.Known.{pointee}
+use Rattle.ob_typed.specs.Meant.{GuardIs}
 use Rattle.ob_typed.proofs.Makes.{makes_then, makes_wants}
-use Rattle.ob_typed.proofs.Basics.{none_some, not_true, some_is, within_long}
+use Rattle.ob_typed.proofs.Basics.{none_some, not_true, some_is, within_long, closed_form}
 use Rattle.ob_typed.proofs.Values.{Fits, V, width_fits}
+use Rattle.ob_typed.proofs.Unguarded.{deref_unguarded, index_unguarded}
 
 -- what a pointer to a record points to
 pub pointed_is : (map : Map) (t : TypeRef) (q : QName) → pointed_record map t ≡ Some q → (r : TypeRef) × (pointed map t ≡ Some r) × (record_of map r ≡ Some q)
@@ -110,12 +112,12 @@ module _ (program : Program) (Has : Signature → QName → Type 0) (unit : List
   through_pointer at p None h e = record { node = (h, refl, λ t f. none_some f) }
   through_pointer at p (Some t) h e = held_is (is_held map t) (λ q. P q × (q.of ≡ t) × ((r : TypeRef) → Some t ≡ Some r → is_held map r ≡ true)) (dereferenced p at t false) (λ k. (deref_is p at t false h e k, refl, λ r f. ap (is_held map) (sym (some_is f)) ∙ k))
 
-  pub dereference_is : (at : Pos) (p : Place) → P p → Makes (λ q. P q × (q.selected ≡ true)) (dereference map at p)
+  pub dereference_is : (at : Pos) (p : Place) → P p → Makes (λ q. P q × (q.selected ≡ true) × GuardIs q) (dereference map at p)
   dereference_is at p h = go (pointed map p.of) refl
     where
-      go : (o : Option TypeRef) → pointed map p.of ≡ o → Makes (λ q. P q × (q.selected ≡ true)) (dereference_of map at p o)
+      go : (o : Option TypeRef) → pointed map p.of ≡ o → Makes (λ q. P q × (q.selected ≡ true) × GuardIs q) (dereference_of map at p o)
       go None e = record { node = tt }
-      go (Some t) e = held_is (is_held map t) (λ q. P q × (q.selected ≡ true)) (dereferenced p at t true) (λ k. (deref_is p at t true h e k, or_true p.selected))
+      go (Some t) e = held_is (is_held map t) (λ q. P q × (q.selected ≡ true) × GuardIs q) (dereferenced p at t true) (λ k. (deref_is p at t true h e k, or_true p.selected, deref_unguarded p at t true))
 
   -- INDICES
 
@@ -127,23 +129,23 @@ module _ (program : Program) (Has : Signature → QName → Type 0) (unit : List
       go (Some w) f e = width_fits program Has unit held result map forms x w width.LongInt h f (within_long w)
 
   index_of : (d : Desig) (t u : TypeRef) (r : Bool) (n : Option ℕ) (i : Expr) (at : Pos) → Of d t r → ArrayIs program map (form_in program t) n u → Fits program Has unit held result i longint → Of (Index d n i at u) u false
-  index_of d t u r None i at h a k = record { fits = (h.fits, (k, form_is d t r h ∙ a.0)); of_type = refl; declared = a.1.0; is_parameter = λ f. not_true f }
-  index_of d t u r (Some n) i at h a k = record { fits = (h.fits, (k, form_is d t r h ∙ a.0)); of_type = refl; declared = a.1.1.0; is_parameter = λ f. not_true f }
+  index_of d t u r None i at h a k = record { fits = (h.fits, (k, form_is d t r h ∙ a.0, closed_form program (form_in program u) a.1.1)); of_type = refl; declared = a.1.0; is_parameter = λ f. not_true f }
+  index_of d t u r (Some n) i at h a k = record { fits = (h.fits, (k, form_is d t r h ∙ a.0, closed_form program (form_in program u) a.1.1.1)); of_type = refl; declared = a.1.1.0; is_parameter = λ f. not_true f }
 
   indexed_is : (p : Place) (at : Pos) (x : Valued) (a : Option ℕ × TypeRef) → P p → array_of map p.of ≡ Some a → Fits program Has unit held result (expr_view (tree x)) longint → P (indexed p at x a)
   indexed_is p at x a h e k = subst (λ d. Of d a.1 false) (sym (view_index p.designator.inner a.0 (tree x) at a.1)) (index_of (designator_view p.designator.inner) p.of a.1 p.var_record a.0 (expr_view (tree x)) at h (forms.arrays p.of a.1 a.0 h.declared.0 e) k)
 
-  index_into_is : (at : Pos) (p : Place) (i : Judged Valued) (o : Option (Option ℕ × TypeRef)) → P p → Makes (V program Has unit held result map forms) i → array_of map p.of ≡ o → Makes (λ q. P q × (q.selected ≡ true)) (index_into map at p i o)
+  index_into_is : (at : Pos) (p : Place) (i : Judged Valued) (o : Option (Option ℕ × TypeRef)) → P p → Makes (V program Has unit held result map forms) i → array_of map p.of ≡ o → Makes (λ q. P q × (q.selected ≡ true) × GuardIs q) (index_into map at p i o)
   index_into_is at p i None h k e = record { node = tt }
-  index_into_is at p i (Some a) h k e = makes_then (V program Has unit held result map forms) (λ q. P q × (q.selected ≡ true)) i (λ x. wants (is_integer map x) 22 at (indexed p at x a)) k (λ x v. makes_wants (λ q. P q × (q.selected ≡ true)) (is_integer map x) 22 at (indexed p at x a) (λ f. (indexed_is p at x a h e (long_fits x v f), refl)))
+  index_into_is at p i (Some a) h k e = makes_then (V program Has unit held result map forms) (λ q. P q × (q.selected ≡ true) × GuardIs q) i (λ x. wants (is_integer map x) 22 at (indexed p at x a)) k (λ x v. makes_wants (λ q. P q × (q.selected ≡ true) × GuardIs q) (is_integer map x) 22 at (indexed p at x a) (λ f. (indexed_is p at x a h e (long_fits x v f), refl, index_unguarded p at x a)))
 
-  pub index_is : (at : Pos) (p : Place) (i : Judged Valued) → P p → Makes (V program Has unit held result map forms) i → Makes (λ q. P q × (q.selected ≡ true)) (index map at p i)
+  pub index_is : (at : Pos) (p : Place) (i : Judged Valued) → P p → Makes (V program Has unit held result map forms) i → Makes (λ q. P q × (q.selected ≡ true) × GuardIs q) (index map at p i)
   index_is at p i h k = go (implicitly map is_array_at at p (pointed map p.of)).node (implicitly_is is_array_at at p (pointed map p.of) h refl).node
     where
       is_array_at : TypeRef → Bool
       is_array_at t = is_array map t
 
-      go : (o : Option Place) → IfThere P o → Makes (λ q. P q × (q.selected ≡ true)) (index_if o i (λ q. index_into map at q i (array_of map q.of)))
+      go : (o : Option Place) → IfThere P o → Makes (λ q. P q × (q.selected ≡ true) × GuardIs q) (index_if o i (λ q. index_into map at q i (array_of map q.of)))
       go None f = record { node = tt }
       go (Some q) f = index_into_is at q i (array_of map q.of) f k refl
 
@@ -155,7 +157,7 @@ module _ (program : Program) (Has : Signature → QName → Type 0) (unit : List
       let g = forms.fields q o x f p.of e k in
       let i : form_in program (variable_type d) ≡ record_in program q = form_is d p.of p.var_record h ∙ (forms.records p.of q e).0 in
       let fits : typed.FieldOk program Has unit held result (form_in program (variable_type d)) o f.name (form_in program f.of) = subst (λ t. typed.FieldOk program Has unit held result t o f.name (form_in program f.of)) (sym i) g.0 in
-      subst (λ d. Of d f.of false) (sym (view_field p.designator.inner o f.name f.of)) (record { fits = (h.fits, fits); of_type = refl; declared = g.1; is_parameter = λ f. not_true f })
+      subst (λ d. Of d f.of false) (sym (view_field p.designator.inner o f.name f.of)) (record { fits = (h.fits, fits, g.2); of_type = refl; declared = g.1; is_parameter = λ f. not_true f })
 
   -- GUARDS
 
@@ -242,7 +244,7 @@ module _ (program : Program) (Has : Signature → QName → Type 0) (unit : List
   parameter_is (variable.Parameter passing.VariableOpenArray x) t e = not_true e
 
   pub variable_is : (v : Variable) (t : TypeRef) (read_only : Bool) → VariableIs program Has unit held result map v t → P (variable_at v t read_only)
-  variable_is v t read_only h = subst (λ d. Of d t (is_var_record v)) (sym (view_variable v t)) (record { fits = h.fits; of_type = refl; declared = h.declared; is_parameter = λ e. (parameter_is v t e, h.var_record e) })
+  variable_is v t read_only h = subst (λ d. Of d t (is_var_record v)) (sym (view_variable v t)) (record { fits = (h.fits, h.passed); of_type = refl; declared = h.declared; is_parameter = λ e. (parameter_is v t e, h.var_record e) })
 
   -- a name with the guards of WITH around it
   pub guards_is : (at : Pos) (v : Variable) (t : TypeRef) (read_only : Bool) (gs : List (Variable × Option TypeRef)) → VariableIs program Has unit held result map v t → AllByRecursion (λ (g : Variable × Option TypeRef). IfThere (IsKnown map) g.1) gs → Makes P (with_guards map at v gs (sound (variable_at v t read_only)))

@@ -28,7 +28,7 @@ use Rattle.ob_rules.specs.Designators.{variable_named, of_variable, is_read_only
 use Rattle.ob_typed.specs.Makes.{IfThere, Makes}
 use Rattle.ob_typed.specs.Known.{VariableIs, IsScoped}
 use Rattle.ob_typed.specs.Kept.{PlaceIs}
-use Rattle.ob_typed.specs.Meant.{RootIs, MeantIs, AreBehind}
+use Rattle.ob_typed.specs.Meant.{GuardIs, RootIs, MeantIs, AreBehind}
 use Rattle.ob_typed.proofs.Makes.{makes_then, makes_made}
 use Rattle.ob_typed.proofs.Basics.{none_some, not_true, some_is}
 use Rattle.ob_typed.proofs.Roots.{rooted_is}
@@ -73,7 +73,7 @@ module _ (program : Program) (Has : Signature → QName → Type 0) (unit : List
   named_is x = name_there x (find_name u.known x.name) refl
 
   variable_meant : (at : Pos) (v : Variable) (t : TypeRef) (read_only : Bool) → VariableIs program Has unit held result (map_of u) v t → Makes Front (of_variable (variable_named u at v t read_only))
-  variable_meant at v t read_only h = makes_then (λ p. PlaceIs program Has unit held result (map_of u) p × RootIs program Has unit held result (map_of u) u.receiver p) Front (variable_named u at v t read_only) (λ q. sound (means.Place q)) (rooted_is program Has unit held result (map_of u) scoped.forms u.receiver at v t read_only u.guards h (λ r e f. scoped.receivers r v t e f h) scoped.guards) (λ q k. record { node = λ w. k })
+  variable_meant at v t read_only h = makes_then (λ p. PlaceIs program Has unit held result (map_of u) p × RootIs program Has unit held result (map_of u) u.receiver p × GuardIs p) Front (variable_named u at v t read_only) (λ q. sound (means.Place q)) (rooted_is program Has unit held result (map_of u) scoped.forms u.receiver at v t read_only u.guards h (λ r e f. scoped.receivers r v t e f h) scoped.guards) (λ q k. record { node = λ w. k })
 
   exported_is : (start at : Pos) (m x : List ℕ) (d : Desc) → is_out m ≡ false → bytes_eq m u.unit ≡ false → u.shown (record { «module» = m; object = x }) ≡ Some d → Makes Front (exported_meant u start at m x d)
   exported_is start at m x (desc.Const c) a b e = record { node = λ w. scoped.shown_constants (record { «module» = m; object = x }) c e }

@@ -3,6 +3,7 @@ pub mod Constants
 pub mod Basics
 pub mod Values
 pub mod Operators
+pub mod Unguarded
 pub mod Designators
 pub mod Relations
 pub mod Roots

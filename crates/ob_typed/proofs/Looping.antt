@@ -28,6 +28,7 @@ use Rattle.ob_types.proofs.TypedViews.{view_while, view_repeat, view_loop, view_
 use Rattle.ob_meaning.specs.Values.{Program, Form, BasicForm, PointerForm, ProcedureForm, RecordForm, form_in, fields_of, Held}
 use Rattle.ob_meaning.specs.Operators.{is_in}
 use Rattle.ob_relation.specs.Relation.{Scalar}
+use Rattle.ob_relation.specs.Passed.{IsPassed}
 use Rattle.ob_relation.specs.Typed as typed
 use Rattle.ob_relation.specs.Typed.{Within, integer, longint, boolean}
 use Rattle.ob_rules.specs.declared.entity.Entity.{Entity}
@@ -179,7 +180,7 @@ module _ (program : Program) (Has : Signature → QName → Type 0) (unit : List
       pub width : width_of (basic_of map p.of) ≡ Some w
       pub form : form_in program p.of ≡ integer w
       pub known : IsKnown map p.of
-      pub variable : typed.VariableOk program Has unit held result p.root (integer w)
+      pub variable : typed.VariableOk program Has unit held result p.root (integer w) × IsPassed p.root (integer w)
 
     counts : (v : Variable) (t : TypeRef) (p : Place) → VariableIs program Has unit held result map v t → CounterIs v t p → is_some (width_of (basic_of map p.of)) ≡ true → CountsIn p
     counts v t p h k e = go (width_of (basic_of map p.of)) refl e
@@ -188,7 +189,7 @@ module _ (program : Program) (Has : Signature → QName → Type 0) (unit : List
         go None f g = not_true g
         go (Some w) f g =
             let i = integer_form program Has unit held result map forms p.of w f in
-            ⊎_elim (λ (q : p.of ≡ t). record { w = w; width = f; form = i; known = k.place.declared; variable = subst (λ z. typed.VariableOk program Has unit held result z (integer w)) (sym k.root) (subst (typed.VariableOk program Has unit held result v) (ap (form_in program) (sym q) ∙ i) h.fits) }) (λ q. none_some (sym q ∙ f)) k.plain
+            ⊎_elim (λ (q : p.of ≡ t). record { w = w; width = f; form = i; known = k.place.declared; variable = subst (λ z. typed.VariableOk program Has unit held result z (integer w) × IsPassed z (integer w)) (sym k.root) (subst (λ f. typed.VariableOk program Has unit held result v f × IsPassed v f) (ap (form_in program) (sym q) ∙ i) (h.fits, h.passed)) }) (λ q. none_some (sym q ∙ f)) k.plain
 
   module _ (u : Around) (s : IsScoped program Has unit held result u) where
     abbrev Counts : Place → Type 0
@@ -256,7 +257,7 @@ module _ (program : Program) (Has : Signature → QName → Type 0) (unit : List
         let w = width_or_long (width_of (basic_of (map_of u) p.of)) in
         let e : h.w ≡ w = ap width_or_long (sym h.width) in
         subst (λ z. typed.StmtOk program Has unit held result z u.in_loop) (sym (view_for p.root w q.0.0 q.0.1 q.1.0 q.1.1 at))
-        (subst (λ z. typed.VariableOk program Has unit held result p.root (integer z)) e h.variable, (subst (λ z. Ex (expr_view q.0.0) z) (h.form ∙ ap (λ z. integer z) e) k.0.0.0, (k.0.1.1, (m, (k.1.0, stmts_ok program Has unit held result u.in_loop q.1.1 k.1.1)))))
+        (subst (λ z. typed.VariableOk program Has unit held result p.root (integer z) × IsPassed p.root (integer z)) e h.variable, (subst (λ z. Ex (expr_view q.0.0) z) (h.form ∙ ap (λ z. integer z) e) k.0.0.0, (k.0.1.1, (m, (k.1.0, stmts_ok program Has unit held result u.in_loop q.1.1 k.1.1)))))
 
     with_variable_is : (at : Pos) (o : Option Place) (a b : Phrase) (step : Judged ℤ) (body : Judged (List TypedStmt)) → IfThere Counts o → typed.HiddenOk program Has unit held result at → PhraseIs program Has unit held result a → PhraseIs program Has unit held result b → Makes IsStep step → Makes (Ss u.in_loop) body → Makes (Ss u.in_loop) (for_with (map_of u) at o (a.value u) (b.value u) step body)
     with_variable_is at None a b step body h m k l x y = record { node = tt }

@@ -94,7 +94,7 @@ module _ (program : Program) (Has : Signature → QName → Type 0) (unit : List
   -- DESIGNATORS
 
   procedure_node : (map : Map) (q : QName) (s : Signature) → ProcedureIs program Has unit held result map q s → is_value q ≡ true → NodeIs program Has unit held result map (expr_view (e.Procedure q s)) (kind.Procedure s)
-  procedure_node map q s h k = subst (λ y. NodeIs program Has unit held result map y (kind.Procedure s)) (sym (view_procedure_value q s)) ((s, refl, h.own k), λ t l. (t, refl, h.alike t k l))
+  procedure_node map q s h k = subst (λ y. NodeIs program Has unit held result map y (kind.Procedure s)) (sym (view_procedure_value q s)) ((s, refl, h.own k), λ t d l. (t, refl, h.alike t d k l))
 
   procedure_there : (u : Around) (b : Bool) (at : Pos) (q : QName) (s : Signature) → ProcedureIs program Has unit held result (map_of u) q s → is_value q ≡ b → Makes (Is u) (procedure_value b at q (computed (e.Procedure q s) (kind.Procedure s)))
   procedure_there u true at q s h k = record { node = procedure_node (map_of u) q s h k }

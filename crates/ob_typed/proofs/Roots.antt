@@ -21,7 +21,8 @@ use Rattle.ob_typed.specs.Makes.{IfThere, Makes}
 use Rattle.ob_typed.specs.Forms.{IsKnown, Forms}
 use Rattle.ob_typed.specs.Known.{pointee, by_scalar, ReceiverIs, VariableIs}
 use Rattle.ob_typed.specs.Kept.{PlaceIs}
-use Rattle.ob_typed.specs.Meant.{RootIs}
+use Rattle.ob_typed.specs.Meant.{GuardIs, RootIs}
+use Rattle.ob_typed.proofs.Unguarded.{variable_unguarded, guard_unguarded}
 use Rattle.ob_typed.proofs.Makes.{makes_then}
 use Rattle.ob_typed.proofs.Basics.{none_some, not_true, some_is}
 use Rattle.ob_typed.proofs.Designators.{pointed_is, extends_is, some_true, no_record, variable_is, guarded_is}
@@ -88,11 +89,11 @@ module _ (program : Program) (Has : Signature → QName → Type 0) (unit : List
 
   module _ (o : Option Received) where
     abbrev R : Place → Type 0
-    R p = P p × RootIs program Has unit held result map o p
+    R p = P p × RootIs program Has unit held result map o p × GuardIs p
 
     root_kept : (p : Place) (t : TypeRef) (g : Guarded × QName) (at : Pos) → R p → IsKnown map t → guard_of map p t ≡ Some g → R (guarded_by p g t at false)
-    root_kept p t g at h k e = (guarded_is program Has unit held result map forms p g t at false h.0 k e, λ r f x y. receiver_guarded r p t g e (h.1 r f x (unselected p.selected y)))
+    root_kept p t g at h k e = (guarded_is program Has unit held result map forms p g t at false h.0 k e, λ r f x y. receiver_guarded r p t g e (h.1 r f x (unselected p.selected y)), guard_unguarded p g t at false)
 
     -- a variable by its name, with its guards
     pub rooted_is : (at : Pos) (v : Variable) (t : TypeRef) (read_only : Bool) (gs : List (Variable × Option TypeRef)) → VariableIs program Has unit held result map v t → ((r : Received) → o ≡ Some r → same_variable v r.variable ≡ true → ReceiverIs program map r t) → AllByRecursion (λ (g : Variable × Option TypeRef). IfThere (IsKnown map) g.1) gs → Makes R (with_guards map at v gs (sound (variable_at v t read_only)))
-    rooted_is at v t read_only gs h k l = guards_keep map R (IsKnown map) root_kept at v gs (sound (variable_at v t read_only)) (record { node = (variable_is program Has unit held result map forms v t read_only h, λ r f x y. k r f x) }) l
+    rooted_is at v t read_only gs h k l = guards_keep map R (IsKnown map) root_kept at v gs (sound (variable_at v t read_only)) (record { node = (variable_is program Has unit held result map forms v t read_only h, λ r f x y. k r f x, variable_unguarded v t read_only) }) l

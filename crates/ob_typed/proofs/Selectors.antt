@@ -30,8 +30,9 @@ use Rattle.ob_typed.specs.Makes.{IfThere, Makes}
 use Rattle.ob_typed.specs.Forms.{IsKnown}
 use Rattle.ob_typed.specs.Known.{pointee, IsScoped}
 use Rattle.ob_typed.specs.Kept.{PlaceIs, ValuedIs}
-use Rattle.ob_typed.specs.Meant.{RootIs, ChosenIs, CalledIs, MeantIs, PhraseIs, ArePhrases, BehindIs, AreBehind}
+use Rattle.ob_typed.specs.Meant.{GuardIs, RootIs, ChosenIs, CalledIs, MeantIs, PhraseIs, ArePhrases, BehindIs, AreBehind}
 use Rattle.ob_relation.proofs.Actuals.{sub_on}
+use Rattle.ob_typed.proofs.Unguarded.{field_unguarded, guard_unguarded}
 use Rattle.ob_typed.proofs.Basics.{not_true}
 use Rattle.ob_typed.proofs.Operators.{and_is}
 use Rattle.ob_typed.proofs.Actuals.{not_false}
@@ -79,7 +80,7 @@ module _ (program : Program) (Has : Signature → QName → Type 0) (unit : List
       different e = absurd cc
 
   found : (w : Where) (start at : Pos) (x : Ident) (p q : Place) (o : Option TypeRef) (rec : QName) (m : Member) → SelectedOf p q o rec → member (map_of u) rec x.name ≡ Some m → Makes (M w) (member_found u start at p q o rec m)
-  found w start at x p q o rec (AField owner f) h k = record { node = (field_is program Has unit held result (map_of u) scoped.forms u q rec owner x.name f h.place h.record_is k, λ r e f g. not_true (sym g)) }
+  found w start at x p q o rec (AField owner f) h k = record { node = (field_is program Has unit held result (map_of u) scoped.forms u q rec owner x.name f h.place h.record_is k, λ r e f g. not_true (sym g), field_unguarded u q owner f) }
   found w start at x p q o rec (AMethod owner m) h k =
       bound_there w at (chosen start p o rec owner m) m.receiver (is_some o) refl refl λ g.
       record { receiver = h.variable; rooted = h.rooted; pointed_is = h.pointed_is; held_is = h.held_is; owner_is = ap (record_of (map_of u)) (sym h.same_type) ∙ h.record_is; by_pointer = g; calls = (x.name, k) }
@@ -100,7 +101,7 @@ module _ (program : Program) (Has : Signature → QName → Type 0) (unit : List
       (λ q k. selected w start at x p q o last (record_of (map_of u) q.of) refl (λ rec e. record { variable = h.0; rooted = h.1; pointed_is = refl; held_is = k.2; place = k.0; same_type = k.1; record_is = e }))
 
   dot_is : (w v : Where) (start at : Pos) (x : Ident) (last : Bool) (m : Meant) → M v m → Makes (M w) (step_dot u start at x last m)
-  dot_is w v start at x last (means.Place p) h = select_is w start at x p last h
+  dot_is w v start at x last (means.Place p) h = select_is w start at x p last (h.0, h.1)
   dot_is w v start at x last (means.Constant c) h = record { node = tt }
   dot_is w v start at x last (means.Procedure q s) h = record { node = tt }
   dot_is w v start at x last (means.Bound c) h = record { node = tt }
@@ -112,7 +113,7 @@ module _ (program : Program) (Has : Signature → QName → Type 0) (unit : List
   -- INDICES AND DEREFERENCES
 
   index_step : (w v : Where) (at : Pos) (i : Judged Valued) (m : Meant) → M v m → Makes (ValuedIs program Has unit held result (map_of u)) i → Makes (M w) (step_index (map_of u) at i m)
-  index_step w v at i (means.Place p) h k = makes_then (λ q. P q × (q.selected ≡ true)) (M w) (index (map_of u) at p i) (λ q. sound (means.Place q)) (index_is program Has unit held result (map_of u) scoped.forms at p i h.0 k) (λ q l. record { node = (l.0, λ r e f g. not_true (sym g ∙ l.1)) })
+  index_step w v at i (means.Place p) h k = makes_then (λ q. P q × (q.selected ≡ true) × GuardIs q) (M w) (index (map_of u) at p i) (λ q. sound (means.Place q)) (index_is program Has unit held result (map_of u) scoped.forms at p i h.0 k) (λ q l. record { node = (l.0, λ r e f g. not_true (sym g ∙ l.1), l.2) })
   index_step w v at i (means.Constant c) h k = record { node = tt }
   index_step w v at i (means.Procedure q s) h k = record { node = tt }
   index_step w v at i (means.Bound c) h k = record { node = tt }
@@ -160,7 +161,7 @@ module _ (program : Program) (Has : Signature → QName → Type 0) (unit : List
   super_is w at c (Some r) h e = super_by w at c r (same_variable c.receiver.root r.variable && not c.receiver.selected) h refl e
 
   up_is : (w v : Where) (at : Pos) (m : Meant) → M v m → Makes (M w) (step_up u at m)
-  up_is w v at (means.Place p) h = makes_then (λ q. P q × (q.selected ≡ true)) (M w) (dereference (map_of u) at p) (λ q. sound (means.Place q)) (dereference_is program Has unit held result (map_of u) scoped.forms at p h.0) (λ q l. record { node = (l.0, λ r e f g. not_true (sym g ∙ l.1)) })
+  up_is w v at (means.Place p) h = makes_then (λ q. P q × (q.selected ≡ true) × GuardIs q) (M w) (dereference (map_of u) at p) (λ q. sound (means.Place q)) (dereference_is program Has unit held result (map_of u) scoped.forms at p h.0) (λ q l. record { node = (l.0, λ r e f g. not_true (sym g ∙ l.1), l.2) })
   up_is w v at (means.Bound c) h = super_is w at c u.receiver h refl
   up_is w v at (means.Constant c) h = record { node = tt }
   up_is w v at (means.Procedure q s) h = record { node = tt }
@@ -176,7 +177,7 @@ module _ (program : Program) (Has : Signature → QName → Type 0) (unit : List
 
   guard_there : (w : Where) (p : Place) (t : TypeRef) (at : Pos) (o : Option (Guarded × QName)) → P p → IsKnown (map_of u) t → guard_of (map_of u) p t ≡ o → Makes (M w) (found_or 23 at o ▷ λ g. sound (means.Place (guarded_by p g t at true)))
   guard_there w p t at None h d e = record { node = tt }
-  guard_there w p t at (Some g) h d e = record { node = (guarded_is program Has unit held result (map_of u) scoped.forms p g t at true h d e, λ r x f k. not_true (sym k ∙ or_true p.selected)) }
+  guard_there w p t at (Some g) h d e = record { node = (guarded_is program Has unit held result (map_of u) scoped.forms p g t at true h d e, λ r x f k. not_true (sym k ∙ or_true p.selected), guard_unguarded p g t at true) }
 
   place_round_is : (w : Where) (start at : Pos) (p : Place) (ps : List Phrase) (q : Option Qualident) (s : Option Signature) → P p → ArePhrases program Has unit held result ps → signature_at (map_of u) p.of ≡ s → Makes (M w) (place_round u w start at p ps q s)
   place_round_is w start at p ps (Some q) s h k e = makes_then (IsKnown (map_of u)) (M w) (type_named u q) (guard (map_of u) at p) (type_named_is program Has unit held result u scoped q) (λ t d. guard_there w p t at (guard_of (map_of u) p t) h d refl)

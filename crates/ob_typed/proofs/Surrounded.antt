@@ -8,12 +8,14 @@ use Rattle.ob_types.specs.declared.types.Signature.{Signature}
 use Rattle.ob_types.specs.declared.desc.Desc.{Desc}
 use Rattle.ob_types.specs.declared.desc.Desc.TheVariants as desc
 use Rattle.ob_types.specs.declared.typed.Variable.TheVariants as variable
-use Rattle.ob_meaning.specs.Values.{Program, Held}
+use Rattle.ob_meaning.specs.Values.{Program, form_in, Held}
 use Rattle.ob_rules.specs.Shapes.{same_name}
 use Rattle.ob_rules.specs.Names.{Around, map_of, type_desc, out_string, is_out}
 use Rattle.ob_typed.specs.Known.{VariableIs, ProcedureIs, IsScoped}
+use Rattle.ob_typed.specs.Forms.{SignatureIs}
 use Rattle.ob_typed.specs.Surrounded.{IsSurrounded}
-use Rattle.ob_typed.proofs.Basics.{not_true}
+use Rattle.ob_forms.proofs.Sorts.{form_ok}
+use Rattle.ob_typed.proofs.Basics.{not_true, closed_form}
 use Rattle.ob_typed.proofs.Basis.{forms_are, method_is, signature_is}
 
 module _ (program : Program) (Has : Signature → QName → Type 0) (unit : List ℕ) (held : List Held) (result : Option TypeRef) (u : Around) (s : IsSurrounded program Has unit held result u) where
@@ -27,20 +29,21 @@ module _ (program : Program) (Has : Signature → QName → Type 0) (unit : List
   variable_shown q m t a b e =
       let i = shown_in q (desc.Var m t) a b e in
       let v = s.formed.variables q m t i in
-      record { fits = (v.there, v.form); declared = ((s.formed.declared q (desc.Var m t) i).0, (s.grounded.held q (desc.Var m t) i).0); var_record = λ e. not_true e }
+      record { fits = (v.there, v.form); declared = ((s.formed.declared q (desc.Var m t) i).0, (s.grounded.held q (desc.Var m t) i).0); passed = closed_form program (form_in program t) (form_ok (map_of u) program s.formed s.grounded t (s.grounded.held q (desc.Var m t) i).0 (s.grounded.keeps q (desc.Var m t) i)); var_record = λ e. not_true e }
 
   procedure_shown : (q : QName) (g : Signature) → is_out q.«module» ≡ false → bytes_eq q.«module» u.unit ≡ false → u.shown q ≡ Some (desc.Proc g) → ProcedureIs program Has unit held result (map_of u) q g
   procedure_shown q g a b e =
       let i = shown_in q (desc.Proc g) a b e in
       let p = s.formed.proper q g i in
+      let d : SignatureIs program (map_of u) g = signature_is (map_of u) program s.formed s.grounded g (s.formed.declared q (desc.Proc g) i) (s.grounded.held q (desc.Proc g) i) (s.grounded.keeps q (desc.Proc g) i) in
       record {
         p = p.p;
         found = p.found;
         result_is = p.result;
         parameters = p.parameters;
-        signature = signature_is (map_of u) program s.formed s.grounded g (s.formed.declared q (desc.Proc g) i) (s.grounded.held q (desc.Proc g) i) (s.grounded.keeps q (desc.Proc g) i);
-        own = λ k. s.values q g p k;
-        alike = λ t k l. s.alike q g t p k l;
+        signature = d;
+        own = λ k. s.values q g p d k;
+        alike = λ t e k l. s.alike q g t p d e k l;
       }
 
   pub scoped_is : IsScoped program Has unit held result u

@@ -1,5 +1,6 @@
 -- What a type is in a program, by what a map of descriptions says of it.
 use Rattle.std.specs.Prelude.{◌≡◌, ◌⊎◌, ℕ, ◌<◌, List, [], ◌∷◌, Option, Some, None, Bool, true, false}
+use Rattle.std.specs.List.{AllByRecursion}
 use Rattle.ob_tree.specs.declared.names.QName.{QName}
 use Rattle.ob_types.specs.declared.types.Basic.{Basic}
 use Rattle.ob_types.specs.declared.types.Mode.{Mode}
@@ -7,11 +8,12 @@ use Rattle.ob_types.specs.declared.types.TypeRef.{TypeRef}
 use Rattle.ob_types.specs.declared.types.TypeRef.TheVariants as ref
 use Rattle.ob_types.specs.declared.types.Signature.{Signature}
 use Rattle.ob_types.specs.declared.desc.Field.{Field}
-use Rattle.ob_types.specs.Maps.{IsHeld}
+use Rattle.ob_types.specs.Maps.{IsHeld, listed}
 use Rattle.ob_types.specs.AssigningTests.{takes_type}
 use Rattle.ob_types.specs.Tests.{same_at}
 use Rattle.ob_meaning.specs.Values.{Program, Form, BasicForm, PointerForm, ProcedureForm, ArrayForm, OpenForm, form_in, record_in, Held}
 use Rattle.ob_relation.specs.Relation.{IsLength, FormOk, Sub, Scalar}
+use Rattle.ob_relation.specs.Passed.{IsClosed}
 use Rattle.ob_relation.specs.Typed as typed
 use Rattle.ob_relation.specs.Typed.{IsRecordType, passing_for}
 use Rattle.ob_rules.specs.Shapes.{Map, Member, AField, same_name, basic_of, pointed, signature_at, array_of, record_of, member, passing_of, extends_record, is_held}
@@ -35,6 +37,7 @@ module _ (program : Program) where
   pub record SignatureIs (map : Map) (s : Signature) : Type 0 where
     pub params : AreKnown map s.params
     pub result : ResultIs s.result
+    pub result_held : AllByRecursion (λ t. IsHeld map t) (listed s.result)
 
   -- what an array is, of a length or open; its elements are no open arrays
   abbrev pub ArrayIs : Map → Form → Option ℕ → TypeRef → Type 0
@@ -56,7 +59,7 @@ module _ (program : Program) where
       pub records : (t : TypeRef) (q : QName) → record_of map t ≡ Some q → (form_in program t ≡ record_in program q) × IsRecordType program q
       pub same : (t u : TypeRef) → same_at map t u ≡ true → form_in program t ≡ form_in program u
       pub extensions : (a b : QName) (t : TypeRef) → record_of map t ≡ Some b → extends_record map a b ≡ true → Sub (record_in program a) (record_in program b)
-      pub fields : (q o : QName) (x : List ℕ) (f : Field) (t : TypeRef) → record_of map t ≡ Some q → member map q x ≡ Some (AField o f) → typed.FieldOk program Has unit held result (record_in program q) o f.name (form_in program f.of) × IsKnown map f.of
+      pub fields : (q o : QName) (x : List ℕ) (f : Field) (t : TypeRef) → record_of map t ≡ Some q → member map q x ≡ Some (AField o f) → typed.FieldOk program Has unit held result (record_in program q) o f.name (form_in program f.of) × IsKnown map f.of × IsClosed (form_in program f.of)
       pub passings : (m : Mode) (t : TypeRef) → IsKnown map t → passing_of map m t ≡ passing_for m (form_in program t)
       -- a variable of the type v takes a value of the type t: a scalar one as it is or widened, another as it is or of an extension
       pub scalars : (v t : TypeRef) → takes_type map v t ≡ true → Scalar (form_in program v) → Scalar (form_in program t) × Widens (form_in program t) (form_in program v)

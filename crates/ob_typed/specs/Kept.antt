@@ -17,7 +17,7 @@ use Rattle.ob_rules.specs.declared.values.Place.{Place}
 use Rattle.ob_rules.specs.declared.values.Valued.{Valued}
 use Rattle.ob_rules.specs.declared.values.Valued.TheVariants as valued
 use Rattle.ob_rules.specs.Shapes.{Map, is_record}
-use Rattle.ob_typed.specs.Forms.{IsDeclared, IsKnown, Widens}
+use Rattle.ob_typed.specs.Forms.{IsDeclared, IsKnown, SignatureIs, Widens}
 use Rattle.ob_typed.specs.Known.{ConstantIs}
 
 module _ (program : Program) (Has : Signature → QName → Type 0) (unit : List ℕ) (held : List Held) (result : Option TypeRef) where
@@ -34,7 +34,7 @@ module _ (program : Program) (Has : Signature → QName → Type 0) (unit : List
   -- a node fits its type and each one that its type widens to; a procedure fits each signature that matches its own
   abbrev pub NodeIs : Map → Expr → ExprType → Type 0
   NodeIs map x (kind.Of t) = IsDeclared t × Scalar (form_in program t) × ((v : Form) → Widens program Has unit held result (form_in program t) v → typed.ExprOk program Has unit held result x v)
-  NodeIs map x (kind.Procedure s) = typed.ExprOk program Has unit held result x (ProcedureForm s) × ((t : Signature) → alike_to map s (Some t) ≡ true → typed.ExprOk program Has unit held result x (ProcedureForm t))
+  NodeIs map x (kind.Procedure s) = typed.ExprOk program Has unit held result x (ProcedureForm s) × ((t : Signature) → SignatureIs program map t → alike_to map s (Some t) ≡ true → typed.ExprOk program Has unit held result x (ProcedureForm t))
   NodeIs map x k = ⊥
 
   abbrev pub ValuedIs : Map → Valued → Type 0

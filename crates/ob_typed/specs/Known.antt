@@ -22,8 +22,9 @@ use Rattle.ob_meaning.specs.Values.{Program, procedure_of, form_in, record_in, b
 use Rattle.ob_meaning.specs.Meaning.{nearest}
 use Rattle.ob_relation.specs.Relation.{Sub}
 use Rattle.ob_meaning.specs.Operators.{is_in}
+use Rattle.ob_relation.specs.Passed.{IsPassed}
 use Rattle.ob_relation.specs.Typed as typed
-use Rattle.ob_relation.specs.Typed.{AreCharacters, IsRecordType, ReceiverOk, passing_for}
+use Rattle.ob_relation.specs.Typed.{AreCharacters, IsRecordType, ReceiverOk, passing_for, result_form}
 use Rattle.ob_rules.specs.declared.entity.Entity.TheVariants as entity
 use Rattle.ob_rules.specs.declared.entity.Known.{Known}
 use Rattle.ob_rules.specs.declared.entity.Received.{Received}
@@ -63,17 +64,18 @@ module _ (program : Program) (Has : Signature → QName → Type 0) (unit : List
   pub record VariableIs (map : Map) (v : Variable) (t : TypeRef) : Type 0 where
     pub fits : typed.VariableOk program Has unit held result v (form_in program t)
     pub declared : IsKnown map t
+    pub passed : IsPassed v (form_in program t)
     pub var_record : is_var_record v ≡ true → is_record map t ≡ true
 
   -- a procedure by its name, of that signature; where it may be a value, it is one of each signature that matches its own
   pub record ProcedureIs (map : Map) (name : QName) (s : Signature) : Type 0 where
     pub p : Procedure
     pub found : procedure_of program name ≡ Some p
-    pub result_is : p.result ≡ s.result
+    pub result_is : result_form program p.result ≡ result_form program s.result
     pub parameters : AreParameters program p.parameters s.params
     pub signature : SignatureIs program map s
     pub own : is_value name ≡ true → Has s name
-    pub alike : (t : Signature) → is_value name ≡ true → alike_to map s (Some t) ≡ true → Has t name
+    pub alike : (t : Signature) → SignatureIs program map t → is_value name ≡ true → alike_to map s (Some t) ≡ true → Has t name
 
   -- a bound procedure where it is introduced, with its receiver and then the parameters of its signature
   pub record MethodIs (map : Map) (o : QName) (m : Method) : Type 0 where
@@ -83,7 +85,7 @@ module _ (program : Program) (Has : Signature → QName → Type 0) (unit : List
     pub near : nearest program (bases_in program o) (record { owner = o; name = m.name }) ≡ Some name
     pub found : procedure_of program name ≡ Some p
     pub receives : ReceiverOk program m.receiver o p.parameters
-    pub result_is : p.result ≡ m.signature.result
+    pub result_is : result_form program p.result ≡ result_form program m.signature.result
     pub parameters : AreParameters program (behind p.parameters) m.signature.params
     pub signature : SignatureIs program map m.signature
 
@@ -98,7 +100,7 @@ module _ (program : Program) (Has : Signature → QName → Type 0) (unit : List
     pub type_is : IsRecordType program t
     pub receives : ReceiverOk program m.receiver t p.parameters
     pub above : Sub (record_in program b) (record_in program t)
-    pub result_is : p.result ≡ m.signature.result
+    pub result_is : result_form program p.result ≡ result_form program m.signature.result
     pub parameters : AreParameters program (behind p.parameters) m.signature.params
     pub signature : SignatureIs program map m.signature
     pub kind : m.receiver ≡ receiver.Pointer → by_scalar v ≡ true

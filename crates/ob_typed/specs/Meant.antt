@@ -3,9 +3,10 @@ use Rattle.std.specs.Prelude.{◌≡◌, ℕ, List, [], ◌∷◌, Option, Some,
 use Rattle.ob_tree.specs.declared.names.QName.{QName}
 use Rattle.ob_types.specs.declared.types.TypeRef.{TypeRef}
 use Rattle.ob_types.specs.declared.types.Signature.{Signature}
-use Rattle.ob_types.specs.TypedView.{expr_view, stmt_view}
+use Rattle.ob_types.specs.TypedView.{designator_view, expr_view, stmt_view}
 use Rattle.ob_meaning.specs.Values.{Program, record_in, Held}
 use Rattle.ob_relation.specs.Relation.{Sub}
+use Rattle.ob_relation.specs.Passed.{IsUnguarded}
 use Rattle.ob_relation.specs.Typed as typed
 use Rattle.ob_types.specs.declared.typed.Variable.{Variable}
 use Rattle.ob_rules.specs.declared.entity.Received.{Received}
@@ -27,6 +28,10 @@ use Rattle.ob_rules.specs.Expressions.{Named, Ranged, Tailed}
 use Rattle.ob_typed.specs.Makes.{IfThere, Makes}
 use Rattle.ob_typed.specs.Known.{pointee, ReceiverIs, ConstantIs, ProcedureIs, SuperIs, IsScoped}
 use Rattle.ob_typed.specs.Kept.{PlaceIs, ValuedIs}
+
+-- a place that is not noted as guarded is no guarded pointer
+abbrev pub GuardIs : Place → Type 0
+GuardIs p = p.guarded ≡ false → IsUnguarded (designator_view p.designator.inner)
 
 module _ (program : Program) (Has : Signature → QName → Type 0) (unit : List ℕ) (held : List Held) (result : Option TypeRef) where
   -- a call: a value in an expression, a proper call as a statement
@@ -55,7 +60,7 @@ module _ (program : Program) (Has : Signature → QName → Type 0) (unit : List
     pub calls : CallsAt map c c.base
 
   abbrev pub MeantIs : Map → Option Received → Where → Meant → Type 0
-  MeantIs map o w (means.Place p) = PlaceIs program Has unit held result map p × RootIs map o p
+  MeantIs map o w (means.Place p) = PlaceIs program Has unit held result map p × RootIs map o p × GuardIs p
   MeantIs map o w (means.Constant v) = ConstantIs v
   MeantIs map o w (means.Procedure name s) = ProcedureIs program Has unit held result map name s
   MeantIs map o w (means.Bound c) = ChosenIs map o c

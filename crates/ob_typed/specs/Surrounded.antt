@@ -20,7 +20,7 @@ use Rattle.ob_rules.specs.Names.{Around, map_of, find_name, is_enclosing}
 use Rattle.ob_rules.specs.Designators.{same_variable}
 use Rattle.ob_forms.specs.Formed.{Formed, IsProcedureOf}
 use Rattle.ob_typed.specs.Makes.{IfThere}
-use Rattle.ob_typed.specs.Forms.{IsKnown, ResultIs}
+use Rattle.ob_typed.specs.Forms.{IsKnown, ResultIs, SignatureIs}
 use Rattle.ob_typed.specs.Known.{ConstantIs, VariableIs, ProcedureIs, ReceiverIs, SuperIs}
 
 -- What is known around is so in the program: the map of types by `Formed`, and the names that are declared one by one.
@@ -38,8 +38,8 @@ pub record IsSurrounded (program : Program) (Has : Signature → QName → Type 
   -- constants of other modules
   pub shown_constants : (q : QName) (v : Literal) → u.shown q ≡ Some (desc.Const v) → ConstantIs v
   -- the procedures that may be values of a signature: those that have it, or one that matches
-  pub values : (q : QName) (s : Signature) → IsProcedureOf program q s → is_value q ≡ true → Has s q
-  pub alike : (q : QName) (s t : Signature) → IsProcedureOf program q s → is_value q ≡ true → alike_to (map_of u) s (Some t) ≡ true → Has t q
+  pub values : (q : QName) (s : Signature) → IsProcedureOf program q s → SignatureIs program (map_of u) s → is_value q ≡ true → Has s q
+  pub alike : (q : QName) (s t : Signature) → IsProcedureOf program q s → SignatureIs program (map_of u) s → SignatureIs program (map_of u) t → is_value q ≡ true → alike_to (map_of u) s (Some t) ≡ true → Has t q
   -- the procedure at hand
   pub result_is : u.result ≡ result
   pub result_plain : ResultIs program result

@@ -1,0 +1,91 @@
+-- What is bound leaves the names of types, and each is described.
+use Rattle.std.proofs.Common.{◌≡◌, ⊎_elim, ℕ, Bool, true, false, List, [], ◌∷◌, Option, Some, None, refl, sym, ap, ◌∙◌, subst, inl, inr}
+use Rattle.std.specs.Prelude.{bytes_eq}
+use Rattle.std.specs.List.{AllByRecursion, filter}
+use Rattle.ob_tree.specs.declared.names.QName.{QName}
+use Rattle.ob_types.specs.declared.value.Value.{Value}
+use Rattle.ob_types.specs.declared.desc.Desc.{Desc}
+use Rattle.ob_types.specs.declared.desc.Desc.TheVariants as desc
+use Rattle.ob_types.specs.declared.desc.RecordDesc.{RecordDesc}
+use Rattle.ob_types.specs.declared.desc.Method.{Method}
+use Rattle.ob_types.specs.declared.typed.TypedType.{TypedType}
+use Rattle.ob_types.specs.Maps.{is_type}
+use Rattle.ob_rules.specs.Shapes.{Map, Member, AField, AMethod, member}
+use Rattle.ob_rules.specs.Names.{Around, map_of}
+use Rattle.ob_rules.specs.Headings.{Head, BoundAs, Binding, counted, change_desc, changed_if, change_type, with_method, new_method, redefined, bind_method, bind_by, bind_one, bind_all, of_record, bind_records, reversed, bindings}
+use Rattle.ob_rules.specs.Declarations.{binding_at}
+use Rattle.ob_forms.specs.Said.{IsOneOf}
+use Rattle.ob_bodies.specs.Knows.{HasName, Grows, LengthIs, IsDescribed}
+use Rattle.ob_bodies.proofs.Standing.{grows_same, grows_then}
+
+module _ (IsConstant : Value → Type 0) where
+  -- described as types still, and no name is lost
+  pub record Changes (own more : List TypedType) : Type 0 where
+    pub described : AllByRecursion (IsDescribed IsConstant) own → AllByRecursion (IsDescribed IsConstant) more
+    pub grows : Grows own more
+
+  pub changes_none : (own : List TypedType) → Changes own own
+  changes_none own = record { described = λ h. h; grows = grows_same own }
+
+  changes_then : (a b c : List TypedType) → Changes a b → Changes b c → Changes a c
+  changes_then a b c f g = record { described = λ h. g.described (f.described h); grows = grows_then a b c f.grows g.grows }
+
+  desc_changed : (f : RecordDesc → RecordDesc) (d : Desc) → (is_type d ≡ true) × LengthIs IsConstant d → (is_type (change_desc f d) ≡ true) × LengthIs IsConstant (change_desc f d)
+  desc_changed f (desc.Const v) h = h
+  desc_changed f (desc.Var m t) h = h
+  desc_changed f (desc.Proc s) h = h
+  desc_changed f (desc.Alias m t) h = h
+  desc_changed f (desc.Array m n t) h = h
+  desc_changed f (desc.OpenArray m t) h = h
+  desc_changed f (desc.Pointer m t) h = h
+  desc_changed f (desc.ProcType m s) h = h
+  desc_changed f (desc.Record r) h = (refl, tt)
+
+  if_changed : (b : Bool) (f : RecordDesc → RecordDesc) (t : TypedType) → IsDescribed IsConstant t → IsDescribed IsConstant (changed_if b f t)
+  if_changed true f t h = let r = desc_changed f t.desc (h.type, h.length) in record { type = r.0; length = r.1 }
+  if_changed false f t h = h
+
+  if_name : (b : Bool) (f : RecordDesc → RecordDesc) (t : TypedType) → (changed_if b f t).name ≡ t.name
+  if_name true f t = refl
+  if_name false f t = refl
+
+  type_changed : (x : List ℕ) (f : RecordDesc → RecordDesc) (ts : List TypedType) → Changes ts (change_type x f ts)
+  type_changed x f ts = record { described = all_changed ts; grows = all_grow ts }
+    where
+      all_changed : (ts : List TypedType) → AllByRecursion (IsDescribed IsConstant) ts → AllByRecursion (IsDescribed IsConstant) (change_type x f ts)
+      all_changed [] h = tt
+      all_changed (t ∷ ts) h = (if_changed (bytes_eq t.name x) f t h.0, all_changed ts h.1)
+
+      all_grow : (ts : List TypedType) → Grows ts (change_type x f ts)
+      all_grow [] y h = absurd h.1.0
+      all_grow (t ∷ ts) y (s, (inl e, g)) = (changed_if (bytes_eq t.name x) f t, (inl refl, if_name (bytes_eq t.name x) f t ∙ ap (λ (r : TypedType). r.name) e ∙ g))
+      all_grow (t ∷ ts) y (s, (inr i, g)) = let r = all_grow ts y (s, (i, g)) in (r.0, (inr r.1.0, r.1.1))
+
+  redefined_changes : (b : Bool) (s : Binding) (h : Head) (a : BoundAs) → Changes s.own (redefined b s h a).own
+  redefined_changes true s h a = changes_none s.own
+  redefined_changes false s h a = changes_none s.own
+
+  method_changes : (b : Bool) (u : Around) (types : Map) (s : Binding) (h : Head) (a : BoundAs) (owner : QName) (m : Method) → Changes s.own (bind_method b u types s h a owner m).own
+  method_changes true u types s h a owner m = changes_none s.own
+  method_changes false u types s h a owner m = redefined_changes _ s h a
+
+  by_changes : (u : Around) (types : Map) (s : Binding) (h : Head) (a : BoundAs) (o : Option Member) → Changes s.own (bind_by u types s h a o).own
+  by_changes u types s h a None = type_changed a.owner.object (λ r. with_method r (new_method h a)) s.own
+  by_changes u types s h a (Some (AField owner f)) = changes_none s.own
+  by_changes u types s h a (Some (AMethod owner m)) = method_changes _ u types s h a owner m
+
+  one_changes : (u : Around) (s : Binding) (h : Head) (o : Option BoundAs) → Changes s.own (bind_one u s h o).own
+  one_changes u s h None = changes_none s.own
+  one_changes u s h (Some a) = by_changes u (map_of (record u { own = s.own })) s h a (member (map_of (record u { own = s.own })) a.owner h.name)
+
+  all_changes : (u : Around) (s : Binding) (hs : List Head) → Changes s.own (bind_all u s hs).own
+  all_changes u s [] = changes_none s.own
+  all_changes u s (h ∷ hs) = changes_then s.own (bind_one u s h h.bound).own (bind_all u (bind_one u s h h.bound) hs).own (one_changes u s h h.bound) (all_changes u (bind_one u s h h.bound) hs)
+
+  records_change : (u : Around) (hs : List Head) (s : Binding) (ts : List TypedType) → Changes s.own (bind_records u hs s ts).own
+  records_change u hs s [] = changes_none s.own
+  records_change u hs s (t ∷ ts) = changes_then s.own (bind_all u s (filter (of_record t.name) hs)).own (bind_records u hs (bind_all u s (filter (of_record t.name) hs)) ts).own (all_changes u s (filter (of_record t.name) hs)) (records_change u hs (bind_all u s (filter (of_record t.name) hs)) ts)
+
+  pub binding_changes : (level : Bool) (u : Around) (hs : List Head) → Changes u.own (binding_at level u hs).own
+  binding_changes true u hs = records_change u (counted hs) _ (reversed u.own)
+  binding_changes false u hs = changes_none u.own

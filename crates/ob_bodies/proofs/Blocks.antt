@@ -1,0 +1,300 @@
+-- Procedures, and sequences of declarations with their statements.
+use Rattle.std.proofs.Common.{◌≡◌, ◌⊎◌, ⊎_elim, refl, sym, ap, ◌∙◌, subst, ℕ, suc, ◌≤◌, ◌<◌, Bool, true, false, List, [], ◌∷◌, ◌++◌, map, Option, Some, None, inl, inr, arith}
+use Rattle.std.specs.Prelude.{nat_lt, codes}
+use Rattle.std.specs.List.{AllByRecursion, filter_map}
+use Rattle.ob_tree.specs.declared.names.QName.{QName}
+use Rattle.ob_tree.specs.declared.stmt.Stmt.{Stmt}
+use Rattle.ob_types.specs.declared.types.Mode.{Mode}
+use Rattle.ob_types.specs.declared.types.TypeRef.{TypeRef}
+use Rattle.ob_types.specs.declared.value.Value.{Value}
+use Rattle.ob_types.specs.declared.desc.Desc.{Desc}
+use Rattle.ob_types.specs.declared.typed.Variable.{Variable}
+use Rattle.ob_types.specs.declared.typed.TypedType.{TypedType}
+use Rattle.ob_types.specs.declared.typed.TypedVariable.{TypedVariable}
+use Rattle.ob_types.specs.declared.typed.TypedParameter.{TypedParameter}
+use Rattle.ob_types.specs.declared.typed.TypedProcedure.{TypedProcedure}
+use Rattle.ob_types.specs.declared.typed.TypedStmt.{TypedStmt}
+use Rattle.ob_types.specs.declared.typed.TypedModule.{TypedModule}
+use Rattle.ob_rules.specs.declared.entity.Entity.{Entity}
+use Rattle.ob_rules.specs.declared.entity.Entity.TheVariants as entity
+use Rattle.ob_rules.specs.declared.entity.Known.{Known}
+use Rattle.ob_rules.specs.declared.notes.Later.{Later}
+use Rattle.ob_rules.specs.Shapes.{Map}
+use Rattle.ob_rules.specs.Names.{Around, map_of, in_unit, is_out}
+use Rattle.ob_rules.specs.Types.{Parameters, nothing, is_module_level}
+use Rattle.ob_rules.specs.Statements.{Judging, judging, in_turn}
+use Rattle.ob_rules.specs.Headings.{Head, Heads, Binding, head_entity, entity_as, reversed}
+use Rattle.ob_rules.specs.Declarations.{Contents, no_contents, together, Part, no_part, Declared, Written_procedure, Declaration, plain_of, procedure_of, type_name_of, in_order, headings_in_order, around_body, result_in, bound_to, typed_procedure, types_of_head, procedure_contents, procedure_judged, procedures_judged, stmts_in, body_part, block_inside, with_bound, block_bound, binding_at, heads_later, block_headed, block_declared, block}
+use Rattle.ob_forms.specs.Said.{IsOneOf}
+use Rattle.ob_typed.specs.Makes.{IfThere}
+use Rattle.ob_typed.specs.Spelled.{all_true}
+use Rattle.ob_typed.specs.Bodies.{stmt_spelled}
+use Rattle.ob_bodies.specs.Knows.{Grows, Stands, IsDescribed, EntityStands, Knows}
+use Rattle.ob_bodies.specs.Judged.{AreOf, IsParameter, IsInside, result_of, VariableStands, IsProcedureIn, NameIs, StandsAround, IsJudged}
+use Rattle.ob_bodies.proofs.Lists.{one_left, one_right, one_all, all_of, all_one, all_both, there_of}
+use Rattle.ob_bodies.proofs.Standing.{grows_same, grows_then, stands_grown, all_grown}
+use Rattle.ob_bodies.proofs.Heads.{InsideEntity, SignatureStands, HeadStands, head_grown, all_parameters}
+use Rattle.ob_bodies.proofs.Headings.{Aligned, named_at, IsBehind, Behind, aligned_in_order, names_in_order, AreGoodHeadings, HeadsStand, named_fine, stand_in_order}
+use Rattle.ob_bodies.proofs.Binding.{Changes, binding_changes}
+use Rattle.ob_bodies.proofs.Levels.{Level, AtModule, Within, frame, IsPlaced, IsVariableAt, Included, IsFull, none_full, both_full, first_included, second_included, BlockAt, name_grown, not_module, outer_name}
+use Rattle.ob_bodies.proofs.Plain.{DeclaredIs, IsPlain, order_plain}
+
+-- ---- lists
+
+pub one_reversed : {A : Type 0} (xs : List A) (x : A) → IsOneOf xs x → IsOneOf (reversed xs) x
+one_reversed [] x h = h
+one_reversed (y ∷ xs) x (inl e) = one_right (reversed xs) (y ∷ []) x (inl e)
+one_reversed (y ∷ xs) x (inr h) = one_left (reversed xs) (y ∷ []) x (one_reversed xs x h)
+
+pub all_reversed : {A : Type 0} (P : A → Type 0) (xs : List A) → AllByRecursion P xs → AllByRecursion P (reversed xs)
+all_reversed P [] h = tt
+all_reversed P (x ∷ xs) h = all_both P (reversed xs) (x ∷ []) (all_reversed P xs h.1) (h.0, tt)
+
+no_nothing : {A : Type 0} (xs : List A) (y : A) (ys : List A) → nothing (xs ++ y ∷ ys) ≡ false
+no_nothing [] y ys = refl
+no_nothing (x ∷ xs) y ys = refl
+
+pub all_empty : {A : Type 0} (P : A → Type 0) (xs : List A) → xs ≡ [] → AllByRecursion P xs
+all_empty P xs e = subst (AllByRecursion P) (sym e) tt
+
+two_empty : {A : Type 0} (xs ys : List A) → xs ≡ [] → ys ≡ [] → xs ++ ys ≡ []
+two_empty xs ys e f = ap (λ l. l ++ ys) e ∙ f
+
+pub at_most : (n : ℕ) → n ≤ n
+at_most n = omega arith
+
+one_more : (k n : ℕ) → k ≤ n → k ≤ suc n
+one_more k n h = omega (arith, h)
+
+same_most : (k n : ℕ) → k ≡ n → k ≤ n
+same_most k n e = omega (arith, e)
+
+-- ---- the procedure of a heading
+
+abbrev typed_of : Map → Head → Parameters → Contents → TypedProcedure
+typed_of types h q c = record {
+  name = h.path;
+  mark = h.mark;
+  «pos» = h.at;
+  binding = bound_to types h h.bound;
+  parameters = all_parameters h q;
+  result = q.signature.result;
+  locals = c.variables;
+  body = c.body;
+}
+
+abbrev framed : Map → Head → Option Parameters → Contents → Option TypedProcedure
+framed types h None c = None
+framed types h (Some q) c = Some (typed_of types h q c)
+
+-- no statements among procedures
+judged_body : (u : Around) (p : Written_procedure) (h : Head) (forward : Bool) → (procedure_judged u p h forward).contents.body ≡ []
+judged_body u p h true = refl
+judged_body u p h false = refl
+
+pub procedures_body : (u : Around) (ps : List Written_procedure) (hs : List Head) → (procedures_judged u ps hs).contents.body ≡ []
+procedures_body u [] hs = refl
+procedures_body u (p ∷ ps) [] = refl
+procedures_body u (p ∷ ps) (h ∷ hs) = two_empty (procedure_judged u p h p.forward).contents.body (procedures_judged u ps hs).contents.body (judged_body u p h p.forward) (procedures_body u ps hs)
+
+module _ (IsConstant : Value → Type 0) (shown : QName → Option Desc) (m : TypedModule) (out : is_out m.name ≡ false) where
+  abbrev S : List TypedType → TypeRef → Type 0
+  S own t = Stands m.name shown own t
+
+  abbrev B : Level → Around → Type 0
+  B l u = BlockAt IsConstant shown m l u
+
+  abbrev I : Level → Contents → Type 0
+  I l c = Included IsConstant shown m l c
+
+  abbrev N : List TypedType → Option TypedProcedure → ℕ → ℕ → Entity → Type 0
+  N own p level scope e = NameIs IsConstant shown m own p level scope e
+
+  abbrev HS : List TypedType → ℕ → Head → Type 0
+  HS own scope h = HeadStands IsConstant m.name shown out own scope h
+
+  -- THE BODIES IN A PART
+
+  abbrev pub AreJudged : List TypedProcedure → Type 0
+  AreJudged ps = AllByRecursion (λ p. IsJudged IsConstant shown m (Some p) p.body) ps
+
+  -- the bodies of procedures, and that of the part
+  pub record PartIs (l : Level) (c : Contents) : Type 0 where
+    pub procedures : AreJudged c.procedures
+    pub body : IsJudged IsConstant shown m (frame l) c.body
+    pub placed : IsPlaced l body.u
+    pub full : IsFull IsConstant shown m c
+
+  abbrev pub IsBlock : (Around → Part) → Type 0
+  IsBlock f = (l : Level) (u : Around) → B l u → I l (f u).contents → PartIs l (f u).contents
+
+  pub record IsProcedure (p : Written_procedure) : Type 0 where
+    pub heading : AreGoodHeadings IsConstant m.name shown out (p ∷ [])
+    pub inside : IsBlock p.inside
+
+  abbrev pub AreProcedures : List Written_procedure → Type 0
+  AreProcedures ps = AllByRecursion IsProcedure ps
+
+  pub headings_good : (ps : List Written_procedure) → AreProcedures ps → AreGoodHeadings IsConstant m.name shown out ps
+  headings_good [] g = tt
+  headings_good (p ∷ ps) g = (g.0.heading.0, headings_good ps g.1)
+
+  -- the body of a part, judged at a level
+  pub stands_at : (l : Level) (u : Around) → B l u → StandsAround IsConstant shown m (frame l) u
+  stands_at l u b = record { knows = b.knows; below = b.below; names = b.names; guards = b.guards; result = b.result; in_loop = b.in_loop }
+
+  -- WHAT IS KNOWN IN A PROCEDURE
+
+  -- what is known behind a heading
+  pub record KnownBehind (l : Level) (u : Around) (k : Known) : Type 0 where
+    pub entity : EntityStands IsConstant m.name shown u.own k.what
+    pub below : k.scope ≤ u.scope
+    pub name : N u.own (frame l) u.level k.scope k.what
+
+  inside_stands : (own more : List TypedType) (h : Head) (e : Entity) → InsideEntity IsConstant m.name shown out own h e → EntityStands IsConstant m.name shown more e
+  inside_stands own more h (entity.Constant v) i = absurd i
+  inside_stands own more h (entity.TypeName t) i = absurd i
+  inside_stands own more h (entity.Variable v t) i = tt
+  inside_stands own more h (entity.Procedure q s) i = tt
+  inside_stands own more h (entity.Forward q s) i = tt
+  inside_stands own more h (entity.Module n) i = absurd i
+  inside_stands own more h (entity.Predeclared c) i = tt
+  inside_stands own more h entity.LeftOut i = tt
+  inside_stands own more h entity.Unsound i = tt
+
+  inside_frame : (own : List TypedType) (types : Map) (h : Head) (o : Option Parameters) (c : Contents) (v : Variable) (t : TypeRef) → IfThere (λ p. IsParameter (all_parameters h p) v t × S own t) o → IsInside (S own) (framed types h o c) v t
+  inside_frame own types h None c v t i = tt
+  inside_frame own types h (Some q) c v t i = (inr i.0, i.1)
+
+  no_scope : (k n : ℕ) → k ≡ suc n → 1 ≤ n → nat_lt 1 k ≡ false → ⊥
+  no_scope k n e h f = not_module IsConstant shown m k (deep k n e h) f
+    where
+      deep : (k n : ℕ) → k ≡ suc n → 1 ≤ n → 1 < k
+      deep k n e h = omega (arith, e, h)
+
+  inside_name : (own : List TypedType) (types : Map) (h : Head) (c : Contents) (n k : ℕ) → k ≡ suc n → 1 ≤ n → (e : Entity) → InsideEntity IsConstant m.name shown out own h e → N own (framed types h h.parameters c) (suc n) k e
+  inside_name own types h c n k d l (entity.Variable v t) i = record { outside = λ e. absurd (no_scope k n d l e); inside = λ e f. inside_frame own types h h.parameters c v t i }
+  inside_name own types h c n k d l (entity.Constant v) i = tt
+  inside_name own types h c n k d l (entity.TypeName t) i = tt
+  inside_name own types h c n k d l (entity.Procedure q s) i = absurd i
+  inside_name own types h c n k d l (entity.Forward q s) i = tt
+  inside_name own types h c n k d l (entity.Module x) i = tt
+  inside_name own types h c n k d l (entity.Predeclared x) i = tt
+  inside_name own types h c n k d l entity.LeftOut i = tt
+  inside_name own types h c n k d l entity.Unsound i = tt
+
+  some_scope : (l : Level) (u : Around) → IsPlaced l u → 1 ≤ u.scope
+  some_scope AtModule u p = let e = p.1.0 in omega (arith, e)
+  some_scope (Within f) u p = let e = p.1.1 in omega (arith, e)
+
+  deeper : (n : ℕ) → 1 ≤ n → 1 < suc n
+  deeper n h = omega (arith, h)
+
+  framed_result : (types : Map) (h : Head) (o : Option Parameters) (c : Contents) → result_in o ≡ result_of (framed types h o c)
+  framed_result types h None c = refl
+  framed_result types h (Some q) c = refl
+
+  -- what stands around the body of a procedure
+  inside_block : (l : Level) (u : Around) → B l u → (h : Head) → HS u.own u.scope h → AllByRecursion (KnownBehind l u) h.known → (types : Map) (c : Contents) → B (Within (framed types h h.parameters c)) (around_body u h)
+  inside_block l u b h s k types c =
+      let p = framed types h h.parameters c in
+      record {
+        knows = record {
+          unit_is = b.knows.unit_is;
+          shown_is = b.knows.shown_is;
+          own = b.knows.own;
+          known = all_both (λ (k : Known). EntityStands IsConstant m.name shown u.own k.what) h.inside h.known
+            (all_of (λ (k : Known). (k.scope ≡ suc u.scope) × InsideEntity IsConstant m.name shown out u.own h k.what) (λ (k : Known). EntityStands IsConstant m.name shown u.own k.what) h.inside (λ k i. inside_stands u.own u.own h k.what i.1) s.inside)
+            (all_of (KnownBehind l u) (λ (k : Known). EntityStands IsConstant m.name shown u.own k.what) h.known (λ k i. i.entity) k);
+        };
+        below = all_both (λ (k : Known). k.scope ≤ suc u.scope) h.inside h.known
+          (all_of (λ (k : Known). (k.scope ≡ suc u.scope) × InsideEntity IsConstant m.name shown out u.own h k.what) (λ (k : Known). k.scope ≤ suc u.scope) h.inside (λ k i. same_most k.scope (suc u.scope) i.0) s.inside)
+          (all_of (KnownBehind l u) (λ (k : Known). k.scope ≤ suc u.scope) h.known (λ k i. one_more k.scope u.scope i.below) k);
+        names = all_both (λ (k : Known). N u.own p (suc u.scope) k.scope k.what) h.inside h.known
+          (all_of (λ (k : Known). (k.scope ≡ suc u.scope) × InsideEntity IsConstant m.name shown out u.own h k.what) (λ (k : Known). N u.own p (suc u.scope) k.scope k.what) h.inside (λ k i. inside_name u.own types h c u.scope k.scope i.0 (some_scope l u b.placed) k.what i.1) s.inside)
+          (all_of (KnownBehind l u) (λ (k : Known). N u.own p (suc u.scope) k.scope k.what) h.known (λ k i. outer_name IsConstant shown m u.own (frame l) p u.level k.scope u.scope i.below k.what i.name) k);
+        placed = (no_nothing h.path 47 [], (refl, deeper u.scope (some_scope l u b.placed)));
+        guards = refl;
+        result = framed_result types h h.parameters c;
+        in_loop = refl;
+      }
+
+  -- ONE PROCEDURE AND THOSE INSIDE IT
+
+  -- bodies that are judged, and what else is added
+  pub record Adds (c : Contents) : Type 0 where
+    pub procedures : AreJudged c.procedures
+    pub full : IsFull IsConstant shown m c
+
+  head_made : (o : Option Parameters) → IfThere (λ p. AllByRecursion (IsDescribed IsConstant) p.made) o → AllByRecursion (IsDescribed IsConstant) (types_of_head o)
+  head_made None h = tt
+  head_made (Some p) h = h
+
+  framed_variables : (types : Map) (h : Head) (o : Option Parameters) (c : Contents) (x : TypedVariable) → IsOneOf c.variables x → IsVariableAt IsConstant shown m (Within (framed types h o c)) x
+  framed_variables types h None c x i = tt
+  framed_variables types h (Some q) c x i = i
+
+  framed_judged : (types : Map) (h : Head) (o : Option Parameters) (c : Contents) → IsJudged IsConstant shown m (framed types h o c) c.body → AreJudged (typed_procedure types h o c)
+  framed_judged types h None c j = tt
+  framed_judged types h (Some q) c j = (j, tt)
+
+  procedure_is : (l : Level) (u : Around) → B l u → (p : Written_procedure) → IsProcedure p → (h : Head) → HS u.own u.scope h → AllByRecursion (KnownBehind l u) h.known → (forward : Bool) → I l (procedure_judged u p h forward).contents → Adds (procedure_judged u p h forward).contents
+  procedure_is l u b p g h s k true i = record { procedures = tt; full = record { constants = tt; types = head_made h.parameters s.made; bound = tt } }
+  procedure_is l u b p g h s k false i =
+      let c = (p.inside (around_body u h)).contents in
+      let types = map_of u in
+      let f = framed types h h.parameters c in
+      let own = typed_procedure types h h.parameters c in
+      let r = g.inside (Within f) (around_body u h) (inside_block l u b h s k types c) (record { variables = λ x j. framed_variables types h h.parameters c x j; procedures = λ q j. i.procedures q (one_right own c.procedures q j) }) in
+      record {
+        procedures = all_both (λ p. IsJudged IsConstant shown m (Some p) p.body) own c.procedures (framed_judged types h h.parameters c r.body) r.procedures;
+        full = record { constants = tt; types = all_both (IsDescribed IsConstant) (types_of_head h.parameters) c.types (head_made h.parameters s.made) r.full.types; bound = tt };
+      }
+
+  pub procedures_are : (l : Level) (u : Around) → B l u → (ps : List Written_procedure) → AreProcedures ps → (hs : List Head) → AllByRecursion (HS u.own u.scope) hs → AllByRecursion (λ (h : Head). AllByRecursion (KnownBehind l u) h.known) hs → I l (procedures_judged u ps hs).contents → Adds (procedures_judged u ps hs).contents
+  procedures_are l u b [] g hs s k i = record { procedures = tt; full = none_full IsConstant shown m }
+  procedures_are l u b (p ∷ ps) g [] s k i = record { procedures = tt; full = none_full IsConstant shown m }
+  procedures_are l u b (p ∷ ps) g (h ∷ hs) s k i =
+      let a = (procedure_judged u p h p.forward).contents in
+      let c = (procedures_judged u ps hs).contents in
+      let x = procedure_is l u b p g.0 h s.0 k.0 p.forward (first_included IsConstant shown m l a c i) in
+      let y = procedures_are l u b ps g.1 hs s.1 k.1 (second_included IsConstant shown m l a c i) in
+      record { procedures = all_both (λ p. IsJudged IsConstant shown m (Some p) p.body) a.procedures c.procedures x.procedures y.procedures; full = both_full IsConstant shown m a c x.full y.full }
+
+  -- THE PROCEDURES ARE THOSE OF THE HEADINGS
+
+  pub record HasProcedure (ps : List TypedProcedure) (h : Head) (q : Parameters) : Type 0 where
+    pub p : TypedProcedure
+    pub there : IsOneOf ps p
+    pub name : p.name ≡ h.path
+    pub result : p.result ≡ q.signature.result
+    pub parameters : p.parameters ≡ all_parameters h q
+
+  pub grown_left : (xs ys : List TypedProcedure) (h : Head) (q : Parameters) → HasProcedure xs h q → HasProcedure (xs ++ ys) h q
+  grown_left xs ys h q r = record { p = r.p; there = one_left xs ys r.p r.there; name = r.name; result = r.result; parameters = r.parameters }
+
+  grown_right : (xs ys : List TypedProcedure) (h : Head) (q : Parameters) → HasProcedure ys h q → HasProcedure (xs ++ ys) h q
+  grown_right xs ys h q r = record { p = r.p; there = one_right xs ys r.p r.there; name = r.name; result = r.result; parameters = r.parameters }
+
+  typed_there : (types : Map) (h : Head) (o : Option Parameters) (c : Contents) (q : Parameters) → o ≡ Some q → HasProcedure (typed_procedure types h o c) h q
+  typed_there types h None c q e = absurd cc
+  typed_there types h (Some r) c q e = record { p = typed_of types h r c; there = inl refl; name = refl; result = ap (λ (x : Parameters). x.signature.result) (same r q e); parameters = ap (λ (x : Parameters). all_parameters h x) (same r q e) }
+    where
+      same : (r q : Parameters) → Some r ≡ Some q → r ≡ q
+      same r q e = cc
+
+  judged_there : (u : Around) (p : Written_procedure) (h : Head) (q : Parameters) → h.parameters ≡ Some q → (forward : Bool) → forward ≡ false → HasProcedure (procedure_judged u p h forward).contents.procedures h q
+  judged_there u p h q e true f = absurd cc
+  judged_there u p h q e false f =
+      let c = (p.inside (around_body u h)).contents in
+      grown_left (typed_procedure (map_of u) h h.parameters c) c.procedures h q (typed_there (map_of u) h h.parameters c q e)
+
+  pub heading_there : (u : Around) (ps : List Written_procedure) (hs : List Head) → Aligned ps hs → (h : Head) → IsOneOf hs h → (q : Parameters) → h.parameters ≡ Some q → h.forward ≡ false → HasProcedure (procedures_judged u ps hs).contents.procedures h q
+  heading_there u [] [] a h i q e f = absurd i
+  heading_there u [] (g ∷ hs) a h i q e f = absurd a
+  heading_there u (p ∷ ps) [] a h i q e f = absurd a
+  heading_there u (p ∷ ps) (g ∷ hs) a h (inl d) q e f =
+      let same : g.parameters ≡ Some q = ap (λ (x : Head). x.parameters) d ∙ e in
+      let r = judged_there u p g q same p.forward (sym a.0 ∙ ap (λ (x : Head). x.forward) d ∙ f) in
+      subst (λ (x : Head). HasProcedure (procedures_judged u (p ∷ ps) (g ∷ hs)).contents.procedures x q) d (grown_left (procedure_judged u p g p.forward).contents.procedures (procedures_judged u ps hs).contents.procedures g q r)
+  heading_there u (p ∷ ps) (g ∷ hs) a h (inr i) q e f = grown_right (procedure_judged u p g p.forward).contents.procedures (procedures_judged u ps hs).contents.procedures h q (heading_there u ps hs a.1 h i q e f)

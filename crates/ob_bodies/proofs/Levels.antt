@@ -1,0 +1,186 @@
+-- What stands around a sequence of declarations, at the level of the module or in a procedure.
+use Rattle.std.proofs.Common.{◌≡◌, refl, sym, ap, ◌∙◌, subst, ℕ, suc, ◌≤◌, ◌<◌, Bool, true, false, List, [], ◌∷◌, ◌++◌, Option, Some, None, inl, inr, arith}
+use Rattle.std.specs.Prelude.{nat_lt}
+use Rattle.std.specs.List.{AllByRecursion}
+use Rattle.std.proofs.lemmas.Bool.Decides.{nat_tests}
+use Rattle.ob_tree.specs.declared.names.QName.{QName}
+use Rattle.ob_tree.specs.declared.ident.Ident.{Ident}
+use Rattle.ob_types.specs.declared.types.Mode.{Mode}
+use Rattle.ob_types.specs.declared.types.TypeRef.{TypeRef}
+use Rattle.ob_types.specs.declared.types.Signature.{Signature}
+use Rattle.ob_types.specs.declared.value.Value.{Value}
+use Rattle.ob_types.specs.declared.desc.Desc.{Desc}
+use Rattle.ob_types.specs.declared.typed.Variable.{Variable}
+use Rattle.ob_types.specs.declared.typed.TypedType.{TypedType}
+use Rattle.ob_types.specs.declared.typed.TypedConstant.{TypedConstant}
+use Rattle.ob_types.specs.declared.typed.TypedVariable.{TypedVariable}
+use Rattle.ob_types.specs.declared.typed.TypedProcedure.{TypedProcedure}
+use Rattle.ob_types.specs.declared.typed.TypedModule.{TypedModule}
+use Rattle.ob_rules.specs.declared.entity.Entity.{Entity}
+use Rattle.ob_rules.specs.declared.entity.Entity.TheVariants as entity
+use Rattle.ob_rules.specs.declared.entity.Known.{Known}
+use Rattle.ob_rules.specs.Names.{Around, found_in_scope}
+use Rattle.ob_rules.specs.Types.{with_types, nothing}
+use Rattle.ob_rules.specs.Declarations.{Contents, no_contents, together, Declared, declare_if, declare}
+use Rattle.ob_forms.specs.Said.{IsOneOf}
+use Rattle.ob_typed.specs.Makes.{IfThere}
+use Rattle.ob_bodies.specs.Knows.{Grows, Stands, IsDescribed, EntityStands, Knows}
+use Rattle.ob_bodies.specs.Judged.{IsInside, result_of, StandsIn, IsProcedureIn, VariableStands, NameIs}
+use Rattle.ob_bodies.proofs.Lists.{one_left, one_right, all_of, all_both, there_of}
+use Rattle.ob_bodies.proofs.Standing.{grows_front, stands_grown, all_grown, with_types_known}
+
+-- in the module, or in a procedure, whose heading may break a rule
+pub data Level : Type 0 where
+  AtModule : Level
+  Within : (p : Option TypedProcedure) → Level
+
+abbrev pub frame : Level → Option TypedProcedure
+frame AtModule = None
+frame (Within p) = p
+
+abbrev pub IsPlaced : Level → Around → Type 0
+IsPlaced AtModule u = (u.path ≡ []) × ((u.scope ≡ 1) × (u.level ≡ 1))
+IsPlaced (Within p) u = (nothing u.path ≡ false) × ((u.level ≡ u.scope) × (1 < u.scope))
+
+abbrev IsLocalOf : Option TypedProcedure → TypedVariable → Type 0
+IsLocalOf None x = Unit {0}
+IsLocalOf (Some p) x = IsOneOf p.locals x
+
+module _ (IsConstant : Value → Type 0) (shown : QName → Option Desc) (m : TypedModule) where
+  abbrev pub S : List TypedType → TypeRef → Type 0
+  S own t = Stands m.name shown own t
+
+  -- a variable that is declared at this level
+  abbrev pub IsVariableAt : Level → TypedVariable → Type 0
+  IsVariableAt AtModule x = IsOneOf m.variables x
+  IsVariableAt (Within p) x = IsLocalOf p x
+
+  -- what a part adds is in the module
+  pub record Included (l : Level) (c : Contents) : Type 0 where
+    pub variables : (x : TypedVariable) → IsOneOf c.variables x → IsVariableAt l x
+    pub procedures : (p : TypedProcedure) → IsOneOf c.procedures p → IsOneOf m.procedures p
+
+  -- the constants of a part are constants, and its types are described
+  pub record IsFull (c : Contents) : Type 0 where
+    pub constants : AllByRecursion (λ (x : TypedConstant). IsConstant x.value) c.constants
+    pub types : AllByRecursion (IsDescribed IsConstant) c.types
+    pub bound : AllByRecursion (IsDescribed IsConstant) c.bound
+
+  pub none_full : IsFull no_contents
+  none_full = record { constants = tt; types = tt; bound = tt }
+
+  pub both_full : (a b : Contents) → IsFull a → IsFull b → IsFull (together a b)
+  both_full a b g h = record {
+    constants = all_both (λ (x : TypedConstant). IsConstant x.value) a.constants b.constants g.constants h.constants;
+    types = all_both (IsDescribed IsConstant) a.types b.types g.types h.types;
+    bound = all_both (IsDescribed IsConstant) a.bound b.bound g.bound h.bound;
+  }
+
+  pub first_included : (l : Level) (a b : Contents) → Included l (together a b) → Included l a
+  first_included l a b i = record { variables = λ x h. i.variables x (one_left a.variables b.variables x h); procedures = λ p h. i.procedures p (one_left a.procedures b.procedures p h) }
+
+  pub second_included : (l : Level) (a b : Contents) → Included l (together a b) → Included l b
+  second_included l a b i = record { variables = λ x h. i.variables x (one_right a.variables b.variables x h); procedures = λ p h. i.procedures p (one_right a.procedures b.procedures p h) }
+
+  pub record BlockAt (l : Level) (u : Around) : Type 0 where
+    pub knows : Knows IsConstant m.name shown u
+    pub below : AllByRecursion (λ (k : Known). k.scope ≤ u.scope) u.known
+    pub names : AllByRecursion (λ (k : Known). NameIs IsConstant shown m u.own (frame l) u.level k.scope k.what) u.known
+    pub placed : IsPlaced l u
+    pub guards : u.guards ≡ []
+    pub result : u.result ≡ result_of (frame l)
+    pub in_loop : u.in_loop ≡ false
+
+  -- MORE TYPES
+
+  inside_grown : (own more : List TypedType) → Grows own more → (p : Option TypedProcedure) (v : Variable) (t : TypeRef) → IsInside (S own) p v t → IsInside (S more) p v t
+  inside_grown own more g None v t h = tt
+  inside_grown own more g (Some p) v t h = (h.0, stands_grown m.name shown own more g t h.1)
+
+  pub name_grown : (own more : List TypedType) → Grows own more → (p : Option TypedProcedure) (level scope : ℕ) (e : Entity) → NameIs IsConstant shown m own p level scope e → NameIs IsConstant shown m more p level scope e
+  name_grown own more g p level scope (entity.Variable v t) h = record { outside = λ e. let r = h.outside e in (r.0, stands_grown m.name shown own more g t r.1); inside = λ e f. inside_grown own more g p v t (h.inside e f) }
+  name_grown own more g p level scope (entity.Procedure q s) h = record {
+    p = h.p;
+    there = h.there;
+    name = h.name;
+    result = h.result;
+    parameters = h.parameters;
+    params = all_of (λ (k : Mode × TypeRef). S own k.1) (λ (k : Mode × TypeRef). S more k.1) s.params (λ k. stands_grown m.name shown own more g k.1) h.params;
+    result_stands = there_of (S own) (S more) s.result (λ t. stands_grown m.name shown own more g t) h.result_stands;
+  }
+  name_grown own more g p level scope (entity.Constant v) h = tt
+  name_grown own more g p level scope (entity.TypeName t) h = tt
+  name_grown own more g p level scope (entity.Forward q s) h = tt
+  name_grown own more g p level scope (entity.Module n) h = tt
+  name_grown own more g p level scope (entity.Predeclared c) h = tt
+  name_grown own more g p level scope entity.LeftOut h = tt
+  name_grown own more g p level scope entity.Unsound h = tt
+
+  pub types_placed : (l : Level) (u : Around) (ts : List TypedType) → IsPlaced l u → IsPlaced l (with_types u ts)
+  types_placed AtModule u ts h = h
+  types_placed (Within p) u ts h = h
+
+  pub block_typed : (l : Level) (u : Around) → BlockAt l u → (ts : List TypedType) → AllByRecursion (IsDescribed IsConstant) ts → BlockAt l (with_types u ts)
+  block_typed l u b ts h = record {
+    knows = with_types_known m.name shown IsConstant u b.knows ts h;
+    below = b.below;
+    names = all_of (λ (k : Known). NameIs IsConstant shown m u.own (frame l) u.level k.scope k.what) (λ (k : Known). NameIs IsConstant shown m (ts ++ u.own) (frame l) u.level k.scope k.what) u.known (λ k. name_grown u.own (ts ++ u.own) (grows_front ts u.own) (frame l) u.level k.scope k.what) b.names;
+    placed = types_placed l u ts b.placed;
+    guards = b.guards;
+    result = b.result;
+    in_loop = b.in_loop;
+  }
+
+  -- A NAME THAT IS DECLARED
+
+  name_placed : (l : Level) (u : Around) (ks : List Known) → IsPlaced l u → IsPlaced l (record u { known = ks })
+  name_placed AtModule u ks h = h
+  name_placed (Within p) u ks h = h
+
+  at_most : (n : ℕ) → n ≤ n
+  at_most n = omega arith
+
+  declared_if : (l : Level) (u : Around) → BlockAt l u → (x : Ident) (e : Entity) → EntityStands IsConstant m.name shown u.own e → NameIs IsConstant shown m u.own (frame l) u.level u.scope e → (o : Option Known) → BlockAt l (declare_if o u x e)
+  declared_if l u b x e h n (Some k) = b
+  declared_if l u b x e h n None = record {
+    knows = record { unit_is = b.knows.unit_is; shown_is = b.knows.shown_is; own = b.knows.own; known = (h, b.knows.known) };
+    below = (at_most u.scope, b.below);
+    names = (n, b.names);
+    placed = name_placed l u (record { name = x.name; scope = u.scope; what = e } ∷ u.known) b.placed;
+    guards = b.guards;
+    result = b.result;
+    in_loop = b.in_loop;
+  }
+
+  pub block_declared : (l : Level) (u : Around) → BlockAt l u → (x : Ident) (e : Entity) → EntityStands IsConstant m.name shown u.own e → NameIs IsConstant shown m u.own (frame l) u.level u.scope e → BlockAt l (declare u x e)
+  block_declared l u b x e h n = declared_if l u b x e h n (found_in_scope u x.name)
+
+  if_own : (o : Option Known) (u : Around) (x : Ident) (e : Entity) → (declare_if o u x e).own ≡ u.own
+  if_own (Some k) u x e = refl
+  if_own None u x e = refl
+
+  pub declared_own : (u : Around) (x : Ident) (e : Entity) → (declare u x e).own ≡ u.own
+  declared_own u x e = if_own (found_in_scope u x.name) u x e
+
+  -- SCOPES
+
+  pub not_outer : nat_lt 1 1 ≡ true → ⊥
+  not_outer e = absurd cc
+
+  pub not_module : (n : ℕ) → 1 < n → nat_lt 1 n ≡ false → ⊥
+  not_module n h e = grind (arith, nat_tests)
+
+  -- what is known around a procedure is of outer scopes there
+  pub not_inner : (k n : ℕ) → k ≤ n → nat_lt k (suc n) ≡ false → ⊥
+  not_inner k n h e = grind (arith, nat_tests)
+
+  pub outer_name : (own : List TypedType) (p q : Option TypedProcedure) (level k n : ℕ) → k ≤ n → (e : Entity) → NameIs IsConstant shown m own p level k e → NameIs IsConstant shown m own q (suc n) k e
+  outer_name own p q level k n below (entity.Variable v t) h = record { outside = h.outside; inside = λ e f. absurd (not_inner k n below f) }
+  outer_name own p q level k n below (entity.Procedure r s) h = h
+  outer_name own p q level k n below (entity.Constant v) h = tt
+  outer_name own p q level k n below (entity.TypeName t) h = tt
+  outer_name own p q level k n below (entity.Forward r s) h = tt
+  outer_name own p q level k n below (entity.Module x) h = tt
+  outer_name own p q level k n below (entity.Predeclared c) h = tt
+  outer_name own p q level k n below entity.LeftOut h = tt
+  outer_name own p q level k n below entity.Unsound h = tt

@@ -1,0 +1,17 @@
+pub mod Lists
+pub mod Standing
+pub mod Named
+pub mod Typings
+pub mod Sections
+pub mod Written
+pub mod Heads
+pub mod Binding
+pub mod Headings
+pub mod Levels
+pub mod Plain
+pub mod Blocks
+pub mod Sequences
+pub mod Modules
+pub mod Places
+pub mod Held
+pub mod Whole

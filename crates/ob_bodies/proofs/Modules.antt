@@ -1,0 +1,241 @@
+-- Modules: the bodies of a checked module are judged where what is known is as the module has it.
+use Rattle.std.proofs.Common.{◌≡◌, refl, sym, ap, ◌∙◌, subst, ℕ, suc, ◌≤◌, Bool, true, false, List, [], ◌∷◌, ◌++◌, map, Option, Some, None, inl, inr, arith}
+use Rattle.std.specs.Prelude.{bytes_eq, codes, ◌&&◌, ◌||◌}
+use Rattle.std.specs.List.{AllByRecursion, cons_option, filter_map, find}
+use Rattle.ob_tree.specs.declared.pos.Pos.{Pos}
+use Rattle.ob_tree.specs.declared.names.QName.{QName}
+use Rattle.ob_tree.specs.declared.ident.Ident.{Ident}
+use Rattle.ob_tree.specs.declared.ident.Import.{Import}
+use Rattle.ob_tree.specs.declared.expr.Expr.{Expr}
+use Rattle.ob_tree.specs.declared.stmt.Stmt.{Stmt}
+use Rattle.ob_tree.specs.declared.decl.Decl.{Decl, roll-Decl, map-Decl}
+use Rattle.ob_tree.specs.declared.decl.Decl.TheOpen.{Decl-F}
+use Rattle.ob_tree.specs.declared.decl.Decl.TheFolds.{ind-Decl, fold-roll-Decl}
+use Rattle.ob_tree.specs.declared.decl.Module.{Module as Tree}
+use Rattle.ob_types.specs.declared.value.Value.{Value}
+use Rattle.ob_types.specs.declared.value.Value.TheVariants as literal
+use Rattle.ob_types.specs.declared.desc.Desc.{Desc}
+use Rattle.ob_types.specs.declared.typed.TypedType.{TypedType}
+use Rattle.ob_types.specs.declared.typed.TypedProcedure.{TypedProcedure}
+use Rattle.ob_types.specs.declared.typed.TypedModule.{TypedModule}
+use Rattle.ob_rules.specs.declared.broken.Broken.{Broken}
+use Rattle.ob_rules.specs.declared.entity.Entity.TheVariants as entity
+use Rattle.ob_rules.specs.declared.entity.Known.{Known}
+use Rattle.ob_rules.specs.Judged.{notes_if}
+use Rattle.ob_rules.specs.Names.{Around, predeclared, is_out}
+use Rattle.ob_rules.specs.Expressions.{phrase_of}
+use Rattle.ob_rules.specs.Types.{written}
+use Rattle.ob_rules.specs.Statements.{judging, in_turn}
+use Rattle.ob_rules.specs.Declarations.{Contents, no_contents, together, Part, Declared, Written_procedure, Declaration, Plain, Procedure, plain_of, procedure_of, type_name_of, in_order, stmts_in, block_declared, block, decl_rule, declaration, is_system, target_of, import_entity, import_declared, imports_declared, around_module, module_of, described, all_described, typed_module, if_unbroken, checked}
+use Rattle.ob_typed.specs.Makes.{IfThere}
+use Rattle.ob_typed.specs.Spelled.{all_true, is_spelled}
+use Rattle.ob_typed.specs.Bodies.{stmt_spelled}
+use Rattle.ob_relation.proofs.Names.{and_both}
+use Rattle.ob_bodies.specs.Spelled.{parameters_spelled, type_spelled, decl_layer, decl_spelled, tree_spelled}
+use Rattle.ob_bodies.specs.Knows.{IsDescribed, EntityStands, Knows}
+use Rattle.ob_bodies.specs.Judged.{NameIs, IsJudged, BodiesAreJudged}
+use Rattle.ob_bodies.proofs.Lists.{all_both, find_has}
+use Rattle.ob_bodies.proofs.Typings.{ConstantPhrase}
+use Rattle.ob_bodies.proofs.Written.{written_good, written_parameters_good}
+use Rattle.ob_bodies.proofs.Levels.{Level, AtModule, Within, frame, IsPlaced, Included, none_full, both_full, first_included, second_included, BlockAt, block_declared as name_declared}
+use Rattle.ob_bodies.proofs.Plain.{DeclaredIs, IsPlain, constant_plain, type_plain, variables_declared_plain, order_plain}
+use Rattle.ob_bodies.proofs.Blocks.{all_empty, PartIs, IsBlock, IsProcedure, stands_at}
+use Rattle.ob_bodies.proofs.Sequences.{block_is}
+
+one_kept : {B : Type 0} (Q : B → Type 0) (o : Option B) (ys : List B) → IfThere Q o → AllByRecursion Q ys → AllByRecursion Q (cons_option o ys)
+one_kept Q None ys h k = k
+one_kept Q (Some y) ys h k = (h, k)
+
+kept_all : {A B : Type 0} (P : A → Type 0) (Q : B → Type 0) (f : A → Option B) → ((x : A) → P x → IfThere Q (f x)) → (xs : List A) → AllByRecursion P xs → AllByRecursion Q (filter_map f xs)
+kept_all P Q f k [] h = tt
+kept_all P Q f k (x ∷ xs) h = one_kept Q (f x) (filter_map f xs) (k x h.0) (kept_all P Q f k xs h.1)
+
+-- ---- what is made of parts where nothing is broken
+
+unbroken_is : {A : Type 0} (bs : List Broken) (x m : A) → if_unbroken bs x ≡ Some m → (bs ≡ []) × (x ≡ m)
+unbroken_is [] x m e = (refl, cc)
+unbroken_is (b ∷ bs) x m e = absurd cc
+
+first_empty : {A : Type 0} (xs ys : List A) → xs ++ ys ≡ [] → xs ≡ []
+first_empty [] ys e = refl
+first_empty (x ∷ xs) ys e = absurd cc
+
+not_noted : (b : Bool) (n : ℕ) (at : Pos) → (notes_if b n at).broken ≡ [] → b ≡ false
+not_noted true n at e = absurd cc
+not_noted false n at e = refl
+
+first_false : (a b : Bool) → (a || b) ≡ false → a ≡ false
+first_false true b e = absurd cc
+first_false false b e = refl
+
+module _ (IsConstant : Value → Type 0) (truths : (b : Bool) → IsConstant (literal.Bool b)) (shown : QName → Option Desc) (m : TypedModule) (out : is_out m.name ≡ false) (constants : (x : Expr) → is_spelled x ≡ true → ConstantPhrase IsConstant m.name shown out (phrase_of x)) where
+  abbrev GoodDeclaration : Declaration → Type 0
+  GoodDeclaration (Plain x f) = IsPlain IsConstant shown m out f
+  GoodDeclaration (Procedure p) = IsProcedure IsConstant shown m out p
+
+  abbrev AreGood : List Declaration → Type 0
+  AreGood ds = AllByRecursion GoodDeclaration ds
+
+  plain_good : (d : Declaration) → GoodDeclaration d → IfThere (IsPlain IsConstant shown m out) (plain_of d)
+  plain_good (Plain x f) h = h
+  plain_good (Procedure p) h = tt
+
+  procedure_good : (d : Declaration) → GoodDeclaration d → IfThere (IsProcedure IsConstant shown m out) (procedure_of d)
+  procedure_good (Plain x f) h = tt
+  procedure_good (Procedure p) h = h
+
+  later_placed : (l : Level) (u : Around) (xs : List (List ℕ)) → IsPlaced l u → IsPlaced l (record u { later_types = xs })
+  later_placed AtModule u xs h = h
+  later_placed (Within p) u xs h = h
+
+  block_good : (ds : List Declaration) → AreGood ds → (xs : List Stmt) → all_true (map stmt_spelled xs) ≡ true → IsBlock IsConstant shown m out (block ds (map judging xs))
+  block_good ds g xs e l u b i =
+      let names = filter_map type_name_of ds in
+      let v : Around = record u { later_types = names } in
+      let ps = filter_map procedure_of ds in
+      let d = in_order (filter_map plain_of ds) v in
+      let c : BlockAt IsConstant shown m l v = record {
+        knows = record { unit_is = b.knows.unit_is; shown_is = b.knows.shown_is; own = b.knows.own; known = b.knows.known };
+        below = b.below;
+        names = b.names;
+        placed = later_placed l u names b.placed;
+        guards = b.guards;
+        result = b.result;
+        in_loop = b.in_loop;
+      } in
+      let r = order_plain IsConstant shown m out (filter_map plain_of ds) (kept_all GoodDeclaration (IsPlain IsConstant shown m out) plain_of plain_good ds g) l v c (first_included IsConstant shown m l d.part.contents _ i) in
+      block_is IsConstant shown m out l ps (kept_all GoodDeclaration (IsProcedure IsConstant shown m out) procedure_of procedure_good ds g) xs e u d r i
+
+  -- BY INDUCTION OVER DECLARATIONS
+
+  abbrev PD : Decl → Type 0
+  PD x = decl_spelled x ≡ true → GoodDeclaration (declaration x)
+
+  abbrev SD : Type 0
+  SD = (x : Decl) × PD x
+
+  abbrev decls_in : List SD → List Decl
+  decls_in xs = map (λ (x : SD). x.0) xs
+
+  all_in : (xs : List SD) → all_true (map decl_spelled (decls_in xs)) ≡ true → AreGood (map declaration (decls_in xs))
+  all_in [] e = tt
+  all_in (x ∷ xs) e = let p = and_both (decl_spelled x.0) (all_true (map decl_spelled (decls_in xs))) e in (x.1 p.0, all_in xs p.1)
+
+  layer : (x : Decl-F Decl) → (decl_layer (map-Decl Decl Bool decl_spelled x) ≡ true → GoodDeclaration (decl_rule (map-Decl Decl Declaration declaration x))) → PD (roll-Decl x)
+  layer x h e = subst GoodDeclaration (sym (fold-roll-Decl Declaration decl_rule x)) (h (sym (fold-roll-Decl Bool decl_layer x) ∙ e))
+
+  no_block : IsBlock IsConstant shown m out (λ u. record { notes = Rattle.ob_rules.specs.Judged.no_notes; contents = no_contents })
+  no_block l u b i = record { procedures = tt; body = record { u = u; xs = []; is = refl; spelled = refl; stands = stands_at IsConstant shown m out l u b }; placed = b.placed; full = none_full IsConstant shown m }
+
+  decl_cases : (y : Decl-F SD) → PD (roll-Decl (map-Decl SD Decl (λ x. x.0) y))
+  decl_cases (Decl-F.Constant d x) = layer (Decl-F.Constant d x) (λ e. constant_plain IsConstant shown m out d (phrase_of x) (constants x e))
+  decl_cases (Decl-F.NamedType d n) = layer (Decl-F.NamedType d n) (λ e. type_plain IsConstant shown m out d (written n) (written_good IsConstant m.name shown out constants n e))
+  decl_cases (Decl-F.Variables ds n) = layer (Decl-F.Variables ds n) (λ e. variables_declared_plain IsConstant shown m out ds (written n) (written_good IsConstant m.name shown out constants n e))
+  decl_cases (Decl-F.Procedure h ds body closing) = layer (Decl-F.Procedure h (decls_in ds) body closing) (λ e.
+    let p = and_both (parameters_spelled h.parameters) (all_true (map decl_spelled (decls_in ds)) && all_true (map stmt_spelled body)) e in
+    let q = and_both (all_true (map decl_spelled (decls_in ds))) (all_true (map stmt_spelled body)) p.1 in
+    record {
+      heading = (written_parameters_good IsConstant m.name shown out constants h.parameters p.0, tt);
+      inside = block_good (map declaration (decls_in ds)) (all_in ds q.0) body q.1;
+    })
+  decl_cases (Decl-F.Forward h) = layer (Decl-F.Forward h) (λ e. record { heading = (written_parameters_good IsConstant m.name shown out constants h.parameters e, tt); inside = no_block })
+
+  decl_good : (x : Decl) → PD x
+  decl_good = ind-Decl PD (λ x y is. subst (λ z. PD (roll-Decl z)) is (decl_cases y))
+
+  decls_good : (xs : List Decl) → all_true (map decl_spelled xs) ≡ true → AreGood (map declaration xs)
+  decls_good [] e = tt
+  decls_good (x ∷ xs) e = let p = and_both (decl_spelled x) (all_true (map decl_spelled xs)) e in (decl_good x p.0, decls_good xs p.1)
+
+  -- IMPORTS
+
+  import_at : (own : List TypedType) (b : Bool) (t : Ident) → bytes_eq t.name m.name ≡ false → EntityStands IsConstant m.name shown own (import_entity b t)
+  import_at own true t h = tt
+  import_at own false t h = h
+
+  import_name : (own : List TypedType) (p : Option TypedProcedure) (level scope : ℕ) (b : Bool) (t : Ident) → NameIs IsConstant shown m own p level scope (import_entity b t)
+  import_name own p level scope true t = tt
+  import_name own p level scope false t = tt
+
+  import_plain : (i : Import) (t : Ident) → bytes_eq t.name m.name ≡ false → IsPlain IsConstant shown m out (import_declared i t)
+  import_plain i t h l u b c = record {
+    around = name_declared IsConstant shown m l u b i.ident (import_entity (is_system t.name) t) (import_at u.own (is_system t.name) t h) (import_name u.own (frame l) u.level u.scope (is_system t.name) t);
+    procedures = refl;
+    body = refl;
+    full = none_full IsConstant shown m;
+  }
+
+  imports_plain : (is : List Import) → AllByRecursion (λ (i : Import). bytes_eq (target_of i).name m.name ≡ false) is → AllByRecursion (IsPlain IsConstant shown m out) (map (λ i. import_declared i (target_of i)) is)
+  imports_plain [] h = tt
+  imports_plain (i ∷ is) h = (import_plain i (target_of i) h.0, imports_plain is h.1)
+
+  -- THE MODULE
+
+  none_below : 0 ≤ 1
+  none_below = omega arith
+
+  predeclared_below : AllByRecursion (λ (k : Known). k.scope ≤ 1) predeclared
+  predeclared_below = let z = none_below in (z, (z, (z, (z, (z, (z, (z, (z, (z, (z, (z, (z, (z, (z, (z, (z, (z, (z, (z, (z, (z, (z, (z, (z, (z, (z, (z, (z, (z, (z, (z, tt)))))))))))))))))))))))))))))))
+
+  module_around : (name : List ℕ) (ds : List Declaration) → name ≡ m.name → BlockAt IsConstant shown m AtModule (around_module shown name ds)
+  module_around name ds e = record {
+    knows = record { unit_is = e; shown_is = refl; own = tt; known = (tt, (tt, (tt, (tt, (tt, (tt, (truths true, (truths false, (tt, (tt, (tt, (tt, (tt, (tt, (tt, (tt, (tt, (tt, (tt, (tt, (tt, (tt, (tt, (tt, (tt, (tt, (tt, (tt, (tt, (tt, (tt, tt))))))))))))))))))))))))))))))) };
+    below = predeclared_below;
+    names = (tt, (tt, (tt, (tt, (tt, (tt, (tt, (tt, (tt, (tt, (tt, (tt, (tt, (tt, (tt, (tt, (tt, (tt, (tt, (tt, (tt, (tt, (tt, (tt, (tt, (tt, (tt, (tt, (tt, (tt, (tt, tt)))))))))))))))))))))))))))))));
+    placed = (refl, (refl, refl));
+    guards = refl;
+    result = refl;
+    in_loop = refl;
+  }
+
+  module_is : (name : Ident) → name.name ≡ m.name → (imports : List Import) → AllByRecursion (λ (i : Import). bytes_eq (target_of i).name m.name ≡ false) imports → (ds : List Declaration) → AreGood ds → (xs : List Stmt) → all_true (map stmt_spelled xs) ≡ true → (closing : Ident) → Included IsConstant shown m AtModule (module_of shown name imports ds (map judging xs) closing).contents → PartIs IsConstant shown m out AtModule (module_of shown name imports ds (map judging xs) closing).contents
+  module_is name e imports o ds g xs s closing i =
+      let u = around_module shown name.name ds in
+      let d = imports_declared imports u in
+      let c = (block ds (map judging xs) d.around).contents in
+      let j = second_included IsConstant shown m AtModule no_contents (together d.part.contents c) i in
+      let r = order_plain IsConstant shown m out (map (λ i. import_declared i (target_of i)) imports) (imports_plain imports o) AtModule u (module_around name.name ds e) (first_included IsConstant shown m AtModule d.part.contents c j) in
+      let p = block_good ds g xs s AtModule d.around r.around (second_included IsConstant shown m AtModule d.part.contents c j) in
+      record {
+        procedures = all_both (λ p. IsJudged IsConstant shown m (Some p) p.body) d.part.contents.procedures c.procedures (all_empty (λ p. IsJudged IsConstant shown m (Some p) p.body) d.part.contents.procedures r.procedures) p.procedures;
+        body = record { u = p.body.u; xs = p.body.xs; is = ◌∙◌ {c = stmts_in (in_turn (map judging p.body.xs) p.body.u).node} (ap (λ l. l ++ c.body) r.body) p.body.is; spelled = p.body.spelled; stands = p.body.stands };
+        placed = p.placed;
+        full = both_full IsConstant shown m no_contents (together d.part.contents c) (none_full IsConstant shown m) (both_full IsConstant shown m d.part.contents c r.full p.full);
+      }
+
+-- ---- the checked module
+
+module _ (IsConstant : Value → Type 0) where
+  described_is : (o : Option TypedType) (t : TypedType) → IfThere (IsDescribed IsConstant) o → IsDescribed IsConstant t → IsDescribed IsConstant (described o t)
+  described_is None t h k = k
+  described_is (Some b) t h k = record { type = h.type; length = h.length }
+
+  all_described_are : (bound : List TypedType) → AllByRecursion (IsDescribed IsConstant) bound → (ts : List TypedType) → AllByRecursion (IsDescribed IsConstant) ts → AllByRecursion (IsDescribed IsConstant) (all_described bound ts)
+  all_described_are bound h [] k = tt
+  all_described_are bound h (t ∷ ts) k = (described_is (find (λ b. bytes_eq b.name t.name) bound) t (find_has (IsDescribed IsConstant) (λ b. bytes_eq b.name t.name) bound h) k.0, all_described_are bound h ts k.1)
+
+module _ (IsConstant : Value → Type 0) (truths : (b : Bool) → IsConstant (literal.Bool b)) (shown : QName → Option Desc) (tree : Tree) where
+  abbrev parts : Part
+  parts = module_of shown tree.name tree.imports (map declaration tree.decls) (map judging tree.body) tree.closing
+
+  abbrev whole : TypedModule
+  whole = typed_module shown tree.name tree.imports (map declaration tree.decls) parts
+
+  not_out : parts.notes.broken ≡ [] → is_out whole.name ≡ false
+  not_out e =
+      let b = is_out tree.name.name || is_system tree.name.name in
+      let n = notes_if b 5 tree.name.pos in
+      let f = first_empty n.broken _ (first_empty (n.broken ++ (Rattle.ob_rules.specs.Declarations.closing_judged tree.name.name (Some tree.closing)).broken) _ e) in
+      first_false (is_out tree.name.name) (is_system tree.name.name) (not_noted b 5 tree.name.pos f)
+
+  whole_is : (out : is_out whole.name ≡ false) → ((x : Expr) → is_spelled x ≡ true → ConstantPhrase IsConstant whole.name shown out (phrase_of x)) → tree_spelled tree ≡ true → AllByRecursion (λ (i : Import). bytes_eq (target_of i).name tree.name.name ≡ false) tree.imports → BodiesAreJudged IsConstant shown whole
+  whole_is out constants s o =
+      let e = and_both (all_true (map decl_spelled tree.decls)) (all_true (map stmt_spelled tree.body)) s in
+      let p = module_is IsConstant truths shown whole out constants tree.name refl tree.imports o (map declaration tree.decls) (decls_good IsConstant truths shown whole out constants tree.decls e.0) tree.body e.1 tree.closing (record { variables = λ x i. i; procedures = λ p i. i }) in
+      record { procedures = p.procedures; body = p.body; scope = p.placed.1.0; name = out; constants = p.full.constants; types = all_described_are IsConstant parts.contents.bound p.full.bound parts.contents.types p.full.types }
+
+  pub bodies_judged : (m : TypedModule) → checked shown tree ≡ Some m → ((out : is_out tree.name.name ≡ false) (x : Expr) → is_spelled x ≡ true → ConstantPhrase IsConstant tree.name.name shown out (phrase_of x)) → tree_spelled tree ≡ true → AllByRecursion (λ (i : Import). bytes_eq (target_of i).name tree.name.name ≡ false) tree.imports → BodiesAreJudged IsConstant shown m
+  bodies_judged m e constants s o =
+      let r = unbroken_is parts.notes.broken whole m e in
+      let out = not_out r.0 in
+      subst (BodiesAreJudged IsConstant shown) r.1 (whole_is out (constants out) s o)

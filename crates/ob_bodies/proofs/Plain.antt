@@ -1,0 +1,216 @@
+-- Constants, types and variables that are declared.
+use Rattle.std.proofs.Common.{◌≡◌, refl, sym, ap, ◌∙◌, subst, ℕ, suc, ◌≤◌, ◌<◌, Bool, true, false, List, [], ◌∷◌, ◌++◌, map, Option, Some, None, inl, inr, arith}
+use Rattle.std.specs.Prelude.{nat_lt, codes}
+use Rattle.std.specs.List.{AllByRecursion}
+use Rattle.ob_tree.specs.declared.pos.Pos.{Pos}
+use Rattle.ob_tree.specs.declared.names.QName.{QName}
+use Rattle.ob_tree.specs.declared.ident.Ident.{Ident}
+use Rattle.ob_tree.specs.declared.ident.IdentDef.{IdentDef}
+use Rattle.ob_tree.specs.declared.ident.Mark.{Mark}
+use Rattle.ob_tree.specs.declared.ident.Mark.TheVariants as mark
+use Rattle.ob_tree.specs.declared.ident.Qualident.{Qualident}
+use Rattle.ob_types.specs.declared.types.TypeRef.{TypeRef}
+use Rattle.ob_types.specs.declared.value.Value.{Value}
+use Rattle.ob_types.specs.declared.value.Value.TheVariants as literal
+use Rattle.ob_types.specs.declared.desc.Desc.{Desc}
+use Rattle.ob_types.specs.declared.desc.Desc.TheVariants as desc
+use Rattle.ob_types.specs.declared.typed.Variable.{Variable}
+use Rattle.ob_types.specs.declared.typed.Variable.TheVariants as variable
+use Rattle.ob_types.specs.declared.typed.TypedType.{TypedType}
+use Rattle.ob_types.specs.declared.typed.TypedVariable.{TypedVariable}
+use Rattle.ob_types.specs.declared.typed.TypedProcedure.{TypedProcedure}
+use Rattle.ob_types.specs.declared.typed.TypedModule.{TypedModule}
+use Rattle.ob_rules.specs.declared.entity.Entity.TheVariants as entity
+use Rattle.ob_rules.specs.Judged.{Judged, sound, both, ◌▷◌}
+use Rattle.ob_rules.specs.Names.{Around, in_unit, is_out}
+use Rattle.ob_rules.specs.Phrases.{Phrase}
+use Rattle.ob_rules.specs.Expressions.{constant_value}
+use Rattle.ob_rules.specs.Types.{Typing, Written, with_types, is_module_level, marked, nothing, typed_as}
+use Rattle.ob_rules.specs.Headings.{mark_or_hidden}
+use Rattle.ob_rules.specs.Declarations.{Contents, no_contents, together, Part, Declared, declare, no_nil, constant_entity, constant_contents, constant_declared, equated, typing_as, type_entity, types_made, type_declared, variable_of, variable_entity, variable_contents, paired_typing, variable_marked, variables_with, first_name, made_in, variables_typed, variables_declared, in_order}
+use Rattle.ob_forms.specs.Said.{IsOneOf}
+use Rattle.ob_described.proofs.Nodes.{Has, then_has, second_has}
+use Rattle.ob_typed.specs.Makes.{IfThere}
+use Rattle.ob_bodies.specs.Knows.{Stands, IsDescribed, EntityStands, Knows}
+use Rattle.ob_bodies.specs.Judged.{IsInside, VariableStands, NameIs}
+use Rattle.ob_bodies.proofs.Lists.{one_left, one_right, there_of}
+use Rattle.ob_bodies.proofs.Typings.{TypingIs, ConstantPhrase, IsGood, typed_is}
+use Rattle.ob_bodies.proofs.Levels.{Level, AtModule, Within, frame, IsPlaced, IsVariableAt, Included, IsFull, none_full, both_full, first_included, second_included, BlockAt, block_typed, block_declared, declared_own, not_outer, not_module}
+
+module _ (IsConstant : Value → Type 0) (shown : QName → Option Desc) (m : TypedModule) (out : is_out m.name ≡ false) where
+  abbrev S : List TypedType → TypeRef → Type 0
+  S own t = Stands m.name shown own t
+
+  abbrev B : Level → Around → Type 0
+  B l u = BlockAt IsConstant shown m l u
+
+  abbrev I : Level → Contents → Type 0
+  I l c = Included IsConstant shown m l c
+
+  abbrev T : List TypedType → Typing → Type 0
+  T own t = TypingIs IsConstant m.name shown out own t
+
+  -- a declaration: what stands around what follows it, and that it adds no procedure and no statement
+  pub record DeclaredIs (l : Level) (d : Declared) : Type 0 where
+    pub around : B l d.around
+    pub procedures : d.part.contents.procedures ≡ []
+    pub body : d.part.contents.body ≡ []
+    pub full : IsFull IsConstant shown m d.part.contents
+
+  abbrev pub IsPlain : (Around → Declared) → Type 0
+  IsPlain f = (l : Level) (u : Around) → B l u → I l (f u).part.contents → DeclaredIs l (f u)
+
+  -- CONSTANTS
+
+  no_nil_is : (at : Pos) (v : Value) → IsConstant v → Has IsConstant (no_nil at v)
+  no_nil_is at literal.Nil h = tt
+  no_nil_is at (literal.Bool b) h = h
+  no_nil_is at (literal.Char c) h = h
+  no_nil_is at (literal.Int z) h = h
+  no_nil_is at (literal.Set n) h = h
+  no_nil_is at (literal.Str text) h = h
+
+  constant_stands : (own : List TypedType) (o : Option (Mark × Value)) → IfThere (λ (p : Mark × Value). Unit {0} × IsConstant p.1) o → EntityStands IsConstant m.name shown own (constant_entity o)
+  constant_stands own None h = tt
+  constant_stands own (Some p) h = h.1
+
+  constant_name : (own : List TypedType) (p : Option TypedProcedure) (level scope : ℕ) (o : Option (Mark × Value)) → NameIs IsConstant shown m own p level scope (constant_entity o)
+  constant_name own p level scope None = tt
+  constant_name own p level scope (Some x) = tt
+
+  constant_adds : (b : Bool) (x : Ident) (o : Option (Mark × Value)) → ((constant_contents b x o).procedures ≡ []) × ((constant_contents b x o).body ≡ [])
+  constant_adds true x None = (refl, refl)
+  constant_adds true x (Some p) = (refl, refl)
+  constant_adds false x o = (refl, refl)
+
+  constant_full : (b : Bool) (x : Ident) (o : Option (Mark × Value)) → IfThere (λ (p : Mark × Value). Unit {0} × IsConstant p.1) o → IsFull IsConstant shown m (constant_contents b x o)
+  constant_full true x None h = none_full IsConstant shown m
+  constant_full true x (Some p) h = record { constants = (h.1, tt); types = tt; bound = tt }
+  constant_full false x o h = none_full IsConstant shown m
+
+  pub constant_plain : (d : IdentDef) (x : Phrase) → ConstantPhrase IsConstant m.name shown out x → IsPlain (constant_declared d x)
+  constant_plain d x c l u b i =
+      let v : Judged Value = constant_value u x ▷ no_nil x.start in
+      let o = (both (marked u false d) v).node in
+      let h = second_has IsConstant (marked u false d) v (then_has IsConstant IsConstant (constant_value u x) (no_nil x.start) (c u b.knows) (λ v g. no_nil_is x.start v g)) in
+      let a = constant_adds (is_module_level u) d.ident o in
+      record {
+        around = block_declared IsConstant shown m l u b d.ident (constant_entity o) (constant_stands u.own o h) (constant_name u.own (frame l) u.level u.scope o);
+        procedures = a.0;
+        body = a.1;
+        full = constant_full (is_module_level u) d.ident o h;
+      }
+
+  -- TYPES
+
+  as_good : (u : Around) → Knows IsConstant m.name shown u → (name : List ℕ) (k : Mark) (w : Written) → IsGood IsConstant m.name shown out w → (o : Option Qualident) → Has (T u.own) (typing_as u name k w o)
+  as_good u k name mk w g (Some q) = then_has (T u.own) (T u.own) (w.typing u name mk false) (λ t. sound (equated u name mk t)) (g u k name mk false) (λ t h. typed_is IsConstant m.name shown out u k name (desc.Alias mk t.of) t.made refl tt h.made)
+  as_good u k name mk w g None = g u k name mk false
+
+  type_made : (own : List TypedType) (o : Option (Mark × Typing)) → IfThere (λ (p : Mark × Typing). Unit {0} × T own p.1) o → AllByRecursion (IsDescribed IsConstant) (types_made o)
+  type_made own None h = tt
+  type_made own (Some p) h = h.1.made
+
+  type_stands : (own : List TypedType) (o : Option (Mark × Typing)) → IfThere (λ (p : Mark × Typing). Unit {0} × T own p.1) o → EntityStands IsConstant m.name shown (types_made o ++ own) (type_entity o)
+  type_stands own None h = tt
+  type_stands own (Some p) h = h.1.of
+
+  type_name : (own : List TypedType) (p : Option TypedProcedure) (level scope : ℕ) (o : Option (Mark × Typing)) → NameIs IsConstant shown m own p level scope (type_entity o)
+  type_name own p level scope None = tt
+  type_name own p level scope (Some x) = tt
+
+  pub type_plain : (d : IdentDef) (w : Written) → IsGood IsConstant m.name shown out w → IsPlain (type_declared d w)
+  type_plain d w g l u b i =
+      let k = marked u false d in
+      let t = typing_as u (u.path ++ d.ident.name) (mark_or_hidden k.node) w w.name in
+      let o = (both k t).node in
+      let h = second_has (T u.own) k t (as_good u b.knows (u.path ++ d.ident.name) (mark_or_hidden k.node) w g w.name) in
+      let v = with_types u (types_made o) in
+      record {
+        around = block_declared IsConstant shown m l v (block_typed IsConstant shown m l u b (types_made o) (type_made u.own o h)) d.ident (type_entity o) (type_stands u.own o h) (type_name v.own (frame l) u.level u.scope o);
+        procedures = refl;
+        body = refl;
+        full = record { constants = tt; types = type_made u.own o h; bound = tt };
+      }
+
+  -- VARIABLES
+
+  unsound_name : (u : Around) (x : Ident) (o : Option (Mark × Typing)) → EntityStands IsConstant m.name shown u.own (variable_entity u x o)
+  unsound_name u x None = tt
+  unsound_name u x (Some p) = tt
+
+  variable_inside : (p : Option TypedProcedure) (own : List TypedType) (x : Ident) (k : Mark) (t : TypeRef) → IsVariableAt IsConstant shown m (Within p) (record { name = x.name; mark = k; of = t }) → S own t → IsInside (S own) p (variable.Local x.name) t
+  variable_inside None own x k t h s = tt
+  variable_inside (Some p) own x k t h s = (inl (record { name = x.name; mark = k; of = t }, (h, (refl, refl))), s)
+
+  variable_stands : (l : Level) (u : Around) → B l u → (x : Ident) (k : Mark) (t : TypeRef) → S u.own t → IsVariableAt IsConstant shown m l (record { name = x.name; mark = k; of = t }) → VariableStands IsConstant shown m u.own (frame l) u.level u.scope (variable_of (is_module_level u) u x.name) t
+  variable_stands AtModule u b x k t s i =
+      let n : variable_of (is_module_level u) u x.name ≡ variable.Module m.name x.name = ap (λ (p : List ℕ). variable_of (nothing p) u x.name) b.placed.0 ∙ ap (λ n. variable.Module n x.name) b.knows.unit_is in
+      record {
+        outside = λ e. ((record { name = x.name; mark = k; of = t }, (i, (n, refl))), s);
+        inside = λ e f. absurd (not_outer IsConstant shown m (ap (λ n. nat_lt 1 n) (sym b.placed.1.0) ∙ e));
+      }
+  variable_stands (Within p) u b x k t s i =
+      let n : variable_of (is_module_level u) u x.name ≡ variable.Local x.name = ap (λ c. variable_of c u x.name) b.placed.0 in
+      record {
+        outside = λ e. absurd (not_module IsConstant shown m u.scope b.placed.1.1 e);
+        inside = λ e f. subst (λ v. IsInside (S u.own) p v t) (sym n) (variable_inside p u.own x k t i s);
+      }
+
+  variable_name : (l : Level) (u : Around) → B l u → (x : Ident) (k : Option Mark) (t : Option Typing) → IfThere (λ t. S u.own t.of) t → I l (variable_contents x (paired_typing k t)) → NameIs IsConstant shown m u.own (frame l) u.level u.scope (variable_entity u x (paired_typing k t))
+  variable_name l u b x (Some k) (Some t) h i = variable_stands l u b x k t.of h (i.variables (record { name = x.name; mark = k; of = t.of }) (inl refl))
+  variable_name l u b x (Some k) None h i = tt
+  variable_name l u b x None t h i = tt
+
+  variable_adds : (x : Ident) (o : Option (Mark × Typing)) → ((variable_contents x o).procedures ≡ []) × ((variable_contents x o).body ≡ [])
+  variable_adds x None = (refl, refl)
+  variable_adds x (Some p) = (refl, refl)
+
+  variable_full : (x : Ident) (o : Option (Mark × Typing)) → IsFull IsConstant shown m (variable_contents x o)
+  variable_full x None = none_full IsConstant shown m
+  variable_full x (Some p) = record { constants = tt; types = tt; bound = tt }
+
+  pub two_empty : {A : Type 0} (xs ys : List A) → xs ≡ [] → ys ≡ [] → xs ++ ys ≡ []
+  two_empty xs ys e f = ap (λ l. l ++ ys) e ∙ f
+
+  variables_plain : (ds : List IdentDef) (t : Option Typing) (l : Level) (u : Around) → B l u → IfThere (λ t. S u.own t.of) t → I l (variables_with ds t u).part.contents → DeclaredIs l (variables_with ds t u)
+  variables_plain [] t l u b h i = record { around = b; procedures = refl; body = refl; full = none_full IsConstant shown m }
+  variables_plain (d ∷ ds) t l u b h i =
+      let k = (marked u true d).node in
+      let o = paired_typing k t in
+      let e = variable_entity u d.ident o in
+      let v = declare u d.ident e in
+      let mine = variable_contents d.ident o in
+      let rest = (variables_with ds t v).part.contents in
+      let c = block_declared IsConstant shown m l u b d.ident e (unsound_name u d.ident o) (variable_name l u b d.ident k t h (first_included IsConstant shown m l mine rest i)) in
+      let r = variables_plain ds t l v c (subst (λ own. IfThere (λ t. S own t.of) t) (sym (declared_own IsConstant shown m u d.ident e)) h) (second_included IsConstant shown m l mine rest i) in
+      let a = variable_adds d.ident o in
+      record { around = r.around; procedures = two_empty mine.procedures rest.procedures a.0 r.procedures; body = two_empty mine.body rest.body a.1 r.body; full = both_full IsConstant shown m mine rest (variable_full d.ident o) r.full }
+
+  in_made : (own : List TypedType) (o : Option Typing) → IfThere (T own) o → AllByRecursion (IsDescribed IsConstant) (made_in o)
+  in_made own None h = tt
+  in_made own (Some t) h = h.made
+
+  in_stands : (own : List TypedType) (o : Option Typing) → IfThere (T own) o → IfThere (λ t. S (made_in o ++ own) t.of) o
+  in_stands own None h = tt
+  in_stands own (Some t) h = h.of
+
+  pub variables_declared_plain : (ds : List IdentDef) (w : Written) → IsGood IsConstant m.name shown out w → IsPlain (variables_declared ds w)
+  variables_declared_plain ds w g l u b i =
+      let t = w.typing u (u.path ++ first_name ds ++ codes ":") mark.Hidden false in
+      let h : Has (T u.own) t = g u b.knows (u.path ++ first_name ds ++ codes ":") mark.Hidden false in
+      let v = with_types u (made_in t.node) in
+      let mine : Contents = record no_contents { types = made_in t.node } in
+      let r = variables_plain ds t.node l v (block_typed IsConstant shown m l u b (made_in t.node) (in_made u.own t.node h)) (in_stands u.own t.node h) (second_included IsConstant shown m l mine (variables_with ds t.node v).part.contents i) in
+      record { around = r.around; procedures = r.procedures; body = r.body; full = both_full IsConstant shown m mine (variables_with ds t.node v).part.contents (record { constants = tt; types = in_made u.own t.node h; bound = tt }) r.full }
+
+  -- IN ORDER
+
+  pub order_plain : (fs : List (Around → Declared)) → AllByRecursion IsPlain fs → IsPlain (in_order fs)
+  order_plain [] g l u b i = record { around = b; procedures = refl; body = refl; full = none_full IsConstant shown m }
+  order_plain (f ∷ fs) g l u b i =
+      let d = f u in
+      let rest = in_order fs d.around in
+      let a = g.0 l u b (first_included IsConstant shown m l d.part.contents rest.part.contents i) in
+      let r = order_plain fs g.1 l d.around a.around (second_included IsConstant shown m l d.part.contents rest.part.contents i) in
+      record { around = r.around; procedures = two_empty d.part.contents.procedures rest.part.contents.procedures a.procedures r.procedures; body = two_empty d.part.contents.body rest.part.contents.body a.body r.body; full = both_full IsConstant shown m d.part.contents rest.part.contents a.full r.full }

@@ -1,0 +1,174 @@
+-- A sequence of declarations with its statements: the bodies of its procedures and its own are judged where what is known is as the module has it.
+use Rattle.std.proofs.Common.{◌≡◌, refl, sym, ap, ◌∙◌, subst, ℕ, suc, ◌≤◌, ◌<◌, Bool, true, false, List, [], ◌∷◌, ◌++◌, map, Option, Some, None, inl, inr}
+use Rattle.std.specs.List.{AllByRecursion, filter_map}
+use Rattle.ob_tree.specs.declared.names.QName.{QName}
+use Rattle.ob_tree.specs.declared.stmt.Stmt.{Stmt}
+use Rattle.ob_types.specs.declared.types.TypeRef.{TypeRef}
+use Rattle.ob_types.specs.declared.value.Value.{Value}
+use Rattle.ob_types.specs.declared.desc.Desc.{Desc}
+use Rattle.ob_types.specs.declared.typed.TypedType.{TypedType}
+use Rattle.ob_types.specs.declared.typed.TypedProcedure.{TypedProcedure}
+use Rattle.ob_types.specs.declared.typed.TypedStmt.{TypedStmt}
+use Rattle.ob_types.specs.declared.typed.TypedModule.{TypedModule}
+use Rattle.ob_rules.specs.declared.entity.Entity.{Entity}
+use Rattle.ob_rules.specs.declared.entity.Known.{Known}
+use Rattle.ob_rules.specs.declared.entity.Bound.{Bound}
+use Rattle.ob_rules.specs.Names.{Around, in_unit, is_out}
+use Rattle.ob_rules.specs.Types.{Parameters, is_module_level}
+use Rattle.ob_rules.specs.Statements.{Judging, judging, in_turn}
+use Rattle.ob_rules.specs.Headings.{Head, Heads, Binding, head_entity, entity_as, reversed}
+use Rattle.ob_rules.specs.Declarations.{Contents, no_contents, together, Part, Declared, Written_procedure, headings_in_order, procedures_judged, stmts_in, body_part, block_inside, with_bound, binding_at, block_headed, block_declared}
+use Rattle.ob_forms.specs.Said.{IsOneOf}
+use Rattle.ob_typed.specs.Makes.{IfThere}
+use Rattle.ob_typed.specs.Spelled.{all_true}
+use Rattle.ob_typed.specs.Bodies.{stmt_spelled}
+use Rattle.ob_bodies.specs.Knows.{Grows, Stands, IsDescribed, EntityStands, Knows}
+use Rattle.ob_bodies.specs.Judged.{AreOf, NameIs, IsJudged}
+use Rattle.ob_bodies.proofs.Lists.{one_all, all_of, all_both, all_pairs, all_one}
+use Rattle.ob_bodies.proofs.Standing.{grows_same, grows_then, entity_grown}
+use Rattle.ob_bodies.proofs.Heads.{SignatureStands, HeadStands, head_grown, all_parameters}
+use Rattle.ob_bodies.proofs.Headings.{Aligned, named_at, IsBehind, aligned_in_order, names_in_order, HeadsStand, named_fine, stand_in_order}
+use Rattle.ob_bodies.proofs.Binding.{binding_changes}
+use Rattle.ob_bodies.proofs.Levels.{Level, AtModule, Within, frame, IsPlaced, Included, none_full, both_full, first_included, second_included, BlockAt, name_grown}
+use Rattle.ob_bodies.proofs.Plain.{DeclaredIs}
+use Rattle.ob_bodies.proofs.Blocks.{one_reversed, all_reversed, all_empty, at_most, procedures_body, PartIs, AreProcedures, headings_good, stands_at, KnownBehind, procedures_are, HasProcedure, heading_there}
+
+module _ (IsConstant : Value → Type 0) (shown : QName → Option Desc) (m : TypedModule) (out : is_out m.name ≡ false) where
+  abbrev B : Level → Around → Type 0
+  B l u = BlockAt IsConstant shown m l u
+
+  abbrev I : Level → Contents → Type 0
+  I l c = Included IsConstant shown m l c
+
+  abbrev HS : List TypedType → ℕ → Head → Type 0
+  HS own scope h = HeadStands IsConstant m.name shown out own scope h
+
+  -- THE NAME OF A PROCEDURE
+
+  signature_at : (own : List TypedType) (o : Option Parameters) (q : Parameters) → o ≡ Some q → IfThere (SignatureStands IsConstant m.name shown out own) o → SignatureStands IsConstant m.name shown out own q
+  signature_at own o q e h = subst (IfThere (SignatureStands IsConstant m.name shown out own)) e h
+
+  head_name : (l : Level) (base : Around) → base.unit ≡ m.name → (own : List TypedType) (h : Head) → HS own base.scope h → h.is_bound ≡ false → ((q : Parameters) → h.parameters ≡ Some q → h.forward ≡ false → HasProcedure IsConstant shown m out m.procedures h q) → (o : Option Parameters) → h.parameters ≡ o → NameIs IsConstant shown m own (frame l) base.level base.scope (head_entity base h o)
+  head_name l base unit own h s free has None e = tt
+  head_name l base unit own h s free has (Some q) e = by h.forward refl
+    where
+      by : (f : Bool) → h.forward ≡ f → NameIs IsConstant shown m own (frame l) base.level base.scope (entity_as f (in_unit base h.path) q.signature)
+      by true f = tt
+      by false f =
+          let r = has q e f in
+          let g = signature_at own h.parameters q e s.signature in
+          record {
+            p = r.p;
+            there = r.there;
+            name = ap (λ (n : List ℕ). record { «module» = n; object = h.path }) unit ∙ ap (λ (x : List ℕ). record { «module» = m.name; object = x }) (sym r.name);
+            result = r.result;
+            parameters = subst (λ ps. AreOf ps q.signature.params) (sym (r.parameters ∙ ap (λ l. l ++ q.parameters) (s.free free))) g.answer;
+            params = g.params;
+            result_stands = g.result;
+          }
+
+  -- PROCEDURES AND STATEMENTS
+
+  placed_with : (l : Level) (u : Around) (ks : List Known) (own : List TypedType) (bs : List Bound) → IsPlaced l u → IsPlaced l (record u { known = ks; own = own; bound = bs; coming = [] })
+  placed_with AtModule u ks own bs h = h
+  placed_with (Within p) u ks own bs h = h
+
+  module _ (l : Level) (base : Around) (b : B l base) (ps : List Written_procedure) (good : AreProcedures IsConstant shown m out ps) (xs : List Stmt) (spelled : all_true (map stmt_spelled xs) ≡ true) where
+    abbrev start : Heads
+    start = record { around = base; before = [] }
+
+    abbrev hs : Heads
+    hs = headings_in_order ps start
+
+    abbrev heads : List Head
+    heads = reversed hs.before
+
+    stand : HeadsStand IsConstant m.name shown out base hs
+    stand = stand_in_order IsConstant m.name shown out base ps (headings_good IsConstant shown m out ps good) start (record { behind = refl; knows = b.knows; below = b.below; before = tt; grows = grows_same base.own })
+
+    aligned : Aligned ps heads
+    aligned = let a = aligned_in_order ps start in subst (Aligned ps) (sym a.is) a.aligned
+
+    module _ (own : List TypedType) (grows : Grows hs.around.own own) (described : AllByRecursion (IsDescribed IsConstant) own) (bound : List Bound) where
+      -- what stands around the procedures and statements
+      abbrev w : Around
+      w = record base { known = hs.around.known; own = own; bound = bound; coming = [] }
+
+      abbrev inside : Part
+      inside = block_inside w ps heads (map judging xs)
+
+      whole : Grows base.own own
+      whole = grows_then base.own hs.around.own own stand.grows grows
+
+      heads_stand : AllByRecursion (HS own base.scope) hs.before
+      heads_stand = all_of (HS hs.around.own base.scope) (HS own base.scope) hs.before (λ h i. head_grown IsConstant m.name shown out hs.around.own own grows base.scope h i) stand.before
+
+      module _ (i : I l inside.contents) where
+        there : (h : Head) → IsOneOf hs.before h → (q : Parameters) → h.parameters ≡ Some q → h.forward ≡ false → HasProcedure IsConstant shown m out m.procedures h q
+        there h j q e f =
+            let r = heading_there IsConstant shown m out w ps heads aligned h (one_reversed hs.before h j) q e f in
+            let c = (procedures_judged w ps heads).contents in
+            record { p = r.p; there = (first_included IsConstant shown m l c (body_part (in_turn (map judging xs) w)).contents i).procedures r.p r.there; name = r.name; result = r.result; parameters = r.parameters }
+
+        named : (h : Head) → IsOneOf hs.before h → h.is_bound ≡ false → KnownBehind IsConstant shown m out l w (named_at base h)
+        named h j free = record {
+          entity = named_fine IsConstant m.name shown out own base h h.parameters;
+          below = at_most base.scope;
+          name = head_name l base b.knows.unit_is own h (one_all (HS own base.scope) hs.before h heads_stand j) free (there h j) h.parameters refl;
+        }
+
+        before : AllByRecursion (KnownBehind IsConstant shown m out l w) base.known
+        before =
+            all_of (λ (k : Known). (EntityStands IsConstant m.name shown base.own k.what × (k.scope ≤ base.scope)) × NameIs IsConstant shown m base.own (frame l) base.level k.scope k.what) (KnownBehind IsConstant shown m out l w) base.known
+            (λ k h. record { entity = entity_grown m.name shown IsConstant base.own own whole k.what h.0.0; below = h.0.1; name = name_grown IsConstant shown m base.own own whole (frame l) base.level k.scope k.what h.1 })
+            (all_pairs (λ (k : Known). EntityStands IsConstant m.name shown base.own k.what × (k.scope ≤ base.scope)) (λ (k : Known). NameIs IsConstant shown m base.own (frame l) base.level k.scope k.what) base.known (all_pairs (λ (k : Known). EntityStands IsConstant m.name shown base.own k.what) (λ (k : Known). k.scope ≤ base.scope) base.known b.knows.known b.below) b.names)
+
+        known : AllByRecursion (KnownBehind IsConstant shown m out l w) hs.around.known × AllByRecursion (λ (h : Head). AllByRecursion (KnownBehind IsConstant shown m out l w) h.known) hs.before
+        known = names_in_order base (KnownBehind IsConstant shown m out l w) ps start refl named before tt
+
+        around : B l w
+        around = record {
+          knows = record { unit_is = b.knows.unit_is; shown_is = b.knows.shown_is; own = described; known = all_of (KnownBehind IsConstant shown m out l w) (λ (k : Known). EntityStands IsConstant m.name shown own k.what) hs.around.known (λ k h. h.entity) known.0 };
+          below = all_of (KnownBehind IsConstant shown m out l w) (λ (k : Known). k.scope ≤ base.scope) hs.around.known (λ k h. h.below) known.0;
+          names = all_of (KnownBehind IsConstant shown m out l w) (λ (k : Known). NameIs IsConstant shown m own (frame l) base.level k.scope k.what) hs.around.known (λ k h. h.name) known.0;
+          placed = placed_with l base hs.around.known own bound b.placed;
+          guards = b.guards;
+          result = b.result;
+          in_loop = b.in_loop;
+        }
+
+        inside_is : PartIs IsConstant shown m out l inside.contents
+        inside_is =
+            let c = (procedures_judged w ps heads).contents in
+            let s = (body_part (in_turn (map judging xs) w)).contents in
+            let a = procedures_are IsConstant shown m out l w around ps good heads (all_reversed (HS own base.scope) hs.before heads_stand) (all_reversed (λ (h : Head). AllByRecursion (KnownBehind IsConstant shown m out l w) h.known) hs.before known.1) (first_included IsConstant shown m l c s i) in
+            record {
+              procedures = all_both (λ p. IsJudged IsConstant shown m (Some p) p.body) c.procedures [] a.procedures tt;
+              body = record { u = w; xs = xs; is = ap (λ l. l ++ s.body) (procedures_body w ps heads); spelled = spelled; stands = stands_at IsConstant shown m out l w around };
+              placed = around.placed;
+              full = both_full IsConstant shown m c s a.full (record { constants = tt; types = tt; bound = tt });
+            }
+
+  -- with what is bound, and the declarations before
+  pub block_is : (l : Level) (ps : List Written_procedure) → AreProcedures IsConstant shown m out ps → (xs : List Stmt) → all_true (map stmt_spelled xs) ≡ true → (outer : Around) (d : Declared) → DeclaredIs IsConstant shown m out l d → I l (block_declared outer ps (map judging xs) d).contents → PartIs IsConstant shown m out l (block_declared outer ps (map judging xs) d).contents
+  block_is l ps good xs spelled outer d g i =
+      let base = d.around in
+      let h = hs l base g.around ps good xs spelled in
+      let all = reversed h.before in
+      let s = stand l base g.around ps good xs spelled in
+      let bind = binding_at (is_module_level outer) h.around all in
+      let ch = binding_changes IsConstant (is_module_level outer) h.around all in
+      let u = with_bound h.around bind in
+      let e : u ≡ record base { known = h.around.known; own = bind.own; bound = bind.bound; coming = [] } = ap (λ (x : Around). record x { own = bind.own; bound = bind.bound; coming = [] }) s.behind in
+      let c = (block_inside u ps all (map judging xs)).contents in
+      let bound : Contents = record no_contents { bound = bind.own } in
+      let j : I l c = second_included IsConstant shown m l bound c (second_included IsConstant shown m l no_contents (together bound c) (second_included IsConstant shown m l d.part.contents (together no_contents (together bound c)) i)) in
+      let p : PartIs IsConstant shown m out l c =
+          subst (λ (x : Around). I l (block_inside x ps all (map judging xs)).contents → PartIs IsConstant shown m out l (block_inside x ps all (map judging xs)).contents) (sym e)
+          (λ k. inside_is l base g.around ps good xs spelled bind.own ch.grows (ch.described s.knows.own) bind.bound k) j in
+      record {
+        procedures = all_both (λ p. IsJudged IsConstant shown m (Some p) p.body) d.part.contents.procedures c.procedures (all_empty (λ p. IsJudged IsConstant shown m (Some p) p.body) d.part.contents.procedures g.procedures) p.procedures;
+        body = record { u = p.body.u; xs = p.body.xs; is = ◌∙◌ {c = stmts_in (in_turn (map judging p.body.xs) p.body.u).node} (ap (λ l. l ++ c.body) g.body) p.body.is; spelled = p.body.spelled; stands = p.body.stands };
+        placed = p.placed;
+        full = both_full IsConstant shown m d.part.contents (together no_contents (together bound c)) g.full (both_full IsConstant shown m no_contents (together bound c) (none_full IsConstant shown m) (both_full IsConstant shown m bound c (record { constants = tt; types = tt; bound = ch.described s.knows.own }) p.full));
+      }

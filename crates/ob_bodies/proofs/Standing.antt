@@ -1,0 +1,71 @@
+-- A type that stands still stands where more types of the module are known.
+use Rattle.std.proofs.Common.{◌≡◌, refl, sym, ap, ◌∙◌, subst, ℕ, Bool, true, false, List, [], ◌∷◌, ◌++◌, Option, Some, None, inl, inr}
+use Rattle.std.specs.Prelude.{bytes_eq, codes, ◌&&◌}
+use Rattle.std.specs.List.{AllByRecursion}
+use Rattle.ob_tree.specs.declared.names.QName.{QName}
+use Rattle.ob_types.specs.declared.types.TypeRef.{TypeRef}
+use Rattle.ob_types.specs.declared.types.TypeRef.TheVariants as ref
+use Rattle.ob_types.specs.declared.value.Value.{Value}
+use Rattle.ob_types.specs.declared.desc.Desc.{Desc}
+use Rattle.ob_types.specs.declared.typed.TypedType.{TypedType}
+use Rattle.ob_rules.specs.declared.entity.Entity.{Entity}
+use Rattle.ob_rules.specs.declared.entity.Entity.TheVariants as entity
+use Rattle.ob_rules.specs.declared.entity.Known.{Known}
+use Rattle.ob_rules.specs.Shapes.{same_name}
+use Rattle.ob_rules.specs.Names.{Around, in_unit, out_string}
+use Rattle.ob_rules.specs.Types.{with_types}
+use Rattle.ob_forms.specs.Said.{IsOneOf}
+use Rattle.ob_relation.proofs.Names.{bytes_same}
+use Rattle.ob_bodies.specs.Knows.{HasName, Grows, StandsBy, Stands, IsDescribed, EntityStands, Knows}
+use Rattle.ob_bodies.proofs.Lists.{one_left, one_right, all_of, all_both}
+
+pub grows_same : (own : List TypedType) → Grows own own
+grows_same own x h = h
+
+pub grows_front : (ts own : List TypedType) → Grows own (ts ++ own)
+grows_front ts own x h = (h.0, (one_right ts own h.0 h.1.0, h.1.1))
+
+pub grows_behind : (ts own : List TypedType) → Grows ts (ts ++ own)
+grows_behind ts own x h = (h.0, (one_left ts own h.0 h.1.0, h.1.1))
+
+pub grows_then : (a b c : List TypedType) → Grows a b → Grows b c → Grows a c
+grows_then a b c f g x h = g x (f x h)
+
+module _ (unit : List ℕ) (shown : QName → Option Desc) where
+  abbrev S : List TypedType → TypeRef → Type 0
+  S own t = Stands unit shown own t
+
+  by_grown : (own more : List TypedType) → Grows own more → (q : QName) (b : Bool) → StandsBy b shown own q → StandsBy b shown more q
+  by_grown own more g q true h = g q.object h
+  by_grown own more g q false h = h
+
+  pub stands_grown : (own more : List TypedType) → Grows own more → (t : TypeRef) → S own t → S more t
+  stands_grown own more g (ref.Basic b) h = tt
+  stands_grown own more g (ref.Named q) h = (h.0, by_grown own more g q (bytes_eq q.«module» unit) h.1)
+
+  module _ (IsConstant : Value → Type 0) where
+    pub entity_grown : (own more : List TypedType) → Grows own more → (e : Entity) → EntityStands IsConstant unit shown own e → EntityStands IsConstant unit shown more e
+    entity_grown own more g (entity.Constant v) h = h
+    entity_grown own more g (entity.TypeName t) h = stands_grown own more g t h
+    entity_grown own more g (entity.Module n) h = h
+    entity_grown own more g (entity.Variable v t) h = tt
+    entity_grown own more g (entity.Procedure q s) h = tt
+    entity_grown own more g (entity.Forward q s) h = tt
+    entity_grown own more g (entity.Predeclared p) h = tt
+    entity_grown own more g entity.LeftOut h = tt
+    entity_grown own more g entity.Unsound h = tt
+
+    pub all_grown : (own more : List TypedType) → Grows own more → (ks : List Known) → AllByRecursion (λ k. EntityStands IsConstant unit shown own k.what) ks → AllByRecursion (λ k. EntityStands IsConstant unit shown more k.what) ks
+    all_grown own more g ks h = all_of (λ k. EntityStands IsConstant unit shown own k.what) (λ k. EntityStands IsConstant unit shown more k.what) ks (λ k. entity_grown own more g k.what) h
+
+    pub with_types_known : (u : Around) → Knows IsConstant unit shown u → (ts : List TypedType) → AllByRecursion (IsDescribed IsConstant) ts → Knows IsConstant unit shown (with_types u ts)
+    with_types_known u k ts h = record {
+      unit_is = k.unit_is;
+      shown_is = k.shown_is;
+      own = all_both (IsDescribed IsConstant) ts u.own h k.own;
+      known = all_grown u.own (ts ++ u.own) (grows_front ts u.own) u.known k.known;
+    }
+
+  -- a name of the module stands where its type does
+  pub own_stands : bytes_eq unit (codes "Out") ≡ false → (ts : List TypedType) (x : List ℕ) → HasName ts x → S ts (ref.Named (record { «module» = unit; object = x }))
+  own_stands out ts x h = (ap (λ b. b && bytes_eq x (codes "String(1")) out, subst (λ b. StandsBy b shown ts (record { «module» = unit; object = x })) (sym (bytes_same unit)) h)

@@ -1,0 +1,124 @@
+-- Where the bodies of a checked module are judged: what is known there is as the module has it.
+use Rattle.std.specs.Prelude.{◌≡◌, ◌⊎◌, ℕ, ◌≤◌, Bool, true, false, nat_lt, List, [], ◌∷◌, Option, Some, None, map}
+use Rattle.std.specs.List.{AllByRecursion}
+use Rattle.ob_tree.specs.declared.names.QName.{QName}
+use Rattle.ob_tree.specs.declared.stmt.Stmt.{Stmt}
+use Rattle.ob_types.specs.declared.types.Mode.{Mode}
+use Rattle.ob_types.specs.declared.types.Mode.TheVariants as mode
+use Rattle.ob_types.specs.declared.types.TypeRef.{TypeRef}
+use Rattle.ob_types.specs.declared.types.Signature.{Signature}
+use Rattle.ob_types.specs.declared.value.Value.{Value}
+use Rattle.ob_types.specs.declared.desc.Desc.{Desc}
+use Rattle.ob_types.specs.declared.typed.Passing.{Passing}
+use Rattle.ob_types.specs.declared.typed.Passing.TheVariants as passing
+use Rattle.ob_types.specs.declared.typed.Variable.{Variable}
+use Rattle.ob_types.specs.declared.typed.Variable.TheVariants as variable
+use Rattle.ob_types.specs.declared.typed.TypedType.{TypedType}
+use Rattle.ob_types.specs.declared.typed.TypedConstant.{TypedConstant}
+use Rattle.ob_types.specs.declared.typed.TypedVariable.{TypedVariable}
+use Rattle.ob_types.specs.declared.typed.TypedParameter.{TypedParameter}
+use Rattle.ob_types.specs.declared.typed.TypedProcedure.{TypedProcedure}
+use Rattle.ob_types.specs.declared.typed.TypedStmt.{TypedStmt}
+use Rattle.ob_types.specs.declared.typed.TypedModule.{TypedModule}
+use Rattle.ob_rules.specs.declared.entity.Entity.{Entity}
+use Rattle.ob_rules.specs.declared.entity.Entity.TheVariants as entity
+use Rattle.ob_rules.specs.Names.{Around, is_out}
+use Rattle.ob_rules.specs.Statements.{judging, in_turn}
+use Rattle.ob_rules.specs.Declarations.{stmts_in}
+use Rattle.ob_forms.specs.Said.{IsOneOf}
+use Rattle.ob_typed.specs.Makes.{IfThere}
+use Rattle.ob_typed.specs.Spelled.{all_true}
+use Rattle.ob_typed.specs.Bodies.{stmt_spelled}
+use Rattle.ob_bodies.specs.Knows.{Stands, IsDescribed, Knows}
+
+-- by value or by VAR
+abbrev pub mode_of : Passing → Mode
+mode_of passing.Scalar = mode.Value
+mode_of passing.Structure = mode.Value
+mode_of passing.OpenArray = mode.Value
+mode_of passing.Variable = mode.Var
+mode_of passing.VariableRecord = mode.Var
+mode_of passing.VariableOpenArray = mode.Var
+
+-- parameters have the modes and types of a signature
+abbrev pub AreOf : List TypedParameter → List (Mode × TypeRef) → Type 0
+AreOf [] [] = Unit {0}
+AreOf [] (k ∷ ks) = ⊥
+AreOf (p ∷ ps) [] = ⊥
+AreOf (p ∷ ps) (k ∷ ks) = ((p.of ≡ k.1) × (mode_of p.passing ≡ k.0)) × AreOf ps ks
+
+-- one of these parameters, by its name
+abbrev pub IsParameter : List TypedParameter → Variable → TypeRef → Type 0
+IsParameter ps v t = (p : TypedParameter) × (IsOneOf ps p × ((v ≡ variable.Parameter p.passing p.name) × (t ≡ p.of)))
+
+-- one of these variables of a procedure
+abbrev pub IsLocal : List TypedVariable → Variable → TypeRef → Type 0
+IsLocal xs v t = (x : TypedVariable) × (IsOneOf xs x × ((v ≡ variable.Local x.name) × (t ≡ x.of)))
+
+-- one of these variables of the module
+abbrev pub IsGlobal : List ℕ → List TypedVariable → Variable → TypeRef → Type 0
+IsGlobal unit xs v t = (x : TypedVariable) × (IsOneOf xs x × ((v ≡ variable.Module unit x.name) × (t ≡ x.of)))
+
+-- a variable or parameter of the procedure at hand; nothing is said of a procedure whose heading breaks a rule
+abbrev pub IsInside : (TypeRef → Type 0) → Option TypedProcedure → Variable → TypeRef → Type 0
+IsInside Known None v t = Unit {0}
+IsInside Known (Some p) v t = (IsLocal p.locals v t ⊎ IsParameter p.parameters v t) × Known t
+
+abbrev pub result_of : Option TypedProcedure → Option TypeRef
+result_of None = None
+result_of (Some p) = p.result
+
+module _ (IsConstant : Value → Type 0) (shown : QName → Option Desc) (m : TypedModule) where
+  abbrev pub StandsIn : List TypedType → TypeRef → Type 0
+  StandsIn own t = Stands m.name shown own t
+
+  -- the module has a procedure of that name and signature
+  pub record IsProcedureIn (own : List TypedType) (q : QName) (s : Signature) : Type 0 where
+    pub p : TypedProcedure
+    pub there : IsOneOf m.procedures p
+    pub name : q ≡ record { «module» = m.name; object = p.name }
+    pub result : p.result ≡ s.result
+    pub parameters : AreOf p.parameters s.params
+    -- the types of its signature stand
+    pub params : AllByRecursion (λ k. StandsIn own k.1) s.params
+    pub result_stands : IfThere (StandsIn own) s.result
+
+  -- in the scope of that number, where the variables of the scope `level` may be named
+  pub record VariableStands (own : List TypedType) (p : Option TypedProcedure) (level scope : ℕ) (v : Variable) (t : TypeRef) : Type 0 where
+    pub outside : nat_lt 1 scope ≡ false → IsGlobal m.name m.variables v t × StandsIn own t
+    pub inside : nat_lt 1 scope ≡ true → nat_lt scope level ≡ false → IsInside (StandsIn own) p v t
+
+  -- what a known name is, in a procedure of the module
+  abbrev pub NameIs : List TypedType → Option TypedProcedure → (level scope : ℕ) → Entity → Type 0
+  NameIs own p level scope (entity.Variable v t) = VariableStands own p level scope v t
+  NameIs own p level scope (entity.Procedure q s) = IsProcedureIn own q s
+  NameIs own p level scope e = Unit {0}
+
+  -- what stands around the statements of a procedure, or of the module
+  pub record StandsAround (p : Option TypedProcedure) (u : Around) : Type 0 where
+    pub knows : Knows IsConstant m.name shown u
+    pub below : AllByRecursion (λ k. k.scope ≤ u.scope) u.known
+    pub names : AllByRecursion (λ k. NameIs u.own p u.level k.scope k.what) u.known
+    pub guards : u.guards ≡ []
+    pub result : u.result ≡ result_of p
+    pub in_loop : u.in_loop ≡ false
+
+  -- Statements of the text are judged there, and this is what they come to, or nothing.
+  pub record IsJudged (p : Option TypedProcedure) (body : List TypedStmt) : Type 0 where
+    pub u : Around
+    pub xs : List Stmt
+    pub is : body ≡ stmts_in (in_turn (map judging xs) u).node
+    pub spelled : all_true (map stmt_spelled xs) ≡ true
+    pub stands : StandsAround p u
+
+  -- the bodies of the procedures, and the body of the module
+  pub record BodiesAreJudged : Type 0 where
+    pub procedures : AllByRecursion (λ p. IsJudged (Some p) p.body) m.procedures
+    pub body : IsJudged None m.body
+    -- in the scope of the module
+    pub scope : body.u.scope ≡ 1
+    -- the module is not Out
+    pub name : is_out m.name ≡ false
+    -- its constants are constants, its types are described as types, and arrays have lengths
+    pub constants : AllByRecursion (λ (c : TypedConstant). IsConstant c.value) m.constants
+    pub types : AllByRecursion (IsDescribed IsConstant) m.types

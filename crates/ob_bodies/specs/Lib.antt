@@ -1,0 +1,4 @@
+pub mod Spelled
+pub mod Knows
+pub mod Judged
+pub mod Laws

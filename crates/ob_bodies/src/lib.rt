@@ -1,0 +1,20 @@
+//! Where the bodies of a checked module are judged: what is known there is as the module has it.
+#![tactic(auto)]
+
+ghost use Rattle.ob_bodies.specs.Laws.{BodiesJudged, HiddenStand};
+
+/// A law, with nothing to run. The bodies of the procedures of a checked module, and its own body, are
+/// judged in surroundings (`specs/Judged.antt`: `StandsAround`) where each known variable that may be
+/// named is one of the module, or one of the procedure at hand or its parameters; each known procedure
+/// is one of the module, of that signature; and each type is one that the module declared before or an
+/// imported module shows. No guard stands around a body, and its result is the procedure's. The module
+/// imports others than itself, and its constant expressions come to constants.
+pub fn bodies_are_known()
+    ensures { BodiesJudged }
+{}
+
+/// A law, with nothing to run. The variables that the FOR and CASE of a text keep are among those of
+/// the procedure that it is judged to.
+pub fn hidden_are_kept()
+    ensures { HiddenStand }
+{}

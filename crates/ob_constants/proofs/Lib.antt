@@ -1,0 +1,4 @@
+pub mod Folded
+pub mod Functions
+pub mod Phrased
+pub mod Expressions

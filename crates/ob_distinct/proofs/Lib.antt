@@ -1,0 +1,12 @@
+pub mod Fresh
+pub mod Blocks
+pub mod Parts
+pub mod Quiet
+pub mod Typings
+pub mod Written
+pub mod Scopes
+pub mod FieldTypings
+pub mod FieldWritten
+pub mod FieldHeads
+pub mod FieldBlocks
+pub mod Short

@@ -1,0 +1,5 @@
+pub mod Distinct
+pub mod Parts
+pub mod Named
+pub mod Fields
+pub mod Short

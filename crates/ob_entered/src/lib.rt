@@ -1,0 +1,16 @@
+//! What the object files of builds that are loaded together have of them, and that they can be
+//! entered.
+#![tactic(auto)]
+
+ghost use Rattle.ob_entered.specs.Loaded.{CommandsAreThere, LoadedEnter, NamesAreShown, WordsAreCounted};
+
+/// A law, with nothing to run, of each build of some that are loaded together: its module shows its
+/// own name, and the words of its file's globals are those that a plan counts; its commands have in
+/// the file the numbers of their procedures (taken for granted: `BuildsAreSaid`). And the files can
+/// be entered one behind the other (taken for granted: `BuildsAreWritten` and `BuildsAreSaid`).
+pub fn loaded_files()
+    ensures names { NamesAreShown }
+    ensures words { WordsAreCounted }
+    ensures commands { CommandsAreThere }
+    ensures enterable { LoadedEnter }
+{}

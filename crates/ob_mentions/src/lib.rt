@@ -1,0 +1,27 @@
+//! What the rules look at in the descriptions of other modules is what a text mentions.
+#![tactic(auto)]
+
+ghost use Rattle.ob_mentions.specs.Laws.{TypesAgree, NamesAgree, ExpressionsAgree, DesignatorsAgree, ConstantsAgree, StatementsAgree, WrittenAgree, DeclarationsAgree, HeadingsAgree, CountedIsSaid};
+
+/// Laws, with nothing to run. Where two maps of descriptions say the same of these names, and what
+/// is near each of them is among them (`specs/Agreement.antt`), each test of types that the rules
+/// make comes out the same over both (`specs/Laws.antt`: `Alike`). And where what stands around a
+/// part of a text agrees so with another that differs in what imported modules show
+/// (`specs/Followed.antt`): names of types, expressions, designators, constants, statements and
+/// types as they are written are judged the same there where they have a node, and so are constants,
+/// types and variables that are declared in their order (`specs/Declared.antt`) and headings of
+/// procedures (`specs/Headed.antt`) where no rule is broken, if all that they mention is among
+/// these names (`specs/Said.antt`). That is so where the types whose shapes count for the uses of a
+/// module are among them.
+pub fn judged_alike()
+    ensures types { TypesAgree }
+    ensures names { NamesAgree }
+    ensures expressions { ExpressionsAgree }
+    ensures designators { DesignatorsAgree }
+    ensures constants { ConstantsAgree }
+    ensures statements { StatementsAgree }
+    ensures written { WrittenAgree }
+    ensures declarations { DeclarationsAgree }
+    ensures headings { HeadingsAgree }
+    ensures counted { CountedIsSaid }
+{}

@@ -1,0 +1,15 @@
+pub mod Judges
+pub mod Knowing
+pub mod Points
+pub mod Typings
+pub mod Written
+pub mod Apart
+pub mod Plain
+pub mod Headings
+pub mod Sequences
+pub mod Blocks
+pub mod Modules
+pub mod Tokens
+pub mod Texts
+pub mod Faces
+pub mod Compiled

@@ -1,0 +1,130 @@
+-- The fields of the records of a program have different names, also where they are laid out; and nothing is declared of Out.
+use Rattle.std.proofs.Common.{◌≡◌, ◌≢◌, ℕ, suc, Bool, true, false, List, [], ◌∷◌, ◌++◌, map, Option, Some, None, refl, sym, ap, subst, ◌∙◌}
+use Rattle.std.specs.Prelude.{bytes_eq, if◌then◌else◌, codes, MatchOption}
+use Rattle.std.specs.List.{AllByRecursion}
+use Rattle.std.specs.declared.cmp.Ordering.{Ordering}
+use Rattle.std.specs.declared.cmp.Ordering.TheVariants as order
+use Rattle.ob_tree.specs.declared.names.QName.{QName}
+use Rattle.ob_types.specs.declared.types.TypeRef.{TypeRef}
+use Rattle.ob_types.specs.declared.desc.Desc.{Desc}
+use Rattle.ob_types.specs.declared.desc.Desc.TheVariants as desc
+use Rattle.ob_types.specs.declared.desc.RecordDesc.{RecordDesc}
+use Rattle.ob_types.specs.declared.desc.Field.{Field}
+use Rattle.ob_types.specs.declared.typed.TypedType.{TypedType}
+use Rattle.ob_types.specs.TypedSyntax.{Module}
+use Rattle.ob_types.specs.TypedView.{module_view}
+use Rattle.ob_meaning.specs.Values.{Program, type_named, description}
+use Rattle.ob_relation.proofs.Names.{bytes_sym}
+use Rattle.ob_desc.specs.Grammar.{by_place}
+use Rattle.ob_layout.specs.Lists.{put_before, put_in, in_order}
+use Rattle.ob_layout.specs.LaidOut.{base_of, words_in, procedures_in, placed, laid_desc, laid_type}
+use Rattle.ob_env.specs.Faces.{described}
+use Rattle.ob_rules.specs.Names.{is_out, out_string}
+use Rattle.ob_forms.specs.Said.{IsFreshName, HaveNames}
+use Rattle.ob_compile.specs.Compiling.{Compiled}
+use Rattle.ob_distinct.specs.Distinct.{AreDistinct}
+use Rattle.ob_distinct.specs.Fields.{FieldsDiffer, AreApart}
+use Rattle.ob_distinct.proofs.Blocks.{not_out}
+use Rattle.ob_distinct.proofs.FieldBlocks.{fields_differ}
+use Rattle.ob_ages.specs.Builds.{Text, Build, IsValid, of, tree_of, name_of}
+use Rattle.ob_ages.specs.Laws.{IsBehind, AreTogether}
+use Rattle.ob_joining.specs.Builds.{program_of}
+use Rattle.ob_sized.specs.Sizes.{FieldsHaveNames, NothingOfOut}
+use Rattle.ob_sized.proofs.Different.{build_comes}
+
+-- ---- fields in another order
+
+fresh_put : (R : Field → Field → Ordering) (x : List ℕ) (f : Field) (fs : List Field) → x ≢ f.name → IsFreshName x fs → IsFreshName x (put_in R f fs)
+fresh_put R x f [] n h = (n, tt)
+fresh_put R x f (g ∷ gs) n h = by (R f g) (fresh_put R x f gs n h.1)
+  where
+    by : (o : Ordering) → IsFreshName x (put_in R f gs) → IsFreshName x (put_before o f g gs (put_in R f gs))
+    by order.Less k = (n, h)
+    by order.Equal k = h
+    by order.Greater k = (h.0, k)
+
+names_put : (R : Field → Field → Ordering) (f : Field) (fs : List Field) → IsFreshName f.name fs → HaveNames fs → HaveNames (put_in R f fs)
+names_put R f [] n h = (tt, tt)
+names_put R f (g ∷ gs) n h = by (R f g) (names_put R f gs n.1 h.1)
+  where
+    by : (o : Ordering) → HaveNames (put_in R f gs) → HaveNames (put_before o f g gs (put_in R f gs))
+    by order.Less k = (n, h)
+    by order.Equal k = h
+    by order.Greater k = (fresh_put R g.name f gs (λ e. n.0 (sym e)) h.0, k)
+
+fresh_ordered : (R : Field → Field → Ordering) (x : List ℕ) (fs : List Field) → IsFreshName x fs → IsFreshName x (in_order R fs)
+fresh_ordered R x [] h = tt
+fresh_ordered R x (f ∷ fs) h = fresh_put R x f (in_order R fs) h.0 (fresh_ordered R x fs h.1)
+
+names_ordered : (R : Field → Field → Ordering) (fs : List Field) → HaveNames fs → HaveNames (in_order R fs)
+names_ordered R [] h = tt
+names_ordered R (f ∷ fs) h = names_put R f (in_order R fs) (fresh_ordered R f.name fs h.0) (names_ordered R fs h.1)
+
+fresh_placed : (words : TypeRef → ℕ) (n : ℕ) (x : List ℕ) (fs : List Field) → AllByRecursion (λ f. f.name ≢ x) fs → IsFreshName x (placed words n fs)
+fresh_placed words n x [] h = tt
+fresh_placed words n x (f ∷ fs) h = (λ e. h.0 (sym e), fresh_placed words _ x fs h.1)
+
+names_placed : (words : TypeRef → ℕ) (n : ℕ) (fs : List Field) → AreDistinct (λ f. f.name) fs → HaveNames (placed words n fs)
+names_placed words n [] h = tt
+names_placed words n (f ∷ fs) h = (fresh_placed words _ f.name fs h.0, names_placed words _ fs h.1)
+
+-- ---- of what a module declares
+
+abbrev HasNames : Desc → Type 0
+HasNames (desc.Record r) = HaveNames r.fields
+HasNames d = Unit {0}
+
+laid_names : (words procedures : TypeRef → ℕ) (q : QName) (d : Desc) → FieldsDiffer d → HasNames (laid_desc words procedures q d)
+laid_names words procedures q (desc.Const v) h = tt
+laid_names words procedures q (desc.Var m t) h = tt
+laid_names words procedures q (desc.Proc s) h = tt
+laid_names words procedures q (desc.Alias m t) h = tt
+laid_names words procedures q (desc.Array m n t) h = tt
+laid_names words procedures q (desc.OpenArray m t) h = tt
+laid_names words procedures q (desc.Pointer m t) h = tt
+laid_names words procedures q (desc.ProcType m s) h = tt
+laid_names words procedures q (desc.Record r) h = names_ordered by_place (placed words (base_of words r.base) r.fields) (names_placed words (base_of words r.base) r.fields h)
+
+all_laid : (types : QName → Option Desc) (m : Module) (ts : List TypedType) → AreApart ts → AllByRecursion (λ t. HasNames t.desc) (map (laid_type types m) ts)
+all_laid types m [] h = tt
+all_laid types m (t ∷ ts) h = (laid_names (words_in types m) (procedures_in types m) (record { «module» = m.name; object = t.name }) t.desc h.0, all_laid types m ts h.1)
+
+build_names : (b : Build) (c : Compiled Text) → IsValid b c → AllByRecursion (λ t. HasNames t.desc) (tree_of b).types
+build_names b c v =
+    let k = build_comes b c v in
+    subst (λ (x : Compiled Text). AllByRecursion (λ (t : TypedType). HasNames t.desc) x.tree.types) (sym k.is) (all_laid (described (of b).against) (module_view k.module_is) k.module_is.types (fields_differ _ k.tree k.module_is k.checked_is))
+
+-- ---- of a program
+
+found_names : (ts : List TypedType) (x : List ℕ) (d : Desc) → AllByRecursion (λ t. HasNames t.desc) ts → type_named ts x ≡ Some d → HasNames d
+found_names [] x d h e = absurd cc
+found_names (t ∷ ts) x d h e = by (bytes_eq x t.name) e (λ e. found_names ts x d h.1 e)
+  where
+    by : (b : Bool) → (if b then Some t.desc else type_named ts x) ≡ Some d → (type_named ts x ≡ Some d → HasNames d) → HasNames d
+    by true e r = let k : t.desc ≡ d = cc in subst HasNames k h.0
+    by false e r = r e
+
+described_names : (before bs : List Build) → AreTogether before bs → (q : QName) (d : Desc) → description (program_of bs) q ≡ Some d → HasNames d
+described_names before [] h q d e = absurd cc
+described_names before (b ∷ bs) h q d e = by (bytes_eq q.module (tree_of b).name) e (λ e. described_names (before ++ b ∷ []) bs h.1 q d e)
+  where
+    by : (x : Bool) → (if x then type_named (tree_of b).types q.object else description (program_of bs) q) ≡ Some d → (description (program_of bs) q ≡ Some d → HasNames d) → HasNames d
+    by true e r = found_names (tree_of b).types q.object d (build_names b h.0.valid.0 h.0.valid.1) e
+    by false e r = r e
+
+pub fields_have_names : FieldsHaveNames
+fields_have_names bs h q r e = described_names [] bs h.together q (desc.Record r) e
+
+-- ---- Out
+
+named_other : (b : Build) (c : Compiled Text) → IsValid b c → bytes_eq (codes "Out") (tree_of b).name ≡ false
+named_other b c v =
+    let k = build_comes b c v in
+    bytes_sym (codes "Out") (tree_of b).name ∙ subst (λ (x : Compiled Text). is_out x.tree.name ≡ false) (sym k.is) (not_out _ k.tree k.module_is k.checked_is)
+
+none_of_out : (before bs : List Build) → AreTogether before bs → description (program_of bs) out_string ≡ None
+none_of_out before [] h = refl
+none_of_out before (b ∷ bs) h = ap (λ (x : Bool). if x then type_named (tree_of b).types out_string.object else description (program_of bs) out_string) (named_other b h.0.valid.0 h.0.valid.1) ∙ none_of_out (before ++ b ∷ []) bs h.1
+
+pub nothing_of_out : NothingOfOut
+nothing_of_out bs h = none_of_out [] bs h.together

@@ -1,0 +1,4 @@
+pub mod Forms
+pub mod Designators
+pub mod Statements
+pub mod Whole

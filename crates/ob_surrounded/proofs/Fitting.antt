@@ -1,0 +1,39 @@
+-- A body that is judged where what is known is so in the program is well typed.
+use Rattle.std.proofs.Common.{◌≡◌, refl, sym, ap, ◌∙◌, subst, ℕ, List, [], ◌∷◌, map, Option, Some, None, Bool, true, false}
+use Rattle.ob_tree.specs.declared.names.QName.{QName}
+use Rattle.ob_types.specs.declared.types.Signature.{Signature}
+use Rattle.ob_types.specs.declared.desc.Desc.{Desc}
+use Rattle.ob_types.specs.declared.typed.TypedStmt.{TypedStmt}
+use Rattle.ob_types.specs.declared.typed.TypedProcedure.{TypedProcedure}
+use Rattle.ob_types.specs.declared.typed.TypedModule.{TypedModule}
+use Rattle.ob_types.specs.TypedSyntax.{Procedure}
+use Rattle.ob_types.specs.TypedView.{stmts_view}
+use Rattle.ob_meaning.specs.Values.{Program}
+use Rattle.ob_relation.specs.Layout.{static_held}
+use Rattle.ob_relation.specs.Relation.{AreDifferent}
+use Rattle.ob_relation.specs.Typed.{StmtsOk}
+use Rattle.ob_rules.specs.Statements.{judging, in_turn}
+use Rattle.ob_rules.specs.Declarations.{stmts_in}
+use Rattle.ob_typed.specs.Known.{ConstantIs}
+use Rattle.ob_typed.specs.Laws.{Having}
+use Rattle.ob_typed.specs.Surrounded.{IsSurrounded}
+use Rattle.ob_typed.proofs.Whole.{statements_fit, surroundings_fit}
+use Rattle.ob_bodies.specs.Judged.{IsJudged}
+use Rattle.ob_bodies.proofs.Held.{hidden_stand}
+use Rattle.ob_surrounded.specs.Laws.{BodiesFit}
+
+pub bodies_fit : BodiesFit
+bodies_fit program has shown checked f body j p b different s = subst (λ x. Ok x false) (sym b) (by (in_turn (map judging j.xs) j.u).node refl)
+  where
+    abbrev Ok : Rattle.ob_types.specs.TypedSyntax.Stmts → Bool → Type 0
+    Ok x l = StmtsOk program (Having has) checked.name (static_held program p) p.result x l
+
+    some : (ys : List TypedStmt) → (in_turn (map judging j.xs) j.u).node ≡ Some ys → body ≡ ys → Ok (stmts_view ys) false
+    some ys e k =
+        subst (λ l. Ok (stmts_view ys) l) j.stands.in_loop
+        (statements_fit program has checked.name (static_held program p) p.result j.u (surroundings_fit program has checked.name (static_held program p) p.result j.u s) j.xs j.spelled
+        (hidden_stand program has checked.name p.result j.u j.xs ys e p (b ∙ ap stmts_view k) different) ys e)
+
+    by : (o : Option (List TypedStmt)) → (in_turn (map judging j.xs) j.u).node ≡ o → Ok (stmts_view body) false
+    by None e = subst (λ x. Ok (stmts_view x) false) (sym (j.is ∙ ap stmts_in e)) tt
+    by (Some ys) e = let k : body ≡ ys = j.is ∙ ap stmts_in e in subst (λ x. Ok (stmts_view x) false) (sym k) (some ys e k)

@@ -1,0 +1,4 @@
+pub mod Standing
+pub mod Variables
+pub mod Names
+pub mod Fitting

@@ -1,0 +1,4 @@
+pub mod Same
+pub mod Values
+pub mod Stays
+pub mod Around

@@ -1,0 +1,4 @@
+pub mod Same
+pub mod Valued
+pub mod Laws
+pub mod Around
