@@ -21,8 +21,31 @@ use Rattle.ob_reading.specs.Reading.{NoModule, reading}
 use Rattle.ob_compile.specs.Compiling as c
 use Rattle.ob_compile.specs.Compiling.{Refusal, Compiled, compiled, texts, made, within, exceeds, of_checked, of_break, by_rules, and_limits, unless_deep, is_deep, of_faces, of_standing, of_reached, of_few, of_tree, of_reading, of_short, most_imports, most_source, imported}
 use Rattle.ob_ages.specs.Builds.{Text, Build, IsValid, entry_of, compiled_of}
-use Rattle.ob_ages.proofs.Compiled.{ok_is, err_no}
+use Rattle.std.proofs.lemmas.Bool.{false≢true}
 use Rattle.ob_locality.proofs.Walked.{AreNotOut, LeavesNotOut, AreNamed, walk_clean, only_named}
+
+abbrev Answer : Type 0
+Answer = Result (Compiled Text) (Refusal Text)
+
+abbrev ok_or : Compiled Text → Answer → Compiled Text
+ok_or d (Ok x) = x
+ok_or d (Err e) = d
+
+abbrev is_ok : Answer → Bool
+is_ok (Ok x) = true
+is_ok (Err e) = false
+
+abbrev an_ok : Compiled Text → Answer
+an_ok x = Ok x
+
+abbrev an_err : Refusal Text → Answer
+an_err r = Err r
+
+ok_is : (x y : Compiled Text) → an_ok x ≡ an_ok y → x ≡ y
+ok_is x y e = ap (ok_or x) e
+
+err_no : (r : Refusal Text) (y : Compiled Text) → an_err r ≡ an_ok y → ⊥
+err_no r y e = false≢true (ap is_ok e)
 
 -- what it was made of
 pub record ComesOf (tree : Tree) (x : Compiled Text) : Type 0 where

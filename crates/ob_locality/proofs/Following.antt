@@ -21,11 +21,11 @@ use Rattle.ob_local.specs.Checked.{IsChecked}
 use Rattle.ob_local.proofs.Whole.{modules_are_local}
 use Rattle.ob_local.proofs.Bridged.{counts_are_enough}
 use Rattle.ob_local.proofs.Blanked.{shapes_are_told}
-use Rattle.ob_locality.specs.Laws.{ShowAlike, RulesAreLocal, BuildsAreChecked, LocalityWithoutOut, LocalityFollows}
+use Rattle.ob_locality.specs.Laws.{ShowAlike, RulesAreLocal, BuildsAreChecked, LocalityFollows}
 use Rattle.ob_locality.proofs.Walked.{have_none}
 use Rattle.ob_locality.proofs.Compiled.{ComesOf, comes_of}
 
-module _ (rules : RulesAreLocal) (are_checked : BuildsAreChecked) (b : Build) (c : Compiled Text) (m : Tree) (valid : IsValid b c) (read : reading b.source ≡ Ok m) (faces : List (Face Text)) (around : AreAround c.shows.«module» faces) (out : HaveNoOut faces) (wanted : AreAsWanted faces c.shows.uses) where
+module _ (rules : RulesAreLocal) (are_checked : BuildsAreChecked) (b : Build) (c : Compiled Text) (m : Tree) (valid : IsValid b c) (read : reading b.source ≡ Ok m) (faces : List (Face Text)) (around : AreAround c.shows.«module» faces) (wanted : AreAsWanted faces c.shows.uses) where
   from : ComesOf m c
   from = comes_of b c m valid read
 
@@ -57,13 +57,13 @@ module _ (rules : RulesAreLocal) (are_checked : BuildsAreChecked) (b : Build) (c
   met = subst (λ (x : Compiled Text). AreAsWanted faces x.shows.uses) is wanted
 
   same : local.IsSame c.against faces T
-  same = modules_are_local c.against faces T spelled around.spelled no_out out (counts_are_enough c.against T tied) met
+  same = modules_are_local c.against faces T spelled around.spelled no_out around.out (counts_are_enough c.against T tied) met
 
   alike : ShowAlike c.against faces t
-  alike = λ q near other. shapes_are_told c.against faces T spelled around.spelled no_out out tied.held met q near other
+  alike = λ q near other. shapes_are_told c.against faces T spelled around.spelled no_out around.out tied.held met q near other
 
   ruled : (checked (shown faces) m ≡ Some t) × (first_break (shown faces) m ≡ None)
-  ruled = rules b c m t valid read (comes_of b c m valid read).tree_is (comes_of b c m valid read).unbroken tied faces no_out out alike
+  ruled = rules b c m t valid read (comes_of b c m valid read).tree_is (comes_of b c m valid read).unbroken tied faces no_out around.out alike
 
   rules_give : by_rules texts faces m ≡ Ok second
   rules_give = ap (λ o. of_break texts faces o (first_break (shown faces) m)) ruled.0 ∙ ap (of_break texts faces (Some t)) ruled.1
@@ -84,4 +84,4 @@ module _ (rules : RulesAreLocal) (are_checked : BuildsAreChecked) (b : Build) (c
   })
 
 pub locality_follows : LocalityFollows
-locality_follows rules are_checked b c m valid read faces around out wanted = follows rules are_checked b c m valid read faces around out wanted
+locality_follows rules are_checked b c m valid read faces around wanted = follows rules are_checked b c m valid read faces around wanted

@@ -1,5 +1,5 @@
 -- Locality: a valid build is the same against all interfaces that have the texts of its uses.
-use Rattle.std.specs.Prelude.{◌≡◌, ℕ, List, true, false, Option, Some, None, Result, Ok}
+use Rattle.std.specs.Prelude.{◌≡◌, List, false, Some, None, Ok}
 use Rattle.ob_tree.specs.declared.names.QName.{QName}
 use Rattle.ob_tree.specs.declared.decl.Module.{Module as Tree}
 use Rattle.ob_types.specs.declared.typed.TypedModule.{TypedModule}
@@ -9,9 +9,9 @@ use Rattle.ob_layout.specs.LaidOut.{is_own}
 use Rattle.ob_env.specs.Faces.{Face}
 use Rattle.ob_env.specs.Shown.{shown}
 use Rattle.ob_reading.specs.Reading.{reading}
-use Rattle.ob_compile.specs.Compiling.{Compiled, texts, by_rules}
+use Rattle.ob_compile.specs.Compiling.{Compiled}
 use Rattle.ob_ages.specs.Builds.{Text, Build, IsValid}
-use Rattle.ob_ages.specs.Laws.{AreAsWanted, IsSame, AreAround}
+use Rattle.ob_ages.specs.Laws.{Locality}
 use Rattle.ob_local.specs.Agreeing.{IsNear}
 use Rattle.ob_local.specs.Laws.{HaveNoOut, over, view}
 use Rattle.ob_local.specs.Checked.{IsChecked}
@@ -31,12 +31,6 @@ RulesAreLocal = (b : Build) (c : Compiled Text) (m : Tree) (t : TypedModule) →
 abbrev pub BuildsAreChecked : Type 0
 BuildsAreChecked = (b : Build) (c : Compiled Text) (m : Tree) (t : TypedModule) → IsValid b c → reading b.source ≡ Ok m → checked (shown c.against) m ≡ Some t → first_break (shown c.against) m ≡ None → IsChecked c.against (module_view t)
 
--- LOCALITY against interfaces none of which is of the built-in module Out
-abbrev pub LocalityWithoutOut : Type 0
-LocalityWithoutOut = (b : Build) (c : Compiled Text) (m : Tree) → IsValid b c → reading b.source ≡ Ok m →
-    (faces : List (Face Text)) → AreAround c.shows.«module» faces → HaveNoOut faces → AreAsWanted faces c.shows.uses →
-    (d : Compiled Text) × (by_rules texts faces m ≡ Ok d) × IsSame c d
-
 -- THE LAW
 abbrev pub LocalityFollows : Type 0
-LocalityFollows = RulesAreLocal → BuildsAreChecked → LocalityWithoutOut
+LocalityFollows = RulesAreLocal → BuildsAreChecked → Locality
