@@ -1,11 +1,10 @@
 -- Locality: a valid build is the same against all interfaces that have the texts of its uses.
-use Rattle.std.specs.Prelude.{◌≡◌, List, false, Some, None, Ok}
+use Rattle.std.specs.Prelude.{◌≡◌, List, Some, None, Ok}
 use Rattle.ob_tree.specs.declared.names.QName.{QName}
 use Rattle.ob_tree.specs.declared.decl.Module.{Module as Tree}
 use Rattle.ob_types.specs.declared.typed.TypedModule.{TypedModule}
 use Rattle.ob_types.specs.TypedView.{module_view}
 use Rattle.ob_rules.specs.Declarations.{first_break, checked}
-use Rattle.ob_layout.specs.LaidOut.{is_own}
 use Rattle.ob_env.specs.Faces.{Face}
 use Rattle.ob_env.specs.Shown.{shown}
 use Rattle.ob_reading.specs.Reading.{reading}
@@ -18,7 +17,7 @@ use Rattle.ob_local.specs.Checked.{IsChecked}
 
 -- other interfaces show the same of all that counts for the uses of a module
 abbrev pub ShowAlike : List (Face Text) → List (Face Text) → TypedModule → Type 0
-ShowAlike faces others t = (q : QName) → IsNear (view faces (module_view t)) (over faces (module_view t)) q → is_own (module_view t) q ≡ false → shown others q ≡ shown faces q
+ShowAlike faces others t = (q : QName) → IsNear (view faces (module_view t)) (over faces (module_view t)) q → shown others q ≡ shown faces q
 
 -- THE RULES look at nothing else: a tree that keeps them against some interfaces is the same checked module against others that show
 -- alike.
