@@ -204,15 +204,15 @@ module _ (IsConstant : Value → Type 0) (shown : QName → Option Desc) (m : Ty
           shown_is = b.knows.shown_is;
           own = b.knows.own;
           known = all_both (λ (k : Known). EntityStands IsConstant m.name shown u.own k.what) h.inside h.known
-            (all_of (λ (k : Known). (k.scope ≡ suc u.scope) × InsideEntity IsConstant m.name shown out u.own h k.what) (λ (k : Known). EntityStands IsConstant m.name shown u.own k.what) h.inside (λ k i. inside_stands u.own u.own h k.what i.1) s.inside)
-            (all_of (KnownBehind l u) (λ (k : Known). EntityStands IsConstant m.name shown u.own k.what) h.known (λ k i. i.entity) k);
+              (all_of (λ (k : Known). (k.scope ≡ suc u.scope) × InsideEntity IsConstant m.name shown out u.own h k.what) (λ (k : Known). EntityStands IsConstant m.name shown u.own k.what) h.inside (λ k i. inside_stands u.own u.own h k.what i.1) s.inside)
+              (all_of (KnownBehind l u) (λ (k : Known). EntityStands IsConstant m.name shown u.own k.what) h.known (λ k i. i.entity) k);
         };
         below = all_both (λ (k : Known). k.scope ≤ suc u.scope) h.inside h.known
-          (all_of (λ (k : Known). (k.scope ≡ suc u.scope) × InsideEntity IsConstant m.name shown out u.own h k.what) (λ (k : Known). k.scope ≤ suc u.scope) h.inside (λ k i. same_most k.scope (suc u.scope) i.0) s.inside)
-          (all_of (KnownBehind l u) (λ (k : Known). k.scope ≤ suc u.scope) h.known (λ k i. one_more k.scope u.scope i.below) k);
+            (all_of (λ (k : Known). (k.scope ≡ suc u.scope) × InsideEntity IsConstant m.name shown out u.own h k.what) (λ (k : Known). k.scope ≤ suc u.scope) h.inside (λ k i. same_most k.scope (suc u.scope) i.0) s.inside)
+            (all_of (KnownBehind l u) (λ (k : Known). k.scope ≤ suc u.scope) h.known (λ k i. one_more k.scope u.scope i.below) k);
         names = all_both (λ (k : Known). N u.own p (suc u.scope) k.scope k.what) h.inside h.known
-          (all_of (λ (k : Known). (k.scope ≡ suc u.scope) × InsideEntity IsConstant m.name shown out u.own h k.what) (λ (k : Known). N u.own p (suc u.scope) k.scope k.what) h.inside (λ k i. inside_name u.own types h c u.scope k.scope i.0 (some_scope l u b.placed) k.what i.1) s.inside)
-          (all_of (KnownBehind l u) (λ (k : Known). N u.own p (suc u.scope) k.scope k.what) h.known (λ k i. outer_name IsConstant shown m u.own (frame l) p u.level k.scope u.scope i.below k.what i.name) k);
+            (all_of (λ (k : Known). (k.scope ≡ suc u.scope) × InsideEntity IsConstant m.name shown out u.own h k.what) (λ (k : Known). N u.own p (suc u.scope) k.scope k.what) h.inside (λ k i. inside_name u.own types h c u.scope k.scope i.0 (some_scope l u b.placed) k.what i.1) s.inside)
+            (all_of (KnownBehind l u) (λ (k : Known). N u.own p (suc u.scope) k.scope k.what) h.known (λ k i. outer_name IsConstant shown m u.own (frame l) p u.level k.scope u.scope i.below k.what i.name) k);
         placed = (no_nothing h.path 47 [], (refl, deeper u.scope (some_scope l u b.placed)));
         guards = refl;
         result = framed_result types h h.parameters c;

@@ -233,9 +233,9 @@ module _ (IsConstant : Value → Type 0) (unit : List ℕ) (shown : QName → Op
       made = three_have (λ p. AllByRecursion (IsDescribed IsConstant) p.made) m.node b.node s.found.node (there_of (ParametersAre IsConstant unit shown out u.own) (λ p. AllByRecursion (IsDescribed IsConstant) p.made) s.found.node (λ p i. i.made) are.found);
       signature = three_signed u.own m.node b.node s.found.node are.found;
       inside = all_filtered (λ (k : Known). (k.scope ≡ suc u.scope) × InsideEntity more hd k.what) (λ k. nat_lt u.scope k.scope) s.known
-        (are.known Inside
-        (with_receiver Inside (inner u) h.receiver b.node (all_of (λ (k : Known). k.scope ≤ u.scope) Inside u.known (λ k i e. absurd (not_above u.scope k.scope i e)) below) (λ x e f. (refl, tt)) (λ x c e f g. (refl, receiver_inside x c e f)))
-        (λ k e i f. (e, parameter_inside u.own more hd s.found.node (λ v t. three_entity u.own (self_parameters hd hd.self hd.bound) m.node b.node s.found.node v t) k.what i)));
+          (are.known Inside
+          (with_receiver Inside (inner u) h.receiver b.node (all_of (λ (k : Known). k.scope ≤ u.scope) Inside u.known (λ k i e. absurd (not_above u.scope k.scope i e)) below) (λ x e f. (refl, tt)) (λ x c e f g. (refl, receiver_inside x c e f)))
+          (λ k e i f. (e, parameter_inside u.own more hd s.found.node (λ v t. three_entity u.own (self_parameters hd hd.self hd.bound) m.node b.node s.found.node v t) k.what i)));
       free = λ e. free_of hd h.receiver (bound_in b.node) e;
     }
 

@@ -132,12 +132,12 @@ module _ (IsConstant : Value → Type 0) (truths : (b : Bool) → IsConstant (li
   decl_cases (Decl-F.NamedType d n) = layer (Decl-F.NamedType d n) (λ e. type_plain IsConstant shown m out d (written n) (written_good IsConstant m.name shown out constants n e))
   decl_cases (Decl-F.Variables ds n) = layer (Decl-F.Variables ds n) (λ e. variables_declared_plain IsConstant shown m out ds (written n) (written_good IsConstant m.name shown out constants n e))
   decl_cases (Decl-F.Procedure h ds body closing) = layer (Decl-F.Procedure h (decls_in ds) body closing) (λ e.
-    let p = and_both (parameters_spelled h.parameters) (all_true (map decl_spelled (decls_in ds)) && all_true (map stmt_spelled body)) e in
-    let q = and_both (all_true (map decl_spelled (decls_in ds))) (all_true (map stmt_spelled body)) p.1 in
-    record {
-      heading = (written_parameters_good IsConstant m.name shown out constants h.parameters p.0, tt);
-      inside = block_good (map declaration (decls_in ds)) (all_in ds q.0) body q.1;
-    })
+      let p = and_both (parameters_spelled h.parameters) (all_true (map decl_spelled (decls_in ds)) && all_true (map stmt_spelled body)) e in
+      let q = and_both (all_true (map decl_spelled (decls_in ds))) (all_true (map stmt_spelled body)) p.1 in
+      record {
+        heading = (written_parameters_good IsConstant m.name shown out constants h.parameters p.0, tt);
+        inside = block_good (map declaration (decls_in ds)) (all_in ds q.0) body q.1;
+      })
   decl_cases (Decl-F.Forward h) = layer (Decl-F.Forward h) (λ e. record { heading = (written_parameters_good IsConstant m.name shown out constants h.parameters e, tt); inside = no_block })
 
   decl_good : (x : Decl) → PD x

@@ -191,8 +191,8 @@ module _ (IsConstant : Value → Type 0) (unit : List ℕ) (shown : QName → Op
   joined_are own a (Some b) h k = record {
     made = all_both (IsDescribed IsConstant) a.made b.made h.made k.made;
     params = all_both (λ (k : Mode × TypeRef). S ((a.made ++ b.made) ++ own) k.1) a.signature.params b.signature.params
-      (all_of (λ (k : Mode × TypeRef). S (a.made ++ own) k.1) (λ (k : Mode × TypeRef). S ((a.made ++ b.made) ++ own) k.1) a.signature.params (λ k. stands_grown unit shown (a.made ++ own) ((a.made ++ b.made) ++ own) (grown_front a.made b.made own) k.1) h.params)
-      (all_of (λ (k : Mode × TypeRef). S (b.made ++ (a.made ++ own)) k.1) (λ (k : Mode × TypeRef). S ((a.made ++ b.made) ++ own) k.1) b.signature.params (λ k. stands_grown unit shown (b.made ++ (a.made ++ own)) ((a.made ++ b.made) ++ own) (grown_back a.made b.made own) k.1) k.params);
+        (all_of (λ (k : Mode × TypeRef). S (a.made ++ own) k.1) (λ (k : Mode × TypeRef). S ((a.made ++ b.made) ++ own) k.1) a.signature.params (λ k. stands_grown unit shown (a.made ++ own) ((a.made ++ b.made) ++ own) (grown_front a.made b.made own) k.1) h.params)
+        (all_of (λ (k : Mode × TypeRef). S (b.made ++ (a.made ++ own)) k.1) (λ (k : Mode × TypeRef). S ((a.made ++ b.made) ++ own) k.1) b.signature.params (λ k. stands_grown unit shown (b.made ++ (a.made ++ own)) ((a.made ++ b.made) ++ own) (grown_back a.made b.made own) k.1) k.params);
     answer = are_joined a.parameters b.parameters a.signature.params b.signature.params h.answer k.answer;
     result = tt;
   }
@@ -240,9 +240,9 @@ module _ (IsConstant : Value → Type 0) (unit : List ℕ) (shown : QName → Op
         record {
           found = joined_are u.own a (rest v).found.node (mine_are u m xs t h) r.found;
           known = λ P g f.
-            r.known P
-            (names_known P m (Some t) u u.known xs g (λ x ls i. f (record { name = x.name; scope = u.scope; what = parameter_as (record u { known = ls }) m x (Some t) }) refl (entity_left u.own a (rest v).found.node _ t.of (mine_entity u m xs t x ls h i))))
-            (λ x e i. f x e (entity_of v.own u.own (rest v).found.node (joined_node (Some a) (rest v).found.node) (λ p q. entity_right u.own a (rest v).found.node p q) x.what i));
+              r.known P
+              (names_known P m (Some t) u u.known xs g (λ x ls i. f (record { name = x.name; scope = u.scope; what = parameter_as (record u { known = ls }) m x (Some t) }) refl (entity_left u.own a (rest v).found.node _ t.of (mine_entity u m xs t x ls h i))))
+              (λ x e i. f x e (entity_of v.own u.own (rest v).found.node (joined_node (Some a) (rest v).found.node) (λ p q. entity_right u.own a (rest v).found.node p q) x.what i));
         }
 
     section_is : (u : Around) → K u → (t : Judged Typing) → Has (TypingIs IsConstant unit shown out u.own) t → SectionsAre u.own u.scope u.known (section u m xs t rest)
@@ -278,8 +278,8 @@ module _ (IsConstant : Value → Type 0) (unit : List ℕ) (shown : QName → Op
       let l : K v = record { unit_is = k.unit_is; shown_is = k.shown_is; own = k.own; known = h.known (λ k. EntityStands IsConstant unit shown u.own k.what) k.known (λ x e i. entity_stands u.own u.own s.found.node x.what i) } in
       record {
         found = then_has (λ (p : Parameters × Option TypeRef). ParametersAre u.own p.0 × IfThere (S u.own) p.1) (ParametersAre u.own) (both s.found (result_of v r)) (λ p. sound (with_result p.0 p.1))
-          (both_have (ParametersAre u.own) (IfThere (S u.own)) s.found (result_of v r) h.found (result_is v l r))
-          (λ p g. record { made = g.0.made; params = g.0.params; answer = g.0.answer; result = g.1 });
+            (both_have (ParametersAre u.own) (IfThere (S u.own)) s.found (result_of v r) h.found (result_is v l r))
+            (λ p g. record { made = g.0.made; params = g.0.params; answer = g.0.answer; result = g.1 });
         known = λ P g f. h.known P g (λ x e i. f x e (entity_of u.own u.own s.found.node (result_node s.found.node (result_of v r).node) (λ p q. entity_result u.own s.found.node (result_of v r).node p q) x.what i));
       }
 

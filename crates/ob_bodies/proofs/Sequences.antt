@@ -164,8 +164,8 @@ module _ (IsConstant : Value → Type 0) (shown : QName → Option Desc) (m : Ty
       let bound : Contents = record no_contents { bound = bind.own } in
       let j : I l c = second_included IsConstant shown m l bound c (second_included IsConstant shown m l no_contents (together bound c) (second_included IsConstant shown m l d.part.contents (together no_contents (together bound c)) i)) in
       let p : PartIs IsConstant shown m out l c =
-          subst (λ (x : Around). I l (block_inside x ps all (map judging xs)).contents → PartIs IsConstant shown m out l (block_inside x ps all (map judging xs)).contents) (sym e)
-          (λ k. inside_is l base g.around ps good xs spelled bind.own ch.grows (ch.described s.knows.own) bind.bound k) j in
+      subst (λ (x : Around). I l (block_inside x ps all (map judging xs)).contents → PartIs IsConstant shown m out l (block_inside x ps all (map judging xs)).contents) (sym e)
+      (λ k. inside_is l base g.around ps good xs spelled bind.own ch.grows (ch.described s.knows.own) bind.bound k) j in
       record {
         procedures = all_both (λ p. IsJudged IsConstant shown m (Some p) p.body) d.part.contents.procedures c.procedures (all_empty (λ p. IsJudged IsConstant shown m (Some p) p.body) d.part.contents.procedures g.procedures) p.procedures;
         body = record { u = p.body.u; xs = p.body.xs; is = ◌∙◌ {c = stmts_in (in_turn (map judging p.body.xs) p.body.u).node} (ap (λ l. l ++ c.body) g.body) p.body.is; spelled = p.body.spelled; stands = p.body.stands };

@@ -1,5 +1,5 @@
 -- Actual parameters, with other interfaces around.
-use Rattle.std.proofs.Common.{◌≡◌, refl, sym, ap, ◌∙◌, subst, ℕ, List, [], ◌∷◌, ◌++◌, map as each, Option, Some, None, Bool, true, false, not, length}
+use Rattle.std.proofs.Common.{◌≡◌, refl, sym, ap, ◌∙◌, subst, ℕ, List, [], ◌∷◌, Option, Some, None, Bool, true, false, not}
 use Rattle.std.specs.Prelude.{◌&&◌, ◌||◌, is_some}
 use Rattle.std.specs.List.{AllByRecursion}
 use Rattle.ob_tree.specs.declared.pos.Pos.{Pos}
@@ -16,29 +16,28 @@ use Rattle.ob_types.specs.declared.typed.Actual.{Actual}
 use Rattle.ob_types.specs.declared.typed.Designator.TheFolds.{fold-roll-Actual}
 use Rattle.ob_types.specs.declared.typed.TypedExpr.{TypedExpr}
 use Rattle.ob_types.specs.declared.typed.TypedExpr.TheVariants as e
-use Rattle.ob_types.specs.Tests.{same_at}
-use Rattle.ob_types.specs.TypedSyntax.{Desig, Expr, Actuals}
-use Rattle.ob_types.specs.TypedView.{OneActual, designator_layer, expr_layer, actual_layer, expr_view, actual_view, actuals_of, actuals_view}
+use Rattle.ob_types.specs.TypedSyntax.{Desig, Expr}
+use Rattle.ob_types.specs.TypedView.{OneActual, designator_layer, expr_layer, actual_layer, expr_view, actual_view, actuals_view}
 use Rattle.ob_counts.specs.Counts.{counts_of_expr, counts_of_actuals, formals}
 use Rattle.ob_rules.specs.declared.meant.Meant.{Meant}
 use Rattle.ob_rules.specs.declared.meant.Meant.TheVariants as means
 use Rattle.ob_rules.specs.declared.values.Place.{Place}
 use Rattle.ob_rules.specs.declared.values.Valued.{Valued}
-use Rattle.ob_rules.specs.Judged.{Judged, sound, silent, breaks, also, wants, both, noted, joined, ◌▷◌}
-use Rattle.ob_rules.specs.Shapes.{Map, open_at, open_element, array_of, element_is, passing_of, record_of, extends_record, is_array}
+use Rattle.ob_rules.specs.Judged.{Judged, sound, breaks, also, wants}
+use Rattle.ob_rules.specs.Shapes.{Map, open_at, open_element, passing_of, record_of, is_array}
 use Rattle.ob_rules.specs.Names.{Around, map_of}
-use Rattle.ob_rules.specs.Values.{fits, text_of, text_tree, type_in, tree, type}
+use Rattle.ob_rules.specs.Values.{text_of, type_in, type}
 use Rattle.ob_rules.specs.Phrases.{Phrase}
 use Rattle.ob_rules.specs.Designators.{is_one_type}
-use Rattle.ob_rules.specs.Calls.{actual_of, both_records, takes_variable, unless_guarded, unless_read_only, variable_actual, meant_actual, var_actual, array_takes, takes_value, tree_for, value_actual, actual, actuals}
+use Rattle.ob_rules.specs.Calls.{actual_of, both_records, takes_variable, unless_guarded, unless_read_only, variable_actual, meant_actual, var_actual, array_takes, takes_value, tree_for, value_actual, actual}
 use Rattle.ob_mentions.specs.Agreement.{IsIn, Agree}
 use Rattle.ob_mentions.specs.Said.{KindIn, CountsIn, ExprIn, SaidIn, PlaceIn, ValuedIn, ValuedTied, PlaceTied, MeantIn, MeantTied, ActualIn}
 use Rattle.ob_mentions.specs.Followed.{beside, Agrees, Follows}
-use Rattle.ob_mentions.proofs.Tests.{two, shape_same, open_element_in, elements_in, same_same, record_same, record_in, extends_same, passing_same, is_array_same, array_same}
-use Rattle.ob_mentions.proofs.Following.{none_is, some_same, said_left, follows_none, follows_sound, follows_to, follows_wants, follows_also, follows_then, follows_both, follows_weaker, none_then, then_node, front_said}
+use Rattle.ob_mentions.proofs.Tests.{two, shape_same, open_element_in, same_same, record_same, record_in, extends_same, passing_same, is_array_same}
+use Rattle.ob_mentions.proofs.Following.{none_is, follows_none, follows_sound, follows_to, follows_wants, follows_also, follows_then, follows_weaker, none_then, then_node, front_said}
 use Rattle.ob_mentions.proofs.Mentioned.{counts_left, counts_right, value_of_mentions, tree_mentions, text_tree_mentions}
 use Rattle.ob_mentions.proofs.Names.{maps_agree}
-use Rattle.ob_mentions.proofs.Values.{three, elements_same, element_is_same, fits_same, type_in_in}
+use Rattle.ob_mentions.proofs.Values.{three, elements_same, fits_same, type_in_in}
 
 actual_seen : (how : Passing) (t : TypeRef) (x : TypedExpr) → actual_view (actual_of how t x) ≡ record { passing = how; formal = t; e = expr_view x }
 actual_seen how t x = fold-roll-Actual Desig Expr OneActual designator_layer expr_layer actual_layer (record { passing = how; formal = t; value = x })

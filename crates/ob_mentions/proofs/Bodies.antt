@@ -1,11 +1,9 @@
 -- What statements mention, and statements one after the other.
-use Rattle.std.proofs.Common.{◌≡◌, refl, sym, ap, ◌∙◌, subst, ℕ, List, [], ◌∷◌, ◌++◌, map, Option, Some, None, Bool, true, false}
+use Rattle.std.proofs.Common.{◌≡◌, subst, List, [], ◌∷◌, ◌++◌, Option, Some, None}
 use Rattle.std.specs.Prelude.{ℤ}
-use Rattle.std.specs.Option.{option_map}
 use Rattle.std.specs.List.{AllByRecursion}
 use Rattle.ob_tree.specs.declared.pos.Pos.{Pos}
 use Rattle.ob_tree.specs.declared.names.QName.{QName}
-use Rattle.ob_types.specs.declared.types.TypeRef.{TypeRef}
 use Rattle.ob_types.specs.declared.desc.Desc.{Desc}
 use Rattle.ob_types.specs.declared.typed.Width.{Width}
 use Rattle.ob_types.specs.declared.typed.Variable.{Variable}
@@ -20,12 +18,12 @@ use Rattle.ob_types.specs.declared.typed.TypedBranch.{TypedBranch, roll-TypedBra
 use Rattle.ob_types.specs.declared.typed.TypedCase.{TypedCase, roll-TypedCase}
 use Rattle.ob_types.specs.TypedKinds.{variable_type}
 use Rattle.ob_types.specs.TypedSyntax.{Stmt}
-use Rattle.ob_types.specs.TypedView.{designator_view, expr_view, OneBranch, LabelledBody, stmts_of, branches_of, cases_of, stmt_layer, branch_layer, case_layer, stmt_view, branch_view, case_view, stmts_view, branches_view, cases_view}
+use Rattle.ob_types.specs.TypedView.{designator_view, expr_view, OneBranch, LabelledBody, stmt_layer, branch_layer, case_layer, stmt_view, branch_view, case_view, stmts_view, branches_view, cases_view}
 use Rattle.ob_types.proofs.TypedViews.{view_assign, view_call_proper, view_if, view_case_none, view_case_some, view_while, view_repeat, view_for, view_loop, view_return, view_with_none, view_with_some}
 use Rattle.ob_counts.specs.Counts.{counts_of_designator, counts_of_expr, target_counts, counts_of, counts_of_all, counts_of_branches, counts_of_cases}
-use Rattle.ob_rules.specs.Judged.{Judged, sound, both, made, ◌▷◌}
+use Rattle.ob_rules.specs.Judged.{Judged, both, made}
 use Rattle.ob_rules.specs.Names.{Around}
-use Rattle.ob_rules.specs.Statements.{Judging, in_turn, in_turn_if, branch_of, case_of}
+use Rattle.ob_rules.specs.Statements.{Judging, in_turn, in_turn_if, branch_of}
 use Rattle.ob_mentions.specs.Said.{CountsIn, DesignatorIn, ExprIn, StmtIn}
 use Rattle.ob_mentions.specs.Followed.{beside, Agrees, Follows}
 use Rattle.ob_mentions.proofs.Following.{all_left, all_right, follows_sound, follows_weaker, follows_made, follows_both}

@@ -1,7 +1,7 @@
 -- Calls, with other interfaces around.
-use Rattle.std.proofs.Common.{◌≡◌, refl, sym, ap, ◌∙◌, subst, ℕ, zero, suc, List, [], ◌∷◌, ◌++◌, Option, Some, None, Bool, true, false, not, length, arith}
+use Rattle.std.proofs.Common.{◌≡◌, refl, sym, ap, ◌∙◌, subst, ℕ, zero, suc, List, [], ◌∷◌, ◌++◌, Option, Some, None, Bool, true, false, length, arith}
 use Rattle.std.proofs.lemmas.Bool.Decides.{nat_tests}
-use Rattle.std.specs.Prelude.{◌&&◌, ◌||◌, is_some, is_none, nat_eq, bytes_eq}
+use Rattle.std.specs.Prelude.{◌&&◌, is_some, is_none, nat_eq, bytes_eq}
 use Rattle.std.specs.List.{AllByRecursion}
 use Rattle.ob_tree.specs.declared.pos.Pos.{Pos}
 use Rattle.ob_tree.specs.declared.names.QName.{QName}
@@ -23,28 +23,27 @@ use Rattle.ob_types.specs.declared.typed.TypedExpr.TheVariants as typed
 use Rattle.ob_types.specs.Maps.{listed}
 use Rattle.ob_types.specs.TypedKinds.{result_type}
 use Rattle.ob_types.specs.TypedSyntax.{Expr}
-use Rattle.ob_types.specs.TypedView.{designator_view, expr_view, actual_view, actuals_view}
+use Rattle.ob_types.specs.TypedView.{designator_view, actual_view, actuals_view}
 use Rattle.ob_types.proofs.TypedViews.{view_call, view_call_variable}
-use Rattle.ob_counts.specs.Counts.{Count, shapes, has_receiver, without_receiver, formals, counts_of_designator, counts_of_expr, counts_of_actuals, counts_of_call, counts_of_held_call}
+use Rattle.ob_counts.specs.Counts.{shapes, has_receiver, without_receiver, formals, counts_of_designator, counts_of_expr, counts_of_actuals, counts_of_call, counts_of_held_call}
 use Rattle.ob_rules.specs.declared.entity.Bound.{Bound}
 use Rattle.ob_rules.specs.declared.meant.Chosen.{Chosen}
 use Rattle.ob_rules.specs.declared.meant.Where.{Where}
 use Rattle.ob_rules.specs.declared.values.Place.{Place}
 use Rattle.ob_rules.specs.declared.values.Valued.{Valued}
-use Rattle.ob_rules.specs.Judged.{Judged, sound, silent, breaks, also, wants, both, ◌▷◌}
+use Rattle.ob_rules.specs.Judged.{Judged, sound, silent, also, wants, both, ◌▷◌}
 use Rattle.ob_rules.specs.Shapes.{base_record}
 use Rattle.ob_rules.specs.Names.{Around, map_of, bound_for}
 use Rattle.ob_rules.specs.Values.{computed}
-use Rattle.ob_rules.specs.Phrases.{Phrase, dereferenced, record_receiver, receiver_place}
-use Rattle.ob_rules.specs.Calls.{actual_of, actual, actuals, misplaced, called_with, called, call_procedure, call_variable, out_signature, call_out, bound_callee, receiver_actual, is_record_receiver, sound_or, nearest_sound, where_from, call_bound_sound, call_bound}
-use Rattle.ob_mentions.specs.Agreement.{IsIn, AreIn, Agree}
+use Rattle.ob_rules.specs.Phrases.{Phrase, record_receiver, receiver_place}
+use Rattle.ob_rules.specs.Calls.{actual, actuals, misplaced, called_with, called, call_procedure, call_variable, out_signature, call_out, bound_callee, receiver_actual, is_record_receiver, sound_or, nearest_sound, where_from, call_bound_sound, call_bound}
 use Rattle.ob_mentions.specs.Said.{KindIn, CountsIn, ExprIn, SaidIn, PlaceIn, ValuedIn, ValuedTied, ActualIn, ChosenIn}
 use Rattle.ob_mentions.specs.Followed.{beside, Agrees, Follows}
-use Rattle.ob_mentions.proofs.Tests.{two, base_same, base_record_in}
-use Rattle.ob_mentions.proofs.Following.{none_is, some_same, said_left, follows_none, follows_sound, follows_to, follows_with, follows_wants, follows_also, follows_then, follows_both, none_then, then_node, both_nodes, front_said}
-use Rattle.ob_mentions.proofs.Mentioned.{counts_left, counts_right, shapes_in, value_of_mentions, deref_mentions}
+use Rattle.ob_mentions.proofs.Tests.{base_same, base_record_in}
+use Rattle.ob_mentions.proofs.Following.{none_is, said_left, follows_none, follows_sound, follows_with, follows_wants, follows_also, follows_then, follows_both, none_then, then_node, both_nodes, front_said}
+use Rattle.ob_mentions.proofs.Mentioned.{counts_left, counts_right, value_of_mentions, deref_mentions}
 use Rattle.ob_mentions.proofs.Names.{maps_agree}
-use Rattle.ob_mentions.proofs.Actuals.{actual_mentions, actual_expr, actuals_mention, PhraseFollows, PhrasesFollow, NameSame, actual_follows, actual_named}
+use Rattle.ob_mentions.proofs.Actuals.{actual_expr, actuals_mention, PhraseFollows, PhrasesFollow, NameSame, actual_follows, actual_named}
 
 nat_is : (n m : ℕ) → nat_eq n m ≡ true → n ≡ m
 nat_is n m e = grind (arith, nat_tests)

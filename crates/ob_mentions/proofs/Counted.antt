@@ -1,8 +1,7 @@
 -- What counts in a checked module is what its notes and its statements mention.
-use Rattle.std.proofs.Common.{◌≡◌, refl, sym, ap, ◌∙◌, subst, List, [], ◌∷◌, ◌++◌, map as each, Option, Some, None, Bool, true, false}
+use Rattle.std.proofs.Common.{List, [], ◌∷◌, ◌++◌, map as each, Option}
 use Rattle.std.specs.List.{flat_map, AllByRecursion}
 use Rattle.ob_tree.specs.declared.names.QName.{QName}
-use Rattle.ob_types.specs.declared.types.TypeRef.{TypeRef}
 use Rattle.ob_types.specs.declared.types.TypeRef.TheVariants as ref
 use Rattle.ob_types.specs.declared.desc.Desc.{Desc}
 use Rattle.ob_types.specs.declared.typed.Designator.{Designator}
@@ -12,7 +11,6 @@ use Rattle.ob_types.specs.Maps.{listed}
 use Rattle.ob_types.specs.TypedView.{designator_view, stmts_view, procedure_view, module_view}
 use Rattle.ob_counts.specs.Counts.{Count, Shapes, Layouts, shapes, counts_of_designator, counts_of_all, counts_of_type, counts_of_variable, counts_of_parameter, counts_of_binding, counts_of_procedure, counts_of_mentioned, counts_of_module}
 use Rattle.ob_counts.specs.Noted.{names_of, shape_starts}
-use Rattle.ob_mentions.specs.Agreement.{IsIn, AreIn}
 use Rattle.ob_mentions.specs.Said.{CountsIn, DesignatorIn, StmtIn, ModuleIn}
 use Rattle.ob_mentions.proofs.Mentioned.{counts_left, counts_right, shapes_in}
 use Rattle.ob_mentions.proofs.Bodies.{stmts_in}
@@ -37,9 +35,10 @@ module _ (P : QName → Type 0) where
 
   bodies_in : (map : QName → Option Desc) (ps : List TypedProcedure) → CountsIn P (flat_map (counts_of_procedure map) (each procedure_view ps)) → AllByRecursion (λ (p : TypedProcedure). AllByRecursion (StmtIn P) p.body) ps
   bodies_in map [] h = tt
-  bodies_in map (p ∷ ps) h =
-      (body_in map p (counts_left P (counts_of_procedure map (procedure_view p)) (flat_map (counts_of_procedure map) (each procedure_view ps)) h),
-       bodies_in map ps (counts_right P (counts_of_procedure map (procedure_view p)) (flat_map (counts_of_procedure map) (each procedure_view ps)) h))
+  bodies_in map (p ∷ ps) h = (
+    body_in map p (counts_left P (counts_of_procedure map (procedure_view p)) (flat_map (counts_of_procedure map) (each procedure_view ps)) h),
+    bodies_in map ps (counts_right P (counts_of_procedure map (procedure_view p)) (flat_map (counts_of_procedure map) (each procedure_view ps)) h),
+  )
 
   -- WHAT COUNTS IN A MODULE
   pub module_in : (map : QName → Option Desc) (m : TypedModule) → CountsIn P (counts_of_module map (module_view m)) → ModuleIn P m

@@ -1,5 +1,5 @@
 -- Declarations of constants, types and variables in their order, with other interfaces around.
-use Rattle.std.proofs.Common.{◌≡◌, refl, sym, ap, ◌∙◌, subst, ℕ, List, [], ◌∷◌, ◌++◌, map, Option, Some, None, Bool, true, false}
+use Rattle.std.proofs.Common.{◌≡◌, refl, sym, ap, ◌∙◌, subst, ℕ, List, [], ◌∷◌, ◌++◌, Option, Some, None, Bool, true, false}
 use Rattle.std.specs.Prelude.{is_some, codes}
 use Rattle.std.specs.List.{AllByRecursion}
 use Rattle.ob_tree.specs.declared.pos.Pos.{Pos}
@@ -11,27 +11,22 @@ use Rattle.ob_tree.specs.declared.ident.Mark.TheVariants as mark
 use Rattle.ob_tree.specs.declared.ident.Qualident.{Qualident}
 use Rattle.ob_tree.specs.declared.expr.Expr.{Expr}
 use Rattle.ob_tree.specs.declared.type_node.TypeNode.{TypeNode}
-use Rattle.ob_types.specs.declared.types.TypeRef.{TypeRef}
 use Rattle.ob_types.specs.declared.desc.Desc.{Desc}
 use Rattle.ob_types.specs.declared.value.Value.{Value}
-use Rattle.ob_types.specs.declared.value.Value.TheVariants as literal
-use Rattle.ob_types.specs.declared.typed.TypedType.{TypedType}
-use Rattle.ob_rules.specs.declared.broken.Broken.{Broken}
 use Rattle.ob_rules.specs.declared.entity.Entity.{Entity}
 use Rattle.ob_rules.specs.declared.entity.Entity.TheVariants as entity
 use Rattle.ob_rules.specs.declared.entity.Known.{Known}
-use Rattle.ob_rules.specs.Judged.{notes_if, Judged, Notes, sound, breaks, both, made, joined, ◌▷◌}
+use Rattle.ob_rules.specs.Judged.{notes_if, both, ◌▷◌}
 use Rattle.ob_rules.specs.Names.{Around, found_in_scope}
-use Rattle.ob_rules.specs.Phrases.{Phrase}
 use Rattle.ob_rules.specs.Expressions.{phrase_of, constant_value}
-use Rattle.ob_rules.specs.Types.{Typing, Written, written, is_module_level, marked, with_types}
+use Rattle.ob_rules.specs.Types.{Typing, written, is_module_level, marked, with_types}
 use Rattle.ob_rules.specs.Headings.{mark_or_hidden}
-use Rattle.ob_rules.specs.Declarations.{Contents, Part, no_part, with_part, Declared, no_contents, declare_if, declare, twice, no_nil, constant_entity, constant_contents, constant_with, constant_declared, equated, typing_as, type_entity, types_made, type_with, type_marked, type_declared, variable_of, variable_entity, variable_contents, paired_typing, variable_with, variable_marked, behind_part, then_declared, variables_with, first_name, made_in, variables_typed, variables_declared, in_order}
-use Rattle.ob_mentions.specs.Agreement.{IsIn, DescIn}
+use Rattle.ob_rules.specs.Declarations.{with_part, Declared, no_contents, declare_if, twice, no_nil, constant_entity, constant_with, constant_declared, equated, typing_as, type_entity, types_made, type_with, type_declared, variable_of, variable_entity, paired_typing, variable_marked, variables_with, first_name, made_in, variables_typed, variables_declared, in_order}
+use Rattle.ob_mentions.specs.Agreement.{IsIn}
 use Rattle.ob_mentions.specs.Said.{SaidIn}
 use Rattle.ob_mentions.specs.Followed.{beside, EntityIn, Agrees, Follows}
 use Rattle.ob_mentions.specs.Declared.{MadeIn, TypingIn, OwnIn, IsSound, AreSound, IsPlain, a_constant, a_type, variables, DeclaredSame}
-use Rattle.ob_mentions.proofs.Following.{none_is, some_same, said_left, said_right, follows_then, follows_made, follows_both}
+use Rattle.ob_mentions.proofs.Following.{said_left, said_right, follows_then, follows_made, follows_both}
 use Rattle.ob_mentions.proofs.Expressions.{expr_follows, constant_value_follows}
 use Rattle.ob_mentions.proofs.Typings.{TF, agrees_with}
 use Rattle.ob_mentions.proofs.Parameters.{agrees_known}

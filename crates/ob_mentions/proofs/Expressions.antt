@@ -1,5 +1,5 @@
 -- Expressions with other interfaces around, by induction over the tree of the grammar.
-use Rattle.std.proofs.Common.{◌≡◌, refl, sym, ap, ◌∙◌, subst, ℕ, List, [], ◌∷◌, ◌++◌, map, Option, Some, None, Bool, true, false}
+use Rattle.std.proofs.Common.{◌≡◌, refl, sym, ap, subst, List, [], ◌∷◌, map, Option, Some, None, Bool, true, false}
 use Rattle.std.specs.List.{AllByRecursion}
 use Rattle.ob_tree.specs.declared.pos.Pos.{Pos}
 use Rattle.ob_tree.specs.declared.names.QName.{QName}
@@ -8,22 +8,22 @@ use Rattle.ob_tree.specs.declared.expr.Designator.{Designator, roll-Designator, 
 use Rattle.ob_tree.specs.declared.expr.Element.{Element, roll-Element, map-Element}
 use Rattle.ob_tree.specs.declared.expr.Tail.{Tail, roll-Tail, map-Tail}
 use Rattle.ob_tree.specs.declared.expr.Selector.{Selector, roll-Selector, map-Selector}
-use Rattle.ob_tree.specs.declared.expr.Expr.TheOpen.{Expr-F, Tail-F, Element-F, Designator-F, Selector-F}
+use Rattle.ob_tree.specs.declared.expr.Expr.TheOpen.{Expr-F, Tail-F, Designator-F, Selector-F}
 use Rattle.ob_tree.specs.declared.expr.Expr.TheFolds.{ind-Expr, ind-Designator, ind-Element, fold-roll-Expr, fold-roll-Designator, fold-roll-Element, fold-roll-Tail, fold-roll-Selector}
 use Rattle.ob_types.specs.declared.value.Value.{Value}
 use Rattle.ob_types.specs.declared.value.Value.TheVariants as literal
 use Rattle.ob_types.specs.declared.desc.Desc.{Desc}
 use Rattle.ob_rules.specs.declared.values.Valued.{Valued}
 use Rattle.ob_rules.specs.declared.values.Valued.TheVariants as valued
-use Rattle.ob_rules.specs.Judged.{Judged, is_quiet, sound, silent, breaks, noted}
+use Rattle.ob_rules.specs.Judged.{Judged, is_quiet, noted}
 use Rattle.ob_rules.specs.Names.{Around}
 use Rattle.ob_rules.specs.Values.{constant_in}
 use Rattle.ob_rules.specs.Constants.{text_value}
-use Rattle.ob_rules.specs.Phrases.{Phrase, Behind, Dot, Index, Up, Round}
+use Rattle.ob_rules.specs.Phrases.{Phrase, Behind}
 use Rattle.ob_rules.specs.Expressions.{Named, Ranged, Tailed, integer_text, marked, expr_rule, selector_rule, designator_rule, element_rule, tail_rule, phrase_of, named_of, ranged_of, tailed_of, behind_of, constant_of, constant_if, constant_judged, constant_value}
 use Rattle.ob_mentions.specs.Said.{SaidIn, ValuedIn, ValuedTied}
 use Rattle.ob_mentions.specs.Followed.{beside, Agrees, Follows}
-use Rattle.ob_mentions.proofs.Following.{none_is, some_same, said_left, follows_none}
+use Rattle.ob_mentions.proofs.Following.{none_is, said_left}
 use Rattle.ob_mentions.proofs.Actuals.{PhraseFollows, PhrasesFollow}
 use Rattle.ob_mentions.proofs.Through.{BehindFollows, AreBehind}
 use Rattle.ob_mentions.proofs.Nodes.{RangedFollows, integer_follows, char_follows, constant_phrase, designator_follows, paren_follows, not_follows, sign_follows, chain_follows, relate_follows, set_follows}
@@ -153,10 +153,12 @@ module _ (P : QName → Type 0) where
       unsaid : (b : Bool) (c : Value) → (constant_if start None b).node ≡ Some c → constant_judged start j ≡ constant_judged start i
       unsaid true c e = none_is e
       unsaid false c e = none_is e
+
       value : (x : Valued) (c : Value) → i.node ≡ Some x → (constant_of start (constant_in x)).node ≡ Some c → SaidIn P i.notes → j ≡ i
       value (valued.Constant k) c l e said = (h.same (valued.Constant k) l said tt).1
       value (valued.Place p) c l e said = none_is e
       value (valued.Node n) c l e said = none_is e
+
       by : (c : Value) (o : Option Valued) → i.node ≡ o → (constant_if start o (is_quiet i.notes.broken)).node ≡ Some c → SaidIn P (noted i.notes (constant_if start o (is_quiet i.notes.broken))).notes → constant_judged start j ≡ constant_judged start i
       by c None l e said = unsaid (is_quiet i.notes.broken) c e
       by c (Some x) l e said = ap (constant_judged start) (value x c l e (said_left P i.notes (constant_if start (Some x) (is_quiet i.notes.broken)).notes said))

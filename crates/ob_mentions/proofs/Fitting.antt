@@ -1,5 +1,5 @@
 -- Parameters of predeclared procedures that fit, with other interfaces around.
-use Rattle.std.proofs.Common.{◌≡◌, refl, sym, ap, ◌∙◌, subst, ℕ, zero, suc, List, [], ◌∷◌, ◌++◌, Option, Some, None, Bool, true, false, not}
+use Rattle.std.proofs.Common.{◌≡◌, refl, sym, ap, ◌∙◌, subst, ℕ, zero, suc, List, [], ◌∷◌, ◌++◌, Option, Some, None, Bool, true, false}
 use Rattle.std.specs.Prelude.{◌&&◌, ◌||◌, is_some, nat_eq, ℤ, pos, negsuc}
 use Rattle.std.specs.List.{AllByRecursion}
 use Rattle.ob_tree.specs.declared.pos.Pos.{Pos}
@@ -32,13 +32,13 @@ use Rattle.ob_rules.specs.declared.meant.Meant.TheVariants as means
 use Rattle.ob_rules.specs.declared.values.Place.{Place}
 use Rattle.ob_rules.specs.declared.values.Valued.{Valued}
 use Rattle.ob_rules.specs.declared.values.Valued.TheVariants as valued
-use Rattle.ob_rules.specs.Judged.{Judged, sound, silent, breaks, made, names_length}
+use Rattle.ob_rules.specs.Judged.{Judged, sound, silent, breaks}
 use Rattle.ob_rules.specs.Shapes.{Map, array_of, pointed, is_held, record_of}
-use Rattle.ob_rules.specs.Values.{constant, computed, is, width as width_of, is_integer, is_chars, text_of, text_tree, tree, type, constant_in, place_in}
+use Rattle.ob_rules.specs.Values.{computed, is, width as width_of, is_integer, is_chars, text_of, text_tree, tree, type, constant_in, place_in}
 use Rattle.ob_rules.specs.Operators.{monadic, dyadic, and_so}
 use Rattle.ob_rules.specs.Predeclared.{value, does, if_is, on_width, longer, shorter, dimension, length_of, len_at, len_of, number_in, one, step, element_step, is_text, new_array, new_fixed, new_elements, if_held, new_one, new_many, fit_one, fit_two, fit, if_fit}
 use Rattle.ob_mentions.specs.Agreement.{IsIn, Agree}
-use Rattle.ob_mentions.specs.Said.{KindIn, CountsIn, DesignatorIn, ExprIn, StmtIn, SaidIn, PlaceIn, ValuedIn, ValuedTied, MeantIn, MeantTied}
+use Rattle.ob_mentions.specs.Said.{KindIn, CountsIn, DesignatorIn, ExprIn, StmtIn, PlaceIn, ValuedIn, ValuedTied, MeantIn, MeantTied}
 use Rattle.ob_mentions.specs.Followed.{Follows}
 use Rattle.ob_mentions.proofs.Tests.{two, array_same, pointed_same, pointed_in, elements_in, record_same, held_same}
 use Rattle.ob_mentions.proofs.Following.{none_is, some_same, follows_none, follows_sound, follows_made}

@@ -3,8 +3,7 @@ use Rattle.std.proofs.Common.{◌≡◌, refl, sym, ap, ◌∙◌, subst, ℕ, L
 use Rattle.std.specs.List.{AllByRecursion}
 use Rattle.ob_tree.specs.declared.pos.Pos.{Pos}
 use Rattle.ob_tree.specs.declared.names.QName.{QName}
-use Rattle.ob_types.specs.declared.types.TypeRef.{TypeRef}
-use Rattle.ob_rules.specs.Judged.{Judged, Notes, sound, silent, breaks, noted, joined, if_sound, paired, both, made, wants, also, unless, found_or, each_sound, ◌▷◌}
+use Rattle.ob_rules.specs.Judged.{Judged, Notes, sound, breaks, noted, joined, if_sound, paired, both, made, wants, also, unless, found_or, ◌▷◌}
 use Rattle.ob_mentions.specs.Agreement.{IsIn}
 use Rattle.ob_mentions.specs.Said.{DesignatorIn, SaidIn}
 use Rattle.ob_mentions.specs.Followed.{Follows}

@@ -1,11 +1,9 @@
 -- Designators, with other interfaces around.
-use Rattle.std.proofs.Common.{◌≡◌, refl, sym, ap, ◌∙◌, subst, ℕ, List, [], ◌∷◌, ◌++◌, Option, Some, None, Bool, true, false}
-use Rattle.std.specs.List.{AllByRecursion}
+use Rattle.std.proofs.Common.{◌≡◌, refl, sym, ap, ◌∙◌, subst, ℕ, List, [], ◌∷◌, Option, Some, None, Bool, true, false}
 use Rattle.ob_tree.specs.declared.pos.Pos.{Pos}
 use Rattle.ob_tree.specs.declared.names.QName.{QName}
 use Rattle.ob_tree.specs.declared.ident.Ident.{Ident}
 use Rattle.ob_tree.specs.declared.ident.Qualident.{Qualident}
-use Rattle.ob_types.specs.declared.types.TypeRef.{TypeRef}
 use Rattle.ob_types.specs.declared.desc.Desc.{Desc}
 use Rattle.ob_types.specs.declared.desc.Desc.TheVariants as desc
 use Rattle.ob_types.specs.declared.typed.Variable.TheVariants as variable
@@ -17,13 +15,13 @@ use Rattle.ob_rules.specs.declared.meant.Meant.{Meant}
 use Rattle.ob_rules.specs.declared.meant.Meant.TheVariants as means
 use Rattle.ob_rules.specs.declared.meant.Where.{Where}
 use Rattle.ob_rules.specs.declared.values.Place.{Place}
-use Rattle.ob_rules.specs.Judged.{Judged, sound, silent, breaks, noted, made, ◌▷◌}
+use Rattle.ob_rules.specs.Judged.{Judged, sound, breaks, noted, made}
 use Rattle.ob_rules.specs.Names.{Around, find_name, entity_known, name_known, named, exported, is_out, out_procedure, is_type_desc, is_type_behind, known_is, shown_of}
-use Rattle.ob_rules.specs.Phrases.{Behind, Dot, Index, Up, Round}
-use Rattle.ob_rules.specs.Designators.{variable_named, all_visited, through, of_variable, is_read_only, exported_meant, out_meant, in_module, dot_of, module_front, front_of, is_module, behind, front, from_front_with, from_front, designates, is_one_type}
+use Rattle.ob_rules.specs.Phrases.{Behind, Dot}
+use Rattle.ob_rules.specs.Designators.{variable_named, through, of_variable, is_read_only, exported_meant, out_meant, in_module, dot_of, module_front, front_of, is_module, behind, front, from_front_with, from_front, designates}
 use Rattle.ob_mentions.specs.Said.{SaidIn, MeantIn, MeantTied}
 use Rattle.ob_mentions.specs.Followed.{beside, EntityIn, Agrees, Follows}
-use Rattle.ob_mentions.proofs.Following.{none_is, some_same, said_left, said_right, follows_none, follows_sound, follows_made, follows_then, then_node, front_said}
+use Rattle.ob_mentions.proofs.Following.{none_is, said_left, said_right, follows_none, follows_sound, follows_made, follows_then, then_node, front_said}
 use Rattle.ob_mentions.proofs.Names.{named_follows, exported_follows}
 use Rattle.ob_mentions.proofs.Actuals.{NameSame}
 use Rattle.ob_mentions.proofs.Selecting.{of_variable_follows, variable_follows}
@@ -111,15 +109,19 @@ module _ (P : QName → Type 0) (u : Around) (s : QName → Option Desc) (a : Ag
     where
       i : Judged (Meant × List Behind)
       i = front u x bs (named u x)
+
       j : Judged (Meant × List Behind)
       j = front v x bs (named v x)
+
       f : Follows P Tied Mentioned (Unit {0}) i j
       f = whole_front x bs h
+
       kept : (o : Option (Meant × List Behind)) → i.node ≡ o → (y : Meant) → (from_front_with u w x.pos bs o).node ≡ Some y → SaidIn P (noted i.notes (from_front_with u w x.pos bs o)).notes → MeantTied P y
       kept None l y e said = none_is e
       kept (Some m) l y e said =
           let t = f.keeps m l (said_left P i.notes (through u w x.pos m.1 m.0).notes said) in
           (through_follows P u s a w x.pos m.1 m.0 t.0 t.1).keeps y e (said_right P i.notes (through u w x.pos m.1 m.0).notes said)
+
       same : (o : Option (Meant × List Behind)) → i.node ≡ o → (y : Meant) → (from_front_with u w x.pos bs o).node ≡ Some y → SaidIn P (noted i.notes (from_front_with u w x.pos bs o)).notes → MeantIn P y → Unit {0} × (from_front v w x.pos bs j ≡ noted i.notes (from_front_with u w x.pos bs o))
       same None l y e said m = none_is e
       same (Some n) l y e said m =

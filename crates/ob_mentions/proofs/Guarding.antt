@@ -1,5 +1,5 @@
 -- IF, loops and WITH, with other interfaces around.
-use Rattle.std.proofs.Common.{◌≡◌, refl, sym, ap, ◌∙◌, subst, ℕ, List, [], ◌∷◌, ◌++◌, map, Option, Some, None, Bool, true, false}
+use Rattle.std.proofs.Common.{◌≡◌, refl, sym, ap, ◌∙◌, subst, List, [], ◌∷◌, ◌++◌, Option, Some, None}
 use Rattle.std.specs.Prelude.{◌||◌, is_some}
 use Rattle.std.specs.List.{AllByRecursion}
 use Rattle.ob_tree.specs.declared.pos.Pos.{Pos}
@@ -23,25 +23,24 @@ use Rattle.ob_rules.specs.declared.meant.Meant.{Meant}
 use Rattle.ob_rules.specs.declared.meant.Meant.TheVariants as means
 use Rattle.ob_rules.specs.declared.meant.Where.TheVariants.{InExpression}
 use Rattle.ob_rules.specs.declared.values.Place.{Place}
-use Rattle.ob_rules.specs.Judged.{Judged, sound, breaks, wants, both, made, if_sound, paired, noted, joined, ◌▷◌}
-use Rattle.ob_rules.specs.Shapes.{Map, is_pointer, pointed}
+use Rattle.ob_rules.specs.Judged.{Judged, sound, breaks, both, made, ◌▷◌}
+use Rattle.ob_rules.specs.Shapes.{is_pointer}
 use Rattle.ob_rules.specs.Names.{Around, map_of, named, type_named, find_name}
-use Rattle.ob_rules.specs.Phrases.{Phrase, Behind, Dot}
-use Rattle.ob_rules.specs.Designators.{guard_of, designates}
+use Rattle.ob_rules.specs.Phrases.{Phrase, Dot}
+use Rattle.ob_rules.specs.Designators.{guard_of}
 use Rattle.ob_rules.specs.Types.{first_of}
-use Rattle.ob_rules.specs.Statements.{Judging, one, in_turn, in_turn_if, condition, branch_of, empty_if_none, with_module, with_named, with_qualified_by, with_qualified, with_meant, with_place, with_guard, guard_test, variable_meant, guarded_around, type_if, guarded_body, GuardedBody, with_branch_in, tested, with_variable, with_test, with_branch, Conditional, in_loop, conditional, conditionals, with_branches, if_statement, while_statement, repeat_statement, loop_statement, with_statement}
+use Rattle.ob_rules.specs.Statements.{Judging, in_turn, in_turn_if, condition, branch_of, empty_if_none, with_module, with_named, with_qualified_by, with_qualified, with_meant, with_place, with_guard, guard_test, variable_meant, guarded_around, type_if, guarded_body, GuardedBody, tested, with_variable, with_test, with_branch, Conditional, in_loop, conditional, conditionals, with_branches, if_statement, while_statement, repeat_statement, loop_statement, with_statement}
 use Rattle.ob_mentions.specs.Agreement.{IsIn, Agree}
 use Rattle.ob_mentions.specs.Said.{SaidIn, ExprIn, StmtIn, PlaceIn, PlaceTied, MeantIn, MeantTied}
 use Rattle.ob_mentions.specs.Followed.{beside, EntityIn, TypeIn, Agrees, Follows}
 use Rattle.ob_mentions.proofs.Tests.{pointed_same}
-use Rattle.ob_mentions.proofs.Following.{none_is, some_same, said_left, said_right, follows_none, follows_sound, follows_to, follows_wants, follows_then, follows_made, follows_both, follows_weaker, made_node, both_node, front_said}
+use Rattle.ob_mentions.proofs.Following.{some_same, said_left, follows_none, follows_sound, follows_to, follows_wants, follows_then, follows_made, follows_both, follows_weaker, made_node, both_node, front_said}
 use Rattle.ob_mentions.proofs.Mentioned.{value_of_mentions, is_pointer_mentions, is_record_mentions}
 use Rattle.ob_mentions.proofs.Names.{maps_agree, named_follows, type_named_follows}
 use Rattle.ob_mentions.proofs.Selecting.{guard_of_same}
 use Rattle.ob_mentions.proofs.Actuals.{PhraseFollows}
-use Rattle.ob_mentions.proofs.Through.{AreBehind}
 use Rattle.ob_mentions.proofs.Fronts.{designates_follows}
-use Rattle.ob_mentions.proofs.Bodies.{SF, BF, OF, StmtsIn, BranchIn, IfIn, JudgingFollows, BodyFollows, IfFollows, in_turn_follows, in_turn_if_follows, two_made, branch_follows, branch_mentions, if_mentions, while_mentions, repeat_mentions, loop_mentions, with_mentions}
+use Rattle.ob_mentions.proofs.Bodies.{SF, BF, StmtsIn, BranchIn, IfIn, BodyFollows, IfFollows, in_turn_follows, in_turn_if_follows, two_made, branch_follows, branch_mentions, if_mentions, while_mentions, repeat_mentions, loop_mentions, with_mentions}
 use Rattle.ob_mentions.proofs.Simple.{condition_follows}
 
 all_behind : {A : Type 0} (P : A → Type 0) (xs : List A) (y : A) → AllByRecursion P xs → P y → AllByRecursion P (xs ++ y ∷ [])
@@ -189,7 +188,7 @@ module _ (P : QName → Type 0) where
     tested_follows at p t h i =
         follows_weaker P TestTied TestIn (PlaceIn P p) (PlaceIn P p × Unit {0}) (tested (map_of u) at p t) (tested (map_of v) at p t) (λ r. (r, tt))
         (follows_to P TestTied TestIn (PlaceIn P p) (tested (map_of u) at p t) (tested (map_of v) at p t) (tested_self at p (guard_of (map_of u) p t) t i)
-            (λ r. ap (λ o. with_guard at p o t ▷ λ q. sound (guard_test q.0 q.1.0 q.1.1, t)) (guard_of_same P (map_of u) (map_of v) maps p t (h r) i)))
+        (λ r. ap (λ o. with_guard at p o t ▷ λ q. sound (guard_test q.0 q.1.0 q.1.1, t)) (guard_of_same P (map_of u) (map_of v) maps p t (h r) i)))
 
     with_test_follows : (g : Guard) → Follows P TestTied TestIn (Unit {0} × Unit {0}) (with_test u g) (with_test v g)
     with_test_follows g =

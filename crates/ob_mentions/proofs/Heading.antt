@@ -1,5 +1,5 @@
 -- Headings of procedures, with other interfaces around.
-use Rattle.std.proofs.Common.{◌≡◌, refl, sym, ap, ◌∙◌, subst, ℕ, List, [], ◌∷◌, ◌++◌, map, Option, Some, None, Bool, true, false, not}
+use Rattle.std.proofs.Common.{◌≡◌, refl, sym, ap, ◌∙◌, subst, List, [], ◌∷◌, ◌++◌, Option, Some, None, Bool, true, false, not}
 use Rattle.std.specs.Prelude.{◌&&◌, nat_lt, cond}
 use Rattle.std.specs.List.{AllByRecursion, filter}
 use Rattle.ob_tree.specs.declared.pos.Pos.{Pos}
@@ -10,24 +10,22 @@ use Rattle.ob_tree.specs.declared.decl.Heading.{Heading}
 use Rattle.ob_tree.specs.declared.decl.Receiver.{Receiver as RawReceiver}
 use Rattle.ob_types.specs.declared.types.TypeRef.{TypeRef}
 use Rattle.ob_types.specs.declared.desc.Desc.{Desc}
-use Rattle.ob_rules.specs.declared.entity.Entity.{Entity}
 use Rattle.ob_rules.specs.declared.entity.Entity.TheVariants as entity
-use Rattle.ob_rules.specs.declared.entity.Known.{Known}
-use Rattle.ob_rules.specs.Judged.{Judged, Notes, sound, silent, breaks, both, made, joined, broken_at, ◌▷◌}
-use Rattle.ob_rules.specs.Shapes.{Map, record_of, pointed, pointed_record, is_held}
-use Rattle.ob_rules.specs.Names.{Around, map_of, in_unit, type_named, found_in_scope}
-use Rattle.ob_rules.specs.Types.{Parameters, Sections, WrittenParameters, is_module_level, marked, written_parameters, parameters_in, inner, knows, with_types}
-use Rattle.ob_rules.specs.Headings.{BoundAs, kind_of, received_record, is_own, if_own, own_record, silent_base, bound_to, owner_of, owner_if, self_of, knows_receiver, WrittenHeading, heading_of, Head, path_by, forward_name, bound_in, of_scope, mark_or_hidden, as_parameters, head_from, heading_parameters, head_with, head_of, entity_as, head_entity, twice_by, name_twice, declared_head, knows_procedure, known_behind, Heads, add_head, add_judged, add_named, types_of, with_head_types, add_typed, add_heading}
-use Rattle.ob_rules.specs.Declarations.{Written_procedure, headings_in_order}
-use Rattle.ob_mentions.specs.Agreement.{IsIn, DescIn, Agree}
+use Rattle.ob_rules.specs.Judged.{silent, breaks, both}
+use Rattle.ob_rules.specs.Shapes.{pointed}
+use Rattle.ob_rules.specs.Names.{Around, map_of, in_unit, type_named}
+use Rattle.ob_rules.specs.Types.{Parameters, Sections, is_module_level, marked, parameters_in, inner, with_types}
+use Rattle.ob_rules.specs.Headings.{BoundAs, kind_of, received_record, is_own, if_own, own_record, silent_base, bound_to, owner_of, owner_if, self_of, knows_receiver, WrittenHeading, heading_of, Head, path_by, forward_name, bound_in, as_parameters, head_from, heading_parameters, head_with, head_of, entity_as, head_entity, twice_by, name_twice, declared_head, knows_procedure, known_behind, Heads, add_judged, types_of, add_typed, add_heading}
+use Rattle.ob_rules.specs.Declarations.{received_by, result_in, around_body, Written_procedure, headings_in_order}
+use Rattle.ob_mentions.specs.Agreement.{IsIn, Agree}
 use Rattle.ob_mentions.specs.Said.{SaidIn}
-use Rattle.ob_mentions.specs.Followed.{beside, EntityIn, TypeIn, Agrees, Follows}
+use Rattle.ob_mentions.specs.Followed.{beside, EntityIn, TypeIn, ReceivedIn, Agrees}
 use Rattle.ob_mentions.specs.Declared.{MadeIn, OwnIn}
-use Rattle.ob_mentions.specs.Headed.{ParametersIn, KnownIn, BoundIn, ThereIn, FromGrammar, HeadSaid, HeadIn, HeadsSame}
+use Rattle.ob_mentions.specs.Headed.{KnownIn, BoundIn, ThereIn, FromGrammar, HeadSaid, HeadIn, HeadsSame}
 use Rattle.ob_mentions.proofs.Tests.{two, held_same, pointed_same, pointed_in, record_same, record_in, pointed_record_same, pointed_record_in}
 use Rattle.ob_mentions.proofs.Following.{none_is, some_same, said_left, said_right, follows_none, follows_sound, follows_to, follows_then, follows_made, both_node}
 use Rattle.ob_mentions.proofs.Names.{maps_agree, type_named_follows}
-use Rattle.ob_mentions.proofs.Typings.{TF, agrees_with}
+use Rattle.ob_mentions.proofs.Typings.{TF, agrees_with, all_both}
 use Rattle.ob_mentions.proofs.Parameters.{agrees_known, agrees_inner, knows_agrees, parameters_follow}
 use Rattle.ob_mentions.proofs.Written.{written_parameters_follow}
 
@@ -92,10 +90,10 @@ module _ (P : QName → Type 0) (s : QName → Option Desc) where
         (λ t. bound_to r.owner.pos r.is_var t (is_module_level v && silent_base (map_of v) r.is_var (pointed (map_of v) t)) (own_record v (received_record (map_of v) r.is_var t)))
         (type_named_follows P u s a (record { qualifier = None; ident = r.owner }))
         (λ t h. follows_to P OwnerIn (λ x. Unit {0}) (Unit {0})
-            (bound_to r.owner.pos r.is_var t (is_module_level u && silent_base (map_of u) r.is_var (pointed (map_of u) t)) (own_record u (received_record (map_of u) r.is_var t)))
-            (bound_to r.owner.pos r.is_var t (is_module_level v && silent_base (map_of v) r.is_var (pointed (map_of v) t)) (own_record v (received_record (map_of v) r.is_var t)))
-            (bound_self r.owner.pos r.is_var t (is_module_level u && silent_base (map_of u) r.is_var (pointed (map_of u) t)) (own_record u (received_record (map_of u) r.is_var t)) h (λ q e. own_in (received_record (map_of u) r.is_var t) q (λ w k. received_in r.is_var t w h k) e))
-            (λ m. two (λ b o. bound_to r.owner.pos r.is_var t (is_module_level u && b) o) (silent_same r.is_var t h) (ap (own_record v) (received_same r.is_var t h) ∙ own_same (received_record (map_of u) r.is_var t))))
+        (bound_to r.owner.pos r.is_var t (is_module_level u && silent_base (map_of u) r.is_var (pointed (map_of u) t)) (own_record u (received_record (map_of u) r.is_var t)))
+        (bound_to r.owner.pos r.is_var t (is_module_level v && silent_base (map_of v) r.is_var (pointed (map_of v) t)) (own_record v (received_record (map_of v) r.is_var t)))
+        (bound_self r.owner.pos r.is_var t (is_module_level u && silent_base (map_of u) r.is_var (pointed (map_of u) t)) (own_record u (received_record (map_of u) r.is_var t)) h (λ q e. own_in (received_record (map_of u) r.is_var t) q (λ w k. received_in r.is_var t w h k) e))
+        (λ m. two (λ b o. bound_to r.owner.pos r.is_var t (is_module_level u && b) o) (silent_same r.is_var t h) (ap (own_record v) (received_same r.is_var t h) ∙ own_same (received_record (map_of u) r.is_var t))))
 
     owner_if_follows : (o : Option RawReceiver) → TF P (BoundIn P) (owner_if u o) (owner_if v o)
     owner_if_follows None = follows_sound P (BoundIn P) (λ x. Unit {0}) (Unit {0}) None tt (λ m. tt)
@@ -162,6 +160,7 @@ module _ (P : QName → Type 0) (s : QName → Option Desc) where
           parameters = subst (λ o. ThereIn P (as_parameters o)) (sym t.1.0) (p.found.keeps t.0.1 node_is said_w);
           bound = subst (λ o. BoundIn P (bound_in o)) (sym r.1) bound;
           inside = kept_filter (λ k. EntityIn P k.what) (λ k. nat_lt u.scope k.scope) x.known (subst (λ (z : Sections). KnownIn P z.known) (sym x_is) known.1);
+          known = a.known;
         };
       }
 
@@ -214,7 +213,7 @@ module _ (P : QName → Type 0) (s : QName → Option Desc) where
         before = ap (λ (u : Around). declared_head false h u ∷ hs.before) (procedure_beside hs.around h h.is_bound);
         around = procedure_beside hs.around h h.is_bound;
         agrees = procedure_agrees hs.around h h.is_bound a;
-        heads = (record { parameters = i.parameters; bound = i.bound; inside = i.inside }, before);
+        heads = (record { parameters = i.parameters; bound = i.bound; inside = i.inside; known = (procedure_agrees hs.around h h.is_bound a).known }, before);
       }
 
   said_before : (t : Bool) (h : Head) (u : Around) → HeadSaid P (declared_head t h u) → HeadSaid P h
@@ -270,3 +269,30 @@ module _ (P : QName → Type 0) (s : QName → Option Desc) where
         agrees = i.agrees;
         heads = i.heads;
       }
+
+  -- ---- the body of a procedure
+
+  receiver_there : (x : Option Ident) (b : Option BoundAs) → BoundIn P b → ReceivedIn P (received_by x b)
+  receiver_there None b h = tt
+  receiver_there (Some x) None h = tt
+  receiver_there (Some x) (Some b) h = h.1
+
+  result_there : (o : Option Parameters) → ThereIn P o → TypeIn P (result_in o)
+  result_there None h = absurd h
+  result_there (Some p) h = h.0.1
+
+  -- WHAT STANDS AROUND THE BODY of a procedure agrees
+  pub body_agrees : (u : Around) → Agrees P u s → (h : Head) → HeadIn P h → Agrees P (around_body u h) s × (around_body (beside u s) h ≡ beside (around_body u h) s)
+  body_agrees u a h i = (
+    record {
+      same = a.same;
+      near = a.near;
+      out = a.out;
+      own = a.own;
+      known = all_both (λ k. EntityIn P k.what) h.inside h.known i.inside i.known;
+      guards = tt;
+      receiver = receiver_there h.self h.bound i.bound;
+      result = result_there h.parameters i.parameters;
+    },
+    refl,
+  )

@@ -1,3 +1,4 @@
+pub mod Near
 pub mod Tests
 pub mod Following
 pub mod Names
@@ -27,3 +28,4 @@ pub mod Declaring
 pub mod Heading
 pub mod Counted
 pub mod Binding
+pub mod Later

@@ -1,5 +1,5 @@
 -- CASE and FOR, with other interfaces around.
-use Rattle.std.proofs.Common.{◌≡◌, refl, sym, ap, ◌∙◌, subst, ℕ, List, [], ◌∷◌, ◌++◌, map, Option, Some, None, Bool, true, false}
+use Rattle.std.proofs.Common.{◌≡◌, refl, sym, ap, ◌∙◌, subst, List, [], ◌∷◌, ◌++◌, Option, Some, None, Bool, true, false}
 use Rattle.std.specs.Prelude.{ℤ, pos, is_some}
 use Rattle.std.specs.List.{AllByRecursion}
 use Rattle.ob_tree.specs.declared.pos.Pos.{Pos}
@@ -28,27 +28,27 @@ use Rattle.ob_rules.specs.declared.entity.Entity.TheVariants as entity
 use Rattle.ob_rules.specs.declared.meant.Selects.{Selects}
 use Rattle.ob_rules.specs.declared.values.Place.{Place}
 use Rattle.ob_rules.specs.declared.values.Valued.{Valued}
-use Rattle.ob_rules.specs.Judged.{Judged, Notes, sound, silent, breaks, wants, both, made, noted, joined, if_sound, ◌▷◌}
+use Rattle.ob_rules.specs.Judged.{Judged, sound, breaks, both, noted, joined, if_sound, ◌▷◌}
 use Rattle.ob_rules.specs.Shapes.{Map, extends_record, width_of, basic_of, record_of, pointed_record}
 use Rattle.ob_rules.specs.Names.{Around, map_of, named}
-use Rattle.ob_rules.specs.Values.{is, width as width_in, fits, tree, type}
+use Rattle.ob_rules.specs.Values.{fits, tree}
 use Rattle.ob_rules.specs.Phrases.{Phrase}
-use Rattle.ob_rules.specs.Designators.{variable_at, same_variable, if_so, if_extends, on_record, guard_kind, guard_of, guarded_by, with_guard, guard_if, guard_same, with_guards, variable_named}
+use Rattle.ob_rules.specs.Designators.{variable_at, same_variable, if_so, if_extends, on_record, guard_kind, guard_of, with_guard, guard_if, guard_same, with_guards, variable_named}
 use Rattle.ob_rules.specs.Expressions.{Ranged, constant_value}
-use Rattle.ob_rules.specs.Statements.{Judging, one, in_turn, in_turn_if, selects_by, selects, case_value, both_ends, high_if, label_both, label, Labels, with_label, then_labels, labels_behind, labels, Labelled, case_of, case_behind, cases, selects_if, case_with, case_judged, case, integer_place, for_variable, for_bound, step_value, step_of, for_step, width_or_long, for_made, bound_if, for_parts, for_with, for}
+use Rattle.ob_rules.specs.Statements.{Judging, one, in_turn, in_turn_if, selects_by, selects, case_value, both_ends, high_if, label_both, label, Labels, with_label, then_labels, labels_behind, labels, Labelled, case_of, case_behind, cases, selects_if, case_judged, case, integer_place, for_variable, for_bound, step_value, for_step, width_or_long, for_made, for_with, for}
 use Rattle.ob_mentions.specs.Agreement.{IsIn, Agree}
-use Rattle.ob_mentions.specs.Said.{CountsIn, DesignatorIn, ExprIn, StmtIn, SaidIn, PlaceIn, PlaceTied, ValuedIn, ValuedTied}
+use Rattle.ob_mentions.specs.Said.{CountsIn, DesignatorIn, ExprIn, StmtIn, SaidIn, PlaceIn, ValuedIn, ValuedTied}
 use Rattle.ob_mentions.specs.Followed.{beside, EntityIn, TypeIn, Agrees, Follows}
 use Rattle.ob_mentions.proofs.Tests.{two, target_basics, pointed_record_in, record_in}
-use Rattle.ob_mentions.proofs.Following.{none_is, some_same, said_left, said_right, follows_none, follows_sound, follows_wants, follows_then, follows_made, follows_both, follows_weaker, made_node, both_node, then_node, front_said}
-use Rattle.ob_mentions.proofs.Mentioned.{guard_mentions, tree_mentions}
+use Rattle.ob_mentions.proofs.Following.{none_is, some_same, said_left, said_right, follows_none, follows_sound, follows_wants, follows_then, follows_made, follows_both, made_node, both_node, front_said}
+use Rattle.ob_mentions.proofs.Mentioned.{tree_mentions}
 use Rattle.ob_mentions.proofs.Names.{maps_agree, named_follows}
 use Rattle.ob_mentions.proofs.Values.{is_same, width_same, fits_same}
 use Rattle.ob_mentions.proofs.Actuals.{PhraseFollows}
 use Rattle.ob_mentions.proofs.Selecting.{variable_follows}
 use Rattle.ob_mentions.proofs.Nodes.{RangedFollows, IfFollows as IfPhrase}
 use Rattle.ob_mentions.proofs.Expressions.{constant_value_follows}
-use Rattle.ob_mentions.proofs.Bodies.{SF, StmtsIn, CaseIn, IfIn, JudgingFollows, BodyFollows, IfFollows, in_turn_follows, in_turn_if_follows, two_made, case_mentions, case_stmt_mentions, for_mentions}
+use Rattle.ob_mentions.proofs.Bodies.{SF, StmtsIn, CaseIn, IfIn, BodyFollows, IfFollows, in_turn_follows, in_turn_if_follows, two_made, case_mentions, case_stmt_mentions, for_mentions}
 
 module _ (P : QName → Type 0) where
   -- what mentions nothing
@@ -138,9 +138,9 @@ module _ (P : QName → Type 0) where
     label_follows : (k : Option Selects) (before : List Label) (r : Ranged) → RangedFollows P u s a r → NF (label u k before r) (label v k before r)
     label_follows k before r h =
         let f = follows_then P (λ (p : Value × Option Value). Unit {0} × Unit {0}) (λ p. Unit {0} × Unit {0}) (λ x. Unit {0}) (λ x. Unit {0}) (Unit {0} × Unit {0}) (both (constant_value u r.low) (high_if u r.high)) (both (constant_value v r.low) (high_if v r.high))
-            (λ p. label_both k r.low.start before (both_ends p.0 p.1)) (λ p. label_both k r.low.start before (both_ends p.0 p.1))
-            (follows_both P (λ x. Unit {0}) (λ x. Unit {0}) (λ x. Unit {0}) (λ x. Unit {0}) (Unit {0}) (Unit {0}) (constant_value u r.low) (constant_value v r.low) (high_if u r.high) (high_if v r.high) (constant_value_follows P u s a r.low h.low) (high_follows r.high h.high))
-            (λ p t. record { keeps = λ x e said. tt; same = λ x e said m. ((tt, tt), refl) }) in
+        (λ p. label_both k r.low.start before (both_ends p.0 p.1)) (λ p. label_both k r.low.start before (both_ends p.0 p.1))
+        (follows_both P (λ x. Unit {0}) (λ x. Unit {0}) (λ x. Unit {0}) (λ x. Unit {0}) (Unit {0}) (Unit {0}) (constant_value u r.low) (constant_value v r.low) (high_if u r.high) (high_if v r.high) (constant_value_follows P u s a r.low h.low) (high_follows r.high h.high))
+        (λ p t. record { keeps = λ x e said. tt; same = λ x e said m. ((tt, tt), refl) }) in
         record { keeps = λ x e said. tt; same = λ x e said m. (tt, (f.same x e said tt).1) }
 
     labels_same : (k : Option Selects) (before : List Label) (rs : List Ranged) → AllByRecursion (RangedFollows P u s a) rs → (ls : List Label) → (labels u k before rs).found.node ≡ Some ls → SaidIn P (labels u k before rs).found.notes → labels v k before rs ≡ labels u k before rs
@@ -174,7 +174,7 @@ module _ (P : QName → Type 0) where
         let i = in_turn c.body u in
         let j = in_turn c.body v in
         let f = two_made P (λ x. Unit {0}) (CaseIn P) (λ x. Unit {0}) (AllByRecursion (CaseIn P)) (λ x. Unit {0}) (AllByRecursion (CaseIn P)) (λ p. p.0 ∷ p.1) (case_of ls.found i) (case_of ls.found j) (cases u k ls.before cs) (cases v k ls.before cs)
-            (case_of_follows ls.found i j (in_turn_follows P c.body h.0.body u s a)) (cases_follow k ls.before cs h.1) (λ p t. tt) (λ p m. m) in
+        (case_of_follows ls.found i j (in_turn_follows P c.body h.0.body u s a)) (cases_follow k ls.before cs h.1) (λ p t. tt) (λ p m. m) in
         record {
           keeps = λ x e said. tt;
           same = λ x e said m.
@@ -223,8 +223,8 @@ module _ (P : QName → Type 0) where
             let same = (f.same n.0.0 q.0 said_x z).1 in
             let chosen = ap (selects_if (map_of v)) (ap (λ (y : Judged Valued). y.node) same ∙ q.0) ∙ (selects_same n.0.0 tied z ∙ sym (ap (selects_if (map_of u)) q.0)) in
             let parts = two_made P (ValuedTied P) (ValuedIn P) (λ x. Unit {0}) (λ (p : List TypedCase × Option (List TypedStmt)). AllByRecursion (CaseIn P) p.0 × IfIn P p.1) (λ ys. Unit {0}) (AllByRecursion (StmtIn P)) made_of i (case_judged v x) (both c w) (both (cases v (selects_if (map_of u) (case_judged u x).node) [] cs) (in_turn_if o v)) f
-                (pair_follows c (cases v (selects_if (map_of u) (case_judged u x).node) [] cs) w (in_turn_if o v) (cases_follow (selects_if (map_of u) (case_judged u x).node) [] cs k) (in_turn_if_follows P o l u s a))
-                (λ p t. tt) (λ p m. let r = case_stmt_mentions P (tree p.0) p.1.0 p.1.1 at m.0 in (tree_mentions P p.0 r.0, r.1)) in
+            (pair_follows c (cases v (selects_if (map_of u) (case_judged u x).node) [] cs) w (in_turn_if o v) (cases_follow (selects_if (map_of u) (case_judged u x).node) [] cs k) (in_turn_if_follows P o l u s a))
+            (λ p t. tt) (λ p m. let r = case_stmt_mentions P (tree p.0) p.1.0 p.1.1 at m.0 in (tree_mentions P p.0 r.0, r.1)) in
             ap (λ b. both (case_judged v x) (both (cases v b [] cs) (in_turn_if o v)) ▷ λ p. one (stmt.Case (tree p.0) p.1.0 p.1.1 at)) chosen ∙ (parts.same y e said m).1
 
     -- ---- FOR
@@ -296,9 +296,9 @@ module _ (P : QName → Type 0) where
             let rest_u = both (for_step u at o) (in_turn body u) in
             let rest_v = both (for_step v at o) (in_turn body v) in
             let parts = two_made P (λ q. Unit {0}) BoundsIn (λ q. Unit {0}) RestIn (λ ys. Unit {0}) (AllByRecursion (StmtIn P)) made_of bounds_u bounds_v rest_u rest_v
-                (side_follows (ExprIn P) (ExprIn P) (b.value u ▷ for_bound (map_of u) at p) (b.value v ▷ for_bound (map_of v) at p) (c.value u ▷ for_bound (map_of u) at p) (c.value v ▷ for_bound (map_of v) at p) (bound_follows at p (b.value u) (b.value v) known hb.value) (bound_follows at p (c.value u) (c.value v) known hc.value))
-                (side_follows (λ z. Unit {0}) (AllByRecursion (StmtIn P)) (for_step u at o) (for_step v at o) (in_turn body u) (in_turn body v) (step_follows at o ho) (in_turn_follows P body h u s a))
-                (λ q t. tt) (λ q m. let r = for_mentions P p.root (width_or_long (width_of (basic_of (map_of u) p.of))) q.0.0 q.0.1 q.1.0 q.1.1 at m.0 in (r.0, (tt, r.1))) in
+            (side_follows (ExprIn P) (ExprIn P) (b.value u ▷ for_bound (map_of u) at p) (b.value v ▷ for_bound (map_of v) at p) (c.value u ▷ for_bound (map_of u) at p) (c.value v ▷ for_bound (map_of v) at p) (bound_follows at p (b.value u) (b.value v) known hb.value) (bound_follows at p (c.value u) (c.value v) known hc.value))
+            (side_follows (λ z. Unit {0}) (AllByRecursion (StmtIn P)) (for_step u at o) (for_step v at o) (in_turn body u) (in_turn body v) (step_follows at o ho) (in_turn_follows P body h u s a))
+            (λ q t. tt) (λ q m. let r = for_mentions P p.root (width_or_long (width_of (basic_of (map_of u) p.of))) q.0.0 q.0.1 q.1.0 q.1.1 at m.0 in (r.0, (tt, r.1))) in
             let inner = (parts.same y e (said_right P i.notes w.notes said) m).1 in
             let widths = ap (λ z. width_or_long (width_of z)) (target_basics P (map_of u) (map_of v) maps p.of known.1) in
             ap (λ (z : Judged Place). noted z.notes (for_with (map_of v) at z.node (b.value v) (c.value v) (for_step v at o) (in_turn body v))) same

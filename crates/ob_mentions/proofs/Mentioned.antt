@@ -1,6 +1,5 @@
 -- What nodes mention, by their parts.
-use Rattle.std.proofs.Common.{◌≡◌, refl, sym, ap, ◌∙◌, subst, ℕ, List, [], ◌∷◌, ◌++◌, map as each, Option, Some, None, Bool, true, false}
-use Rattle.std.specs.List.{flat_map}
+use Rattle.std.proofs.Common.{subst, ℕ, List, [], ◌∷◌, ◌++◌, Option}
 use Rattle.ob_tree.specs.declared.pos.Pos.{Pos}
 use Rattle.ob_tree.specs.declared.names.QName.{QName}
 use Rattle.ob_types.specs.declared.types.TypeRef.{TypeRef}
@@ -30,7 +29,7 @@ use Rattle.ob_types.proofs.TypedViews.{view_variable, view_field, view_index, vi
 use Rattle.ob_counts.specs.Counts.{Count, Shapes, Layouts, shapes, counts_of_designator, counts_of_expr}
 use Rattle.ob_rules.specs.declared.values.Valued.{Valued}
 use Rattle.ob_rules.specs.declared.values.Valued.TheVariants as valued
-use Rattle.ob_rules.specs.Values.{tree, constant_in, text_tree, as_text}
+use Rattle.ob_rules.specs.Values.{tree, text_tree}
 use Rattle.ob_mentions.specs.Agreement.{IsIn, AreIn}
 use Rattle.ob_mentions.specs.Said.{SignatureIn, KindIn, CountsIn, DesignatorIn, ExprIn, ValuedIn}
 use Rattle.std.specs.Prelude.{pos, negsuc}

@@ -1,5 +1,5 @@
 -- What names mean, with other interfaces around.
-use Rattle.std.proofs.Common.{◌≡◌, refl, sym, ap, ◌∙◌, subst, ℕ, List, [], ◌∷◌, Option, Some, None, Bool, true, false}
+use Rattle.std.proofs.Common.{◌≡◌, refl, ap, ◌∙◌, subst, ℕ, List, [], ◌∷◌, Option, Some, None, Bool, true, false}
 use Rattle.std.specs.Prelude.{bytes_eq, cond}
 use Rattle.std.specs.List.{AllByRecursion, find}
 use Rattle.ob_tree.specs.declared.pos.Pos.{Pos}
@@ -14,13 +14,12 @@ use Rattle.ob_types.specs.declared.typed.OutProcedure.{OutProcedure}
 use Rattle.ob_rules.specs.declared.entity.Entity.{Entity}
 use Rattle.ob_rules.specs.declared.entity.Entity.TheVariants as entity
 use Rattle.ob_rules.specs.declared.entity.Known.{Known}
-use Rattle.ob_rules.specs.Judged.{Judged, Notes, sound, silent, breaks, names, ◌▷◌}
+use Rattle.ob_rules.specs.Judged.{Judged, breaks, ◌▷◌}
 use Rattle.ob_rules.specs.Shapes.{same_name}
-use Rattle.ob_rules.specs.Names.{Around, own_desc, out_string, type_desc, map_of, find_name, variable_known, is_enclosing, entity_known, name_known, named, shown_of, export_known, exported, out_procedure, is_out, type_of_desc, out_type, type_in, type_of_entity, type_behind, unless_variable_is, unless_variable, type_by, type_named, is_type_desc, is_type_entity, is_type_behind, known_is, is_type_by, is_type_name}
+use Rattle.ob_rules.specs.Names.{Around, own_desc, out_string, type_desc, map_of, find_name, variable_known, is_enclosing, entity_known, name_known, named, shown_of, export_known, exported, out_procedure, is_out, type_of_desc, out_type, type_in, type_of_entity, type_behind, unless_variable_is, unless_variable, type_by, type_named}
 use Rattle.ob_mentions.specs.Agreement.{IsIn, DescIn, Agree}
-use Rattle.ob_mentions.specs.Said.{SaidIn}
 use Rattle.ob_mentions.specs.Followed.{beside, EntityIn, Agrees, Follows}
-use Rattle.ob_mentions.proofs.Following.{none_is, some_same, follows_none, follows_sound, follows_then}
+use Rattle.ob_mentions.proofs.Following.{none_is, some_same, follows_none, follows_then}
 
 pub found : {A : Type 0} (P : A → Type 0) (test : A → Bool) (xs : List A) (y : A) → AllByRecursion P xs → find test xs ≡ Some y → P y
 found P test [] y all e = none_is e

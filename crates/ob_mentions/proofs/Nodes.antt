@@ -1,6 +1,6 @@
 -- Each alternative of an expression, of parts that follow.
-use Rattle.std.proofs.Common.{◌≡◌, refl, sym, ap, ◌∙◌, subst, ℕ, List, [], ◌∷◌, ◌++◌, map, Option, Some, None, Bool, true, false, not}
-use Rattle.std.specs.Prelude.{◌&&◌, ◌||◌, nat_le, pos}
+use Rattle.std.proofs.Common.{◌≡◌, refl, ap, ◌∙◌, subst, ℕ, List, [], ◌∷◌, map, Option, Some, None, Bool, true, false, not}
+use Rattle.std.specs.Prelude.{◌||◌, nat_le, pos}
 use Rattle.std.specs.List.{AllByRecursion}
 use Rattle.ob_tree.specs.declared.pos.Pos.{Pos}
 use Rattle.ob_tree.specs.declared.names.QName.{QName}
@@ -11,16 +11,13 @@ use Rattle.ob_tree.specs.declared.expr.Relation.{Relation}
 use Rattle.ob_tree.specs.declared.expr.Relation.TheVariants as relates
 use Rattle.ob_types.specs.declared.types.TypeRef.{TypeRef}
 use Rattle.ob_types.specs.declared.types.Signature.{Signature}
-use Rattle.ob_types.specs.declared.types.Basic.TheVariants as basic
 use Rattle.ob_types.specs.declared.desc.Desc.{Desc}
 use Rattle.ob_types.specs.declared.value.Value.{Value as Literal}
 use Rattle.ob_types.specs.declared.value.Value.TheVariants as literal
 use Rattle.ob_types.specs.declared.typed.Guarded.{Guarded}
 use Rattle.ob_types.specs.declared.typed.Guarded.TheVariants as guarded
 use Rattle.ob_types.specs.declared.typed.TypedExpr.TheVariants as e
-use Rattle.ob_types.specs.declared.typed.ExprType.{ExprType}
 use Rattle.ob_types.specs.declared.typed.ExprType.TheVariants as kind
-use Rattle.ob_types.specs.TypedKinds.{of_basic}
 use Rattle.ob_types.specs.AssigningTests.{is_value}
 use Rattle.ob_rules.specs.declared.meant.ElementOf.{ElementOf}
 use Rattle.ob_rules.specs.declared.meant.Meant.{Meant}
@@ -30,23 +27,22 @@ use Rattle.ob_rules.specs.declared.meant.Where.TheVariants.{InExpression}
 use Rattle.ob_rules.specs.declared.values.Place.{Place}
 use Rattle.ob_rules.specs.declared.values.Valued.{Valued}
 use Rattle.ob_rules.specs.declared.values.Valued.TheVariants as valued
-use Rattle.ob_rules.specs.Judged.{Judged, sound, silent, breaks, both, also, wants, found_or, made, each_sound, ◌▷◌}
+use Rattle.ob_rules.specs.Judged.{Judged, sound, silent, breaks, both, also, wants, made, each_sound, ◌▷◌}
 use Rattle.ob_rules.specs.Shapes.{Map, pointed_record}
 use Rattle.ob_rules.specs.Names.{Around, map_of, type_named}
-use Rattle.ob_rules.specs.Values.{constant, computed, value_at, points, type_in, tree, type, place_in}
-use Rattle.ob_rules.specs.Constants.{text_value}
+use Rattle.ob_rules.specs.Values.{constant, computed, value_at, type_in, tree, type, place_in}
 use Rattle.ob_rules.specs.Operators.{combined, opposite, signed, related, element, set_of}
 use Rattle.ob_rules.specs.Phrases.{Phrase, Behind, Dot, Index, Up, Round}
-use Rattle.ob_rules.specs.Designators.{designates, guard_of, if_extends, is_one_type}
-use Rattle.ob_rules.specs.Expressions.{integer_literal, char_literal, procedure_value, value_meant, name_alone, Named, meant_by, designator_phrase, var_record_in, testable, record_if, record_test, pointer_test, test_record, test_of, test, untestable, type_test, other_test, is_test, phrase, Tailed, combine_all, bracketed, Ranged, value_if, element_value, relation_of, relation_value}
+use Rattle.ob_rules.specs.Designators.{designates, guard_of, if_extends}
+use Rattle.ob_rules.specs.Expressions.{integer_literal, char_literal, procedure_value, value_meant, name_alone, Named, meant_by, designator_phrase, var_record_in, testable, record_if, record_test, pointer_test, test_record, test_of, test, untestable, type_test, is_test, phrase, Tailed, combine_all, bracketed, Ranged, value_if, element_value, relation_of, relation_value}
 use Rattle.ob_mentions.specs.Agreement.{IsIn, Agree}
-use Rattle.ob_mentions.specs.Said.{KindIn, SaidIn, PlaceIn, PlaceTied, ValuedIn, ValuedTied, MeantIn, MeantTied, ElementIn}
+use Rattle.ob_mentions.specs.Said.{KindIn, SaidIn, PlaceIn, ValuedIn, ValuedTied, MeantIn, MeantTied, ElementIn}
 use Rattle.ob_mentions.specs.Followed.{beside, Agrees, Follows}
-use Rattle.ob_mentions.proofs.Tests.{two, pointed_record_same, pointed_record_in}
-use Rattle.ob_mentions.proofs.Following.{none_is, some_same, follows_none, follows_sound, follows_to, follows_with, follows_weaker, follows_wants, follows_found, follows_then, follows_made, follows_both, none_then, then_node, front_said, Both}
+use Rattle.ob_mentions.proofs.Tests.{pointed_record_same, pointed_record_in}
+use Rattle.ob_mentions.proofs.Following.{none_is, some_same, follows_none, follows_sound, follows_weaker, follows_wants, follows_found, follows_then, follows_made, follows_both, none_then, then_node, front_said, Both}
 use Rattle.ob_mentions.proofs.Mentioned.{constant_kind, procedure_mentions, is_pointer_mentions, is_record_mentions, tree_mentions}
 use Rattle.ob_mentions.proofs.Names.{maps_agree, type_named_follows}
-use Rattle.ob_mentions.proofs.Values.{points_same, kind_points, type_in_in}
+use Rattle.ob_mentions.proofs.Values.{points_same, type_in_in}
 use Rattle.ob_mentions.proofs.Operators.{constant_follows, combined_follows, opposite_follows, signed_follows, related_follows, element_follows, OM, set_tied, set_mentions, each_follows}
 use Rattle.ob_mentions.proofs.Actuals.{PhraseFollows, NameSame}
 use Rattle.ob_mentions.proofs.Fitting.{place_mentions, place_kind}
@@ -243,9 +239,9 @@ module _ (P : QName → Type 0) where
     type_test_follows at i j q h =
         alone (type_test u at i q) (type_test v at j q)
         (follows_then P (λ (p : Valued × TypeRef). ValuedTied P p.0 × IsIn P p.1) (λ p. ValuedIn P p.0 × Unit {0}) (ValuedTied P) (ValuedIn P) (Unit {0} × Unit {0}) (both (untestable (map_of u) at i) (type_named u q)) (both (untestable (map_of v) at j) (type_named v q))
-            (λ p. test (map_of u) at p.0 p.1) (λ p. test (map_of v) at p.0 p.1)
-            (follows_both P (ValuedTied P) (ValuedIn P) (IsIn P) (λ t. Unit {0}) (Unit {0}) (Unit {0}) (untestable (map_of u) at i) (untestable (map_of v) at j) (type_named u q) (type_named v q) (untestable_follows at i j h) (type_named_follows P u s a q))
-            (λ p t. test_follows (map_of u) (map_of v) maps at p.0 p.1 t.0 t.1))
+        (λ p. test (map_of u) at p.0 p.1) (λ p. test (map_of v) at p.0 p.1)
+        (follows_both P (ValuedTied P) (ValuedIn P) (IsIn P) (λ t. Unit {0}) (Unit {0}) (Unit {0}) (untestable (map_of u) at i) (untestable (map_of v) at j) (type_named u q) (type_named v q) (untestable_follows at i j h) (type_named_follows P u s a q))
+        (λ p t. test_follows (map_of u) (map_of v) maps at p.0 p.1 t.0 t.1))
 
     other_none : (at : Pos) (b : Bool) → (also {A = Valued} b 23 at (breaks 21 at)).node ≡ None
     other_none at true = refl
@@ -297,9 +293,9 @@ module _ (P : QName → Type 0) where
     element_value_follows r h =
         follows_weaker P (λ x. Unit {0}) (ElementIn P) (Unit {0} × Unit {0}) (Unit {0}) (element_value u r) (element_value v r) (λ k. tt)
         (follows_then P (λ (p : Valued × Option Valued). ValuedTied P p.0 × HighTied p.1) (λ p. ValuedIn P p.0 × OM P p.1) (λ x. Unit {0}) (ElementIn P) (Unit {0} × Unit {0}) (both (r.low.value u) (value_if u r.high)) (both (r.low.value v) (value_if v r.high))
-            (λ p. element (map_of u) r.low.start p.0 p.1) (λ p. element (map_of v) r.low.start p.0 p.1)
-            (follows_both P (ValuedTied P) (ValuedIn P) HighTied (OM P) (Unit {0}) (Unit {0}) (r.low.value u) (r.low.value v) (value_if u r.high) (value_if v r.high) h.low.value (high_follows r.high h.high))
-            (λ p t. element_follows P (map_of u) (map_of v) maps r.low.start p.0 p.1 t.0 (λ b e. high_tied p.1 b t.1 e)))
+        (λ p. element (map_of u) r.low.start p.0 p.1) (λ p. element (map_of v) r.low.start p.0 p.1)
+        (follows_both P (ValuedTied P) (ValuedIn P) HighTied (OM P) (Unit {0}) (Unit {0}) (r.low.value u) (r.low.value v) (value_if u r.high) (value_if v r.high) h.low.value (high_follows r.high h.high))
+        (λ p t. element_follows P (map_of u) (map_of v) maps r.low.start p.0 p.1 t.0 (λ b e. high_tied p.1 b t.1 e)))
 
     elements_follow : (rs : List Ranged) → AllByRecursion RangedFollows rs → Both P (λ x. Unit {0}) (ElementIn P) (map (element_value u) rs) (map (element_value v) rs)
     elements_follow [] h = tt
@@ -309,4 +305,4 @@ module _ (P : QName → Type 0) where
     set_follows at rs h =
         phrase_follows at (λ u. made set_of (each_sound (map (element_value u) rs)))
         (follows_made P (AllByRecursion (λ (x : ElementOf). Unit {0})) (AllByRecursion (ElementIn P)) (ValuedTied P) (ValuedIn P) (Unit {0}) set_of (each_sound (map (element_value u) rs)) (each_sound (map (element_value v) rs))
-            (each_follows P (λ x. Unit {0}) (ElementIn P) (map (element_value u) rs) (map (element_value v) rs) (elements_follow rs h)) (λ xs t. set_tied P xs) (λ xs t m. set_mentions P xs m))
+        (each_follows P (λ x. Unit {0}) (ElementIn P) (map (element_value u) rs) (map (element_value v) rs) (elements_follow rs h)) (λ xs t. set_tied P xs) (λ xs t m. set_mentions P xs m))

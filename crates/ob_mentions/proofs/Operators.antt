@@ -1,6 +1,6 @@
 -- Operators over values, with other interfaces around.
-use Rattle.std.proofs.Common.{◌≡◌, refl, sym, ap, ◌∙◌, subst, ℕ, List, [], ◌∷◌, ◌++◌, Option, Some, None, Bool, true, false}
-use Rattle.std.specs.Prelude.{◌&&◌, is_some}
+use Rattle.std.proofs.Common.{◌≡◌, refl, sym, subst, ℕ, List, [], ◌∷◌, Option, Some, None, Bool, true, false}
+use Rattle.std.specs.Prelude.{◌&&◌}
 use Rattle.std.specs.List.{AllByRecursion}
 use Rattle.ob_tree.specs.declared.pos.Pos.{Pos}
 use Rattle.ob_tree.specs.declared.names.QName.{QName}
@@ -23,20 +23,19 @@ use Rattle.ob_types.specs.declared.typed.Comparison.{Comparison}
 use Rattle.ob_types.specs.declared.typed.Compared.{Compared}
 use Rattle.ob_types.specs.declared.typed.TypedExpr.{TypedExpr}
 use Rattle.ob_types.specs.declared.typed.TypedExpr.TheVariants as e
-use Rattle.ob_types.specs.declared.typed.ExprType.TheVariants as kind
 use Rattle.ob_types.specs.TypedKinds.{of_basic, unary_type, binary_type}
 use Rattle.ob_rules.specs.declared.meant.ElementOf.{ElementOf}
 use Rattle.ob_rules.specs.declared.values.Valued.{Valued}
 use Rattle.ob_rules.specs.declared.values.Valued.TheVariants as valued
-use Rattle.ob_rules.specs.Judged.{Judged, sound, breaks, silent, both, made, each_sound, ◌▷◌}
+use Rattle.ob_rules.specs.Judged.{Judged, sound, breaks, both, each_sound}
 use Rattle.ob_rules.specs.Shapes.{Map}
 use Rattle.ob_rules.specs.Constants.{fold_one, fold_two, fold_texts, fold_logical}
 use Rattle.ob_rules.specs.Values.{constant, computed, is, width, is_integer, tree, text_tree, constant_in}
-use Rattle.ob_rules.specs.Operators.{folded, one_of, monadic, two_of, dyadic, logical, texts, if_fit, are, binary_of, connected, combined, negated, opposite, only_value, signed_as, signed, comparison_of, is_equality, is_text, compared_as, compare_as, contained, compare, related, element_as, element_folded, single, ranged, if_integer, if_integers, element, union_of, and_so, all_constant, set_from, set_of}
+use Rattle.ob_rules.specs.Operators.{folded, monadic, two_of, dyadic, logical, texts, if_fit, are, binary_of, connected, combined, negated, opposite, only_value, signed_as, signed, comparison_of, is_equality, is_text, compared_as, compare_as, contained, compare, related, element_as, element_folded, single, ranged, if_integer, if_integers, element, union_of, and_so, all_constant, set_from, set_of}
 use Rattle.ob_mentions.specs.Agreement.{Agree}
 use Rattle.ob_mentions.specs.Said.{ExprIn, ValuedIn, ValuedTied, ElementIn, ElementBy}
 use Rattle.ob_mentions.specs.Followed.{Follows}
-use Rattle.ob_mentions.proofs.Following.{none_is, some_same, follows_none, follows_sound, follows_to, follows_made, follows_both, Both}
+use Rattle.ob_mentions.proofs.Following.{none_is, follows_none, follows_sound, follows_to, follows_made, follows_both, Both}
 use Rattle.ob_mentions.proofs.Mentioned.{unary_mentions, binary_mentions, logical_mentions, texts_mention, value_of_mentions, tree_mentions, text_tree_mentions, constant_kind, unary_kind, binary_kind}
 use Rattle.ob_mentions.proofs.Values.{combined_same, opposite_same, signed_same, related_same, element_same}
 
@@ -213,6 +212,7 @@ module _ (P : QName → Type 0) where
       next : (c : Value) → x.constant ≡ Some c → (o : Option Value) → and_so o (λ w. all_constant w xs) ≡ Some w → ((z : Value) → all_constant z xs ≡ Some w → Elements xs) → Elements (x ∷ xs)
       next c k None e ih = none_is e
       next c k (Some z) e ih = (subst (λ o. ElementBy P o x.node.inner) (sym k) tt, ih z e)
+
       by : (o : Option Value) → x.constant ≡ o → and_so o (λ c. and_so (fold_two binary.Union v c) (λ w. all_constant w xs)) ≡ Some w → ((z : Value) → all_constant z xs ≡ Some w → Elements xs) → Elements (x ∷ xs)
       by None k e ih = none_is e
       by (Some c) k e ih = next c k (fold_two binary.Union v c) e ih

@@ -1,7 +1,6 @@
 -- Formal parameters as they are written, with other interfaces around.
-use Rattle.std.proofs.Common.{◌≡◌, refl, sym, ap, ◌∙◌, subst, ℕ, ◌+◌, List, [], ◌∷◌, ◌++◌, map, length, Option, Some, None, Bool, true, false}
+use Rattle.std.proofs.Common.{◌≡◌, refl, sym, ap, ◌∙◌, subst, ℕ, ◌+◌, List, [], ◌∷◌, ◌++◌, map, length, Option, Some, None, true}
 use Rattle.std.specs.List.{AllByRecursion}
-use Rattle.ob_tree.specs.declared.pos.Pos.{Pos}
 use Rattle.ob_tree.specs.declared.names.QName.{QName}
 use Rattle.ob_tree.specs.declared.ident.Ident.{Ident}
 use Rattle.ob_tree.specs.declared.ident.Mark.{Mark}
@@ -9,26 +8,24 @@ use Rattle.ob_tree.specs.declared.ident.Mark.TheVariants as mark
 use Rattle.ob_tree.specs.declared.ident.Qualident.{Qualident}
 use Rattle.ob_types.specs.declared.types.Mode.{Mode}
 use Rattle.ob_types.specs.declared.types.TypeRef.{TypeRef}
-use Rattle.ob_types.specs.declared.types.Signature.{Signature}
 use Rattle.ob_types.specs.declared.desc.Desc.{Desc}
 use Rattle.ob_types.specs.declared.desc.Desc.TheVariants as desc
-use Rattle.ob_types.specs.declared.typed.Passing.{Passing}
 use Rattle.ob_types.specs.declared.typed.Variable.TheVariants as variable
 use Rattle.ob_types.specs.Maps.{listed, signature_types}
 use Rattle.ob_rules.specs.declared.entity.Entity.{Entity}
 use Rattle.ob_rules.specs.declared.entity.Entity.TheVariants as entity
 use Rattle.ob_rules.specs.declared.entity.Known.{Known}
-use Rattle.ob_rules.specs.Judged.{Judged, Notes, sound, both, made, noted, joined, no_notes, unless, if_sound, ◌▷◌}
+use Rattle.ob_rules.specs.Judged.{Judged, sound, both, made, noted, if_sound, ◌▷◌}
 use Rattle.ob_rules.specs.Shapes.{is_structured, passing_of}
 use Rattle.ob_rules.specs.Names.{Around, map_of, type_named}
-use Rattle.ob_rules.specs.Types.{Typing, Written, typed_as, with_types, section_name, first_of, Parameters, WrittenSection, WrittenParameters, Sections, mode_of, new_name, parameter_as, knows, Named, with_notes, declare_all, parameters_of, parameters_joined, behind_section, with_made, section_named, section, sections, result_fits, result_of, with_result, behind_sections, parameters_in, inner, procedure_type}
-use Rattle.ob_mentions.specs.Agreement.{IsIn, AreIn, DescIn, Agree}
+use Rattle.ob_rules.specs.Types.{Typing, typed_as, with_types, section_name, first_of, Parameters, WrittenSection, WrittenParameters, Sections, mode_of, new_name, parameter_as, knows, Named, with_notes, declare_all, parameters_of, parameters_joined, behind_section, with_made, section_named, sections, result_fits, result_of, with_result, parameters_in, inner, procedure_type}
+use Rattle.ob_mentions.specs.Agreement.{IsIn, AreIn, DescIn}
 use Rattle.ob_mentions.specs.Said.{SaidIn}
-use Rattle.ob_mentions.specs.Followed.{beside, EntityIn, TypeIn, Agrees, Follows}
+use Rattle.ob_mentions.specs.Followed.{beside, EntityIn, TypeIn, Agrees}
 use Rattle.ob_mentions.proofs.Tests.{two, is_array_same, is_record_same, passing_same}
-use Rattle.ob_mentions.proofs.Following.{none_is, some_same, said_left, said_right, follows_sound, follows_unless, follows_then, follows_made, made_node, both_node, then_node, front_said}
+use Rattle.ob_mentions.proofs.Following.{said_left, said_right, follows_sound, follows_unless, follows_then, follows_made, made_node, both_node, front_said}
 use Rattle.ob_mentions.proofs.Names.{maps_agree, type_named_follows}
-use Rattle.ob_mentions.specs.Declared.{MadeIn, TypingIn, OwnIn}
+use Rattle.ob_mentions.specs.Declared.{TypingIn, OwnIn}
 use Rattle.ob_mentions.specs.Headed.{ParametersIn, KnownIn}
 use Rattle.ob_mentions.proofs.Typings.{TF, WrittenFollows, agrees_with, all_both}
 use Rattle.std.specs.Prelude.{◌||◌}
@@ -138,16 +135,19 @@ module _ (P : QName → Type 0) where
             let found_rest = (ih.found.same n.0.1 node_is said_rest tt).1 in
             let first_is : parameters_of u m xs z.0 ≡ n.0.0 = z.1.1 in
             let moved_to : sections v name i (k ∷ ss) ≡ behind_section (made (parameters_of u m xs) ty) (declare_all u m (Some z.0) xs).notes (next (beside w s)) =
-                ap (λ (j : Judged Typing). section_named v m xs j (declare_all v m j.node xs) next) same
-                ∙ (ap (λ o. body v o) z.1.0
-                ∙ (ap (λ (n : Named). behind_section (made (parameters_of v m xs) ty) n.notes (next (with_made n.around (Some z.0)))) d.same
-                ∙ ap (λ j. behind_section j (declare_all u m (Some z.0) xs).notes (next (beside w s))) (made_same (parameters_of u m xs) (parameters_of v m xs) ty z.0 z.1.0 (parameters_same u a m xs z.0 tied)))) in
+            ap (λ (j : Judged Typing). section_named v m xs j (declare_all v m j.node xs) next) same
+            ∙ (ap (λ o. body v o) z.1.0
+            ∙ (ap (λ (n : Named). behind_section (made (parameters_of v m xs) ty) n.notes (next (with_made n.around (Some z.0)))) d.same
+            ∙ ap (λ j. behind_section j (declare_all u m (Some z.0) xs).notes (next (beside w s))) (made_same (parameters_of u m xs) (parameters_of v m xs) ty z.0 z.1.0 (parameters_same u a m xs z.0 tied)))) in
             let stays : sections u name i (k ∷ ss) ≡ behind_section (made (parameters_of u m xs) ty) (declare_all u m (Some z.0) xs).notes (next w) = ap (λ o. body u o) z.1.0 in
-            let joined_in : ParametersIn P (parameters_joined (parameters_of u m xs z.0) n.0.1) = ((all_both (λ (x : Mode × TypeRef). IsIn P x.1) (map (λ x. (m, z.0.of)) xs) n.0.1.signature.params (same_mode m z.0.of xs tied.0) tied_rest.0.0, tt), all_both (λ t. DescIn P (Some t.desc)) z.0.made n.0.1.made tied.1 tied_rest.1) in
-            ((subst (ParametersIn P) (ap (λ y. parameters_joined y n.0.1) first_is ∙ n.1.1) joined_in,
-              ap (λ (r : Sections). r.found) moved_to
-              ∙ (ap (λ j. both (noted (declare_all u m (Some z.0) xs).notes (made (parameters_of u m xs) ty)) j ▷ λ q. sound (parameters_joined q.0 q.1)) found_rest ∙ sym (ap (λ (r : Sections). r.found) stays))),
-             (ap (λ (r : Sections). r.known) moved_to ∙ (known.0 ∙ sym (ap (λ (r : Sections). r.known) stays)), subst (λ (r : Sections). KnownIn P r.known) (sym stays) known.1))
+            let joined_in : ParametersIn P (parameters_joined (parameters_of u m xs z.0) n.0.1) = ((all_both (λ (x : Mode × TypeRef). IsIn P x.1) (map (λ x. (m, z.0.of)) xs) n.0.1.signature.params (same_mode m z.0.of xs tied.0) tied_rest.0.0, tt), all_both (λ t. DescIn P (Some t.desc)) z.0.made n.0.1.made tied.1 tied_rest.1) in (
+              (
+                subst (ParametersIn P) (ap (λ y. parameters_joined y n.0.1) first_is ∙ n.1.1) joined_in,
+                ap (λ (r : Sections). r.found) moved_to
+                    ∙ (ap (λ j. both (noted (declare_all u m (Some z.0) xs).notes (made (parameters_of u m xs) ty)) j ▷ λ q. sound (parameters_joined q.0 q.1)) found_rest ∙ sym (ap (λ (r : Sections). r.found) stays)),
+              ),
+              (ap (λ (r : Sections). r.known) moved_to ∙ (known.0 ∙ sym (ap (λ (r : Sections). r.known) stays)), subst (λ (r : Sections). KnownIn P r.known) (sym stays) known.1),
+            )
 
     result_follows : (u : Around) → Agrees P u s → (o : Option Qualident) → TF P (TypeIn P) (result_of u o) (result_of (beside u s) o)
     result_follows u a None = follows_sound P (TypeIn P) (λ x. Unit {0}) (Unit {0}) None tt (λ m. tt)
@@ -155,7 +155,7 @@ module _ (P : QName → Type 0) where
         let maps = maps_agree P u s a in
         follows_then P (IsIn P) (λ t. Unit {0}) (TypeIn P) (λ t. Unit {0}) (Unit {0}) (type_named u q) (type_named (beside u s) q) (result_fits u (first_of q)) (result_fits (beside u s) (first_of q)) (type_named_follows P u s a q)
         (λ t h. follows_unless P (TypeIn P) (λ t. Unit {0}) (Unit {0}) (is_structured (map_of u) t) (is_structured (map_of (beside u s)) t) 17 (first_of q) (Some t) h (λ m. tt)
-            (λ r. two (λ x y. x || y) (is_array_same P (map_of u) (map_of (beside u s)) maps t h) (is_record_same P (map_of u) (map_of (beside u s)) maps t h)))
+        (λ r. two (λ x y. x || y) (is_array_same P (map_of u) (map_of (beside u s)) maps t h) (is_record_same P (map_of u) (map_of (beside u s)) maps t h)))
 
     pub parameters_follow : (u : Around) → Agrees P u s → OwnIn P u.unit → (name : List ℕ) (p : WrittenParameters) → AllByRecursion (λ x. WrittenFollows P x.node) p.sections → SectionsFollow (parameters_in u name p) (parameters_in (beside u s) name p)
     parameters_follow u a own name p h = record {
@@ -177,11 +177,14 @@ module _ (P : QName → Type 0) where
             let known = f.known n.0.0 z.0 said_x in
             let g = result_follows (record u { known = x.known }) (agrees_known u s x.known a known.1) p.result in
             let said_r = said_right P x.found.notes r.notes t in
-            let tied = f.found.keeps n.0.0 z.0 said_x in
-            ((subst (ParametersIn P) n.1.1 ((tied.0.0, g.keeps n.0.1 z.1 said_r), tied.1),
-              ap (λ ks. both y.found (result_of (record (beside u s) { known = ks }) p.result) ▷ λ z. sound (with_result z.0 z.1)) known.0
-              ∙ two (λ i j. both i j ▷ λ z. sound (with_result z.0 z.1)) (f.found.same n.0.0 z.0 said_x tt).1 (g.same n.0.1 z.1 said_r tt).1),
-             known)
+            let tied = f.found.keeps n.0.0 z.0 said_x in (
+              (
+                subst (ParametersIn P) n.1.1 ((tied.0.0, g.keeps n.0.1 z.1 said_r), tied.1),
+                ap (λ ks. both y.found (result_of (record (beside u s) { known = ks }) p.result) ▷ λ z. sound (with_result z.0 z.1)) known.0
+                    ∙ two (λ i j. both i j ▷ λ z. sound (with_result z.0 z.1)) (f.found.same n.0.0 z.0 said_x tt).1 (g.same n.0.1 z.1 said_r tt).1,
+              ),
+              known,
+            )
 
     pub procedure_follows : (u : Around) → Agrees P u s → OwnIn P u.unit → (name : List ℕ) (m : Mark) (p : WrittenParameters) → AllByRecursion (λ x. WrittenFollows P x.node) p.sections → TF P (TypingIn P) (procedure_type u name m p) (procedure_type (beside u s) name m p)
     procedure_follows u a own name m p h =

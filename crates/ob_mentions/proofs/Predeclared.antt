@@ -1,6 +1,6 @@
 -- Calls of predeclared procedures, with other interfaces around.
-use Rattle.std.proofs.Common.{◌≡◌, refl, sym, ap, ◌∙◌, subst, ℕ, List, [], ◌∷◌, ◌++◌, Option, Some, None, Bool, true, false, not}
-use Rattle.std.specs.Prelude.{◌&&◌, ◌||◌, is_some}
+use Rattle.std.proofs.Common.{◌≡◌, refl, ap, subst, List, [], ◌∷◌, Option, Some, None, Bool, true, false}
+use Rattle.std.specs.Prelude.{is_some}
 use Rattle.std.specs.List.{AllByRecursion}
 use Rattle.ob_tree.specs.declared.pos.Pos.{Pos}
 use Rattle.ob_tree.specs.declared.names.QName.{QName}
@@ -15,22 +15,20 @@ use Rattle.ob_rules.specs.declared.meant.Asked.TheVariants as asked
 use Rattle.ob_rules.specs.declared.meant.Meant.{Meant}
 use Rattle.ob_rules.specs.declared.meant.Meant.TheVariants as means
 use Rattle.ob_rules.specs.declared.meant.Where.{Where}
-use Rattle.ob_rules.specs.declared.values.Place.{Place}
 use Rattle.ob_rules.specs.declared.values.Valued.{Valued}
-use Rattle.ob_rules.specs.declared.values.Valued.TheVariants as valued
-use Rattle.ob_rules.specs.Judged.{Judged, sound, silent, breaks, also, wants, unless, each_sound, names_type, made, both, ◌▷◌}
+use Rattle.ob_rules.specs.Judged.{Judged, sound, breaks, also, wants, each_sound, both, ◌▷◌}
 use Rattle.ob_rules.specs.Names.{Around, map_of, type_named}
-use Rattle.ob_rules.specs.Values.{constant, value_at, type, constant_in}
+use Rattle.ob_rules.specs.Values.{value_at, type, constant_in}
 use Rattle.ob_rules.specs.Operators.{only_value}
 use Rattle.ob_rules.specs.Calls.{misplaced}
 use Rattle.ob_rules.specs.Phrases.{Phrase}
 use Rattle.ob_rules.specs.Designators.{takes_type}
-use Rattle.ob_rules.specs.Predeclared.{changed_meant, changed_as, changed, must_be_constant, values, asked_first, asked_second, parameter, parameters_behind, parameters, is_function, fit, if_fit, call_fit, extreme, type_parameter, extreme_of, basic_if, extreme_call, call_predeclared}
+use Rattle.ob_rules.specs.Predeclared.{changed_meant, changed_as, values, asked_first, asked_second, parameter, parameters_behind, parameters, is_function, fit, if_fit, call_fit, extreme, type_parameter, extreme_of, basic_if, extreme_call, call_predeclared}
 use Rattle.ob_mentions.specs.Agreement.{IsIn, Agree}
 use Rattle.ob_mentions.specs.Said.{KindIn, SaidIn, PlaceIn, ValuedIn, ValuedTied, MeantIn, MeantTied}
 use Rattle.ob_mentions.specs.Followed.{beside, Agrees, Follows}
 use Rattle.ob_mentions.proofs.Tests.{target_basics}
-use Rattle.ob_mentions.proofs.Following.{none_is, some_same, said_left, follows_none, follows_sound, follows_to, follows_wants, follows_unless, follows_also, follows_then, follows_made, none_then, twice_none, then_node, both_nodes, front_said, Both}
+use Rattle.ob_mentions.proofs.Following.{some_same, said_left, follows_none, follows_sound, follows_to, follows_wants, follows_unless, follows_also, follows_then, follows_made, none_then, twice_none, then_node, both_nodes, front_said, Both}
 use Rattle.ob_mentions.proofs.Mentioned.{constant_kind}
 use Rattle.ob_mentions.proofs.Names.{maps_agree, type_named_follows}
 use Rattle.ob_mentions.proofs.Operators.{only_tied, only_mentions, each_follows}
@@ -106,7 +104,7 @@ module _ (P : QName → Type 0) where
     fit_follows w f at xs t =
         follows_also P (MeantTied P) (MeantIn P) (AllByRecursion (ValuedIn P) xs) (misplaced w (is_function f)) (misplaced w (is_function f)) 27 at (if_fit at (fit (map_of u) f at xs)) (if_fit at (fit (map_of v) f at xs))
         (follows_to P (MeantTied P) (MeantIn P) (AllByRecursion (ValuedIn P) xs) (if_fit at (fit (map_of u) f at xs)) (if_fit at (fit (map_of v) f at xs)) (fit_self P at (map_of u) f xs)
-            (λ r. ap (if_fit at) (fit_same P (map_of u) (map_of v) maps at f xs (kinds_in xs t r)))) (λ r. refl)
+        (λ r. ap (if_fit at) (fit_same P (map_of u) (map_of v) maps at f xs (kinds_in xs t r)))) (λ r. refl)
 
     plain_follows : (w : Where) (at : Pos) (f : Predeclared) (ps : List Phrase) → Phs ps → MF (Unit {0}) (each_sound (parameters u f ps) ▷ call_fit u w f at) (each_sound (parameters v f ps) ▷ call_fit v w f at)
     plain_follows w at f ps h =
@@ -128,7 +126,7 @@ module _ (P : QName → Type 0) where
     extreme_follows max w at (Some t) h =
         follows_also P (MeantTied P) (MeantIn P) (Unit {0}) (misplaced w true) (misplaced w true) 27 at (extreme_of max at (Some t) (basic_if (map_of u) (Some t))) (extreme_of max at (Some t) (basic_if (map_of v) (Some t)))
         (follows_to P (MeantTied P) (MeantIn P) (Unit {0}) (extreme_of max at (Some t) (basic_if (map_of u) (Some t))) (extreme_of max at (Some t) (basic_if (map_of v) (Some t))) (extreme_self max at t (basic_if (map_of u) (Some t)))
-            (λ r. ap (extreme_of max at (Some t)) (target_basics P (map_of u) (map_of v) maps t h))) (λ r. refl)
+        (λ r. ap (extreme_of max at (Some t)) (target_basics P (map_of u) (map_of v) maps t h))) (λ r. refl)
 
     type_follows : (p : Phrase) (q : Qualident) → Follows P TypeThere (λ x. Unit {0}) (Unit {0}) (type_parameter u p (Some q)) (type_parameter v p (Some q))
     type_follows p q = follows_made P (IsIn P) (λ x. Unit {0}) TypeThere (λ x. Unit {0}) (Unit {0}) (λ t. Some t) (type_named u q) (type_named v q) (type_named_follows P u s a q) (λ t k. k) (λ t k m. tt)

@@ -1,6 +1,6 @@
 -- Variables, guards, dereferences, indices, fields and bound procedures, with other interfaces around.
-use Rattle.std.proofs.Common.{◌≡◌, refl, sym, ap, ◌∙◌, subst, ℕ, List, [], ◌∷◌, ◌++◌, Option, Some, None, Bool, true, false, not}
-use Rattle.std.specs.Prelude.{◌&&◌, ◌||◌, is_some}
+use Rattle.std.proofs.Common.{◌≡◌, refl, ap, ◌∙◌, subst, ℕ, List, [], ◌∷◌, Option, Some, None, Bool, true, false, not}
+use Rattle.std.specs.Prelude.{◌&&◌, is_some}
 use Rattle.std.specs.List.{AllByRecursion}
 use Rattle.ob_tree.specs.declared.pos.Pos.{Pos}
 use Rattle.ob_tree.specs.declared.names.QName.{QName}
@@ -8,7 +8,6 @@ use Rattle.ob_tree.specs.declared.ident.Ident.{Ident}
 use Rattle.ob_types.specs.declared.types.TypeRef.{TypeRef}
 use Rattle.ob_types.specs.declared.types.TypeRef.TheVariants as ref
 use Rattle.ob_types.specs.declared.desc.Desc.{Desc}
-use Rattle.ob_types.specs.declared.desc.Field.{Field}
 use Rattle.ob_types.specs.declared.desc.Receiver.{Receiver}
 use Rattle.ob_types.specs.declared.desc.Receiver.TheVariants as receiver
 use Rattle.ob_types.specs.declared.typed.Guarded.{Guarded}
@@ -25,11 +24,11 @@ use Rattle.ob_rules.specs.Shapes.{Map, Member, AField, AMethod, member, pointed,
 use Rattle.ob_rules.specs.Names.{Around, map_of}
 use Rattle.ob_rules.specs.Values.{is_integer, tree}
 use Rattle.ob_rules.specs.Phrases.{dereferenced}
-use Rattle.ob_rules.specs.Designators.{variable_at, same_variable, if_so, if_extends, on_record, guard_kind, guard_of, is_pointer_guard, guarded_by, with_guard, guard_if, guard_same, with_guards, variable_named, guard, if_so_held, if_held, dereference_of, dereference, through_if, implicitly, indexed, index_into, index_if, index, field_of, chosen, with_receiver, comes, not_there, member_found, member_of, select_of, select_through, select, super_of, super_in, super_if, super}
+use Rattle.ob_rules.specs.Designators.{variable_at, same_variable, if_so, if_extends, on_record, guard_kind, guard_of, guarded_by, with_guard, guard_if, guard_same, with_guards, variable_named, guard, if_so_held, dereference_of, dereference, through_if, implicitly, indexed, index_into, index_if, index, field_of, chosen, with_receiver, comes, not_there, member_found, member_of, select_of, select_through, select, super_of, super_in, super_if, super}
 use Rattle.ob_mentions.specs.Agreement.{IsIn, Agree}
-use Rattle.ob_mentions.specs.Said.{SaidIn, PlaceIn, PlaceTied, ValuedIn, ValuedTied, MeantIn, MeantTied, ChosenIn}
+use Rattle.ob_mentions.specs.Said.{PlaceIn, PlaceTied, ValuedIn, ValuedTied, MeantIn, MeantTied, ChosenIn}
 use Rattle.ob_mentions.specs.Followed.{beside, TypeIn, ReceivedIn, Agrees, Follows}
-use Rattle.ob_mentions.proofs.Tests.{two, pointed_same, pointed_in, pointed_record_same, pointed_record_in, record_same, record_in, array_same, elements_in, is_array_same, held_same, extends_same, base_same, base_record_in, member_same}
+use Rattle.ob_mentions.proofs.Tests.{two, pointed_same, pointed_in, pointed_record_same, pointed_record_in, record_same, record_in, array_same, is_array_same, held_same, extends_same, base_same, base_record_in, member_same}
 use Rattle.ob_mentions.proofs.Following.{none_is, some_same, follows_none, follows_sound, follows_to, follows_with, follows_wants, follows_found, follows_then}
 use Rattle.ob_mentions.proofs.Mentioned.{variable_mentions, field_mentions, index_mentions, deref_mentions, guard_mentions, tree_mentions}
 use Rattle.ob_mentions.proofs.Names.{maps_agree}
@@ -171,13 +170,14 @@ module _ (P : QName → Type 0) where
         follows_then P (ValuedTied P) (λ x. ValuedIn P x × PlaceIn P q) (PlaceTied P) (PlaceIn P) (PlaceIn P q) i j (λ x. wants (is_integer f x) 22 at (indexed q at x a)) (λ x. wants (is_integer g x) 22 at (indexed q at x a))
         (follows_with P (ValuedTied P) (ValuedIn P) (PlaceIn P q) i j h)
         (λ x t. follows_wants P (PlaceTied P) (PlaceIn P) (ValuedIn P x × PlaceIn P q) (is_integer f x) (is_integer g x) 22 at (indexed q at x a)
-            (λ m. (index_mentions P q.designator.inner a.0 (tree x) at a.1 m).1.1) (λ m. let k = index_mentions P q.designator.inner a.0 (tree x) at a.1 m in (tree_mentions P x k.1.0, k.0)) (λ r. integer_same P f g agree x (t r.0)))
+        (λ m. (index_mentions P q.designator.inner a.0 (tree x) at a.1 m).1.1) (λ m. let k = index_mentions P q.designator.inner a.0 (tree x) at a.1 m in (tree_mentions P x k.1.0, k.0)) (λ r. integer_same P f g agree x (t r.0)))
 
     pub index_follows : (at : Pos) (p : Place) (i j : Judged Valued) → PlaceTied P p → Follows P (ValuedTied P) (ValuedIn P) (Unit {0}) i j → PF (PlaceIn P p) (index f at p i) (index g at p j)
     index_follows at p i j t h = by (place_at p at).node refl
       where
         there : PlaceIn P p → implicitly g (is_array g) at p (pointed g p.of) ≡ place_at p at
         there m = ap (implicitly g (is_array g) at p) (pointed_same P f g agree p.of (t m)) ∙ implicit_same (is_array f) (is_array g) at p (pointed f p.of) (pointee_in p.of (t m)) (λ y k. is_array_same P f g agree y k)
+
         by : (o : Option Place) → (place_at p at).node ≡ o → PF (PlaceIn P p) (index_if o i (λ q. index_into f at q i (array_of f q.of))) (index g at p j)
         by None e = place_none (PlaceIn P p) (noted i.notes silent) (index g at p j) refl
         by (Some q) e =

@@ -1,5 +1,5 @@
 -- Assignments, calls, conditions and returns, with other interfaces around.
-use Rattle.std.proofs.Common.{◌≡◌, refl, sym, ap, ◌∙◌, subst, ℕ, List, [], ◌∷◌, ◌++◌, map, Option, Some, None, Bool, true, false}
+use Rattle.std.proofs.Common.{◌≡◌, refl, ap, ◌∙◌, List, [], ◌∷◌, Option, Some, None, Bool, true, false}
 use Rattle.std.specs.Prelude.{◌&&◌, is_some}
 use Rattle.std.specs.List.{AllByRecursion}
 use Rattle.ob_tree.specs.declared.pos.Pos.{Pos}
@@ -16,19 +16,19 @@ use Rattle.ob_rules.specs.declared.meant.Meant.TheVariants as means
 use Rattle.ob_rules.specs.declared.meant.Where.TheVariants.{AsStatement, Elsewhere}
 use Rattle.ob_rules.specs.declared.values.Place.{Place}
 use Rattle.ob_rules.specs.declared.values.Valued.{Valued}
-use Rattle.ob_rules.specs.Judged.{Judged, sound, silent, breaks, wants, unless, both, ◌▷◌}
-use Rattle.ob_rules.specs.Shapes.{Map, is_array, record_of, signature_at}
+use Rattle.ob_rules.specs.Judged.{Judged, silent, breaks, wants, both, ◌▷◌}
+use Rattle.ob_rules.specs.Shapes.{Map, is_array, signature_at}
 use Rattle.ob_rules.specs.Names.{Around, map_of}
 use Rattle.ob_rules.specs.Values.{is, fits, text_of, tree, type}
 use Rattle.ob_rules.specs.Phrases.{Phrase}
 use Rattle.ob_rules.specs.Calls.{call_variable}
 use Rattle.ob_rules.specs.Designators.{call_meant}
 use Rattle.ob_rules.specs.Expressions.{Named, meant_by}
-use Rattle.ob_rules.specs.Statements.{one, target, assigned_as, assignment_of, assigned_tree, assigns, assignment, call_value, constant_at, done, place_called, called, condition, exit, returned, return_none, return_of, return, call_statement}
+use Rattle.ob_rules.specs.Statements.{one, target, assigned_as, assignment_of, assigned_tree, assigns, assignment, call_value, constant_at, done, place_called, called, condition, exit, returned, return_none, return, call_statement}
 use Rattle.ob_mentions.specs.Agreement.{IsIn, Agree}
 use Rattle.ob_mentions.specs.Said.{KindIn, ExprIn, StmtIn, PlaceIn, PlaceTied, ValuedIn, ValuedTied, MeantIn, MeantTied}
 use Rattle.ob_mentions.specs.Followed.{beside, TypeIn, Agrees, Follows}
-use Rattle.ob_mentions.proofs.Tests.{two, is_array_same, record_same, signature_same}
+use Rattle.ob_mentions.proofs.Tests.{is_array_same, record_same, signature_same}
 use Rattle.ob_mentions.proofs.Following.{follows_none, follows_sound, follows_to, follows_wants, follows_unless, follows_then, follows_both, follows_weaker}
 use Rattle.ob_mentions.proofs.Mentioned.{tree_mentions, text_tree_mentions}
 use Rattle.ob_mentions.proofs.Names.{maps_agree}
@@ -74,7 +74,7 @@ module _ (P : QName → Type 0) where
     assigns_follows at p x t s =
         follows_to P (λ ys. Unit {0}) (AllByRecursion (StmtIn P)) (PlaceIn P p × ValuedIn P x) (assigns f at p x) (assigns g at p x)
         (follows_wants P (λ ys. Unit {0}) (AllByRecursion (StmtIn P)) (PlaceIn P p × ValuedIn P x) (fits f p.of x) (fits f p.of x) 31 at (stmt.Assign p.designator.inner (assignment_of f p x) (assigned_tree (is_array f p.of) x) at ∷ []) tt
-            (λ m. let k = assign_mentions P p.designator.inner (assignment_of f p x) (assigned_tree (is_array f p.of) x) at m.0 in (k.0, assigned_mentions (is_array f p.of) x k.1)) (λ r. refl))
+        (λ m. let k = assign_mentions P p.designator.inner (assignment_of f p x) (assigned_tree (is_array f p.of) x) at m.0 in (k.0, assigned_mentions (is_array f p.of) x k.1)) (λ r. refl))
         (λ r. assigns_same at p x (t r.0) (s r.1))
 
   module _ (u : Around) (s : QName → Option Desc) (a : Agrees P u s) where
@@ -94,10 +94,10 @@ module _ (P : QName → Type 0) where
     assignment_follows n at x h k =
         follows_weaker P (λ ys. Unit {0}) (AllByRecursion (StmtIn P)) (Unit {0} × Unit {0}) (Unit {0}) (assignment u n at x) (assignment v n at x) (λ r. tt)
         (follows_then P (λ (p : Place × Valued). PlaceTied P p.0 × ValuedTied P p.1) (λ p. PlaceIn P p.0 × ValuedIn P p.1) (λ ys. Unit {0}) (AllByRecursion (StmtIn P)) (Unit {0} × Unit {0})
-            (both (meant_by Elsewhere n u ▷ target n.ident.pos) (x.value u)) (both (meant_by Elsewhere n v ▷ target n.ident.pos) (x.value v)) (λ p. assigns (map_of u) at p.0 p.1) (λ p. assigns (map_of v) at p.0 p.1)
-            (follows_both P (PlaceTied P) (PlaceIn P) (ValuedTied P) (ValuedIn P) (Unit {0}) (Unit {0}) (meant_by Elsewhere n u ▷ target n.ident.pos) (meant_by Elsewhere n v ▷ target n.ident.pos) (x.value u) (x.value v)
-                (follows_then P (MeantTied P) (MeantIn P) (PlaceTied P) (PlaceIn P) (Unit {0}) (meant_by Elsewhere n u) (meant_by Elsewhere n v) (target n.ident.pos) (target n.ident.pos) (meant_follows P u s a Elsewhere n h) (λ m t. target_follows n.ident.pos m t)) k.value)
-            (λ p t. assigns_follows (map_of u) (map_of v) maps at p.0 p.1 t.0 t.1))
+        (both (meant_by Elsewhere n u ▷ target n.ident.pos) (x.value u)) (both (meant_by Elsewhere n v ▷ target n.ident.pos) (x.value v)) (λ p. assigns (map_of u) at p.0 p.1) (λ p. assigns (map_of v) at p.0 p.1)
+        (follows_both P (PlaceTied P) (PlaceIn P) (ValuedTied P) (ValuedIn P) (Unit {0}) (Unit {0}) (meant_by Elsewhere n u ▷ target n.ident.pos) (meant_by Elsewhere n v ▷ target n.ident.pos) (x.value u) (x.value v)
+        (follows_then P (MeantTied P) (MeantIn P) (PlaceTied P) (PlaceIn P) (Unit {0}) (meant_by Elsewhere n u) (meant_by Elsewhere n v) (target n.ident.pos) (target n.ident.pos) (meant_follows P u s a Elsewhere n h) (λ m t. target_follows n.ident.pos m t)) k.value)
+        (λ p t. assigns_follows (map_of u) (map_of v) maps at p.0 p.1 t.0 t.1))
 
     -- ---- calls
 

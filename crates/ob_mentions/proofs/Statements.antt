@@ -1,8 +1,6 @@
 -- Statements with other interfaces around, by induction over the tree of the grammar.
-use Rattle.std.proofs.Common.{◌≡◌, refl, sym, ap, ◌∙◌, subst, ℕ, List, [], ◌∷◌, ◌++◌, map, Option, Some, None, Bool, true, false}
-use Rattle.std.specs.Option.{option_map}
+use Rattle.std.proofs.Common.{◌≡◌, refl, sym, subst, List, [], ◌∷◌, map, Option, Some, None}
 use Rattle.std.specs.List.{AllByRecursion}
-use Rattle.ob_tree.specs.declared.pos.Pos.{Pos}
 use Rattle.ob_tree.specs.declared.names.QName.{QName}
 use Rattle.ob_tree.specs.declared.expr.Expr.{Expr}
 use Rattle.ob_tree.specs.declared.expr.Element.{Element}
@@ -14,7 +12,6 @@ use Rattle.ob_tree.specs.declared.stmt.Case.{Case, roll-Case, map-Case}
 use Rattle.ob_tree.specs.declared.stmt.GuardedBranch.{GuardedBranch, roll-GuardedBranch, map-GuardedBranch}
 use Rattle.ob_types.specs.declared.desc.Desc.{Desc}
 use Rattle.ob_rules.specs.Names.{Around}
-use Rattle.ob_rules.specs.Phrases.{Phrase}
 use Rattle.ob_rules.specs.Expressions.{phrase_of, named_of, ranged_of}
 use Rattle.ob_rules.specs.Statements.{Judging, Conditional, Labelled, GuardedBody, phrase_if, stmt_rule, branch_rule, case_rule, guarded_rule, judging, conditional_of, labelled_of, guarded_of}
 use Rattle.ob_mentions.specs.Said.{StmtIn}
@@ -23,7 +20,7 @@ use Rattle.ob_mentions.proofs.Following.{follows_sound}
 use Rattle.ob_mentions.proofs.Actuals.{PhraseFollows}
 use Rattle.ob_mentions.proofs.Nodes.{RangedFollows, IfFollows as IfPhrase}
 use Rattle.ob_mentions.proofs.Expressions.{expr_follows, designator_of_follows, element_of_follows}
-use Rattle.ob_mentions.proofs.Bodies.{JudgingFollows, BodyFollows, IfFollows}
+use Rattle.ob_mentions.proofs.Bodies.{JudgingFollows, BodyFollows}
 use Rattle.ob_mentions.proofs.Simple.{assignment_follows, call_statement_follows, return_follows, exit_follows}
 use Rattle.ob_mentions.proofs.Guarding.{if_follows, while_follows, repeat_follows, loop_follows, with_follows}
 use Rattle.ob_mentions.proofs.Looping.{LabelledFollows, case_follows, for_follows}

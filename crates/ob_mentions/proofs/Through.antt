@@ -1,6 +1,6 @@
 -- Selectors in turn, with other interfaces around.
-use Rattle.std.proofs.Common.{◌≡◌, refl, sym, ap, ◌∙◌, subst, ℕ, List, [], ◌∷◌, ◌++◌, Option, Some, None, Bool, true, false, not}
-use Rattle.std.specs.Prelude.{◌&&◌, ◌||◌, is_some, is_none}
+use Rattle.std.proofs.Common.{◌≡◌, refl, sym, ap, ◌∙◌, subst, ℕ, List, [], ◌∷◌, Option, Some, None, Bool, true, false}
+use Rattle.std.specs.Prelude.{◌&&◌, is_none}
 use Rattle.std.specs.List.{AllByRecursion}
 use Rattle.ob_tree.specs.declared.pos.Pos.{Pos}
 use Rattle.ob_tree.specs.declared.names.QName.{QName}
@@ -13,7 +13,6 @@ use Rattle.ob_types.specs.declared.typed.Actual.{Actual}
 use Rattle.ob_types.specs.declared.typed.TypedExpr.{TypedExpr}
 use Rattle.ob_types.specs.declared.typed.TypedExpr.TheVariants as typed
 use Rattle.ob_types.specs.declared.typed.Callee.TheVariants as callee
-use Rattle.ob_rules.specs.declared.broken.Predeclared.{Predeclared}
 use Rattle.ob_rules.specs.declared.entity.Entity.{Entity}
 use Rattle.ob_rules.specs.declared.entity.Entity.TheVariants as entity
 use Rattle.ob_rules.specs.declared.entity.Known.{Known}
@@ -23,19 +22,18 @@ use Rattle.ob_rules.specs.declared.meant.Meant.TheVariants as means
 use Rattle.ob_rules.specs.declared.meant.Where.{Where}
 use Rattle.ob_rules.specs.declared.values.Place.{Place}
 use Rattle.ob_rules.specs.declared.values.Valued.{Valued}
-use Rattle.ob_rules.specs.Judged.{Judged, sound, silent, breaks, also, noted, ◌▷◌}
+use Rattle.ob_rules.specs.Judged.{Judged, sound, silent, breaks, also, noted}
 use Rattle.ob_rules.specs.Shapes.{signature_at}
 use Rattle.ob_rules.specs.Names.{Around, map_of, find_name, entity_known, exported, export_known, shown_of, is_out, type_in, type_of_desc, type_behind, unless_variable_is, unless_variable, type_by, type_named, is_type_desc, is_type_behind, known_is, is_type_name, is_type_by}
 use Rattle.ob_rules.specs.Phrases.{Phrase, Behind, Dot, Index, Up, Round}
 use Rattle.ob_rules.specs.Calls.{called, call_procedure, call_variable, call_out, out_signature, call_bound, call_bound_sound, nearest_sound, where_from, bound_callee, receiver_actual, is_record_receiver, actuals}
 use Rattle.ob_rules.specs.Phrases.{receiver_place}
-use Rattle.ob_rules.specs.Predeclared.{call_predeclared}
-use Rattle.ob_rules.specs.Designators.{is_one_type, visited, all_visited, if_type, type_in_round, as_call, place_round, guard, index, call_meant, takes_type, is_callable, is_guardable, other_round, dereference, super, select, step_dot, step_index, step_up, step_round, step, where_of, nothing_behind, go_on_with, go_on, through}
+use Rattle.ob_rules.specs.Designators.{is_one_type, if_type, type_in_round, as_call, place_round, guard, index, call_meant, takes_type, is_callable, is_guardable, other_round, dereference, step_dot, step_index, step_up, step_round, step, where_of, nothing_behind, go_on_with, go_on, through}
 use Rattle.ob_mentions.specs.Agreement.{IsIn, Agree}
-use Rattle.ob_mentions.specs.Said.{SaidIn, PlaceIn, PlaceTied, ValuedIn, ValuedTied, MeantIn, MeantTied, ChosenIn}
+use Rattle.ob_mentions.specs.Said.{SaidIn, PlaceIn, PlaceTied, ValuedIn, ValuedTied, MeantIn, MeantTied}
 use Rattle.ob_mentions.specs.Followed.{beside, Agrees, Follows}
 use Rattle.ob_mentions.proofs.Tests.{two, signature_same}
-use Rattle.ob_mentions.proofs.Following.{none_is, some_same, said_left, said_right, follows_none, follows_sound, follows_with, follows_weaker, follows_then, none_then, then_node, front_said}
+use Rattle.ob_mentions.proofs.Following.{none_is, said_left, said_right, follows_none, follows_sound, follows_with, follows_weaker, follows_then, none_then, then_node, front_said}
 use Rattle.ob_mentions.proofs.Names.{maps_agree, type_named_follows}
 use Rattle.ob_mentions.proofs.Actuals.{PhraseFollows, PhrasesFollow, NameSame}
 use Rattle.ob_mentions.proofs.Calls.{call_procedure_follows, call_variable_follows, call_out_follows, call_bound_follows, called_named}
@@ -301,6 +299,7 @@ module _ (P : QName → Type 0) (u : Around) (s : QName → Option Desc) (a : Ag
       kept : (o : Option Meant) → i.node ≡ o → (y : Meant) → (go_on_with u bs f o).node ≡ Some y → SaidIn P (noted i.notes (go_on_with u bs f o)).notes → MeantTied P y
       kept None l y e said = none_is e
       kept (Some x) l y e said = (k x (h.keeps x l (said_left P i.notes (f x).notes said))).keeps y e (said_right P i.notes (f x).notes said)
+
       same : (o : Option Meant) → i.node ≡ o → (y : Meant) → (go_on_with u bs f o).node ≡ Some y → SaidIn P (noted i.notes (go_on_with u bs f o)).notes → MeantIn P y → R × (go_on v bs j g ≡ noted i.notes (go_on_with u bs f o))
       same None l y e said m = none_is e
       same (Some x) l y e said m =

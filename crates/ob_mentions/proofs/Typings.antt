@@ -1,5 +1,5 @@
 -- Types as they are written, with other interfaces around.
-use Rattle.std.proofs.Common.{◌≡◌, refl, sym, ap, ◌∙◌, subst, ℕ, ◌+◌, List, [], ◌∷◌, ◌++◌, map, length, Option, Some, None, Bool, true, false, not}
+use Rattle.std.proofs.Common.{◌≡◌, refl, sym, ap, ◌∙◌, subst, ℕ, List, [], ◌∷◌, ◌++◌, Option, Some, None, Bool, true, false, not}
 use Rattle.std.specs.Prelude.{◌&&◌, ◌||◌, is_some, is_none}
 use Rattle.std.specs.List.{AllByRecursion}
 use Rattle.ob_tree.specs.declared.pos.Pos.{Pos}
@@ -15,22 +15,21 @@ use Rattle.ob_types.specs.declared.desc.Desc.{Desc}
 use Rattle.ob_types.specs.declared.desc.Desc.TheVariants as desc
 use Rattle.ob_types.specs.declared.desc.Field.{Field}
 use Rattle.ob_types.specs.declared.typed.TypedType.{TypedType}
-use Rattle.ob_types.specs.declared.value.Value.{Value}
 use Rattle.ob_types.specs.Maps.{listed}
 use Rattle.ob_rules.specs.declared.notes.Later.{Later}
 use Rattle.ob_rules.specs.declared.notes.Later.TheVariants as later
-use Rattle.ob_rules.specs.Judged.{Judged, Notes, sound, silent, breaks, also, wants, unless, both, each_sound, made, noted, joined, judge_later, if_sound, ◌▷◌}
-use Rattle.ob_rules.specs.Shapes.{Map, Member, member, record_of, is_open, is_structured, is_pointer, is_array, is_record}
+use Rattle.ob_rules.specs.Judged.{Judged, sound, silent, breaks, unless, both, each_sound, made, noted, judge_later, if_sound, ◌▷◌}
+use Rattle.ob_rules.specs.Shapes.{record_of, is_open, is_structured, is_pointer}
 use Rattle.ob_rules.specs.Names.{is_among, Around, map_of, in_unit, type_named}
 use Rattle.ob_rules.specs.Phrases.{Phrase}
 use Rattle.ob_rules.specs.Expressions.{constant_value}
-use Rattle.ob_rules.specs.Types.{Typing, Written, typed_as, with_types, base_name, element_name, field_name, marked, named_typing, length_of, array_length, fixed_array, open_array, array, first_of, base_of, base_if, member_in, record_in, inherits, field_declared, field_if, name_in, fields_of, names_behind, WrittenFields, first_name, Fields, with_fields, fields_joined, field_lists, record_desc, record_with, pointer_to, base_judged, pointer_base, later_if, later_by, is_later, pointer_by, pointer}
+use Rattle.ob_rules.specs.Types.{Typing, Written, typed_as, with_types, base_name, element_name, field_name, marked, named_typing, length_of, array_length, fixed_array, open_array, array, first_of, base_of, base_if, member_in, record_in, inherits, field_declared, field_if, name_in, fields_of, names_behind, WrittenFields, first_name, Fields, with_fields, fields_joined, field_lists, record_desc, record_with, pointer_to, base_judged, pointer_base, later_by, is_later, pointer_by, pointer}
 use Rattle.ob_mentions.specs.Agreement.{IsIn, DescIn, Agree}
 use Rattle.ob_mentions.specs.Said.{SaidIn}
 use Rattle.ob_mentions.specs.Followed.{beside, TypeIn, Agrees, Follows}
 use Rattle.ob_mentions.specs.Declared.{MadeIn, TypingIn, OwnIn}
 use Rattle.ob_mentions.proofs.Tests.{two, open_same, record_same, record_in as record_name_in, is_array_same, is_record_same, pointed_same, member_same}
-use Rattle.ob_mentions.proofs.Following.{none_is, some_same, all_left, all_right, said_left, said_right, follows_none, follows_sound, follows_to, follows_wants, follows_unless, follows_also, follows_then, follows_made, follows_both, follows_weaker, made_node, both_node, front_said, Both}
+use Rattle.ob_mentions.proofs.Following.{said_left, follows_none, follows_sound, follows_to, follows_wants, follows_unless, follows_also, follows_then, follows_made, follows_both, follows_weaker, made_node, both_node, front_said, Both}
 use Rattle.ob_mentions.proofs.Names.{maps_agree, type_named_follows}
 use Rattle.ob_mentions.proofs.Actuals.{PhraseFollows}
 use Rattle.ob_mentions.proofs.Operators.{each_follows}
@@ -100,7 +99,7 @@ module _ (P : QName → Type 0) where
         follows_also P (TypingIn P) (λ t. Unit {0}) (Unit {0}) (not b || element.open_array) (not b || element.open_array) 13 at
         (element.typing u (element_name name) mark.Hidden element.open_array ▷ λ t. sound (typed_as u name (desc.OpenArray m t.of) t.made)) (element.typing v (element_name name) mark.Hidden element.open_array ▷ λ t. sound (typed_as v name (desc.OpenArray m t.of) t.made))
         (follows_made P (TypingIn P) (λ t. Unit {0}) (TypingIn P) (λ t. Unit {0}) (Unit {0}) (λ t. typed_as u name (desc.OpenArray m t.of) t.made) (element.typing u (element_name name) mark.Hidden element.open_array) (element.typing v (element_name name) mark.Hidden element.open_array)
-            (k u s a own (element_name name) mark.Hidden element.open_array) (λ t w. as_in name (desc.OpenArray m t.of) t.made (w.0, tt) w.1) (λ t w m. tt)) (λ r. refl)
+        (k u s a own (element_name name) mark.Hidden element.open_array) (λ t w. as_in name (desc.OpenArray m t.of) t.made (w.0, tt) w.1) (λ t w m. tt)) (λ r. refl)
 
     pub array_follows : (name : List ℕ) (m : Mark) (at : Pos) (b : Bool) (ls : List Phrase) (element : Written) → AllByRecursion LengthFollows ls → WrittenFollows element → TF (TypingIn P) (array u name m at b ls element) (array v name m at b ls element)
     array_follows name m at b [] element h k = open_follows name m at b element k
@@ -116,7 +115,7 @@ module _ (P : QName → Type 0) where
     base_follows (Some q) =
         follows_made P (IsIn P) (λ t. Unit {0}) BaseIn (λ o. Unit {0}) (Unit {0}) (λ t. Some t) (type_named u q ▷ base_of (map_of u) (first_of q)) (type_named v q ▷ base_of (map_of v) (first_of q))
         (follows_then P (IsIn P) (λ t. Unit {0}) (IsIn P) (λ t. Unit {0}) (Unit {0}) (type_named u q) (type_named v q) (base_of (map_of u) (first_of q)) (base_of (map_of v) (first_of q)) (type_named_follows P u s a q)
-            (λ t h. follows_wants P (IsIn P) (λ t. Unit {0}) (Unit {0}) (is_some (record_of (map_of u) t)) (is_some (record_of (map_of v) t)) 14 (first_of q) t h (λ m. tt) (λ r. ap (λ o. is_some o) (record_same P (map_of u) (map_of v) maps t h))))
+        (λ t h. follows_wants P (IsIn P) (λ t. Unit {0}) (Unit {0}) (is_some (record_of (map_of u) t)) (is_some (record_of (map_of v) t)) 14 (first_of q) t h (λ m. tt) (λ r. ap (λ o. is_some o) (record_same P (map_of u) (map_of v) maps t h))))
         (λ t h. h) (λ t h m. tt)
 
     -- the base of a record, where it keeps all rules
@@ -141,11 +140,11 @@ module _ (P : QName → Type 0) where
         later_follows (λ x. Unit {0}) (inherits base d.ident) (marked u true d ▷ λ m. unless (is_among d.ident.name before || is_some (member_in (map_of u) (record_in (map_of u) base) d.ident.name)) 1 d.ident.pos (record { name = d.ident.name; mark = m; place = 0; of = t.of }))
         (marked v true d ▷ λ m. unless (is_among d.ident.name before || is_some (member_in (map_of v) (record_in (map_of v) base) d.ident.name)) 1 d.ident.pos (record { name = d.ident.name; mark = m; place = 0; of = t.of }))
         (follows_then P (λ m. Unit {0}) (λ m. Unit {0}) (λ x. Unit {0}) (λ x. Unit {0}) (Unit {0}) (marked u true d) (marked v true d)
-            (λ m. unless (is_among d.ident.name before || is_some (member_in (map_of u) (record_in (map_of u) base) d.ident.name)) 1 d.ident.pos (record { name = d.ident.name; mark = m; place = 0; of = t.of }))
-            (λ m. unless (is_among d.ident.name before || is_some (member_in (map_of v) (record_in (map_of v) base) d.ident.name)) 1 d.ident.pos (record { name = d.ident.name; mark = m; place = 0; of = t.of }))
-            (record { keeps = λ x e said. tt; same = λ x e said m. (tt, refl) })
-            (λ m k. follows_unless P (λ x. Unit {0}) (λ x. Unit {0}) (Unit {0}) (is_among d.ident.name before || is_some (member_in (map_of u) (record_in (map_of u) base) d.ident.name)) (is_among d.ident.name before || is_some (member_in (map_of v) (record_in (map_of v) base) d.ident.name)) 1 d.ident.pos
-                (record { name = d.ident.name; mark = m; place = 0; of = t.of }) tt (λ n. tt) (λ r. ap (λ o. is_among d.ident.name before || is_some o) (base_member_same base d.ident.name h))))
+        (λ m. unless (is_among d.ident.name before || is_some (member_in (map_of u) (record_in (map_of u) base) d.ident.name)) 1 d.ident.pos (record { name = d.ident.name; mark = m; place = 0; of = t.of }))
+        (λ m. unless (is_among d.ident.name before || is_some (member_in (map_of v) (record_in (map_of v) base) d.ident.name)) 1 d.ident.pos (record { name = d.ident.name; mark = m; place = 0; of = t.of }))
+        (record { keeps = λ x e said. tt; same = λ x e said m. (tt, refl) })
+        (λ m k. follows_unless P (λ x. Unit {0}) (λ x. Unit {0}) (Unit {0}) (is_among d.ident.name before || is_some (member_in (map_of u) (record_in (map_of u) base) d.ident.name)) (is_among d.ident.name before || is_some (member_in (map_of v) (record_in (map_of v) base) d.ident.name)) 1 d.ident.pos
+        (record { name = d.ident.name; mark = m; place = 0; of = t.of }) tt (λ n. tt) (λ r. ap (λ o. is_among d.ident.name before || is_some o) (base_member_same base d.ident.name h))))
     field_follows base before d None h = tied_none (λ x. Unit {0}) (field_if u base before d None) (field_if v base before d None) (silent_none (field_declared u base before d (ref.Named (in_unit u []))))
       where
         silent_none : (j : Judged Field) → (j ▷ λ f. silent {A = Field}).node ≡ None
@@ -251,7 +250,7 @@ module _ (P : QName → Type 0) where
     pointer_by_follows name m base None k =
         follows_made P (TypingIn P) (λ t. Unit {0}) (TypingIn P) (λ t. Unit {0}) (Unit {0}) (pointer_to u name m) (base.typing u (base_name name) mark.Hidden true ▷ pointer_base u name (is_none base.name) base.start) (base.typing v (base_name name) mark.Hidden true ▷ pointer_base v name (is_none base.name) base.start)
         (follows_then P (TypingIn P) (λ t. Unit {0}) (TypingIn P) (λ t. Unit {0}) (Unit {0}) (base.typing u (base_name name) mark.Hidden true) (base.typing v (base_name name) mark.Hidden true) (pointer_base u name (is_none base.name) base.start) (pointer_base v name (is_none base.name) base.start)
-            (k u s a own (base_name name) mark.Hidden true) (λ t h. base_type_follows name (is_none base.name) base.start t h))
+        (k u s a own (base_name name) mark.Hidden true) (λ t h. base_type_follows name (is_none base.name) base.start t h))
         (λ t h. as_in name (desc.Pointer m t.of) t.made (h.0, tt) h.1) (λ t h n. tt)
 
     pub pointer_follows : (name : List ℕ) (m : Mark) (base : Written) → WrittenFollows base → TF (TypingIn P) (pointer u name m base) (pointer v name m base)

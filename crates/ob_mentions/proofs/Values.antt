@@ -1,5 +1,5 @@
 -- What the rules ask of values, over maps that agree.
-use Rattle.std.proofs.Common.{◌≡◌, refl, sym, ap, ◌∙◌, subst, ℕ, List, [], ◌∷◌, Option, Some, None, Bool, true, false, not}
+use Rattle.std.proofs.Common.{◌≡◌, refl, ap, ◌∙◌, subst, ℕ, Option, Some, None, Bool}
 use Rattle.std.specs.Prelude.{◌&&◌, ◌||◌, is_some}
 use Rattle.ob_tree.specs.declared.pos.Pos.{Pos}
 use Rattle.ob_tree.specs.declared.names.QName.{QName}
@@ -18,14 +18,14 @@ use Rattle.ob_types.specs.declared.typed.Compared.TheVariants as compared
 use Rattle.ob_types.specs.declared.typed.Connective.TheVariants as connective
 use Rattle.ob_types.specs.declared.typed.ExprType.{ExprType}
 use Rattle.ob_types.specs.declared.typed.ExprType.TheVariants as kind
-use Rattle.ob_types.specs.Tests.{same_at, extends_at, signatures_alike, equal_at}
+use Rattle.ob_types.specs.Tests.{same_at, equal_at}
 use Rattle.ob_rules.specs.declared.values.Valued.{Valued}
-use Rattle.ob_rules.specs.Shapes.{Map, as_basic, basic_of, is_this, is_basic, width_of, array_of, element_is, is_char_array, pointed, is_pointer, signature_at}
+use Rattle.ob_rules.specs.Shapes.{Map, basic_of, is_this, is_basic, width_of, array_of, element_is, is_char_array, is_pointer}
 use Rattle.ob_rules.specs.Values.{type, constant_in, is, type_is, width_in, width, is_integer, text_of, is_chars, is_nil, points, signature, fits, type_in}
 use Rattle.ob_rules.specs.Operators.{connected, if_fit, dyadic, wider_of, integers, are, if_are, integers_or_sets, of_integers, binary_of, combined, negated, opposite, signed_as, signed, comparison_of, is_equality, is_text, extends_either, signatures_match, are_pointers, are_procedures, choose, compared_as, compare_as, contained, compare, related, if_integer, if_integers, element}
 use Rattle.ob_mentions.specs.Agreement.{IsIn, Agree}
 use Rattle.ob_mentions.specs.Said.{SignatureIn, KindIn}
-use Rattle.ob_mentions.proofs.Tests.{two, shape_same, same_same, extends_same, equal_same, signatures_same, pointed_same, elements_in, signature_at_in, taken_same, target_basics, array_same, signature_same}
+use Rattle.ob_mentions.proofs.Tests.{two, same_same, extends_same, equal_same, signatures_same, pointed_same, elements_in, signature_at_in, taken_same, target_basics, array_same, signature_same}
 use Rattle.ob_mentions.proofs.Following.{none_is, some_same}
 
 pub three : {A B C D : Type 0} {a b : A} {c d : B} {x y : C} (f : A → B → C → D) → a ≡ b → c ≡ d → x ≡ y → f a c x ≡ f b d y

@@ -1,5 +1,5 @@
 -- Declarations with other interfaces around.
-use Rattle.std.specs.Prelude.{◌≡◌, ℕ, List, [], ◌∷◌, Option, Some, None}
+use Rattle.std.specs.Prelude.{◌≡◌, ℕ, List, ◌∷◌, Option, Some}
 use Rattle.std.specs.List.{AllByRecursion}
 use Rattle.ob_tree.specs.declared.names.QName.{QName}
 use Rattle.ob_tree.specs.declared.ident.IdentDef.{IdentDef}
@@ -7,6 +7,8 @@ use Rattle.ob_tree.specs.declared.expr.Expr.{Expr}
 use Rattle.ob_tree.specs.declared.type_node.TypeNode.{TypeNode}
 use Rattle.ob_types.specs.declared.desc.Desc.{Desc}
 use Rattle.ob_types.specs.declared.typed.TypedType.{TypedType}
+use Rattle.ob_rules.specs.declared.notes.Later.{Later}
+use Rattle.ob_rules.specs.declared.notes.Later.TheVariants as later
 use Rattle.ob_rules.specs.declared.entity.Entity.{Entity}
 use Rattle.ob_rules.specs.declared.entity.Entity.TheVariants as entity
 use Rattle.ob_rules.specs.declared.entity.Known.{Known}
@@ -32,6 +34,11 @@ OwnIn P unit = (x : List ℕ) → P (record { «module» = unit; object = x })
 abbrev pub IsSound : Entity → Type 0
 IsSound entity.Unsound = ⊥
 IsSound e = Unit {0}
+
+-- the type of what is left for later is among the names
+abbrev pub LaterIn : (QName → Type 0) → Later → Type 0
+LaterIn P (later.PointsTo x at t inline) = IsIn P t
+LaterIn P (later.Inherits x t) = IsIn P t
 
 -- no declaration of these names breaks a rule
 abbrev pub AreSound : List Known → Type 0

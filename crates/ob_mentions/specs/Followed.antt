@@ -1,17 +1,16 @@
 -- What stands around a part of a text, with other interfaces, and what is judged there.
-use Rattle.std.specs.Prelude.{◌≡◌, ℕ, Bool, true, List, [], ◌∷◌, Option, Some, None}
+use Rattle.std.specs.Prelude.{◌≡◌, true, Option, Some, None}
 use Rattle.std.specs.List.{AllByRecursion}
 use Rattle.ob_tree.specs.declared.names.QName.{QName}
 use Rattle.ob_types.specs.declared.types.TypeRef.{TypeRef}
 use Rattle.ob_types.specs.declared.desc.Desc.{Desc}
-use Rattle.ob_types.specs.declared.typed.Variable.{Variable}
 use Rattle.ob_rules.specs.declared.entity.Entity.{Entity}
 use Rattle.ob_rules.specs.declared.entity.Entity.TheVariants as entity
 use Rattle.ob_rules.specs.declared.entity.Received.{Received}
 use Rattle.ob_rules.specs.Judged.{Judged}
 use Rattle.ob_rules.specs.Names.{Around, is_out}
 use Rattle.ob_mentions.specs.Agreement.{IsIn, DescIn}
-use Rattle.ob_mentions.specs.Said.{SignatureIn, SaidIn}
+use Rattle.ob_mentions.specs.Said.{SaidIn}
 
 -- the same around, where the imported modules show something else
 abbrev pub beside : Around → (QName → Option Desc) → Around

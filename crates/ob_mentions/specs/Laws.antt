@@ -19,18 +19,20 @@ use Rattle.ob_types.specs.Tests.{target, same_at, extends_at, equal_at}
 use Rattle.ob_types.specs.AssigningTests.{alike_to}
 use Rattle.ob_types.specs.declared.value.Value.{Value}
 use Rattle.ob_types.specs.declared.typed.ExprType.{ExprType}
-use Rattle.ob_rules.specs.Shapes.{Map, shape, basic_of, record_of, pointed, pointed_record, array_of, signature_at, is_held, passing_of, member, base_record, extends_record}
+use Rattle.ob_rules.specs.Shapes.{Map, shape, basic_of, record_of, pointed, pointed_record, array_of, signature_at, is_held, passing_of, member, base_record}
 use Rattle.ob_types.specs.declared.desc.Desc.{Desc}
 use Rattle.ob_rules.specs.declared.meant.Where.{Where}
-use Rattle.ob_rules.specs.Names.{Around, type_named}
+use Rattle.ob_rules.specs.declared.notes.Later.{Later}
+use Rattle.ob_rules.specs.Names.{Around, map_of, type_named}
+use Rattle.ob_rules.specs.Headings.{Head, bindings, forwards_judged}
 use Rattle.ob_rules.specs.Values.{takes_by}
 use Rattle.ob_rules.specs.Expressions.{phrase_of, named_of, meant_by, constant_value}
 use Rattle.ob_rules.specs.Types.{written}
 use Rattle.ob_rules.specs.Statements.{judging, in_turn}
-use Rattle.ob_rules.specs.Declarations.{Declared, in_order, Written_procedure, headings_in_order}
+use Rattle.ob_rules.specs.Declarations.{Declared, in_order, Written_procedure, headings_in_order, around_body, pointers_judged, field_judged, all_judged}
 use Rattle.ob_mentions.specs.Agreement.{IsIn, Agree}
-use Rattle.ob_mentions.specs.Declared.{TypingIn, OwnIn, AreSound, IsPlain, DeclaredSame}
-use Rattle.ob_mentions.specs.Headed.{FromGrammar, HeadSaid, HeadsSame}
+use Rattle.ob_mentions.specs.Declared.{TypingIn, OwnIn, LaterIn, AreSound, IsPlain, DeclaredSame}
+use Rattle.ob_mentions.specs.Headed.{FromGrammar, HeadSaid, HeadIn, HeadsSame, BindingsIn}
 use Rattle.ob_mentions.specs.Said.{SaidIn, SignatureIn, KindIn, ValuedIn, ValuedTied, MeantIn, MeantTied, StmtIn, ModuleIn}
 use Rattle.ob_mentions.specs.Followed.{beside, Agrees, Follows}
 
@@ -104,3 +106,21 @@ HeadingsAgree = (names : QName → Bool) (u : Around) (shown : QName → Option 
 -- WHAT COUNTS: where the names of the types whose shapes count for a module's uses are among these names, all that it mentions is.
 abbrev pub CountedIsSaid : Type 0
 CountedIsSaid = (names : QName → Bool) (map : QName → Option Desc) (m : TypedModule) → AllByRecursion (λ q. names q ≡ true) (names_of (shape_starts (counts_of_module map (module_view m)))) → ModuleIn (λ q. names q ≡ true) m
+
+-- BOUND PROCEDURES are bound to the records of the module the same there, where what the headings come to, and what they redefine, is among these names.
+abbrev pub BindingsAgree : Type 0
+BindingsAgree = (names : QName → Bool) (u : Around) (shown : QName → Option Desc) → Agrees (λ q. names q ≡ true) u shown → (hs : List Head) → AllByRecursion (HeadIn (λ q. names q ≡ true)) hs → BindingsIn (λ q. names q ≡ true) u hs → bindings (beside u shown) hs ≡ bindings u hs
+
+-- FORWARD DECLARATIONS are judged the same there.
+abbrev pub ForwardsAgree : Type 0
+ForwardsAgree = (names : QName → Bool) (u : Around) (shown : QName → Option Desc) → Agrees (λ q. names q ≡ true) u shown → (hs : List Head) → AllByRecursion (HeadIn (λ q. names q ≡ true)) hs → forwards_judged (map_of (beside u shown)) hs hs ≡ forwards_judged (map_of u) hs hs
+
+-- WHAT IS LEFT FOR LATER, pointers and fields of records with bases, is judged the same there.
+abbrev pub LaterAgrees : Type 0
+LaterAgrees = (names : QName → Bool) (u : Around) (shown : QName → Option Desc) → Agrees (λ q. names q ≡ true) u shown → (ls : List Later) → AllByRecursion (LaterIn (λ q. names q ≡ true)) ls →
+    (pointers_judged (beside u shown) ls ≡ pointers_judged u ls) × (all_judged (field_judged (map_of (beside u shown))) ls ≡ all_judged (field_judged (map_of u)) ls)
+
+-- THE BODY OF A PROCEDURE: what stands around it agrees where what stands around the procedure does, and what its heading comes to is among these names.
+abbrev pub BodiesAgree : Type 0
+BodiesAgree = (names : QName → Bool) (u : Around) (shown : QName → Option Desc) → Agrees (λ q. names q ≡ true) u shown → (h : Head) → HeadIn (λ q. names q ≡ true) h →
+    Agrees (λ q. names q ≡ true) (around_body u h) shown × (around_body (beside u shown) h ≡ beside (around_body u h) shown)

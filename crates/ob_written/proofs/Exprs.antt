@@ -133,22 +133,28 @@ module _ (c : Context) (room : HasRoom c) where
         let p2 = end_expr c want.Value b (suc p1) in
         let e = expr_ends c want.Value b (suc p1) in
         lines_both pc p1 (expr_code c want.Value a pc) (jump_if_false (suc p2) ∷ (expr_code c want.Value b (suc p1) ++ jump (suc (suc p2)) ∷ plain op.Int (count 0) ∷ [])) (expr_ends c want.Value a pc)
-        (expr_lines want.Value a pc h.0 tt (omega (arith, n)) (omega (arith, l, e)))
-        (jump_if_fits p1 (suc p2) (omega (arith, e)) (omega (arith, l)),
-        lines_both (suc p1) p2 (expr_code c want.Value b (suc p1)) (jump (suc (suc p2)) ∷ plain op.Int (count 0) ∷ []) e
-        (expr_lines want.Value b (suc p1) h.1 tt (omega (arith, n)) (omega (arith, l)))
-        (jump_fits p2 (suc (suc p2)) (omega arith) (omega (arith, l)), (int_fits (suc p2) _ (word_fits 0 (omega arith)), tt)))
+        (expr_lines want.Value a pc h.0 tt (omega (arith, n)) (omega (arith, l, e))) (
+          jump_if_fits p1 (suc p2) (omega (arith, e)) (omega (arith, l)),
+          lines_both (suc p1) p2 (expr_code c want.Value b (suc p1)) (jump (suc (suc p2)) ∷ plain op.Int (count 0) ∷ []) e
+              (expr_lines want.Value b (suc p1) h.1 tt (omega (arith, n)) (omega (arith, l)))
+              (jump_fits p2 (suc (suc p2)) (omega arith) (omega (arith, l)), (int_fits (suc p2) _ (word_fits 0 (omega arith)), tt)),
+        )
     expr_lines w (Logical connective.Or a b) pc h r n l =
         let p1 = end_expr c want.Value a pc in
         let p2 = suc (suc (suc p1)) in
         let p3 = end_expr c want.Value b p2 in
         let e = expr_ends c want.Value b p2 in
         lines_both pc p1 (expr_code c want.Value a pc) (jump_if_false p2 ∷ plain op.Int (count 1) ∷ jump p3 ∷ expr_code c want.Value b p2) (expr_ends c want.Value a pc)
-        (expr_lines want.Value a pc h.0 tt (omega (arith, n)) (omega (arith, l, e)))
-        (jump_if_fits p1 p2 (omega arith) (omega (arith, l, e)),
-        (int_fits (suc p1) _ (word_fits 1 (omega arith)),
-        (jump_fits (suc (suc p1)) p3 (omega (arith, e)) (omega (arith, l)),
-        expr_lines want.Value b p2 h.1 tt (omega (arith, n)) l)))
+        (expr_lines want.Value a pc h.0 tt (omega (arith, n)) (omega (arith, l, e))) (
+          jump_if_fits p1 p2 (omega arith) (omega (arith, l, e)),
+          (
+            int_fits (suc p1) _ (word_fits 1 (omega arith)),
+            (
+              jump_fits (suc (suc p1)) p3 (omega (arith, e)) (omega (arith, l)),
+              expr_lines want.Value b p2 h.1 tt (omega (arith, n)) l,
+            ),
+          ),
+        )
     expr_lines w (CompareTexts r a b at) pc h k n l =
         let p = end_expr c want.PlaceAndLength a pc in
         let q = end_expr c want.PlaceAndLength b p in

@@ -234,10 +234,19 @@ module _ (faces : List (Face Text)) (raw : Module) (b : IsBuilt faces raw) where
       let count = w.objects in
       let same = length_map (object_of m.name) os in
       let many = exports_many i.objects in
-      let names = names_few i.objects in
-      ((h.0, (h.1, (((omega (arith, count, same, many), exports_fit i.objects (printed m.name os objects)), exports_rise i.objects sorted),
-      uses_fit faces b.spelled types (length m.types + count_of faces) m few_uses))),
-      record { imports = all_map (λ n. (n ≢ codes "Out") × (n ≢ codes "SYSTEM")) (λ n. IsTrue (is_import n)) allowed m.imports b.tree.imports.others; names = omega (arith, names, count, same) })
+      let names = names_few i.objects in (
+        (
+          h.0,
+          (
+            h.1,
+            (
+              ((omega (arith, count, same, many), exports_fit i.objects (printed m.name os objects)), exports_rise i.objects sorted),
+              uses_fit faces b.spelled types (length m.types + count_of faces) m few_uses,
+            ),
+          ),
+        ),
+        record { imports = all_map (λ n. (n ≢ codes "Out") × (n ≢ codes "SYSTEM")) (λ n. IsTrue (is_import n)) allowed m.imports b.tree.imports.others; names = omega (arith, names, count, same) },
+      )
 
   globals_written : globals.fits obj.globals
   unfolding globals list_of word32
@@ -266,8 +275,13 @@ module _ (faces : List (Face Text)) (raw : Module) (b : IsBuilt faces raw) where
       let v = f.variables in
       let p = f.procedures in
       let t = links_few in
-      (((omega (arith, v), links_fit obj.links.variables named.variables), ((omega (arith, p), links_fit obj.links.procedures named.procedures),
-      (omega (arith, t), types_fit obj.links.types (bases_named types m (all_named types m).types 0 m.types named.types b.code.bases)))))
+      ((
+        (omega (arith, v), links_fit obj.links.variables named.variables),
+        (
+          (omega (arith, p), links_fit obj.links.procedures named.procedures),
+          (omega (arith, t), types_fit obj.links.types (bases_named types m (all_named types m).types 0 m.types named.types b.code.bases)),
+        ),
+      ))
 
   laid_names : (ts : List TypedType) → map (λ t. t.name) (map (laid_type (described faces) raw) ts) ≡ map (λ t. t.name) ts
   laid_names [] = refl
@@ -286,12 +300,19 @@ module _ (faces : List (Face Text)) (raw : Module) (b : IsBuilt faces raw) where
       let l = few_records in
       let rows = rows_many types m (all_procedures m) 0 in
       let p = w.procedures in
-      let top_short : 0 + length (module_code types m) ≤ 1073741824 = omega (arith, short) in
-      ((((omega (arith, l), records_fit types m (type_links types m) w.procedures links_few few_own r.types m.types spelled (bases_there types m (all_named types m).types m.types) w.words w.bound b.code.numbers), (l, records_apart types m (type_links types m) m.types names_differ))),
-      ((omega (arith, rows, p), rows_fit types m b.code.words (all_procedures m) 0 ready top_short),
-      (commands_fit types m w.procedures b.tree.procedures,
-      ((omega (arith, code, short), instrs_fit (nothing_named (own_words types m)) 0 (module_code types m) few_named lines),
-      (omega (arith, positions, short), positions_fit 0 (module_code types m) (omega (arith, short)) lines)))))
+      let top_short : 0 + length (module_code types m) ≤ 1073741824 = omega (arith, short) in (
+        (((omega (arith, l), records_fit types m (type_links types m) w.procedures links_few few_own r.types m.types spelled (bases_there types m (all_named types m).types m.types) w.words w.bound b.code.numbers), (l, records_apart types m (type_links types m) m.types names_differ))),
+        (
+          (omega (arith, rows, p), rows_fit types m b.code.words (all_procedures m) 0 ready top_short),
+          (
+            commands_fit types m w.procedures b.tree.procedures,
+            (
+              (omega (arith, code, short), instrs_fit (nothing_named (own_words types m)) 0 (module_code types m) few_named lines),
+              (omega (arith, positions, short), positions_fit 0 (module_code types m) (omega (arith, short)) lines),
+            ),
+          ),
+        ),
+      )
 
   sound_written : IsSound obj
   sound_written =

@@ -150,6 +150,7 @@ interfaces_written faces raw b =
     let same = length_map (object_of m.name) os in
     let objects = all_objects m.name 16777216 (omega arith) os fit short in
     let sorted = each_strict by_name sym.by_name (object_of m.name) (λ x y. refl) os (objects_rise m) in
-    let few_uses : length i.uses < 2 ^ 32 = omega (arith, symbols, d, many) in
-    ((head_fits m.name m.imports b.tree.name b.tree.imports, ((((omega (arith, count, same)), objects), sorted), uses_fit faces b.spelled (viewed (described faces) m) (length m.types + count_of faces) m few_uses)),
-    record { objects = omega (arith, count, same); imports = b.tree.imports.others })
+    let few_uses : length i.uses < 2 ^ 32 = omega (arith, symbols, d, many) in (
+      (head_fits m.name m.imports b.tree.name b.tree.imports, ((((omega (arith, count, same)), objects), sorted), uses_fit faces b.spelled (viewed (described faces) m) (length m.types + count_of faces) m few_uses)),
+      record { objects = omega (arith, count, same); imports = b.tree.imports.others },
+    )

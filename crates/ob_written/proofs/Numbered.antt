@@ -134,8 +134,8 @@ pub are_there : (n : Named) (pc : ℕ) (ls : List Line) → LinesFit pc ls → a
 are_there n pc [] h = refl
 are_there n pc (l ∷ ls) h =
     let more : are_placed (pc + 1) (instrs_in (with_line n l) ls) (positions_at (suc pc) ls) ≡ true =
-      let same : suc pc ≡ pc + 1 = omega arith in
-      ap (λ k. are_placed k (instrs_in (with_line n l) ls) (positions_at (suc pc) ls)) (sym same) ∙ are_there (with_line n l) (suc pc) ls h.1 in
+    let same : suc pc ≡ pc + 1 = omega arith in
+    ap (λ k. are_placed k (instrs_in (with_line n l) ls) (positions_at (suc pc) ls)) (sym same) ∙ are_there (with_line n l) (suc pc) ls h.1 in
     go l.at (h.0.placed n) more
   where
     go : (o : Option Pos) → has_position pc (instr_in n l) ≡ is_some o → are_placed (pc + 1) (instrs_in (with_line n l) ls) (positions_at (suc pc) ls) ≡ true → are_placed pc (instr_in n l ∷ instrs_in (with_line n l) ls) (with_position o pc (positions_at (suc pc) ls)) ≡ true

@@ -62,8 +62,13 @@ module _ (q : QName) (named : IsNamed q.«module») (object : is_object q.object
   type_spelled (desc.Pointer m t) h k = record { shape = (((named, object), tt), h); layout = tt }
   type_spelled (desc.ProcType m s) h k = record { shape = (((named, object), tt), h); layout = tt }
   type_spelled (desc.Record r) h k = record {
-    shape = (((named, object), (tt, h.base)), ((fields_fit r.fields h.fields k.places, methods_fit r.methods h.methods k.numbers),
-      (IsStrictlySortedBy-filter by_place (λ f. is_shown f.mark) r.fields k.fields, IsStrictlySortedBy-filter by_number (λ p. is_shown p.mark) r.methods k.methods)));
+    shape = (
+      ((named, object), (tt, h.base)),
+      (
+        (fields_fit r.fields h.fields k.places, methods_fit r.methods h.methods k.numbers),
+        (IsStrictlySortedBy-filter by_place (λ f. is_shown f.mark) r.fields k.fields, IsStrictlySortedBy-filter by_number (λ p. is_shown p.mark) r.methods k.methods),
+      ),
+    );
     layout = (k.words, k.procedures);
   }
 

@@ -256,8 +256,13 @@ module _ (types : QName → Option Desc) (m : Module) where
         let numbered : AllByRecursion (λ d. d.number < 1048577) ds = all_map (λ d. d.number < r.procedures) (λ d. d.number < 1048577) (λ d l. omega (arith, l, b)) ds k in
         let many = order_few by_number among in
         let few = among_many t.name m.procedures 1 in
-        ((((n, (base_fits_here (base_type types m r.base) h, (omega (arith, w), (omega (arith, b), ((omega (arith, many, few, few_procedures), definitions_fit ds inside numbered), order_strict definitions_total among))))),
-        record { words = w; count = b; numbers = k }), tt))
+        ((
+          (
+            (n, (base_fits_here (base_type types m r.base) h, (omega (arith, w), (omega (arith, b), ((omega (arith, many, few, few_procedures), definitions_fit ds inside numbered), order_strict definitions_total among))))),
+            record { words = w; count = b; numbers = k },
+          ),
+          tt,
+        ))
 
     pub records_fit : (ts : List TypedType) → AllByRecursion TypedTypeIsSpelled ts → AllByRecursion (λ t. DescHas links t.desc) ts → AllByRecursion (λ t. described_words (words_of types) (Some t.desc) ≤ 1048576) ts → AllByRecursion (λ t. bound_procedures t.desc ≤ 1048576) ts → AllByRecursion (λ t. NumbersFit types m t t.desc) ts → AllByRecursion record_type.fits (records_in types m links ts)
     records_fit [] n h w b k = tt

@@ -324,15 +324,15 @@ decl_cases (Decl-F.Constant d x) = layer (Decl-F.Constant d x) (λ e. (tt, const
 decl_cases (Decl-F.NamedType d n) = layer (Decl-F.NamedType d n) (λ e. let p = and_parts (is_named d) (type_named n) e in (p.0, type_ok d (written n) p.0 (written_ok n p.1)))
 decl_cases (Decl-F.Variables ds n) = layer (Decl-F.Variables ds n) (λ e. let p = and_parts (are_named ds) (type_named n) e in (tt, variables_declared_ok ds (written n) p.0 (written_ok n p.1)))
 decl_cases (Decl-F.Procedure h ds body closing) = layer (Decl-F.Procedure h (map (λ (x : SD). x.0) ds) body closing) (λ e.
-  let p = and_parts (heading_named h) (all_true (map decl_named (map (λ (x : SD). x.0) ds))) e in
-  let q = and_parts (is_named h.name) (parameters_named h.parameters) p.0 in
-  record {
-    heading = record { name = q.0; parameters = written_parameters_ok h.parameters q.1 };
-    inside = λ u a. block_ok (map declaration (map (λ (x : SD). x.0) ds)) (all_of ds p.1) (map judging body) u a;
-  })
+    let p = and_parts (heading_named h) (all_true (map decl_named (map (λ (x : SD). x.0) ds))) e in
+    let q = and_parts (is_named h.name) (parameters_named h.parameters) p.0 in
+    record {
+      heading = record { name = q.0; parameters = written_parameters_ok h.parameters q.1 };
+      inside = λ u a. block_ok (map declaration (map (λ (x : SD). x.0) ds)) (all_of ds p.1) (map judging body) u a;
+    })
 decl_cases (Decl-F.Forward h) = layer (Decl-F.Forward h) (λ e.
-  let q = and_parts (is_named h.name) (parameters_named h.parameters) e in
-  record { heading = record { name = q.0; parameters = written_parameters_ok h.parameters q.1 }; inside = λ u a. ok_none })
+    let q = and_parts (is_named h.name) (parameters_named h.parameters) e in
+    record { heading = record { name = q.0; parameters = written_parameters_ok h.parameters q.1 }; inside = λ u a. ok_none })
 
 decl_ok : (x : Decl) → PD x
 decl_ok = ind-Decl PD (λ x y is. subst (λ z. PD (roll-Decl z)) is (decl_cases y))

@@ -223,13 +223,13 @@ sections_ok (s ∷ ss) g u a name n i =
     let mine : Judged Parameters = made (parameters_of u m s.names) t in
     record {
       found = then_has (λ (p : Parameters × Parameters). ParametersOk p.0 × ParametersOk p.1) ParametersOk (both (noted d.notes mine) more) _
-        (both_have ParametersOk ParametersOk (noted d.notes mine) more (then_has TypingOk ParametersOk t (λ x. sound (parameters_of u m s.names x)) h (λ x k. of_ok u m s.names x k)) rest.found)
-        (λ p k. record {
-          params = all_both param.fits p.0.signature.params p.1.signature.params k.0.params k.1.params;
-          result = tt;
-          parameters = all_both (λ x. type_fits x.of) p.0.parameters p.1.parameters k.0.parameters k.1.parameters;
-          made = all_both TypeOk p.0.made p.1.made k.0.made k.1.made;
-        });
+          (both_have ParametersOk ParametersOk (noted d.notes mine) more (then_has TypingOk ParametersOk t (λ x. sound (parameters_of u m s.names x)) h (λ x k. of_ok u m s.names x k)) rest.found)
+          (λ p k. record {
+            params = all_both param.fits p.0.signature.params p.1.signature.params k.0.params k.1.params;
+            result = tt;
+            parameters = all_both (λ x. type_fits x.of) p.0.parameters p.1.parameters k.0.parameters k.1.parameters;
+            made = all_both TypeOk p.0.made p.1.made k.0.made k.1.made;
+          });
       known = rest.known;
     }
 
@@ -247,8 +247,8 @@ parameters_ok u a name n p g =
     let r = result_of (record u { known = s.known }) p.result in
     record {
       found = then_has (λ (q : Parameters × Option TypeRef). ParametersOk q.0 × IfSome q.1 type_fits) ParametersOk (both s.found r) _
-        (both_have ParametersOk (λ o. IfSome o type_fits) s.found r h.found (result_ok (record u { known = s.known }) (known_around u a s h) p.result))
-        (λ q k. record { params = k.0.params; result = k.1; parameters = k.0.parameters; made = k.0.made });
+          (both_have ParametersOk (λ o. IfSome o type_fits) s.found r h.found (result_ok (record u { known = s.known }) (known_around u a s h) p.result))
+          (λ q k. record { params = k.0.params; result = k.1; parameters = k.0.parameters; made = k.0.made });
       known = h.known;
     }
 

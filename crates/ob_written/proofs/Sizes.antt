@@ -124,8 +124,8 @@ module _ (map_of : QName → Option Desc) (m : Module) where
   has_own t r is e =
       let q : QName = record { «module» = m.name; object = t.name } in
       let p : procedures_in map_of m (ref.Named q) ≡ base_of (counted map_of m 200) r.base + length r.methods =
-        ap (λ b. declared_procedures (counted map_of m 200) b (cond b (type_named m.types t.name) (map_of q))) (own_name t.name)
-        ∙ ap (declared_procedures (counted map_of m 200) true) (e ∙ ap (λ (d : Desc). Some d) is) in
+      ap (λ b. declared_procedures (counted map_of m 200) b (cond b (type_named m.types t.name) (map_of q))) (own_name t.name)
+      ∙ ap (declared_procedures (counted map_of m 200) true) (e ∙ ap (λ (d : Desc). Some d) is) in
       omega (arith, p)
 
   few_methods : (ts : List TypedType) → AllByRecursion (λ t. type_named m.types t.name ≡ Some t.desc) ts → AllByRecursion (λ t. bound_procedures t.desc ≤ most_words) (map (laid_type map_of m) ts) → AllByRecursion (λ t. methods_of t.desc ≤ most_words) ts

@@ -137,10 +137,37 @@ module _ (c : Context) (room : HasRoom c) where
   labels_fit t (x ∷ ls) pc body k h e l =
       let p = end_label c pc in
       let q = labels_end c t ls p body in
-      lines_both pc p (label_code c t x pc body) (labels_code c t ls p body) (omega arith)
-      (local_fits pc t k, (load_fits _, (int_fits _ x.low h.0.0, (plain_fits _ op.Ge none refl refl (λ l. refl) none_fits, (jump_if_fits _ p (omega arith) (omega (arith, q, e, l)),
-      (local_fits _ t k, (load_fits _, (int_fits _ x.high h.0.1, (plain_fits _ op.Le none refl refl (λ l. refl) none_fits, (jump_if_fits _ p (omega arith) (omega (arith, q, e, l)),
-      (jump_fits _ body (omega (arith, q, e)) (omega (arith, l)), tt)))))))))))
+      lines_both pc p (label_code c t x pc body) (labels_code c t ls p body) (omega arith) (
+        local_fits pc t k,
+        (
+          load_fits _,
+          (
+            int_fits _ x.low h.0.0,
+            (
+              plain_fits _ op.Ge none refl refl (λ l. refl) none_fits,
+              (
+                jump_if_fits _ p (omega arith) (omega (arith, q, e, l)),
+                (
+                  local_fits _ t k,
+                  (
+                    load_fits _,
+                    (
+                      int_fits _ x.high h.0.1,
+                      (
+                        plain_fits _ op.Le none refl refl (λ l. refl) none_fits,
+                        (
+                          jump_if_fits _ p (omega arith) (omega (arith, q, e, l)),
+                          (jump_fits _ body (omega (arith, q, e)) (omega (arith, l)), tt),
+                        ),
+                      ),
+                    ),
+                  ),
+                ),
+              ),
+            ),
+          ),
+        ),
+      )
       (labels_fit t ls p body k h.1 e l)
 
   result_fits : (e : Option Expr) (pc : ℕ) → IfSome e (ExprIsCoded c) → need_result c e ≤ 256 → end_result c e pc ≤ top → LinesFit pc (result_code c e pc)
@@ -227,25 +254,28 @@ module _ (c : Context) (room : HasRoom c) where
         let i = expr_ends c want.Value e (suc pc) in
         let j = cases_end c t cases p1 (suc t) x end in
         let o = else_ends c 4 at otherwise p2 u x in
-        let v = cases_next c cases (suc t) in
-        (local_fits pc t (omega (arith, k)),
-        lines_both (suc pc) q (expr_code c want.Value e (suc pc)) (bare op.Store ∷ (cases_code c t cases p1 (suc t) x end ++ else_code c 4 at otherwise p2 u x)) i
-        (expr_lines c room want.Value e (suc pc) h.0 tt (omega (arith, n)) (omega (arith, m, j, o)))
-        (store_fits q,
-        lines_both p1 p2 (cases_code c t cases p1 (suc t) x end) (else_code c 4 at otherwise p2 u x) j
-        (cases_lines t l cases p1 (suc t) x end h.1.0 (omega (arith, k)) (omega (arith, n)) (omega (arith, o)) m (omega (arith, k)) (λ e. let f = y e in omega (arith, f, o)) z)
-        (else_lines 4 (omega arith) at l otherwise p2 u x h.1.1.0 h.1.1.1 (omega (arith, n)) m (omega (arith, k, v)) y z)))
+        let v = cases_next c cases (suc t) in (
+          local_fits pc t (omega (arith, k)),
+          lines_both (suc pc) q (expr_code c want.Value e (suc pc)) (bare op.Store ∷ (cases_code c t cases p1 (suc t) x end ++ else_code c 4 at otherwise p2 u x)) i
+              (expr_lines c room want.Value e (suc pc) h.0 tt (omega (arith, n)) (omega (arith, m, j, o))) (
+                store_fits q,
+                lines_both p1 p2 (cases_code c t cases p1 (suc t) x end) (else_code c 4 at otherwise p2 u x) j
+                    (cases_lines t l cases p1 (suc t) x end h.1.0 (omega (arith, k)) (omega (arith, n)) (omega (arith, o)) m (omega (arith, k)) (λ e. let f = y e in omega (arith, f, o)) z)
+                    (else_lines 4 (omega arith) at l otherwise p2 u x h.1.1.0 h.1.1.1 (omega (arith, n)) m (omega (arith, k, v)) y z),
+              ),
+        )
     stmt_lines l (While e body at) pc t x h n m k y z =
         let p1 = end_expr c want.Value e pc in
         let p2 = end_stmts c body (suc p1) in
         let i = stmts_end c body (suc p1) t x in
         let j = expr_ends c want.Value e pc in
         lines_both pc p1 (expr_code c want.Value e pc) (jump_if_false (suc p2) ∷ (stmts_code c body (suc p1) t x ++ jump_back pc at ∷ [])) j
-        (expr_lines c room want.Value e pc h.0 tt (omega (arith, n)) (omega (arith, m, i)))
-        (jump_if_fits p1 (suc p2) (omega (arith, i)) (omega (arith, m)),
-        lines_both (suc p1) p2 (stmts_code c body (suc p1) t x) (jump_back pc at ∷ []) i
-        (stmts_lines l body (suc p1) t x h.1.0 (omega (arith, n)) (omega (arith, m)) k (λ e. let f = y e in omega (arith, f)) z)
-        (back_fits p2 pc at (omega (arith, i, j)) (omega (arith, m, i, j)) h.1.1, tt))
+        (expr_lines c room want.Value e pc h.0 tt (omega (arith, n)) (omega (arith, m, i))) (
+          jump_if_fits p1 (suc p2) (omega (arith, i)) (omega (arith, m)),
+          lines_both (suc p1) p2 (stmts_code c body (suc p1) t x) (jump_back pc at ∷ []) i
+              (stmts_lines l body (suc p1) t x h.1.0 (omega (arith, n)) (omega (arith, m)) k (λ e. let f = y e in omega (arith, f)) z)
+              (back_fits p2 pc at (omega (arith, i, j)) (omega (arith, m, i, j)) h.1.1, tt),
+        )
     stmt_lines l (Repeat body e at) pc t x h n m k y z =
         let p1 = end_stmts c body pc in
         let q = end_expr c want.Value e p1 in
@@ -277,24 +307,37 @@ module _ (c : Context) (room : HasRoom c) where
         let r4 = stmts_code c body p3 (suc t) x ++ r5 in
         let r3 = for_value c v ++ (plain op.Local (count t) ∷ bare op.Load ∷ bare (within c step) ∷ jump_if_false (suc (end_for_step c v p4)) ∷ r4) in
         let r2 = expr_code c want.Value start q1 ++ (bare op.Store ∷ r3) in
-        let r1 = for_place c v ++ r2 in
-        (local_fits pc t (omega (arith, k)),
-        lines_both (suc pc) q0 (expr_code c want.Value stop (suc pc)) (bare op.Store ∷ r1) e0
-        (expr_lines c room want.Value stop (suc pc) h.1.1.0 tt (omega (arith, n)) (omega (arith, m, e1, e2, e3, e4, e5)))
-        (store_fits q0,
-        lines_both p1 q1 (for_place c v) r2 e1
-        (variable_fits c room want.Place v (ref.Basic basic.LongInt) p1 h.0 long_fits)
-        (lines_both q1 q2 (expr_code c want.Value start q1) (bare op.Store ∷ r3) e2
-        (expr_lines c room want.Value start q1 h.1.0 tt (omega (arith, n)) (omega (arith, m, e3, e4, e5)))
-        (store_fits q2,
-        lines_both p2 q3 (for_value c v) (plain op.Local (count t) ∷ bare op.Load ∷ bare (within c step) ∷ jump_if_false (suc (end_for_step c v p4)) ∷ r4) e3
-        (variable_fits c room want.Value v (ref.Basic basic.LongInt) p2 h.0 long_fits)
-        (local_fits q3 t (omega (arith, k)), (load_fits (suc q3), (step_test (suc (suc q3)) step, (jump_if_fits (suc (suc (suc q3))) (suc (end_for_step c v p4)) (omega (arith, e4, e5)) (omega (arith, m)),
-        lines_both p3 p4 (stmts_code c body p3 (suc t) x) r5 e4
-        (stmts_lines l body p3 (suc t) x h.1.1.1.1.0 (omega (arith, n)) (omega (arith, m, e5)) (omega (arith, k)) (λ e. let f = y e in omega (arith, f, e5)) z)
-        (lines_both p4 q5 (for_place c v) last e5
-        (variable_fits c room want.Place v (ref.Basic basic.LongInt) p4 h.0 long_fits)
-        (int_fits q5 step h.1.1.1.0, (inc_fits (suc q5) w at h.1.1.1.1.1, (back_fits (suc (suc q5)) p2 at (omega (arith, e3, e4, e5)) (omega (arith, m, e3, e4, e5)) h.1.1.1.1.1, tt))))))))))))
+        let r1 = for_place c v ++ r2 in (
+          local_fits pc t (omega (arith, k)),
+          lines_both (suc pc) q0 (expr_code c want.Value stop (suc pc)) (bare op.Store ∷ r1) e0
+              (expr_lines c room want.Value stop (suc pc) h.1.1.0 tt (omega (arith, n)) (omega (arith, m, e1, e2, e3, e4, e5))) (
+                store_fits q0,
+                lines_both p1 q1 (for_place c v) r2 e1
+                    (variable_fits c room want.Place v (ref.Basic basic.LongInt) p1 h.0 long_fits)
+                    (lines_both q1 q2 (expr_code c want.Value start q1) (bare op.Store ∷ r3) e2
+                    (expr_lines c room want.Value start q1 h.1.0 tt (omega (arith, n)) (omega (arith, m, e3, e4, e5))) (
+                      store_fits q2,
+                      lines_both p2 q3 (for_value c v) (plain op.Local (count t) ∷ bare op.Load ∷ bare (within c step) ∷ jump_if_false (suc (end_for_step c v p4)) ∷ r4) e3
+                          (variable_fits c room want.Value v (ref.Basic basic.LongInt) p2 h.0 long_fits) (
+                            local_fits q3 t (omega (arith, k)),
+                            (
+                              load_fits (suc q3),
+                              (
+                                step_test (suc (suc q3)) step,
+                                (
+                                  jump_if_fits (suc (suc (suc q3))) (suc (end_for_step c v p4)) (omega (arith, e4, e5)) (omega (arith, m)),
+                                  lines_both p3 p4 (stmts_code c body p3 (suc t) x) r5 e4
+                                      (stmts_lines l body p3 (suc t) x h.1.1.1.1.0 (omega (arith, n)) (omega (arith, m, e5)) (omega (arith, k)) (λ e. let f = y e in omega (arith, f, e5)) z)
+                                      (lines_both p4 q5 (for_place c v) last e5
+                                      (variable_fits c room want.Place v (ref.Basic basic.LongInt) p4 h.0 long_fits)
+                                      (int_fits q5 step h.1.1.1.0, (inc_fits (suc q5) w at h.1.1.1.1.1, (back_fits (suc (suc q5)) p2 at (omega (arith, e3, e4, e5)) (omega (arith, m, e3, e4, e5)) h.1.1.1.1.1, tt)))),
+                                ),
+                              ),
+                            ),
+                          ),
+                    )),
+              ),
+        )
     stmt_lines l (Loop body at) pc t x h n m k y z =
         let p1 = end_stmts c body pc in
         let i = stmts_end c body pc t (suc p1) in
@@ -334,12 +377,14 @@ module _ (c : Context) (room : HasRoom c) where
         let j = branches_end c rest (suc p2) u x end in
         let v = stmts_next c body t in
         lines_both pc p1 (expr_code c want.Value test pc) (jump_if_false (suc p2) ∷ (stmts_code c body (suc p1) t x ++ (jump end ∷ branches_code c rest (suc p2) u x end))) (expr_ends c want.Value test pc)
-        (expr_lines c room want.Value test pc h.0 tt (omega (arith, n)) (omega (arith, m, o, i, j)))
-        (jump_if_fits p1 (suc p2) (omega (arith, i)) (omega (arith, m, o, j)),
-        lines_both (suc p1) p2 (stmts_code c body (suc p1) t x) (jump end ∷ branches_code c rest (suc p2) u x end) i
-        (stmts_lines l body (suc p1) t x h.1.0 (omega (arith, n)) (omega (arith, m, o, j)) (omega (arith, k)) (λ e. let f = y e in omega (arith, f, j)) z)
-        (jump_fits p2 end (omega (arith, m, j)) (omega (arith, o)),
-        branches_lines l rest (suc p2) u x end h.1.1 (omega (arith, n)) m o (omega (arith, k, v)) y z))
+        (expr_lines c room want.Value test pc h.0 tt (omega (arith, n)) (omega (arith, m, o, i, j))) (
+          jump_if_fits p1 (suc p2) (omega (arith, i)) (omega (arith, m, o, j)),
+          lines_both (suc p1) p2 (stmts_code c body (suc p1) t x) (jump end ∷ branches_code c rest (suc p2) u x end) i
+              (stmts_lines l body (suc p1) t x h.1.0 (omega (arith, n)) (omega (arith, m, o, j)) (omega (arith, k)) (λ e. let f = y e in omega (arith, f, j)) z) (
+                jump_fits p2 end (omega (arith, m, j)) (omega (arith, o)),
+                branches_lines l rest (suc p2) u x end h.1.1 (omega (arith, n)) m o (omega (arith, k, v)) y z,
+              ),
+        )
 
     cases_lines : (r : ℕ) (l : Bool) (cs : Cases) (pc t x end : ℕ) → CasesAreCoded c l cs → r < 2 ^ 31 → need_cases c cs ≤ 256 → end_cases c cs pc ≤ end → end ≤ top → t + hidden_of_cases cs ≤ few → (l ≡ true → end_cases c cs pc < x) → x ≤ top → LinesFit pc (cases_code c r cs pc t x end)
     cases_lines r l NoCase pc t x end h w n m o k y z = tt
@@ -351,12 +396,14 @@ module _ (c : Context) (room : HasRoom c) where
         let j = cases_end c r rest (suc p2) u x end in
         let v = stmts_next c body t in
         lines_both pc p1 (labels_code c r labels pc (suc p1)) (jump (suc p2) ∷ (stmts_code c body (suc p1) t x ++ (jump end ∷ cases_code c r rest (suc p2) u x end))) (labels_end c r labels pc (suc p1))
-        (labels_fit r labels pc (suc p1) w h.0 (omega arith) (omega (arith, m, o, i, j)))
-        (jump_fits p1 (suc p2) (omega (arith, i)) (omega (arith, m, o, j)),
-        lines_both (suc p1) p2 (stmts_code c body (suc p1) t x) (jump end ∷ cases_code c r rest (suc p2) u x end) i
-        (stmts_lines l body (suc p1) t x h.1.0 (omega (arith, n)) (omega (arith, m, o, j)) (omega (arith, k)) (λ e. let f = y e in omega (arith, f, j)) z)
-        (jump_fits p2 end (omega (arith, m, j)) (omega (arith, o)),
-        cases_lines r l rest (suc p2) u x end h.1.1 w (omega (arith, n)) m o (omega (arith, k, v)) y z))
+        (labels_fit r labels pc (suc p1) w h.0 (omega arith) (omega (arith, m, o, i, j))) (
+          jump_fits p1 (suc p2) (omega (arith, i)) (omega (arith, m, o, j)),
+          lines_both (suc p1) p2 (stmts_code c body (suc p1) t x) (jump end ∷ cases_code c r rest (suc p2) u x end) i
+              (stmts_lines l body (suc p1) t x h.1.0 (omega (arith, n)) (omega (arith, m, o, j)) (omega (arith, k)) (λ e. let f = y e in omega (arith, f, j)) z) (
+                jump_fits p2 end (omega (arith, m, j)) (omega (arith, o)),
+                cases_lines r l rest (suc p2) u x end h.1.1 w (omega (arith, n)) m o (omega (arith, k, v)) y z,
+              ),
+        )
 
     else_lines : (kind : ℕ) → kind < 2 ^ 31 → (at : Pos) (l : Bool) (o : Otherwise) (pc t x : ℕ) → ElseIsCoded c l o → PosFits at → need_else c o ≤ 256 → end_else c o pc ≤ top → t + hidden_of_else o ≤ few → (l ≡ true → end_else c o pc < x) → x ≤ top → LinesFit pc (else_code c kind at o pc t x)
     else_lines kind i at l NoElse pc t x h p n m k y z = (trap_fits pc kind at i p, tt)

@@ -1,6 +1,6 @@
 -- What the rules look at is what counts.
 use Rattle.ob_mentions.proofs.Tests.{types_agree}
-use Rattle.ob_mentions.proofs.Whole.{names_agree, expressions_agree, designators_agree, constants_agree, statements_agree, written_agree, declarations_agree, headings_agree, counted_is_said}
+use Rattle.ob_mentions.proofs.Whole.{names_agree, expressions_agree, designators_agree, constants_agree, statements_agree, written_agree, declarations_agree, headings_agree, counted_is_said, bindings_agree, forwards_agree, later_agrees, bodies_agree}
 use Rattle.ob_mentions.proofs.judged_alike.Goals as goal
 
 pub returns-clause-types : goal.returns-clause-types
@@ -32,3 +32,15 @@ returns-clause-headings c = headings_agree
 
 pub returns-clause-counted : goal.returns-clause-counted
 returns-clause-counted c = counted_is_said
+
+pub returns-clause-bindings : goal.returns-clause-bindings
+returns-clause-bindings c = bindings_agree
+
+pub returns-clause-forwards : goal.returns-clause-forwards
+returns-clause-forwards c = forwards_agree
+
+pub returns-clause-later : goal.returns-clause-later
+returns-clause-later c = later_agrees
+
+pub returns-clause-bodies : goal.returns-clause-bodies
+returns-clause-bodies c = bodies_agree
