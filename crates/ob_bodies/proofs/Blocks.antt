@@ -30,7 +30,7 @@ use Rattle.ob_typed.specs.Makes.{IfThere}
 use Rattle.ob_typed.specs.Spelled.{all_true}
 use Rattle.ob_typed.specs.Bodies.{stmt_spelled}
 use Rattle.ob_bodies.specs.Knows.{Grows, Stands, IsDescribed, EntityStands, Knows}
-use Rattle.ob_bodies.specs.Judged.{AreOf, IsParameter, IsInside, result_of, VariableStands, IsProcedureIn, NameIs, StandsAround, IsJudged}
+use Rattle.ob_bodies.specs.Judged.{AreOf, IsParameter, IsInside, result_of, VariableStands, IsProcedureIn, NameIs, StandsAround, IsJudged, ProcedureIsJudged}
 use Rattle.ob_bodies.proofs.Lists.{one_left, one_right, one_all, all_of, all_one, all_both, there_of}
 use Rattle.ob_bodies.proofs.Standing.{grows_same, grows_then, stands_grown, all_grown}
 use Rattle.ob_bodies.proofs.Heads.{InsideEntity, SignatureStands, HeadStands, head_grown, all_parameters}
@@ -116,7 +116,7 @@ module _ (IsConstant : Value → Type 0) (shown : QName → Option Desc) (m : Ty
   -- THE BODIES IN A PART
 
   abbrev pub AreJudged : List TypedProcedure → Type 0
-  AreJudged ps = AllByRecursion (λ p. IsJudged IsConstant shown m (Some p) p.body) ps
+  AreJudged ps = AllByRecursion (ProcedureIsJudged IsConstant shown m) ps
 
   -- the bodies of procedures, and that of the part
   pub record PartIs (l : Level) (c : Contents) : Type 0 where
@@ -204,15 +204,15 @@ module _ (IsConstant : Value → Type 0) (shown : QName → Option Desc) (m : Ty
           shown_is = b.knows.shown_is;
           own = b.knows.own;
           known = all_both (λ (k : Known). EntityStands IsConstant m.name shown u.own k.what) h.inside h.known
-            (all_of (λ (k : Known). (k.scope ≡ suc u.scope) × InsideEntity IsConstant m.name shown out u.own h k.what) (λ (k : Known). EntityStands IsConstant m.name shown u.own k.what) h.inside (λ k i. inside_stands u.own u.own h k.what i.1) s.inside)
-            (all_of (KnownBehind l u) (λ (k : Known). EntityStands IsConstant m.name shown u.own k.what) h.known (λ k i. i.entity) k);
+              (all_of (λ (k : Known). (k.scope ≡ suc u.scope) × InsideEntity IsConstant m.name shown out u.own h k.what) (λ (k : Known). EntityStands IsConstant m.name shown u.own k.what) h.inside (λ k i. inside_stands u.own u.own h k.what i.1) s.inside)
+              (all_of (KnownBehind l u) (λ (k : Known). EntityStands IsConstant m.name shown u.own k.what) h.known (λ k i. i.entity) k);
         };
         below = all_both (λ (k : Known). k.scope ≤ suc u.scope) h.inside h.known
-          (all_of (λ (k : Known). (k.scope ≡ suc u.scope) × InsideEntity IsConstant m.name shown out u.own h k.what) (λ (k : Known). k.scope ≤ suc u.scope) h.inside (λ k i. same_most k.scope (suc u.scope) i.0) s.inside)
-          (all_of (KnownBehind l u) (λ (k : Known). k.scope ≤ suc u.scope) h.known (λ k i. one_more k.scope u.scope i.below) k);
+            (all_of (λ (k : Known). (k.scope ≡ suc u.scope) × InsideEntity IsConstant m.name shown out u.own h k.what) (λ (k : Known). k.scope ≤ suc u.scope) h.inside (λ k i. same_most k.scope (suc u.scope) i.0) s.inside)
+            (all_of (KnownBehind l u) (λ (k : Known). k.scope ≤ suc u.scope) h.known (λ k i. one_more k.scope u.scope i.below) k);
         names = all_both (λ (k : Known). N u.own p (suc u.scope) k.scope k.what) h.inside h.known
-          (all_of (λ (k : Known). (k.scope ≡ suc u.scope) × InsideEntity IsConstant m.name shown out u.own h k.what) (λ (k : Known). N u.own p (suc u.scope) k.scope k.what) h.inside (λ k i. inside_name u.own types h c u.scope k.scope i.0 (some_scope l u b.placed) k.what i.1) s.inside)
-          (all_of (KnownBehind l u) (λ (k : Known). N u.own p (suc u.scope) k.scope k.what) h.known (λ k i. outer_name IsConstant shown m u.own (frame l) p u.level k.scope u.scope i.below k.what i.name) k);
+            (all_of (λ (k : Known). (k.scope ≡ suc u.scope) × InsideEntity IsConstant m.name shown out u.own h k.what) (λ (k : Known). N u.own p (suc u.scope) k.scope k.what) h.inside (λ k i. inside_name u.own types h c u.scope k.scope i.0 (some_scope l u b.placed) k.what i.1) s.inside)
+            (all_of (KnownBehind l u) (λ (k : Known). N u.own p (suc u.scope) k.scope k.what) h.known (λ k i. outer_name IsConstant shown m u.own (frame l) p u.level k.scope u.scope i.below k.what i.name) k);
         placed = (no_nothing h.path 47 [], (refl, deeper u.scope (some_scope l u b.placed)));
         guards = refl;
         result = framed_result types h h.parameters c;
@@ -234,9 +234,9 @@ module _ (IsConstant : Value → Type 0) (shown : QName → Option Desc) (m : Ty
   framed_variables types h None c x i = tt
   framed_variables types h (Some q) c x i = i
 
-  framed_judged : (types : Map) (h : Head) (o : Option Parameters) (c : Contents) → IsJudged IsConstant shown m (framed types h o c) c.body → AreJudged (typed_procedure types h o c)
-  framed_judged types h None c j = tt
-  framed_judged types h (Some q) c j = (j, tt)
+  framed_judged : (own : List TypedType) (types : Map) (h : Head) (o : Option Parameters) (c : Contents) → IfThere (SignatureStands IsConstant m.name shown out own) o → IsJudged IsConstant shown m (framed types h o c) c.body → AreJudged (typed_procedure types h o c)
+  framed_judged own types h None c s j = tt
+  framed_judged own types h (Some q) c s j = (record { body = j; result = s.plain }, tt)
 
   procedure_is : (l : Level) (u : Around) → B l u → (p : Written_procedure) → IsProcedure p → (h : Head) → HS u.own u.scope h → AllByRecursion (KnownBehind l u) h.known → (forward : Bool) → I l (procedure_judged u p h forward).contents → Adds (procedure_judged u p h forward).contents
   procedure_is l u b p g h s k true i = record { procedures = tt; full = record { constants = tt; types = head_made h.parameters s.made; bound = tt } }
@@ -247,7 +247,7 @@ module _ (IsConstant : Value → Type 0) (shown : QName → Option Desc) (m : Ty
       let own = typed_procedure types h h.parameters c in
       let r = g.inside (Within f) (around_body u h) (inside_block l u b h s k types c) (record { variables = λ x j. framed_variables types h h.parameters c x j; procedures = λ q j. i.procedures q (one_right own c.procedures q j) }) in
       record {
-        procedures = all_both (λ p. IsJudged IsConstant shown m (Some p) p.body) own c.procedures (framed_judged types h h.parameters c r.body) r.procedures;
+        procedures = all_both (ProcedureIsJudged IsConstant shown m) own c.procedures (framed_judged u.own types h h.parameters c s.signature r.body) r.procedures;
         full = record { constants = tt; types = all_both (IsDescribed IsConstant) (types_of_head h.parameters) c.types (head_made h.parameters s.made) r.full.types; bound = tt };
       }
 
@@ -259,7 +259,7 @@ module _ (IsConstant : Value → Type 0) (shown : QName → Option Desc) (m : Ty
       let c = (procedures_judged u ps hs).contents in
       let x = procedure_is l u b p g.0 h s.0 k.0 p.forward (first_included IsConstant shown m l a c i) in
       let y = procedures_are l u b ps g.1 hs s.1 k.1 (second_included IsConstant shown m l a c i) in
-      record { procedures = all_both (λ p. IsJudged IsConstant shown m (Some p) p.body) a.procedures c.procedures x.procedures y.procedures; full = both_full IsConstant shown m a c x.full y.full }
+      record { procedures = all_both (ProcedureIsJudged IsConstant shown m) a.procedures c.procedures x.procedures y.procedures; full = both_full IsConstant shown m a c x.full y.full }
 
   -- THE PROCEDURES ARE THOSE OF THE HEADINGS
 

@@ -96,7 +96,7 @@ module _ (base : Around) (P : Known → Type 0) where
 
   -- what holds before, and of each name that a heading adds, holds behind each of them
   pub names_in_order : (ps : List Written_procedure) (hs : Heads) → IsBehind base hs.around → ((h : Head) → IsOneOf (headings_in_order ps hs).before h → Names h) → AllByRecursion P hs.around.known → AllByRecursion (λ (h : Head). AllByRecursion P h.known) hs.before
-    → AllByRecursion P (headings_in_order ps hs).around.known × AllByRecursion (λ (h : Head). AllByRecursion P h.known) (headings_in_order ps hs).before
+      → AllByRecursion P (headings_in_order ps hs).around.known × AllByRecursion (λ (h : Head). AllByRecursion P h.known) (headings_in_order ps hs).before
   names_in_order [] hs e f k b = (k, b)
   names_in_order (p ∷ ps) hs e f k b =
       let d = head_of hs.around p.heading p.forward in
@@ -193,7 +193,7 @@ module _ (IsConstant : Value → Type 0) (unit : List ℕ) (shown : QName → Op
         knows = behind_knows u k t d;
         below = behind_below base.scope u n t d s.below;
         before = subst (λ l. AllByRecursion (HS l base.scope) (declared_head t d v ∷ hs.before)) o
-          (twice_stands u.own base.scope t d v b, all_of (HS hs.around.own base.scope) (HS u.own base.scope) hs.before (λ h i. head_grown IsConstant unit shown out hs.around.own u.own (grows_front (types_of d.parameters) hs.around.own) base.scope h i) s.before);
+            (twice_stands u.own base.scope t d v b, all_of (HS hs.around.own base.scope) (HS u.own base.scope) hs.before (λ h i. head_grown IsConstant unit shown out hs.around.own u.own (grows_front (types_of d.parameters) hs.around.own) base.scope h i) s.before);
         grows = subst (λ l. Grows base.own l) o (grows_then base.own hs.around.own u.own s.grows (grows_front (types_of d.parameters) hs.around.own));
       }
 

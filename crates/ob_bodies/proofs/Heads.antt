@@ -32,7 +32,7 @@ use Rattle.ob_rules.specs.Declarations.{self_parameters}
 use Rattle.ob_forms.specs.Said.{IsOneOf}
 use Rattle.ob_described.proofs.Nodes.{Has, then_has}
 use Rattle.ob_typed.specs.Makes.{IfThere}
-use Rattle.ob_bodies.specs.Knows.{Grows, Stands, IsDescribed, EntityStands, Knows}
+use Rattle.ob_bodies.specs.Knows.{Grows, Stands, IsDescribed, EntityStands, Knows, IsPlain}
 use Rattle.ob_bodies.specs.Judged.{AreOf, IsParameter}
 use Rattle.ob_bodies.proofs.Lists.{one_right, all_of, all_filtered, there_of}
 use Rattle.ob_bodies.proofs.Standing.{grows_front, grows_behind, stands_grown}
@@ -76,6 +76,7 @@ module _ (IsConstant : Value → Type 0) (unit : List ℕ) (shown : QName → Op
     pub params : AllByRecursion (λ (k : Mode × TypeRef). S own k.1) p.signature.params
     pub answer : AreOf p.parameters p.signature.params
     pub result : IfThere (S own) p.signature.result
+    pub plain : IfThere (IsPlain IsConstant unit shown) p.signature.result
 
   -- a heading, where the types that it makes are among the own ones
   pub record HeadStands (own : List TypedType) (scope : ℕ) (h : Head) : Type 0 where
@@ -124,6 +125,7 @@ module _ (IsConstant : Value → Type 0) (unit : List ℕ) (shown : QName → Op
     params = all_of (λ (k : Mode × TypeRef). S own k.1) (λ (k : Mode × TypeRef). S more k.1) p.signature.params (λ k. stands_grown unit shown own more g k.1) s.params;
     answer = s.answer;
     result = there_of (S own) (S more) p.signature.result (λ t. stands_grown unit shown own more g t) s.result;
+    plain = s.plain;
   }
 
   pub head_grown : (own more : List TypedType) → Grows own more → (scope : ℕ) (h : Head) → HeadStands own scope h → HeadStands more scope h
@@ -175,7 +177,7 @@ module _ (IsConstant : Value → Type 0) (unit : List ℕ) (shown : QName → Op
   three_have P (Some m) (Some b) (Some p) h = h
 
   signature_of : (own : List TypedType) (p : Parameters) → ParametersAre IsConstant unit shown out own p → SignatureStands (p.made ++ own) p
-  signature_of own p h = record { params = h.params; answer = h.answer; result = there_of (S own) (S (p.made ++ own)) p.signature.result (λ t. stands_grown unit shown own (p.made ++ own) (grows_front p.made own) t) h.result }
+  signature_of own p h = record { params = h.params; answer = h.answer; result = there_of (S own) (S (p.made ++ own)) p.signature.result (λ t. stands_grown unit shown own (p.made ++ own) (grows_front p.made own) t) h.result; plain = h.plain }
 
   three_signed : (own : List TypedType) (m : Option Mark) (b : Option (Option BoundAs)) (s : Option Parameters) → IfThere (ParametersAre IsConstant unit shown out own) s → IfThere (SignatureStands (types_of (head_parameters m b s) ++ own)) (head_parameters m b s)
   three_signed own None b s h = tt
@@ -233,9 +235,9 @@ module _ (IsConstant : Value → Type 0) (unit : List ℕ) (shown : QName → Op
       made = three_have (λ p. AllByRecursion (IsDescribed IsConstant) p.made) m.node b.node s.found.node (there_of (ParametersAre IsConstant unit shown out u.own) (λ p. AllByRecursion (IsDescribed IsConstant) p.made) s.found.node (λ p i. i.made) are.found);
       signature = three_signed u.own m.node b.node s.found.node are.found;
       inside = all_filtered (λ (k : Known). (k.scope ≡ suc u.scope) × InsideEntity more hd k.what) (λ k. nat_lt u.scope k.scope) s.known
-        (are.known Inside
-        (with_receiver Inside (inner u) h.receiver b.node (all_of (λ (k : Known). k.scope ≤ u.scope) Inside u.known (λ k i e. absurd (not_above u.scope k.scope i e)) below) (λ x e f. (refl, tt)) (λ x c e f g. (refl, receiver_inside x c e f)))
-        (λ k e i f. (e, parameter_inside u.own more hd s.found.node (λ v t. three_entity u.own (self_parameters hd hd.self hd.bound) m.node b.node s.found.node v t) k.what i)));
+          (are.known Inside
+          (with_receiver Inside (inner u) h.receiver b.node (all_of (λ (k : Known). k.scope ≤ u.scope) Inside u.known (λ k i e. absurd (not_above u.scope k.scope i e)) below) (λ x e f. (refl, tt)) (λ x c e f g. (refl, receiver_inside x c e f)))
+          (λ k e i f. (e, parameter_inside u.own more hd s.found.node (λ v t. three_entity u.own (self_parameters hd hd.self hd.bound) m.node b.node s.found.node v t) k.what i)));
       free = λ e. free_of hd h.receiver (bound_in b.node) e;
     }
 

@@ -14,4 +14,5 @@ pub mod Sequences
 pub mod Modules
 pub mod Places
 pub mod Held
+pub mod Imports
 pub mod Whole

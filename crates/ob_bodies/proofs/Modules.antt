@@ -33,7 +33,7 @@ use Rattle.ob_typed.specs.Bodies.{stmt_spelled}
 use Rattle.ob_relation.proofs.Names.{and_both}
 use Rattle.ob_bodies.specs.Spelled.{parameters_spelled, type_spelled, decl_layer, decl_spelled, tree_spelled}
 use Rattle.ob_bodies.specs.Knows.{IsDescribed, EntityStands, Knows}
-use Rattle.ob_bodies.specs.Judged.{NameIs, IsJudged, BodiesAreJudged}
+use Rattle.ob_bodies.specs.Judged.{NameIs, IsJudged, BodiesAreJudged, ProcedureIsJudged}
 use Rattle.ob_bodies.proofs.Lists.{all_both, find_has}
 use Rattle.ob_bodies.proofs.Typings.{ConstantPhrase}
 use Rattle.ob_bodies.proofs.Written.{written_good, written_parameters_good}
@@ -52,7 +52,7 @@ kept_all P Q f k (x ∷ xs) h = one_kept Q (f x) (filter_map f xs) (k x h.0) (ke
 
 -- ---- what is made of parts where nothing is broken
 
-unbroken_is : {A : Type 0} (bs : List Broken) (x m : A) → if_unbroken bs x ≡ Some m → (bs ≡ []) × (x ≡ m)
+pub unbroken_is : {A : Type 0} (bs : List Broken) (x m : A) → if_unbroken bs x ≡ Some m → (bs ≡ []) × (x ≡ m)
 unbroken_is [] x m e = (refl, cc)
 unbroken_is (b ∷ bs) x m e = absurd cc
 
@@ -132,12 +132,12 @@ module _ (IsConstant : Value → Type 0) (truths : (b : Bool) → IsConstant (li
   decl_cases (Decl-F.NamedType d n) = layer (Decl-F.NamedType d n) (λ e. type_plain IsConstant shown m out d (written n) (written_good IsConstant m.name shown out constants n e))
   decl_cases (Decl-F.Variables ds n) = layer (Decl-F.Variables ds n) (λ e. variables_declared_plain IsConstant shown m out ds (written n) (written_good IsConstant m.name shown out constants n e))
   decl_cases (Decl-F.Procedure h ds body closing) = layer (Decl-F.Procedure h (decls_in ds) body closing) (λ e.
-    let p = and_both (parameters_spelled h.parameters) (all_true (map decl_spelled (decls_in ds)) && all_true (map stmt_spelled body)) e in
-    let q = and_both (all_true (map decl_spelled (decls_in ds))) (all_true (map stmt_spelled body)) p.1 in
-    record {
-      heading = (written_parameters_good IsConstant m.name shown out constants h.parameters p.0, tt);
-      inside = block_good (map declaration (decls_in ds)) (all_in ds q.0) body q.1;
-    })
+      let p = and_both (parameters_spelled h.parameters) (all_true (map decl_spelled (decls_in ds)) && all_true (map stmt_spelled body)) e in
+      let q = and_both (all_true (map decl_spelled (decls_in ds))) (all_true (map stmt_spelled body)) p.1 in
+      record {
+        heading = (written_parameters_good IsConstant m.name shown out constants h.parameters p.0, tt);
+        inside = block_good (map declaration (decls_in ds)) (all_in ds q.0) body q.1;
+      })
   decl_cases (Decl-F.Forward h) = layer (Decl-F.Forward h) (λ e. record { heading = (written_parameters_good IsConstant m.name shown out constants h.parameters e, tt); inside = no_block })
 
   decl_good : (x : Decl) → PD x
@@ -197,7 +197,7 @@ module _ (IsConstant : Value → Type 0) (truths : (b : Bool) → IsConstant (li
       let r = order_plain IsConstant shown m out (map (λ i. import_declared i (target_of i)) imports) (imports_plain imports o) AtModule u (module_around name.name ds e) (first_included IsConstant shown m AtModule d.part.contents c j) in
       let p = block_good ds g xs s AtModule d.around r.around (second_included IsConstant shown m AtModule d.part.contents c j) in
       record {
-        procedures = all_both (λ p. IsJudged IsConstant shown m (Some p) p.body) d.part.contents.procedures c.procedures (all_empty (λ p. IsJudged IsConstant shown m (Some p) p.body) d.part.contents.procedures r.procedures) p.procedures;
+        procedures = all_both (ProcedureIsJudged IsConstant shown m) d.part.contents.procedures c.procedures (all_empty (ProcedureIsJudged IsConstant shown m) d.part.contents.procedures r.procedures) p.procedures;
         body = record { u = p.body.u; xs = p.body.xs; is = ◌∙◌ {c = stmts_in (in_turn (map judging p.body.xs) p.body.u).node} (ap (λ l. l ++ c.body) r.body) p.body.is; spelled = p.body.spelled; stands = p.body.stands };
         placed = p.placed;
         full = both_full IsConstant shown m no_contents (together d.part.contents c) (none_full IsConstant shown m) (both_full IsConstant shown m d.part.contents c r.full p.full);
@@ -215,13 +215,13 @@ module _ (IsConstant : Value → Type 0) where
   all_described_are bound h (t ∷ ts) k = (described_is (find (λ b. bytes_eq b.name t.name) bound) t (find_has (IsDescribed IsConstant) (λ b. bytes_eq b.name t.name) bound h) k.0, all_described_are bound h ts k.1)
 
 module _ (IsConstant : Value → Type 0) (truths : (b : Bool) → IsConstant (literal.Bool b)) (shown : QName → Option Desc) (tree : Tree) where
-  abbrev parts : Part
+  abbrev pub parts : Part
   parts = module_of shown tree.name tree.imports (map declaration tree.decls) (map judging tree.body) tree.closing
 
-  abbrev whole : TypedModule
+  abbrev pub whole : TypedModule
   whole = typed_module shown tree.name tree.imports (map declaration tree.decls) parts
 
-  not_out : parts.notes.broken ≡ [] → is_out whole.name ≡ false
+  pub not_out : parts.notes.broken ≡ [] → is_out whole.name ≡ false
   not_out e =
       let b = is_out tree.name.name || is_system tree.name.name in
       let n = notes_if b 5 tree.name.pos in

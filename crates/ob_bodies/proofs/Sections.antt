@@ -30,7 +30,7 @@ use Rattle.ob_rules.specs.Types.{Typing, Written, with_types, section_name, Para
 use Rattle.ob_forms.specs.Said.{IsOneOf}
 use Rattle.ob_described.proofs.Nodes.{Has, then_has, both_have, unless_has}
 use Rattle.ob_typed.specs.Makes.{IfThere}
-use Rattle.ob_bodies.specs.Knows.{HasName, Grows, Stands, IsDescribed, EntityStands, Knows}
+use Rattle.ob_bodies.specs.Knows.{HasName, Grows, Stands, IsDescribed, EntityStands, Knows, IsPlain}
 use Rattle.ob_bodies.specs.Judged as judged
 use Rattle.ob_bodies.specs.Judged.{AreOf, IsParameter}
 use Rattle.ob_bodies.proofs.Lists.{one_left, one_right, one_joined, all_of, all_both, all_same, there_of}
@@ -91,6 +91,7 @@ module _ (IsConstant : Value → Type 0) (unit : List ℕ) (shown : QName → Op
     pub params : AllByRecursion (λ k. S (p.made ++ own) k.1) p.signature.params
     pub answer : AreOf p.parameters p.signature.params
     pub result : IfThere (S own) p.signature.result
+    pub plain : IfThere (IsPlain IsConstant unit shown) p.signature.result
 
   -- what is known of a parameter is one of these, where they are there
   abbrev pub ParameterEntity : List TypedType → Option Parameters → Entity → Type 0
@@ -165,6 +166,7 @@ module _ (IsConstant : Value → Type 0) (unit : List ℕ) (shown : QName → Op
     params = all_same (λ (k : Mode × TypeRef). S (t.made ++ u.own) k.1) (λ x. (m, t.of)) xs (λ x i. h.of);
     answer = mine_of u m t xs;
     result = tt;
+    plain = tt;
   }
 
   -- a name of the section is a parameter
@@ -191,10 +193,11 @@ module _ (IsConstant : Value → Type 0) (unit : List ℕ) (shown : QName → Op
   joined_are own a (Some b) h k = record {
     made = all_both (IsDescribed IsConstant) a.made b.made h.made k.made;
     params = all_both (λ (k : Mode × TypeRef). S ((a.made ++ b.made) ++ own) k.1) a.signature.params b.signature.params
-      (all_of (λ (k : Mode × TypeRef). S (a.made ++ own) k.1) (λ (k : Mode × TypeRef). S ((a.made ++ b.made) ++ own) k.1) a.signature.params (λ k. stands_grown unit shown (a.made ++ own) ((a.made ++ b.made) ++ own) (grown_front a.made b.made own) k.1) h.params)
-      (all_of (λ (k : Mode × TypeRef). S (b.made ++ (a.made ++ own)) k.1) (λ (k : Mode × TypeRef). S ((a.made ++ b.made) ++ own) k.1) b.signature.params (λ k. stands_grown unit shown (b.made ++ (a.made ++ own)) ((a.made ++ b.made) ++ own) (grown_back a.made b.made own) k.1) k.params);
+        (all_of (λ (k : Mode × TypeRef). S (a.made ++ own) k.1) (λ (k : Mode × TypeRef). S ((a.made ++ b.made) ++ own) k.1) a.signature.params (λ k. stands_grown unit shown (a.made ++ own) ((a.made ++ b.made) ++ own) (grown_front a.made b.made own) k.1) h.params)
+        (all_of (λ (k : Mode × TypeRef). S (b.made ++ (a.made ++ own)) k.1) (λ (k : Mode × TypeRef). S ((a.made ++ b.made) ++ own) k.1) b.signature.params (λ k. stands_grown unit shown (b.made ++ (a.made ++ own)) ((a.made ++ b.made) ++ own) (grown_back a.made b.made own) k.1) k.params);
     answer = are_joined a.parameters b.parameters a.signature.params b.signature.params h.answer k.answer;
     result = tt;
+    plain = tt;
   }
 
   entity_left : (own : List TypedType) (a : Parameters) (o : Option Parameters) (v : Variable) (t : TypeRef) → IsParameter a.parameters v t × S (a.made ++ own) t → IfThere (λ p. IsParameter p.parameters v t × S (p.made ++ own) t) (joined_node (Some a) o)
@@ -240,9 +243,9 @@ module _ (IsConstant : Value → Type 0) (unit : List ℕ) (shown : QName → Op
         record {
           found = joined_are u.own a (rest v).found.node (mine_are u m xs t h) r.found;
           known = λ P g f.
-            r.known P
-            (names_known P m (Some t) u u.known xs g (λ x ls i. f (record { name = x.name; scope = u.scope; what = parameter_as (record u { known = ls }) m x (Some t) }) refl (entity_left u.own a (rest v).found.node _ t.of (mine_entity u m xs t x ls h i))))
-            (λ x e i. f x e (entity_of v.own u.own (rest v).found.node (joined_node (Some a) (rest v).found.node) (λ p q. entity_right u.own a (rest v).found.node p q) x.what i));
+              r.known P
+              (names_known P m (Some t) u u.known xs g (λ x ls i. f (record { name = x.name; scope = u.scope; what = parameter_as (record u { known = ls }) m x (Some t) }) refl (entity_left u.own a (rest v).found.node _ t.of (mine_entity u m xs t x ls h i))))
+              (λ x e i. f x e (entity_of v.own u.own (rest v).found.node (joined_node (Some a) (rest v).found.node) (λ p q. entity_right u.own a (rest v).found.node p q) x.what i));
         }
 
     section_is : (u : Around) → K u → (t : Judged Typing) → Has (TypingIs IsConstant unit shown out u.own) t → SectionsAre u.own u.scope u.known (section u m xs t rest)
@@ -251,18 +254,26 @@ module _ (IsConstant : Value → Type 0) (unit : List ℕ) (shown : QName → Op
         (behind_is u k t.node t.notes (declare_all u m t.node xs).notes h)
 
   sections_are : (ss : List WrittenSection) → AreGoodSections ss → (u : Around) → K u → (name : List ℕ) (i : ℕ) → SectionsAre u.own u.scope u.known (sections u name i ss)
-  sections_are [] g u k name i = record { found = record { made = tt; params = tt; answer = tt; result = tt }; known = λ P h f. h }
+  sections_are [] g u k name i = record { found = record { made = tt; params = tt; answer = tt; result = tt; plain = tt }; known = λ P h f. h }
   sections_are (s ∷ ss) g u k name i =
       section_is (mode_of s.is_var) s.names (λ v. sections v name (i + length s.names) ss) (λ v l. sections_are ss g.1 v l name (i + length s.names)) u k (s.node.typing u (section_name name i) mark.Hidden true) (g.0 u k (section_name name i) mark.Hidden true)
 
   -- THE RESULT
 
-  fits_is : (u : Around) (at : Pos) (t : TypeRef) → S u.own t → Has (IfThere (S u.own)) (result_fits u at t)
-  fits_is u at t h = unless_has (IfThere (S u.own)) (is_structured (map_of u) t) 17 at (Some t) h
+  -- a type that stands, and is plain where it is named
+  abbrev R : List TypedType → TypeRef → Type 0
+  R own t = S own t × IsPlain IsConstant unit shown t
 
-  result_is : (u : Around) → K u → (r : Option Qualident) → Has (IfThere (S u.own)) (result_of u r)
+  unless_fits : (own : List TypedType) (at : Pos) (t : TypeRef) (b : Bool) → (b ≡ false → R own t) → Has (IfThere (R own)) (unless b 17 at (Some t))
+  unless_fits own at t true h = tt
+  unless_fits own at t false h = h refl
+
+  fits_is : (u : Around) → K u → (at : Pos) (t : TypeRef) → S u.own t → Has (IfThere (R u.own)) (result_fits u at t)
+  fits_is u k at t h = unless_fits u.own at t (is_structured (map_of u) t) (λ e. (h, record { u = u; knows = k; stands = h; plain = e }))
+
+  result_is : (u : Around) → K u → (r : Option Qualident) → Has (IfThere (R u.own)) (result_of u r)
   result_is u k None = tt
-  result_is u k (Some q) = then_has (S u.own) (IfThere (S u.own)) (type_named u q) (result_fits u (first_of q)) (type_named_stands IsConstant unit shown u k q) (λ t h. fits_is u (first_of q) t h)
+  result_is u k (Some q) = then_has (S u.own) (IfThere (R u.own)) (type_named u q) (result_fits u (first_of q)) (type_named_stands IsConstant unit shown u k q) (λ t h. fits_is u k (first_of q) t h)
 
   abbrev result_node : Option Parameters → Option (Option TypeRef) → Option Parameters
   result_node a b = (if_sound (paired a b) (λ p. sound (with_result p.0 p.1))).node
@@ -277,9 +288,9 @@ module _ (IsConstant : Value → Type 0) (unit : List ℕ) (shown : QName → Op
       let v : Around = record u { known = s.known } in
       let l : K v = record { unit_is = k.unit_is; shown_is = k.shown_is; own = k.own; known = h.known (λ k. EntityStands IsConstant unit shown u.own k.what) k.known (λ x e i. entity_stands u.own u.own s.found.node x.what i) } in
       record {
-        found = then_has (λ (p : Parameters × Option TypeRef). ParametersAre u.own p.0 × IfThere (S u.own) p.1) (ParametersAre u.own) (both s.found (result_of v r)) (λ p. sound (with_result p.0 p.1))
-          (both_have (ParametersAre u.own) (IfThere (S u.own)) s.found (result_of v r) h.found (result_is v l r))
-          (λ p g. record { made = g.0.made; params = g.0.params; answer = g.0.answer; result = g.1 });
+        found = then_has (λ (p : Parameters × Option TypeRef). ParametersAre u.own p.0 × IfThere (R u.own) p.1) (ParametersAre u.own) (both s.found (result_of v r)) (λ p. sound (with_result p.0 p.1))
+            (both_have (ParametersAre u.own) (IfThere (R u.own)) s.found (result_of v r) h.found (result_is v l r))
+            (λ p g. record { made = g.0.made; params = g.0.params; answer = g.0.answer; result = there_of (R u.own) (S u.own) p.1 (λ t k. k.0) g.1; plain = there_of (R u.own) (IsPlain IsConstant unit shown) p.1 (λ t k. k.1) g.1 });
         known = λ P g f. h.known P g (λ x e i. f x e (entity_of u.own u.own s.found.node (result_node s.found.node (result_of v r).node) (λ p q. entity_result u.own s.found.node (result_of v r).node p q) x.what i));
       }
 

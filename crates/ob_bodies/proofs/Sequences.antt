@@ -23,7 +23,7 @@ use Rattle.ob_typed.specs.Makes.{IfThere}
 use Rattle.ob_typed.specs.Spelled.{all_true}
 use Rattle.ob_typed.specs.Bodies.{stmt_spelled}
 use Rattle.ob_bodies.specs.Knows.{Grows, Stands, IsDescribed, EntityStands, Knows}
-use Rattle.ob_bodies.specs.Judged.{AreOf, NameIs, IsJudged}
+use Rattle.ob_bodies.specs.Judged.{AreOf, NameIs, IsJudged, ProcedureIsJudged}
 use Rattle.ob_bodies.proofs.Lists.{one_all, all_of, all_both, all_pairs, all_one}
 use Rattle.ob_bodies.proofs.Standing.{grows_same, grows_then, entity_grown}
 use Rattle.ob_bodies.proofs.Heads.{SignatureStands, HeadStands, head_grown, all_parameters}
@@ -143,7 +143,7 @@ module _ (IsConstant : Value → Type 0) (shown : QName → Option Desc) (m : Ty
             let s = (body_part (in_turn (map judging xs) w)).contents in
             let a = procedures_are IsConstant shown m out l w around ps good heads (all_reversed (HS own base.scope) hs.before heads_stand) (all_reversed (λ (h : Head). AllByRecursion (KnownBehind IsConstant shown m out l w) h.known) hs.before known.1) (first_included IsConstant shown m l c s i) in
             record {
-              procedures = all_both (λ p. IsJudged IsConstant shown m (Some p) p.body) c.procedures [] a.procedures tt;
+              procedures = all_both (ProcedureIsJudged IsConstant shown m) c.procedures [] a.procedures tt;
               body = record { u = w; xs = xs; is = ap (λ l. l ++ s.body) (procedures_body w ps heads); spelled = spelled; stands = stands_at IsConstant shown m out l w around };
               placed = around.placed;
               full = both_full IsConstant shown m c s a.full (record { constants = tt; types = tt; bound = tt });
@@ -164,10 +164,10 @@ module _ (IsConstant : Value → Type 0) (shown : QName → Option Desc) (m : Ty
       let bound : Contents = record no_contents { bound = bind.own } in
       let j : I l c = second_included IsConstant shown m l bound c (second_included IsConstant shown m l no_contents (together bound c) (second_included IsConstant shown m l d.part.contents (together no_contents (together bound c)) i)) in
       let p : PartIs IsConstant shown m out l c =
-          subst (λ (x : Around). I l (block_inside x ps all (map judging xs)).contents → PartIs IsConstant shown m out l (block_inside x ps all (map judging xs)).contents) (sym e)
-          (λ k. inside_is l base g.around ps good xs spelled bind.own ch.grows (ch.described s.knows.own) bind.bound k) j in
+      subst (λ (x : Around). I l (block_inside x ps all (map judging xs)).contents → PartIs IsConstant shown m out l (block_inside x ps all (map judging xs)).contents) (sym e)
+      (λ k. inside_is l base g.around ps good xs spelled bind.own ch.grows (ch.described s.knows.own) bind.bound k) j in
       record {
-        procedures = all_both (λ p. IsJudged IsConstant shown m (Some p) p.body) d.part.contents.procedures c.procedures (all_empty (λ p. IsJudged IsConstant shown m (Some p) p.body) d.part.contents.procedures g.procedures) p.procedures;
+        procedures = all_both (ProcedureIsJudged IsConstant shown m) d.part.contents.procedures c.procedures (all_empty (ProcedureIsJudged IsConstant shown m) d.part.contents.procedures g.procedures) p.procedures;
         body = record { u = p.body.u; xs = p.body.xs; is = ◌∙◌ {c = stmts_in (in_turn (map judging p.body.xs) p.body.u).node} (ap (λ l. l ++ c.body) g.body) p.body.is; spelled = p.body.spelled; stands = p.body.stands };
         placed = p.placed;
         full = both_full IsConstant shown m d.part.contents (together no_contents (together bound c)) g.full (both_full IsConstant shown m no_contents (together bound c) (none_full IsConstant shown m) (both_full IsConstant shown m bound c (record { constants = tt; types = tt; bound = ch.described s.knows.own }) p.full));

@@ -29,7 +29,7 @@ use Rattle.ob_forms.specs.Said.{IsOneOf}
 use Rattle.ob_typed.specs.Makes.{IfThere}
 use Rattle.ob_typed.specs.Spelled.{all_true}
 use Rattle.ob_typed.specs.Bodies.{stmt_spelled}
-use Rattle.ob_bodies.specs.Knows.{Stands, IsDescribed, Knows}
+use Rattle.ob_bodies.specs.Knows.{Stands, IsDescribed, Knows, IsPlain}
 
 -- by value or by VAR
 abbrev pub mode_of : Passing → Mode
@@ -111,9 +111,14 @@ module _ (IsConstant : Value → Type 0) (shown : QName → Option Desc) (m : Ty
     pub spelled : all_true (map stmt_spelled xs) ≡ true
     pub stands : StandsAround p u
 
+  -- a procedure's body, and its result
+  pub record ProcedureIsJudged (p : TypedProcedure) : Type 0 where
+    pub body : IsJudged (Some p) p.body
+    pub result : IfThere (IsPlain IsConstant m.name shown) p.result
+
   -- the bodies of the procedures, and the body of the module
   pub record BodiesAreJudged : Type 0 where
-    pub procedures : AllByRecursion (λ p. IsJudged (Some p) p.body) m.procedures
+    pub procedures : AllByRecursion ProcedureIsJudged m.procedures
     pub body : IsJudged None m.body
     -- in the scope of the module
     pub scope : body.u.scope ≡ 1

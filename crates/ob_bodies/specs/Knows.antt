@@ -12,8 +12,8 @@ use Rattle.ob_types.specs.declared.typed.TypedType.{TypedType}
 use Rattle.ob_types.specs.Maps.{is_type}
 use Rattle.ob_rules.specs.declared.entity.Entity.{Entity}
 use Rattle.ob_rules.specs.declared.entity.Entity.TheVariants as entity
-use Rattle.ob_rules.specs.Shapes.{same_name}
-use Rattle.ob_rules.specs.Names.{Around, out_string}
+use Rattle.ob_rules.specs.Shapes.{same_name, is_structured}
+use Rattle.ob_rules.specs.Names.{Around, map_of, out_string}
 use Rattle.ob_forms.specs.Said.{IsOneOf}
 
 -- a type of that name is among them
@@ -61,3 +61,10 @@ module _ (IsConstant : Value → Type 0) where
       pub shown_is : u.shown ≡ shown
       pub own : AllByRecursion IsDescribed u.own
       pub known : AllByRecursion (λ k. EntityStands u.own k.what) u.known
+
+    -- no array and no record, where the type is named
+    pub record IsPlain (t : TypeRef) : Type 0 where
+      pub u : Around
+      pub knows : Knows u
+      pub stands : Stands unit shown u.own t
+      pub plain : is_structured (map_of u) t ≡ false

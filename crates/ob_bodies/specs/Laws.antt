@@ -41,6 +41,10 @@ AreOthers unit imports = AllByRecursion (λ i. bytes_eq (target_of i).name unit 
 abbrev pub BodiesJudged : Type 0
 BodiesJudged = (shown : QName → Option Desc) (tree : Tree) (m : TypedModule) → checked shown tree ≡ Some m → tree_spelled tree ≡ true → AreOthers tree.name.name tree.imports → ConstantsAre tree.name.name shown → BodiesAreJudged ConstantIs shown m
 
+-- A checked module whose listed imports are others imports others alone.
+abbrev pub ImportsAreOthers : Type 0
+ImportsAreOthers = (shown : QName → Option Desc) (tree : Tree) (m : TypedModule) → checked shown tree ≡ Some m → AllByRecursion (λ x. bytes_eq x tree.name.name ≡ false) m.imports → AreOthers tree.name.name tree.imports
+
 -- A procedure whose variables have different names has those that the FOR and CASE of its text keep.
 abbrev pub HiddenStand : Type 0
 HiddenStand =

@@ -1,7 +1,7 @@
 //! Where the bodies of a checked module are judged: what is known there is as the module has it.
 #![tactic(auto)]
 
-ghost use Rattle.ob_bodies.specs.Laws.{BodiesJudged, HiddenStand};
+ghost use Rattle.ob_bodies.specs.Laws.{BodiesJudged, ImportsAreOthers, HiddenStand};
 
 /// A law, with nothing to run. The bodies of the procedures of a checked module, and its own body, are
 /// judged in surroundings (`specs/Judged.antt`: `StandsAround`) where each known variable that may be
@@ -10,7 +10,8 @@ ghost use Rattle.ob_bodies.specs.Laws.{BodiesJudged, HiddenStand};
 /// imported module shows. No guard stands around a body, and its result is the procedure's. The module
 /// imports others than itself, and its constant expressions come to constants.
 pub fn bodies_are_known()
-    ensures { BodiesJudged }
+    ensures bodies { BodiesJudged }
+    ensures imports { ImportsAreOthers }
 {}
 
 /// A law, with nothing to run. The variables that the FOR and CASE of a text keep are among those of

@@ -61,7 +61,8 @@ use Rattle.ob_described.proofs.Nodes.{Has, then_has, any_then, both_have, first_
 use Rattle.ob_typed.specs.Makes.{IfThere, Makes}
 use Rattle.ob_bodies.specs.Knows.{LengthIs, IsDescribed, EntityStands, Knows}
 use Rattle.ob_bodies.proofs.Lists.{find_has}
-use Rattle.ob_constants.specs.Laws.{AreShown, ConstantsStand}
+use Rattle.ob_bodies.proofs.Whole.{bodies_known}
+use Rattle.ob_constants.specs.Laws.{AreShown, ConstantsStand, BodiesStand}
 use Rattle.ob_constants.proofs.Folded.{V, E, constant_is, combined_is, opposite_is, only_is, signed_is, related_is, element_is, set_is, each_has}
 use Rattle.ob_constants.proofs.Functions.{M, AreLengths}
 use Rattle.ob_constants.proofs.Phrased.{also_broken, PhraseIs, ArePhrases, BehindIs, AreBehind, behind_are, DescIs, marked_has, out_has, place_has, meant_exported, from_has}
@@ -396,3 +397,6 @@ module _ (unit : List ℕ) (shown : QName → Option Desc) (are : AreShown shown
 
 pub constants_stand : ConstantsStand
 constants_stand unit shown are u k x e = constant_value_is unit shown are u k x e
+
+pub bodies_stand : BodiesStand
+bodies_stand shown tree m e s o are = bodies_known shown tree m e s o (constants_stand tree.name.name shown are)

@@ -13,12 +13,24 @@ use Rattle.ob_types.specs.declared.desc.Field.{Field}
 use Rattle.ob_types.specs.declared.desc.Method.{Method}
 use Rattle.ob_types.specs.Maps.{is_type, named_by, signature_types, listed, IsHeld}
 use Rattle.ob_types.specs.Relations.{is_alias, StandsFor, itself, equated, Is, is_record, is_structure, is_open, IsPlainResult, Keeps}
-use Rattle.ob_desc.specs.Grammar.{seen}
 use Rattle.ob_forms.proofs.Within.{all_left, all_right}
+use Rattle.ob_declares.specs.Ordered.{bare}
+use Rattle.ob_declares.specs.Near.{core}
+
+pub core_bare : (d : Desc) → core (bare d) ≡ core d
+core_bare (desc.Const v) = refl
+core_bare (desc.Var m t) = refl
+core_bare (desc.Proc s) = refl
+core_bare (desc.Alias m t) = refl
+core_bare (desc.Array m n t) = refl
+core_bare (desc.OpenArray m t) = refl
+core_bare (desc.Pointer m t) = refl
+core_bare (desc.ProcType m s) = refl
+core_bare (desc.Record r) = refl
 
 -- a kind of description that does not ask for the members of records
-abbrev IsPlainKind : (Desc → Bool) → Type 0
-IsPlainKind kind = (d : Desc) → kind (seen d) ≡ kind d
+abbrev pub IsPlainKind : (Desc → Bool) → Type 0
+IsPlainKind kind = (d : Desc) → kind (core d) ≡ kind d
 
 alias_kind : IsPlainKind is_alias
 alias_kind (desc.Const v) = refl
@@ -31,7 +43,7 @@ alias_kind (desc.Pointer m t) = refl
 alias_kind (desc.ProcType m s) = refl
 alias_kind (desc.Record r) = refl
 
-record_kind : IsPlainKind is_record
+pub record_kind : IsPlainKind is_record
 record_kind (desc.Const v) = refl
 record_kind (desc.Var m t) = refl
 record_kind (desc.Proc s) = refl
@@ -42,7 +54,7 @@ record_kind (desc.Pointer m t) = refl
 record_kind (desc.ProcType m s) = refl
 record_kind (desc.Record r) = refl
 
-structure_kind : IsPlainKind is_structure
+pub structure_kind : IsPlainKind is_structure
 structure_kind (desc.Const v) = refl
 structure_kind (desc.Var m t) = refl
 structure_kind (desc.Proc s) = refl
@@ -53,7 +65,7 @@ structure_kind (desc.Pointer m t) = refl
 structure_kind (desc.ProcType m s) = refl
 structure_kind (desc.Record r) = refl
 
-open_kind : IsPlainKind is_open
+pub open_kind : IsPlainKind is_open
 open_kind (desc.Const v) = refl
 open_kind (desc.Var m t) = refl
 open_kind (desc.Proc s) = refl
@@ -75,24 +87,24 @@ type_kind (desc.Pointer m t) = refl
 type_kind (desc.ProcType m s) = refl
 type_kind (desc.Record r) = refl
 
-seen_alias : (e : Desc) (m : Mark) (t : TypeRef) → seen e ≡ desc.Alias m t → e ≡ desc.Alias m t
-seen_alias (desc.Const v) m t h = h
-seen_alias (desc.Var k u) m t h = h
-seen_alias (desc.Proc s) m t h = h
-seen_alias (desc.Alias k u) m t h = h
-seen_alias (desc.Array k n u) m t h = h
-seen_alias (desc.OpenArray k u) m t h = h
-seen_alias (desc.Pointer k u) m t h = h
-seen_alias (desc.ProcType k s) m t h = h
-seen_alias (desc.Record r) m t h = absurd cc
+bare_alias : (e : Desc) (m : Mark) (t : TypeRef) → core e ≡ desc.Alias m t → e ≡ desc.Alias m t
+bare_alias (desc.Const v) m t h = h
+bare_alias (desc.Var k u) m t h = h
+bare_alias (desc.Proc s) m t h = h
+bare_alias (desc.Alias k u) m t h = h
+bare_alias (desc.Array k n u) m t h = h
+bare_alias (desc.OpenArray k u) m t h = h
+bare_alias (desc.Pointer k u) m t h = h
+bare_alias (desc.ProcType k s) m t h = h
+bare_alias (desc.Record r) m t h = absurd cc
 
 -- e says what d says, and of a record perhaps more
 abbrev pub Says : Desc → Desc → Type 0
-Says e d = (e ≡ d) ⊎ (seen e ≡ d)
+Says e d = (e ≡ d) ⊎ (core e ≡ core d)
 
 kind_same : (kind : Desc → Bool) → IsPlainKind kind → (e d : Desc) → Says e d → kind e ≡ kind d
 kind_same kind plain e d (inl h) = ap kind h
-kind_same kind plain e d (inr h) = sym (plain e) ∙ ap kind h
+kind_same kind plain e d (inr h) = sym (plain e) ∙ ap kind h ∙ plain d
 
 module _ (small large : QName → Option Desc) (says : (q : QName) (d : Desc) → small q ≡ Some d → is_type d ≡ true → (e : Desc) × ((large q ≡ Some e) × Says e d)) (held : (q : QName) (d : Desc) → small q ≡ Some d → AllByRecursion (λ t. IsHeld small t) (named_by d)) where
   Over : (Desc → Bool) → Option Desc → Type 0
@@ -106,13 +118,13 @@ module _ (small large : QName → Option Desc) (says : (q : QName) (d : Desc) �
       itself (subst (λ o. MatchOption o (Unit {0}) (λ d. is_alias d ≡ false)) (sym s.1.0) (kind_same is_alias alias_kind s.0 d s.1.1 ∙ a))
   forward _ p d (equated {q = q} {m = m} {t = t} e s) f ty =
       let k = says q (desc.Alias m t) e refl in
-      let a : k.0 ≡ desc.Alias m t = ⊎_elim (λ h. h) (λ h. seen_alias k.0 m t h) k.1.1 in
+      let a : k.0 ≡ desc.Alias m t = ⊎_elim (λ h. h) (λ h. bare_alias k.0 m t h) k.1.1 in
       equated (k.1.0 ∙ ap (λ x. Some x) a) (forward t p d s f ty)
 
   here : (kind : Desc → Bool) → IsPlainKind kind → (p : QName) (d : Desc) → small p ≡ Some d → is_type d ≡ true → kind d ≡ true → MatchOption (large p) ⊥ (λ d. IsTrue (kind d))
   here kind plain p d e ty k = let s = says p d e ty in subst (λ o. MatchOption o ⊥ (λ d. IsTrue (kind d))) (sym s.1.0) (kind_same kind plain s.0 d s.1.1 ∙ k)
 
-  kind_forward : (kind : Desc → Bool) → IsPlainKind kind → ((d : Desc) → kind d ≡ true → is_type d ≡ true) → (t : TypeRef) → Is small kind t → Is large kind t
+  pub kind_forward : (kind : Desc → Bool) → IsPlainKind kind → ((d : Desc) → kind d ≡ true → is_type d ≡ true) → (t : TypeRef) → Is small kind t → Is large kind t
   kind_forward kind plain types t h = by (small h.0) refl h.1.1
     where
       by : (o : Option Desc) → small h.0 ≡ o → MatchOption o ⊥ (λ d. IsTrue (kind d)) → Is large kind t
@@ -144,12 +156,12 @@ module _ (small large : QName → Option Desc) (says : (q : QName) (d : Desc) �
       by (Some d) i h r =
           let s = says q d i h in
           let k : s.0 ≡ desc.Alias m t = let j : Some s.0 ≡ Some (desc.Alias m t) = sym s.1.0 ∙ g in cc in
-          let a : desc.Alias m t ≡ d = ⊎_elim (λ x. sym k ∙ x) (λ x. sym (ap seen k) ∙ x) s.1.1 in
+          let a : desc.Alias m t ≡ d = ⊎_elim (λ x. sym k ∙ x) (λ x. sym (bare_alias d m t (sym x ∙ ap core k))) s.1.1 in
           let j : small q ≡ Some (desc.Alias m t) = i ∙ ap (λ x. Some x) (sym a) in
           let b = r (held q (desc.Alias m t) j).0 in
           record { stands = equated j b.stands; d = b.d; has = b.has; says_it = b.says_it }
 
-  kind_back : (kind : Desc → Bool) → IsPlainKind kind → (t : TypeRef) → IsHeld small t → (Is small kind t → ⊥) → Is large kind t → ⊥
+  pub kind_back : (kind : Desc → Bool) → IsPlainKind kind → (t : TypeRef) → IsHeld small t → (Is small kind t → ⊥) → Is large kind t → ⊥
   kind_back kind plain t h never k = by (large k.0) refl k.1.1
     where
       by : (o : Option Desc) → large k.0 ≡ o → MatchOption o ⊥ (λ d. IsTrue (kind d)) → ⊥
@@ -158,7 +170,15 @@ module _ (small large : QName → Option Desc) (says : (q : QName) (d : Desc) �
           let b = back t k.0 e k.1.0 f h in
           never (k.0, (b.stands, subst (λ o. MatchOption o ⊥ (λ d. IsTrue (kind d))) (sym b.has) (sym (kind_same kind plain e b.d b.says_it) ∙ i)))
 
-  structure_type : (d : Desc) → is_structure d ≡ true → is_type d ≡ true
+  -- a kind of a held type in the larger map is found in the smaller
+  pub kind_held : (kind : Desc → Bool) → IsPlainKind kind → (t : TypeRef) → IsHeld small t → Is large kind t → Is small kind t
+  kind_held kind plain t h k = by (large k.0) refl k.1.1
+    where
+      by : (o : Option Desc) → large k.0 ≡ o → MatchOption o ⊥ (λ d. IsTrue (kind d)) → Is small kind t
+      by None e i = absurd i
+      by (Some e) f i = let b = back t k.0 e k.1.0 f h in (k.0, (b.stands, subst (λ o. MatchOption o ⊥ (λ d. IsTrue (kind d))) (sym b.has) (sym (kind_same kind plain e b.d b.says_it) ∙ i)))
+
+  pub structure_type : (d : Desc) → is_structure d ≡ true → is_type d ≡ true
   structure_type (desc.Const v) e = absurd cc
   structure_type (desc.Var m t) e = absurd cc
   structure_type (desc.Proc s) e = absurd cc
@@ -169,7 +189,7 @@ module _ (small large : QName → Option Desc) (says : (q : QName) (d : Desc) �
   structure_type (desc.ProcType m s) e = absurd cc
   structure_type (desc.Record r) e = refl
 
-  record_type : (d : Desc) → is_record d ≡ true → is_type d ≡ true
+  pub record_type : (d : Desc) → is_record d ≡ true → is_type d ≡ true
   record_type (desc.Const v) e = absurd cc
   record_type (desc.Var m t) e = absurd cc
   record_type (desc.Proc s) e = absurd cc

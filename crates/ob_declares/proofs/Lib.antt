@@ -12,3 +12,4 @@ pub mod Whole
 pub mod Shallows
 pub mod Places
 pub mod Sizing
+pub mod Near

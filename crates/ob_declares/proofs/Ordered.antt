@@ -19,8 +19,9 @@ use Rattle.ob_layout.specs.LaidOut.{type_named as own_named, is_own, viewed}
 use Rattle.ob_forms.proofs.Within.{all_from}
 use Rattle.ob_forms.proofs.Modules.{other_name}
 use Rattle.ob_forms.proofs.Staying.{HasMore, more_described}
-use Rattle.ob_declares.proofs.Keeping.{keeps_larger}
-use Rattle.ob_declares.specs.Ordered.{StandsOver, StandInOrder}
+use Rattle.ob_declares.proofs.Keeping.{core_bare, keeps_larger}
+use Rattle.ob_declares.specs.Ordered.{bare, StandsOver, StandInOrder}
+use Rattle.ob_declares.specs.Near.{core}
 
 -- ---- more is held by a larger map
 
@@ -56,16 +57,31 @@ all_end types (t ∷ ts) h =
     let a : IsWithin types (h.0.0 + r.0) t = subst (λ n. IsWithin types n t) (omega arith) (within_plus types r.0 h.0.0 t h.0.1) in
     (h.0.0 + r.0, (a, all_from (λ t. IsWithin types r.0 t) (λ t. IsWithin types (h.0.0 + r.0) t) (λ t w. within_plus types h.0.0 r.0 t w) ts r.1))
 
-pub type_seen : (d : Desc) → is_type (seen d) ≡ is_type d
-type_seen (desc.Const v) = refl
-type_seen (desc.Var m t) = refl
-type_seen (desc.Proc s) = refl
-type_seen (desc.Alias m t) = refl
-type_seen (desc.Array m n t) = refl
-type_seen (desc.OpenArray m t) = refl
-type_seen (desc.Pointer m t) = refl
-type_seen (desc.ProcType m s) = refl
-type_seen (desc.Record r) = refl
+pub type_bare : (d : Desc) → is_type (bare d) ≡ is_type d
+type_bare (desc.Const v) = refl
+type_bare (desc.Var m t) = refl
+type_bare (desc.Proc s) = refl
+type_bare (desc.Alias m t) = refl
+type_bare (desc.Array m n t) = refl
+type_bare (desc.OpenArray m t) = refl
+type_bare (desc.Pointer m t) = refl
+type_bare (desc.ProcType m s) = refl
+type_bare (desc.Record r) = refl
+
+bare_again : (d : Desc) → bare (seen d) ≡ bare d
+bare_again (desc.Const v) = refl
+bare_again (desc.Var m t) = refl
+bare_again (desc.Proc s) = refl
+bare_again (desc.Alias m t) = refl
+bare_again (desc.Array m n t) = refl
+bare_again (desc.OpenArray m t) = refl
+bare_again (desc.Pointer m t) = refl
+bare_again (desc.ProcType m s) = refl
+bare_again (desc.Record r) = refl
+
+-- what an interface shows of it is as it is, but for members
+pub seen_bare : (e d : Desc) → seen e ≡ d → bare e ≡ bare d
+seen_bare e d h = sym (bare_again e) ∙ ap bare h
 
 -- ---- one module more
 
@@ -122,7 +138,7 @@ module _ (before : Program) (m : Module) (over : StandsOver before m) where
   pub record Seen (q : QName) (d : Desc) : Type 0 where
     pub e : Desc
     pub there : description all q ≡ Some e
-    pub same : (e ≡ d) ⊎ ((description before q ≡ Some e) × (seen e ≡ d))
+    pub same : (e ≡ d) ⊎ ((description before q ≡ Some e) × (bare e ≡ bare d))
 
   pub sees : (q : QName) (d : Desc) → view q ≡ Some d → is_type d ≡ true → Seen q d
   sees q d e t = by (is_own m q) refl e
@@ -163,7 +179,7 @@ module _ (before : Program) (m : Module) (over : StandsOver before m) where
       by None e h = absurd h
       by (Some d) e h =
           let s = sees q d e h in
-          let t : is_type s.e ≡ true = ⊎_elim (λ k. ap is_type k ∙ h) (λ k. sym (type_seen s.e) ∙ ap is_type k.1 ∙ h) s.same in
+          let t : is_type s.e ≡ true = ⊎_elim (λ k. ap is_type k ∙ h) (λ k. sym (type_bare s.e) ∙ ap is_type k.1 ∙ type_bare d ∙ h) s.same in
           subst (λ o. MatchOption o ⊥ (λ d. IsTrue (is_type d))) (sym s.there) t
 
   pub own_type : (q : QName) (d : Desc) → type_named m.types q.object ≡ Some d → is_type d ≡ true
@@ -190,7 +206,7 @@ module _ (before : Program) (m : Module) (over : StandsOver before m) where
       (λ k. keeps_larger (description before) (description all) (λ p c f t. (c, (has_more p c f, inl refl))) held d (held q d k) (keeps q d k))
       (λ k.
       let v = own_viewed q d k.0 k.1 in
-      keeps_larger view (description all) (λ p c f t. let s = sees p c f t in (s.e, (s.there, ⊎_elim (λ x. inl x) (λ x. inr x.1) s.same))) over.grounded.held d (over.grounded.held q d v) (over.grounded.keeps q d v))
+      keeps_larger view (description all) (λ p c f t. let s = sees p c f t in (s.e, (s.there, ⊎_elim (λ x. inl x) (λ x. inr (sym (core_bare s.e) ∙ ap core x.1 ∙ core_bare c)) s.same))) over.grounded.held d (over.grounded.held q d v) (over.grounded.keeps q d v))
       (either_there before q d e)
 
 -- ALL MODULES

@@ -10,14 +10,13 @@ use Rattle.ob_types.specs.declared.desc.Desc.TheVariants as desc
 use Rattle.ob_types.specs.Maps.{is_type, stands_on, IsWithin}
 use Rattle.ob_types.specs.TypedSyntax.{Module}
 use Rattle.ob_meaning.specs.Values.{Program, description}
-use Rattle.ob_desc.specs.Grammar.{seen}
 use Rattle.ob_forms.specs.Said.{IsSound}
 use Rattle.ob_forms.specs.Formed.{Formed}
 use Rattle.ob_forms.proofs.Saying.{formed}
 use Rattle.ob_forms.proofs.Within.{all_from}
-use Rattle.ob_declares.specs.Ordered.{StandsOver, StandInOrder}
+use Rattle.ob_declares.specs.Ordered.{bare, StandsOver, StandInOrder}
 use Rattle.ob_declares.specs.Shallow.{passes_to, IsShallow, AreShallow}
-use Rattle.ob_declares.proofs.Ordered.{sees, has_more, view, either_there, own_viewed, own_type, type_seen}
+use Rattle.ob_declares.proofs.Ordered.{sees, has_more, view, either_there, own_viewed, own_type, type_bare}
 use Rattle.ob_declares.proofs.Views.{own_said}
 
 passes : (P : TypeRef → Type 0) (d : Desc) → AllByRecursion P (stands_on d) → AllByRecursion P (passes_to d)
@@ -31,16 +30,16 @@ passes P (desc.Pointer m t) h = tt
 passes P (desc.ProcType m s) h = tt
 passes P (desc.Record r) h = tt
 
-passes_seen : (d : Desc) → passes_to (seen d) ≡ passes_to d
-passes_seen (desc.Const v) = refl
-passes_seen (desc.Var m t) = refl
-passes_seen (desc.Proc s) = refl
-passes_seen (desc.Alias m t) = refl
-passes_seen (desc.Array m n t) = refl
-passes_seen (desc.OpenArray m t) = refl
-passes_seen (desc.Pointer m t) = refl
-passes_seen (desc.ProcType m s) = refl
-passes_seen (desc.Record r) = refl
+passes_bare : (d : Desc) → passes_to (bare d) ≡ passes_to d
+passes_bare (desc.Const v) = refl
+passes_bare (desc.Var m t) = refl
+passes_bare (desc.Proc s) = refl
+passes_bare (desc.Alias m t) = refl
+passes_bare (desc.Array m n t) = refl
+passes_bare (desc.OpenArray m t) = refl
+passes_bare (desc.Pointer m t) = refl
+passes_bare (desc.ProcType m s) = refl
+passes_bare (desc.Record r) = refl
 
 within_shallow : (types : QName → Option Desc) (n : ℕ) (t : TypeRef) → IsWithin types n t → IsShallow types n t
 unfolding IsWithin IsShallow
@@ -80,7 +79,7 @@ module _ (before : Program) (m : Module) (over : StandsOver before m) where
       says : (q : QName) (d : Desc) → view before m over q ≡ Some d → is_type d ≡ true → (e : Desc) × ((description (before ++ m ∷ []) q ≡ Some e) × ((is_type e ≡ true) × (passes_to e ≡ passes_to d)))
       says q d e t =
           let s = sees before m over q d e t in
-          (s.e, (s.there, (⊎_elim (λ k. ap is_type k ∙ t) (λ k. sym (type_seen s.e) ∙ ap is_type k.1 ∙ t) s.same, ⊎_elim (λ k. ap passes_to k) (λ k. sym (passes_seen s.e) ∙ ap passes_to k.1) s.same)))
+          (s.e, (s.there, (⊎_elim (λ k. ap is_type k ∙ t) (λ k. sym (type_bare s.e) ∙ ap is_type k.1 ∙ type_bare d ∙ t) s.same, ⊎_elim (λ k. ap passes_to k) (λ k. sym (passes_bare s.e) ∙ ap passes_to k.1 ∙ passes_bare d) s.same)))
 
 append_none : (ms : List Module) → ms ++ [] ≡ ms
 append_none [] = refl

@@ -18,7 +18,7 @@ use Rattle.ob_types.specs.TypedSyntax.{Module}
 use Rattle.ob_meaning.specs.Values.{Program, Form, Fields, NoField, AField, joined, own_fields, base_fields, fields_of, form_in, record_in, words, fields_words, description}
 use Rattle.ob_relation.specs.Typed.{IsRecordForm}
 use Rattle.ob_relation.proofs.Names.{bytes_true}
-use Rattle.ob_desc.specs.Grammar.{by_place, seen}
+use Rattle.ob_desc.specs.Grammar.{by_place}
 use Rattle.ob_layout.specs.Lists.{put_before, put_in, in_order, sum_of}
 use Rattle.ob_layout.specs.Words.{described_words}
 use Rattle.ob_layout.specs.LaidOut.{type_named as own_named, is_own, viewed, base_of, declared_words, summed, words_in, procedures_in, placed, laid_record, laid_desc, laid_type}
@@ -30,6 +30,7 @@ use Rattle.ob_forms.proofs.Shapes.{basic_is}
 use Rattle.ob_forms.proofs.Modules.{of_all, type_there}
 use Rattle.ob_forms.proofs.Staying.{HasMore}
 use Rattle.ob_declares.specs.Views.{FieldsDiffer}
+use Rattle.ob_declares.specs.Ordered.{bare}
 use Rattle.ob_declares.specs.Words.{IsLaidOver}
 use Rattle.ob_declares.proofs.Shown.{one_ordered}
 use Rattle.ob_declares.proofs.Laid.{place_name, placed_names, fresh_other}
@@ -74,6 +75,34 @@ words_record t h = ap words h.1
 all_from : (P Q : TypeRef → Type 0) → ((t : TypeRef) → P t → Q t) → (ts : List TypeRef) → AllByRecursion P ts → AllByRecursion Q ts
 all_from P Q f [] h = tt
 all_from P Q f (t ∷ ts) h = (f t h.0, all_from P Q f ts h.1)
+
+-- what is no record is the same without members
+bare_plain : (d x : Desc) → is_record x ≡ false → bare d ≡ x → d ≡ x
+bare_plain (desc.Const v) x n h = h
+bare_plain (desc.Var m t) x n h = h
+bare_plain (desc.Proc s) x n h = h
+bare_plain (desc.Alias m t) x n h = h
+bare_plain (desc.Array m k t) x n h = h
+bare_plain (desc.OpenArray m t) x n h = h
+bare_plain (desc.Pointer m t) x n h = h
+bare_plain (desc.ProcType m s) x n h = h
+bare_plain (desc.Record r) x n h = let bad : true ≡ false = ap is_record h ∙ n in absurd cc
+
+-- a record has its words
+bare_words : (f : TypeRef → ℕ) (r : RecordDesc) (d : Desc) → bare (desc.Record r) ≡ bare d → declared_words f false (Some d) ≡ r.words
+bare_words f r (desc.Const v) h = absurd cc
+bare_words f r (desc.Var m t) h = absurd cc
+bare_words f r (desc.Proc s) h = absurd cc
+bare_words f r (desc.Alias m t) h = absurd cc
+bare_words f r (desc.Array m k t) h = absurd cc
+bare_words f r (desc.OpenArray m t) h = absurd cc
+bare_words f r (desc.Pointer m t) h = absurd cc
+bare_words f r (desc.ProcType m s) h = absurd cc
+bare_words f r (desc.Record t) h = ap said_words (sym h)
+  where
+    said_words : Desc → ℕ
+    said_words (desc.Record r) = r.words
+    said_words d = 0
 
 module _ (program : Program) (sound : IsSound program) (whole : IsWhole program) where
   abbrev form : TypeRef → Form
@@ -145,16 +174,16 @@ module _ (program : Program) (sound : IsSound program) (whole : IsWhole program)
     own_sum f q (desc.Record r) n e ty h = record_sum f (words_in others over.checked) (procedures_in others over.checked) q r n e h
 
     -- of the types that it sees of others
-    other_sum : (f : TypeRef → ℕ) (q : QName) (e d : Desc) → description before q ≡ Some e → seen e ≡ d → is_type d ≡ true → Parts f d → declared_words f false (Some d) ≡ words (record_in program q)
-    other_sum f q (desc.Const v) d e s ty h = subst (λ d. is_type d ≡ true → Parts f d → declared_words f false (Some d) ≡ words (record_in program q)) s (λ ty h. plain_words f q (desc.Const v) (more q (desc.Const v) e) ty (λ r k. absurd cc) h) ty h
-    other_sum f q (desc.Var m t) d e s ty h = subst (λ d. is_type d ≡ true → Parts f d → declared_words f false (Some d) ≡ words (record_in program q)) s (λ ty h. plain_words f q (desc.Var m t) (more q (desc.Var m t) e) ty (λ r k. absurd cc) h) ty h
-    other_sum f q (desc.Proc g) d e s ty h = subst (λ d. is_type d ≡ true → Parts f d → declared_words f false (Some d) ≡ words (record_in program q)) s (λ ty h. plain_words f q (desc.Proc g) (more q (desc.Proc g) e) ty (λ r k. absurd cc) h) ty h
-    other_sum f q (desc.Alias m t) d e s ty h = subst (λ d. is_type d ≡ true → Parts f d → declared_words f false (Some d) ≡ words (record_in program q)) s (λ ty h. plain_words f q (desc.Alias m t) (more q (desc.Alias m t) e) ty (λ r k. absurd cc) h) ty h
-    other_sum f q (desc.Array m n t) d e s ty h = subst (λ d. is_type d ≡ true → Parts f d → declared_words f false (Some d) ≡ words (record_in program q)) s (λ ty h. plain_words f q (desc.Array m n t) (more q (desc.Array m n t) e) ty (λ r k. absurd cc) h) ty h
-    other_sum f q (desc.OpenArray m t) d e s ty h = subst (λ d. is_type d ≡ true → Parts f d → declared_words f false (Some d) ≡ words (record_in program q)) s (λ ty h. plain_words f q (desc.OpenArray m t) (more q (desc.OpenArray m t) e) ty (λ r k. absurd cc) h) ty h
-    other_sum f q (desc.Pointer m t) d e s ty h = subst (λ d. is_type d ≡ true → Parts f d → declared_words f false (Some d) ≡ words (record_in program q)) s (λ ty h. plain_words f q (desc.Pointer m t) (more q (desc.Pointer m t) e) ty (λ r k. absurd cc) h) ty h
-    other_sum f q (desc.ProcType m g) d e s ty h = subst (λ d. is_type d ≡ true → Parts f d → declared_words f false (Some d) ≡ words (record_in program q)) s (λ ty h. plain_words f q (desc.ProcType m g) (more q (desc.ProcType m g) e) ty (λ r k. absurd cc) h) ty h
-    other_sum f q (desc.Record r) d e s ty h = subst (λ d. declared_words f false (Some d) ≡ words (record_in program q)) s (known q r e)
+    other_sum : (f : TypeRef → ℕ) (q : QName) (e d : Desc) → description before q ≡ Some e → bare e ≡ bare d → is_type d ≡ true → Parts f d → declared_words f false (Some d) ≡ words (record_in program q)
+    other_sum f q (desc.Const v) d e s ty h = subst (λ d. is_type d ≡ true → Parts f d → declared_words f false (Some d) ≡ words (record_in program q)) (sym (bare_plain d (desc.Const v) refl (sym s))) (λ ty h. plain_words f q (desc.Const v) (more q (desc.Const v) e) ty (λ r k. absurd cc) h) ty h
+    other_sum f q (desc.Var m t) d e s ty h = subst (λ d. is_type d ≡ true → Parts f d → declared_words f false (Some d) ≡ words (record_in program q)) (sym (bare_plain d (desc.Var m t) refl (sym s))) (λ ty h. plain_words f q (desc.Var m t) (more q (desc.Var m t) e) ty (λ r k. absurd cc) h) ty h
+    other_sum f q (desc.Proc g) d e s ty h = subst (λ d. is_type d ≡ true → Parts f d → declared_words f false (Some d) ≡ words (record_in program q)) (sym (bare_plain d (desc.Proc g) refl (sym s))) (λ ty h. plain_words f q (desc.Proc g) (more q (desc.Proc g) e) ty (λ r k. absurd cc) h) ty h
+    other_sum f q (desc.Alias m t) d e s ty h = subst (λ d. is_type d ≡ true → Parts f d → declared_words f false (Some d) ≡ words (record_in program q)) (sym (bare_plain d (desc.Alias m t) refl (sym s))) (λ ty h. plain_words f q (desc.Alias m t) (more q (desc.Alias m t) e) ty (λ r k. absurd cc) h) ty h
+    other_sum f q (desc.Array m n t) d e s ty h = subst (λ d. is_type d ≡ true → Parts f d → declared_words f false (Some d) ≡ words (record_in program q)) (sym (bare_plain d (desc.Array m n t) refl (sym s))) (λ ty h. plain_words f q (desc.Array m n t) (more q (desc.Array m n t) e) ty (λ r k. absurd cc) h) ty h
+    other_sum f q (desc.OpenArray m t) d e s ty h = subst (λ d. is_type d ≡ true → Parts f d → declared_words f false (Some d) ≡ words (record_in program q)) (sym (bare_plain d (desc.OpenArray m t) refl (sym s))) (λ ty h. plain_words f q (desc.OpenArray m t) (more q (desc.OpenArray m t) e) ty (λ r k. absurd cc) h) ty h
+    other_sum f q (desc.Pointer m t) d e s ty h = subst (λ d. is_type d ≡ true → Parts f d → declared_words f false (Some d) ≡ words (record_in program q)) (sym (bare_plain d (desc.Pointer m t) refl (sym s))) (λ ty h. plain_words f q (desc.Pointer m t) (more q (desc.Pointer m t) e) ty (λ r k. absurd cc) h) ty h
+    other_sum f q (desc.ProcType m g) d e s ty h = subst (λ d. is_type d ≡ true → Parts f d → declared_words f false (Some d) ≡ words (record_in program q)) (sym (bare_plain d (desc.ProcType m g) refl (sym s))) (λ ty h. plain_words f q (desc.ProcType m g) (more q (desc.ProcType m g) e) ty (λ r k. absurd cc) h) ty h
+    other_sum f q (desc.Record r) d e s ty h = bare_words f r d s ∙ known q r e
 
     -- what the layout sums is the words of the type
     pub summed_words : (n : ℕ) (t : TypeRef) → IsWithin (viewed others over.checked) n t → summed others over.checked n t ≡ words (form t)

@@ -6,3 +6,4 @@ pub mod Laws
 pub mod Words
 pub mod Shallow
 pub mod Filled
+pub mod Near

@@ -3,6 +3,7 @@
 #![tactic(auto)]
 
 ghost use Rattle.ob_declares.specs.Laws.{RuledIsFormed, ViewedIsFormed, ViewedDescribes};
+ghost use Rattle.ob_declares.specs.Near.{UsersStand};
 
 /// A law, with nothing to run. Where a program's types are sound and its modules whole
 /// (`ob_forms`: `IsSound`, `IsWhole`), and the interfaces around a module are those of the program's
@@ -14,4 +15,12 @@ pub fn maps_are_formed()
     ensures rules { RuledIsFormed }
     ensures code { ViewedIsFormed }
     ensures layout { ViewedDescribes }
+{}
+
+/// A law, with nothing to run. A module whose own types are grounded over what it was compiled
+/// against stands over the modules of a program, where the types that it uses are alike in the
+/// program, but for the members and the sizes of records: what it does not use may be another than it
+/// was.
+pub fn users_stand()
+    ensures { UsersStand }
 {}

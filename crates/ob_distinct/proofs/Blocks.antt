@@ -30,7 +30,7 @@ use Rattle.ob_rules.specs.Declarations.{Contents, no_contents, first_name, Part,
 use Rattle.ob_distinct.specs.Distinct.{AreDistinct, VariablesDiffer, ModulesAreNotOut}
 use Rattle.ob_distinct.proofs.Fresh.{front_empty, back_empty, quiet_if, is_known, stays_known, same_scope, is_declared, once, IsFresh, then_fresh, plain_fresh}
 
-abbrev FreshPlain : (Around → Declared) → Type 0
+abbrev pub FreshPlain : (Around → Declared) → Type 0
 FreshPlain f = (u : Around) → IsFresh u (f u)
 
 -- ---- constants and types
@@ -40,12 +40,12 @@ no_variables true x None = refl
 no_variables true x (Some p) = refl
 no_variables false x p = refl
 
-constant_fresh : (d : IdentDef) (x : Phrase) → FreshPlain (constant_declared d x)
+pub constant_fresh : (d : IdentDef) (x : Phrase) → FreshPlain (constant_declared d x)
 constant_fresh d x u =
     let j = both (marked u false d) (constant_value u x ▷ no_nil x.start) in
     plain_fresh u _ None u d.ident _ refl (λ y. refl) (no_variables (is_module_level u) d.ident j.node)
 
-type_fresh : (d : IdentDef) (w : Written) → FreshPlain (type_declared d w)
+pub type_fresh : (d : IdentDef) (w : Written) → FreshPlain (type_declared d w)
 type_fresh d w u = plain_fresh u _ None (with_types u _) d.ident _ refl (λ y. refl) refl
 
 import_fresh : (i : Import) (t : Ident) → FreshPlain (import_declared i t)
@@ -102,7 +102,7 @@ behind_fresh u v a d s k n g =
     same_unknown [] h = tt
     same_unknown (w ∷ vs) h = (sym (k w.name) ∙ h.0, same_unknown vs h.1)
 
-variables_declared_fresh : (ds : List IdentDef) (w : Written) → FreshPlain (variables_declared ds w)
+pub variables_declared_fresh : (ds : List IdentDef) (w : Written) → FreshPlain (variables_declared ds w)
 variables_declared_fresh ds w u =
     let t : Judged Typing = w.typing u (u.path ++ first_name ds ++ codes ":") mark.Hidden false in
     let a : Part = record { notes = t.notes; contents = record no_contents { types = made_in t.node } } in
@@ -110,7 +110,7 @@ variables_declared_fresh ds w u =
 
 -- ---- in their order
 
-order_fresh : (fs : List (Around → Declared)) → AllByRecursion FreshPlain fs → FreshPlain (in_order fs)
+pub order_fresh : (fs : List (Around → Declared)) → AllByRecursion FreshPlain fs → FreshPlain (in_order fs)
 order_fresh [] g u = nothing_fresh u _ refl refl
 order_fresh (f ∷ fs) g u = then_fresh u (f u) (λ v. in_order fs v) (g.0 u) (order_fresh fs g.1 (f u).around)
 
@@ -151,7 +151,7 @@ imports_fresh (i ∷ is) = (import_fresh i (target_of i), imports_fresh is)
 
 -- ---- no more variables come behind
 
-no_more : (xs : List TypedVariable) → xs ++ [] ≡ xs
+pub no_more : (xs : List TypedVariable) → xs ++ [] ≡ xs
 no_more [] = refl
 no_more (x ∷ xs) = subst (λ ys. x ∷ (xs ++ []) ≡ x ∷ ys) (no_more xs) refl
 
@@ -164,7 +164,7 @@ procedures_none u [] hs = refl
 procedures_none u (p ∷ ps) [] = refl
 procedures_none u (p ∷ ps) (h ∷ hs) = subst (λ vs. vs ++ (procedures_judged u ps hs).contents.variables ≡ []) (sym (judged_none u p h p.forward)) (procedures_none u ps hs)
 
-headed_none : (outer : Around) (later : List Later) (ps : List Written_procedure) (body : List Judging) (hs : Heads) → (block_headed outer later ps body hs).contents.variables ≡ []
+pub headed_none : (outer : Around) (later : List Later) (ps : List Written_procedure) (body : List Judging) (hs : Heads) → (block_headed outer later ps body hs).contents.variables ≡ []
 headed_none outer later ps body hs =
     let b = binding_at (is_module_level outer) hs.around (reversed hs.before) in
     subst (λ vs. vs ++ [] ≡ []) (sym (procedures_none (with_bound hs.around b) ps (reversed hs.before))) refl

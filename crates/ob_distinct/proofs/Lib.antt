@@ -10,3 +10,5 @@ pub mod FieldWritten
 pub mod FieldHeads
 pub mod FieldBlocks
 pub mod Short
+pub mod Parameters
+pub mod Procedures

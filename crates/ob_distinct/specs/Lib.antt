@@ -3,3 +3,4 @@ pub mod Parts
 pub mod Named
 pub mod Fields
 pub mod Short
+pub mod Procedures

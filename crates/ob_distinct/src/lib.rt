@@ -3,6 +3,7 @@
 
 ghost use Rattle.ob_distinct.specs.Distinct.{ModulesAreNotOut, VariablesDiffer};
 ghost use Rattle.ob_distinct.specs.Fields.{FieldsDifferAll};
+ghost use Rattle.ob_distinct.specs.Procedures.{ProceduresHaveNames};
 ghost use Rattle.ob_distinct.specs.Short.{ChainsAreShort};
 
 /// A law, with nothing to run: the variables of a checked module have different names.
@@ -24,4 +25,10 @@ pub fn modules_are_not_out()
 /// limit of depth is kept, each chain from one of them on has at most 200 types.
 pub fn chains_are_short()
     ensures { ChainsAreShort }
+{}
+
+/// A law, with nothing to run: the parameters and the local variables of each procedure of a checked
+/// module have different names.
+pub fn procedures_have_names()
+    ensures { ProceduresHaveNames }
 {}

@@ -27,7 +27,7 @@ pub words_are_counted : WordsAreCounted
 words_are_counted bs l b i = let v = valid_at bs l.together b i in (files_have b v.0 v.1).words
 
 pub commands_are_there : CommandsAreThere
-commands_are_there said bs l b i = let v = valid_at bs l.together b i in files_have_commands said b v.0 v.1
+commands_are_there bs l b i = let v = valid_at bs l.together b i in files_have_commands b v.0 v.1
 
 pub loaded_enter : LoadedEnter
-loaded_enter written said bs l = files_enter written said bs l.together l.words
+loaded_enter written linked bs l = files_enter written linked bs l.together l.words

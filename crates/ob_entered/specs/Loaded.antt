@@ -8,7 +8,7 @@ use Rattle.ob_link.specs.Files.{command_in}
 use Rattle.ob_link.specs.Members.{empty_image}
 use Rattle.ob_ages.specs.Builds.{Build, tree_of, name_of, file_of, asks}
 use Rattle.ob_ages.specs.Laws.{BuildsAreWritten}
-use Rattle.ob_ages.specs.Loads.{BuildsAreSaid}
+use Rattle.ob_ages.specs.Loads.{BuildsAreLinked}
 use Rattle.ob_joining.specs.Builds.{AreLoaded}
 
 -- a module shows its own name
@@ -21,8 +21,8 @@ WordsAreCounted = (bs : List Build) → AreLoaded bs → (b : Build) → Contain
 
 -- a command has in its file the number of its procedure
 abbrev pub CommandsAreThere : Type 0
-CommandsAreThere = BuildsAreSaid → (bs : List Build) → AreLoaded bs → (b : Build) → Contains bs b → (x : List ℕ) (p : Procedure) → command_named (tree_of b) x ≡ Some p → command_in (file_of b) x ≡ Some (procedure_index (tree_of b).procedures x)
+CommandsAreThere = (bs : List Build) → AreLoaded bs → (b : Build) → Contains bs b → (x : List ℕ) (p : Procedure) → command_named (tree_of b) x ≡ Some p → command_in (file_of b) x ≡ Some (procedure_index (tree_of b).procedures x)
 
 -- the files can be entered one behind the other
 abbrev pub LoadedEnter : Type 0
-LoadedEnter = BuildsAreWritten → BuildsAreSaid → (bs : List Build) → AreLoaded bs → AreEnterable empty_image (map file_of bs)
+LoadedEnter = BuildsAreWritten → BuildsAreLinked → (bs : List Build) → AreLoaded bs → AreEnterable empty_image (map file_of bs)

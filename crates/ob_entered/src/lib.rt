@@ -5,9 +5,9 @@
 ghost use Rattle.ob_entered.specs.Loaded.{CommandsAreThere, LoadedEnter, NamesAreShown, WordsAreCounted};
 
 /// A law, with nothing to run, of each build of some that are loaded together: its module shows its
-/// own name, and the words of its file's globals are those that a plan counts; its commands have in
-/// the file the numbers of their procedures (taken for granted: `BuildsAreSaid`). And the files can
-/// be entered one behind the other (taken for granted: `BuildsAreWritten` and `BuildsAreSaid`).
+/// own name, the words of its file's globals are those that a plan counts, and its commands have in
+/// the file the numbers of their procedures. And the files can be entered one behind the other
+/// (taken for granted: `BuildsAreWritten` and `BuildsAreLinked`).
 pub fn loaded_files()
     ensures names { NamesAreShown }
     ensures words { WordsAreCounted }

@@ -27,9 +27,11 @@ use Rattle.ob_planned.specs.Laws.{IsMarked}
 use Rattle.ob_planned.proofs.Checked.{compiled_marked}
 use Rattle.ob_planned.proofs.Exports.{exports_shown}
 use Rattle.ob_planned.proofs.Fitting.{names_spelled}
+use Rattle.ob_said.specs.Named.{AreNamedApart}
 use Rattle.ob_ages.specs.Builds.{Text, Build, IsValid, of, shows_of, name_of, file_of}
 use Rattle.ob_ages.specs.Laws.{AreAsWanted, BuildsAreWritten}
-use Rattle.ob_ages.specs.Loads.{IsSaid, BuildsAreSaid}
+use Rattle.ob_ages.specs.Loads.{BuildsAreLinked}
+use Rattle.ob_ages.proofs.Apart.{build_apart}
 use Rattle.ob_ages.proofs.Compiled.{Comes, comes}
 use Rattle.ob_ages.proofs.Stood.{of_is, same_name}
 use Rattle.ob_filed.proofs.Limits.{room_kept}
@@ -61,27 +63,27 @@ any_texts : (us : List (Wanted Text)) → AllByRecursion (λ u. AnyText u.kept) 
 any_texts [] = tt
 any_texts (u ∷ us) = (tt, any_texts us)
 
-pub known : BuildsAreWritten → BuildsAreSaid → (y : Valid) → One y
-known written said y =
+pub known : BuildsAreWritten → (y : Valid) → One y
+known written y =
     let b : Build = y.build in
     let c : Compiled Text = y.valid.0 in
     let v : IsValid b c = y.valid.1 in
     let o : of b ≡ c = of_is b c v in
     let h : Comes texts c = comes texts _ (Some b.source) c v.is in
-    let s : IsSaid c = said b c v in
+    let s : AreNamedApart c = build_apart b c v in
     let m : IsMarked c = compiled_marked _ (Some b.source) c v.is in
-    let spelled = names_spelled (viewed (described c.against) c.tree) c.tree (exports_of (interface_by texts c)) (interface_by texts c).uses s.names (written b c v).object in
+    let spelled = names_spelled (viewed (described c.against) c.tree) c.tree (exports_of (interface_by texts c)) (interface_by texts c).uses s.procedures (written b c v).object in
     record {
       shows = subst (λ (x : Compiled Text). x.shows ≡ face_of_laid (text_in x.against) x.against x.tree) (sym (o ∙ h.is)) refl;
       room = subst (λ (x : Compiled Text). globals_words (viewed (described x.against) x.tree) x.tree ≤ most_globals) (sym o) (room_kept c h.limits);
-      procedures = subst (λ (x : Compiled Text). AreProceduresNamed x.tree.procedures) (sym o) (record { names = s.names; identifiers = spelled; marks = m.marks });
+      procedures = subst (λ (x : Compiled Text). AreProceduresNamed x.tree.procedures) (sym o) (record { names = s.procedures; identifiers = spelled; marks = m.marks });
       types = subst (λ (x : Compiled Text). AllByRecursion (λ t. is_type t.desc ≡ true) x.tree.types) (sym o) m.types;
       has = λ name aspect t e. tt;
       uses = any_texts (kept_of y).shows.uses;
     }
 
-pub links_said : BuildsAreSaid → (y : Valid) → AreLinksUsed (kept_of y)
-links_said said y = subst AreLinksUsed (sym (of_is y.build y.valid.0 y.valid.1)) (said y.build y.valid.0 y.valid.1).links
+pub links_used : BuildsAreLinked → (y : Valid) → AreLinksUsed (kept_of y)
+links_used linked y = subst AreLinksUsed (sym (of_is y.build y.valid.0 y.valid.1)) (linked y.build y.valid.0 y.valid.1)
 
 -- ---- lists of them
 
@@ -93,9 +95,9 @@ pub chosen_files : (bs : List Build) (h : AllByRecursion Compiles bs) → map fi
 chosen_files [] h = refl
 chosen_files (b ∷ bs) h = ap (λ r. file_of b ∷ r) (chosen_files bs h.1)
 
-pub all_known : BuildsAreWritten → BuildsAreSaid → (ys : List Valid) → AllByRecursion One ys
-all_known written said [] = tt
-all_known written said (y ∷ ys) = (known written said y, all_known written said ys)
+pub all_known : BuildsAreWritten → (ys : List Valid) → AllByRecursion One ys
+all_known written [] = tt
+all_known written (y ∷ ys) = (known written y, all_known written ys)
 
 -- ---- what an object has among them
 

@@ -22,17 +22,17 @@ use Rattle.ob_planned.proofs.Asked.{all_joined}
 use Rattle.ob_planned.proofs.Links.{links_named}
 use Rattle.ob_ages.specs.Builds.{Text, Build, shows_of, name_of, file_of, asks}
 use Rattle.ob_ages.specs.Laws.{IsBehind, AreTogether, BuildsAreWritten}
-use Rattle.ob_ages.specs.Loads.{BuildsAreSaid}
+use Rattle.ob_ages.specs.Loads.{BuildsAreLinked}
 use Rattle.ob_ages.proofs.Members.{has_head, has_more}
 use Rattle.ob_ages.proofs.Stood.{of_is, uses_back, within_limit, other_name}
 use Rattle.ob_ages.proofs.Gone.{all_valid}
 use Rattle.ob_filed.specs.Entered.{FilesEnter}
 use Rattle.ob_filed.proofs.Law.{files_have}
-use Rattle.ob_filed.proofs.Chosen.{Compiles, Valid, One, AnyText, kept_of, filed, chosen, chosen_files, known, all_known, links_said, uses_find, are_met, prints_met}
+use Rattle.ob_filed.proofs.Chosen.{Compiles, Valid, One, AnyText, kept_of, filed, chosen, chosen_files, known, all_known, links_used, uses_find, are_met, prints_met}
 
 -- ---- nothing refuses the file of a build that stands behind these
 
-module _ (written : BuildsAreWritten) (said : BuildsAreSaid) where
+module _ (written : BuildsAreWritten) (linked : BuildsAreLinked) where
   none_fails : (ys : List Valid) (y : Valid) → first_of (use_fails files.asks (map filed ys) (filed y).head.«module») (map (wanted_as print_from) (kept_of y).shows.uses) ≡ None → unlinked (map filed ys) (filed y) ≡ None → suc (length ys) ≤ most_modules → fails files.asks (map filed ys) (filed y) ≡ None
   none_fails ys y uses links few =
       let fs : List ObjFile = map filed ys in
@@ -50,13 +50,13 @@ module _ (written : BuildsAreWritten) (said : BuildsAreSaid) where
   not_refused bs h b i =
       let ys : List Valid = chosen bs h in
       let y : Valid = record { build = b; valid = i.valid } in
-      let ks : AllByRecursion One ys = all_known written said ys in
+      let ks : AllByRecursion One ys = all_known written ys in
       let finds = uses_find bs h (shows_of b).uses i.uses in
       let all = chosen_files bs h in
       let few : suc (length ys) ≤ most_modules = omega (arith, i.few, ap length all, length-map ys filed, length-map bs file_of) in
       subst (λ fs. fails files.asks fs (file_of b) ≡ None) all
       (none_fails ys y (prints_met ys ks (filed y).head.«module» (shows_of b).uses finds)
-      (links_named AnyText kept_of (λ x k. links_said said x) ys ks y (known written said y) (are_met ys (name_of b) (shows_of b).uses finds)) few)
+      (links_named AnyText kept_of (λ x k. links_used linked x) ys ks y (known written y) (are_met ys (name_of b) (shows_of b).uses finds)) few)
 
 -- ---- its module is not there yet
 
@@ -77,14 +77,14 @@ files_more (x ∷ bs) b = ap (λ r. member_of (file_of x) ∷ r) (files_more bs 
 fits_of : BuildsAreWritten → (b : Build) → Compiles b → file.fits (file_of b)
 fits_of written b v = subst (λ (x : Compiled Text). file.fits (object_by texts x)) (sym (of_is b v.0 v.1)) (written b v.0 v.1).object
 
-stand_all : BuildsAreWritten → BuildsAreSaid → (gs bs : List Build) → AllByRecursion Compiles bs → AreTogether bs gs → Stand (map member_of (map file_of bs)) (map file_of gs)
-stand_all written said [] bs h t = tt
-stand_all written said (b ∷ gs) bs h t =
+stand_all : BuildsAreWritten → BuildsAreLinked → (gs bs : List Build) → AllByRecursion Compiles bs → AreTogether bs gs → Stand (map member_of (map file_of bs)) (map file_of gs)
+stand_all written linked [] bs h t = tt
+stand_all written linked (b ∷ gs) bs h t =
     let name : (file_of b).head.«module» ≡ name_of b = (files_have b t.0.valid.0 t.0.valid.1).name in (
       fits_of written b t.0.valid,
       ap (λ n. is_there (member_named n (map member_of (map file_of bs)))) name ∙ no_module (name_of b) bs h t.0.new,
-      breaks_so (map file_of bs) (file_of b) ∙ not_refused written said bs h b t.0,
-      subst (λ ks. Stand ks (map file_of gs)) (files_more bs b) (stand_all written said gs (bs ++ b ∷ []) (all_joined Compiles bs (b ∷ []) h (t.0.valid, tt)) t.1),
+      breaks_so (map file_of bs) (file_of b) ∙ not_refused written linked bs h b t.0,
+      subst (λ ks. Stand ks (map file_of gs)) (files_more bs b) (stand_all written linked gs (bs ++ b ∷ []) (all_joined Compiles bs (b ∷ []) h (t.0.valid, tt)) t.1),
     )
 
 words_of_files : (bs : List Build) → AllByRecursion Compiles bs → words_of files.asks (map file_of bs) ≡ words_of asks bs
@@ -96,6 +96,6 @@ words_of_files (b ∷ bs) h =
 
 -- THE LAW
 pub files_enter : FilesEnter
-files_enter written said bs t few =
+files_enter written linked bs t few =
     let w = words_of_files bs (all_valid bs t) in
-    enter_all (map file_of bs) empty_image [] made_none (stand_all written said bs [] tt t) (omega (arith, few, w))
+    enter_all (map file_of bs) empty_image [] made_none (stand_all written linked bs [] tt t) (omega (arith, few, w))

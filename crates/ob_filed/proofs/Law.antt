@@ -20,9 +20,10 @@ use Rattle.ob_planned.proofs.Checked.{compiled_marked}
 use Rattle.ob_planned.proofs.Globals.{globals_are}
 use Rattle.ob_planned.proofs.Numbered.{numbered_by_names}
 use Rattle.ob_ages.specs.Builds.{Text, of}
+use Rattle.ob_said.specs.Named.{AreNamedApart}
+use Rattle.ob_ages.proofs.Apart.{build_apart}
 use Rattle.ob_ages.proofs.Compiled.{Comes, comes}
 use Rattle.ob_ages.proofs.Stood.{of_is}
-use Rattle.ob_ages.specs.Loads.{IsSaid}
 use Rattle.ob_filed.specs.Filed.{FilesHave, FilesHaveCommands}
 use Rattle.ob_filed.proofs.Limits.{room_kept, code_kept}
 
@@ -68,9 +69,9 @@ index_same m (c ∷ x) p e = ap suc (number_same m.procedures (c ∷ x))
 
 -- ---- the law
 
-compiled_has : (c : Compiled Text) → IsSaid c → IsMarked c → (x : List ℕ) (p : Procedure) → command_named c.tree x ≡ Some p → command_in (object_by texts c) x ≡ Some (procedure_index c.tree.procedures x)
+compiled_has : (c : Compiled Text) → AreNamedApart c → IsMarked c → (x : List ℕ) (p : Procedure) → command_named c.tree x ≡ Some p → command_in (object_by texts c) x ≡ Some (procedure_index c.tree.procedures x)
 compiled_has c s k x p e =
-    numbered_by_names (viewed (described c.against) c.tree) c.tree (exports_of (interface_by texts c)) (interface_by texts c).uses s.names k.marks x p e
+    numbered_by_names (viewed (described c.against) c.tree) c.tree (exports_of (interface_by texts c)) (interface_by texts c).uses s.procedures k.marks x p e
     ∙ ap (λ i. Some i) (index_same c.tree x p e)
 
 pub files_have : FilesHave
@@ -84,7 +85,7 @@ files_have b c v =
     }
 
 pub files_have_commands : FilesHaveCommands
-files_have_commands said b c v =
-    let s : IsSaid c = said b c v in
+files_have_commands b c v =
+    let s : AreNamedApart c = build_apart b c v in
     let k : IsMarked c = compiled_marked _ (Some b.source) c v.is in
     subst (λ (x : Compiled Text). (y : List ℕ) (p : Procedure) → command_named x.tree y ≡ Some p → command_in (object_by texts x) y ≡ Some (procedure_index x.tree.procedures y)) (sym (of_is b c v)) (compiled_has c s k)

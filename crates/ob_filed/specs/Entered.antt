@@ -5,8 +5,8 @@ use Rattle.ob_link.specs.Members.{empty_image}
 use Rattle.ob_link.specs.Plan.{most_globals, words_of}
 use Rattle.ob_ages.specs.Builds.{Build, file_of, asks}
 use Rattle.ob_ages.specs.Laws.{AreTogether, BuildsAreWritten}
-use Rattle.ob_ages.specs.Loads.{BuildsAreSaid}
+use Rattle.ob_ages.specs.Loads.{BuildsAreLinked}
 
 -- Each has a spelling, a new name, and links that name something in those before it; and there is room for the words of all.
 abbrev pub FilesEnter : Type 0
-FilesEnter = BuildsAreWritten → BuildsAreSaid → (bs : List Build) → AreTogether [] bs → words_of asks bs ≤ most_globals → AreEnterable empty_image (map file_of bs)
+FilesEnter = BuildsAreWritten → BuildsAreLinked → (bs : List Build) → AreTogether [] bs → words_of asks bs ≤ most_globals → AreEnterable empty_image (map file_of bs)

@@ -7,7 +7,6 @@ use Rattle.ob_relation.specs.Layout.{procedure_index}
 use Rattle.ob_compile.specs.Compiling.{Compiled}
 use Rattle.ob_link.specs.Files.{command_in}
 use Rattle.ob_ages.specs.Builds.{Text, Build, IsValid, tree_of, name_of, file_of, asks}
-use Rattle.ob_ages.specs.Loads.{BuildsAreSaid}
 
 -- its name, the words of its globals, and not too much code
 pub record HasOfFile (b : Build) : Type 0 where
@@ -23,6 +22,6 @@ FilesHave = (b : Build) (c : Compiled Text) → IsValid b c → HasOfFile b
 abbrev pub HasCommands : Build → Type 0
 HasCommands b = (x : List ℕ) (p : Procedure) → command_named (tree_of b) x ≡ Some p → command_in (file_of b) x ≡ Some (procedure_index (tree_of b).procedures x)
 
--- so it is of each valid build, where procedures have different names
+-- so it is of each valid build
 abbrev pub FilesHaveCommands : Type 0
-FilesHaveCommands = BuildsAreSaid → (b : Build) (c : Compiled Text) → IsValid b c → HasCommands b
+FilesHaveCommands = (b : Build) (c : Compiled Text) → IsValid b c → HasCommands b

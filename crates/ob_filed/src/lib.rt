@@ -14,7 +14,7 @@ pub fn files_have()
 {}
 
 /// A law, with nothing to run: the command of a name is in the object file the procedure of that
-/// name, by its number. (Taken for granted of modules that compile: `BuildsAreSaid`.)
+/// name, by its number.
 pub fn files_have_commands()
     ensures { FilesHaveCommands }
 {}
@@ -27,7 +27,7 @@ pub fn strings_fit()
 
 /// A law, with nothing to run: the object files of builds that go together, with no more words of
 /// globals than may be loaded, can be entered one behind the other. (Taken for granted of modules
-/// that compile: `BuildsAreWritten` and `BuildsAreSaid`.)
+/// that compile: `BuildsAreWritten` and `BuildsAreLinked`.)
 pub fn files_enter()
     ensures { FilesEnter }
 {}

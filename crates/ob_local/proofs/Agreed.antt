@@ -1,8 +1,8 @@
 -- Interfaces that have the texts of a module's uses agree on what it uses.
-use Rattle.std.proofs.Common.{◌≡◌, ℕ, zero, suc, ◌+◌, List, [], ◌∷◌, ◌++◌, Bool, true, false, cond, not, ◌&&◌, length, Option, Some, None, map as each, refl, sym, ap, ◌∙◌, subst, ⊎_elim, inl, inr}
-use Rattle.std.specs.Prelude.{◌⊎◌, bytes_eq, Contains, IsSome, codes}
+use Rattle.std.proofs.Common.{◌≡◌, ℕ, ◌+◌, List, [], ◌∷◌, ◌++◌, Bool, true, false, cond, not, ◌&&◌, length, Option, Some, None, map as each, refl, sym, ap, ◌∙◌, subst, ⊎_elim, inl, inr}
+use Rattle.std.specs.Prelude.{bytes_eq, IsSome, codes}
 use Rattle.std.specs.Option.{option_map}
-use Rattle.std.specs.List.{AllByRecursion, filter, flat_map}
+use Rattle.std.specs.List.{filter}
 use Rattle.std.specs.Cmp.Lexicographic.{bytes_decides}
 use Rattle.std.specs.declared.cmp.Ordering.{Ordering}
 use Rattle.std.specs.declared.cmp.Ordering.TheVariants.{Less, Equal, Greater}
@@ -16,20 +16,19 @@ use Rattle.ob_types.specs.Relations.{is_record}
 use Rattle.ob_types.specs.AssigningTests.{described as is_described}
 use Rattle.ob_types.specs.TypedSyntax.{Module}
 use Rattle.ob_desc.specs.Grammar.{shape_text, layout_text, text_of, seen}
-use Rattle.ob_layout.specs.Lists.{put_before, put_in, in_order, sum_of}
+use Rattle.ob_layout.specs.Lists.{put_before, put_in, in_order}
 use Rattle.ob_layout.specs.LaidOut.{type_named, is_own, viewed}
 use Rattle.ob_counts.specs.Counts.{counts_of_module}
 use Rattle.ob_counts.specs.Noted.{names_of, shape_starts, layout_starts}
-use Rattle.ob_env.specs.Faces.{Face, Wanted, object_named, face_named, described, text_in, printed}
+use Rattle.ob_env.specs.Faces.{Face, object_named, face_named, described, text_in, printed}
 use Rattle.ob_env.specs.Fit.{count_of}
 use Rattle.ob_uses.specs.declared.pair.Pair.{Pair}
 use Rattle.ob_uses.specs.declared.way.Way.TheVariants as way
 use Rattle.ob_uses.specs.Held.{held_names}
 use Rattle.ob_uses.specs.Order.{by_pair}
-use Rattle.ob_uses.specs.Uses.{is_imported, with_kept, pairs_of, uses_of}
-use Rattle.ob_uses.specs.Ways.{leads_by, desc_leads, paired, AreAllNames}
-use Rattle.ob_uses.specs.Closed.{is_among, of_found, reached_from}
-use Rattle.ob_uses.specs.Reaching.{Reaches}
+use Rattle.ob_uses.specs.Uses.{is_imported, pairs_of, uses_of}
+use Rattle.ob_uses.specs.Ways.{leads_by, paired, AreAllNames}
+use Rattle.ob_uses.specs.Closed.{is_among, reached_from}
 use Rattle.ob_uses.proofs.SamePairs.{pair_same}
 use Rattle.ob_uses.proofs.Sorting.{Has, contains}
 use Rattle.ob_uses.proofs.Searching.{exact_here}
@@ -103,7 +102,7 @@ count_held fs m = (view_held (each printed fs) m).1 ∙ ap (λ k. length m.types
 
 -- ---- a module that none of them is
 
-named_none : (fs : List (Face Text)) (m : List ℕ) → (Has m (each (λ f. f.«module») fs) → ⊥) → face_named fs m ≡ None
+pub named_none : (fs : List (Face Text)) (m : List ℕ) → (Has m (each (λ f. f.«module») fs) → ⊥) → face_named fs m ≡ None
 unfolding Has
 named_none [] m absent = refl
 named_none (f ∷ fs) m absent = go (bytes_eq m f.«module») refl (named_none fs m (λ h. absent (inr h)))
@@ -218,6 +217,7 @@ module _ (faces others : List (Face Text)) (m : Module) (spelled : AreSpelled fa
       by (Some d) e some i =
           let b = both_shapes q d near i e in
           ap (option_map as_shape) e ∙ ap (λ s. Some s) (shape_tells q d b.e (described_spelled faces spelled q d e) (described_spelled others spelled_too q b.e b.is) b.shape) ∙ sym (ap (option_map as_shape) b.is)
+
       go : (b : Bool) → bytes_eq q.«module» (codes "Out") ≡ b → option_map as_shape (described faces q) ≡ option_map as_shape (described others q)
       go true e = ap (option_map as_shape) (out_none faces no_out q e ∙ sym (out_none others no_out_too q e))
       go false e = let i : is_imported m q ≡ true = ap (λ b. not b && not (bytes_eq q.«module» (codes "Out"))) other ∙ ap not e in by (described faces q) refl (held i) i
@@ -228,6 +228,7 @@ module _ (faces others : List (Face Text)) (m : Module) (spelled : AreSpelled fa
     where
       at : (d : Desc) → described faces q ≡ Some d → types q ≡ Some d
       at d e = ap (λ b. cond b (type_named m.types q.object) (described faces q)) other ∙ e
+
       kind : (b : Bool) (d : Desc) → is_record d ≡ b → described faces q ≡ Some d → is_imported m q ≡ true → described faces q ≡ described others q
       kind true d r e i =
           let b = both_shapes q d near i e in
@@ -235,9 +236,11 @@ module _ (faces others : List (Face Text)) (m : Module) (spelled : AreSpelled fa
       kind false d r e i =
           let b = both_shapes q d near i e in
           e ∙ ap (λ s. Some s) (plain_tells d b.e r (shape_tells q d b.e (described_spelled faces spelled q d e) (described_spelled others spelled_too q b.e b.is) b.shape)) ∙ sym b.is
+
       by : (o : Option Desc) → described faces q ≡ o → IsSome o → is_imported m q ≡ true → described faces q ≡ described others q
       by None e some i = let none : false ≡ true = some in absurd cc
       by (Some d) e some i = kind (is_record d) d refl e i
+
       go : (b : Bool) → bytes_eq q.«module» (codes "Out") ≡ b → described faces q ≡ described others q
       go true e = out_none faces no_out q e ∙ sym (out_none others no_out_too q e)
       go false e = let i : is_imported m q ≡ true = ap (λ b. not b && not (bytes_eq q.«module» (codes "Out"))) other ∙ ap not e in by (described faces q) refl (held i) i

@@ -1,18 +1,12 @@
 -- What is shown to the rules is told by shapes.
-use Rattle.std.proofs.Common.{◌≡◌, ℕ, true, false, List, Option, Some, None, refl, sym, ap, ◌∙◌}
-use Rattle.std.specs.Prelude.{IsSome}
+use Rattle.std.proofs.Common.{◌≡◌, Option, Some, None, refl, sym, ap, ◌∙◌}
 use Rattle.std.specs.Option.{option_map}
-use Rattle.ob_tree.specs.declared.names.QName.{QName}
 use Rattle.ob_types.specs.declared.desc.Desc.{Desc}
 use Rattle.ob_types.specs.declared.desc.Desc.TheVariants as desc
-use Rattle.ob_types.specs.TypedSyntax.{Module}
-use Rattle.ob_layout.specs.LaidOut.{is_own}
-use Rattle.ob_env.specs.Faces.{Face, described, text_in}
-use Rattle.ob_env.specs.Shown.{blank, shown}
-use Rattle.ob_uses.specs.Uses.{is_imported}
-use Rattle.ob_uses.specs.Made.{face_from}
-use Rattle.ob_local.specs.Agreeing.{IsNear, as_shape}
-use Rattle.ob_local.specs.Laws.{Text, AreSpelled, HaveNoOut, AreMet, over, view, ShapesAreTold}
+use Rattle.ob_env.specs.Faces.{described}
+use Rattle.ob_env.specs.Shown.{blank}
+use Rattle.ob_local.specs.Agreeing.{as_shape}
+use Rattle.ob_local.specs.Laws.{over, ShapesAreTold}
 use Rattle.ob_local.proofs.Agreed.{shapes_met}
 
 blank_shape : (o : Option Desc) → option_map blank o ≡ option_map blank (option_map as_shape o)

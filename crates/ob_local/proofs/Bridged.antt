@@ -1,5 +1,5 @@
 -- What counts of a checked module is all that its layout and code read.
-use Rattle.std.proofs.Common.{◌≡◌, ℕ, suc, ◌+◌, List, [], ◌∷◌, ◌++◌, Bool, true, false, cond, Option, Some, None, map as each, refl, sym, ap, ◌∙◌, subst, ⊎_elim}
+use Rattle.std.proofs.Common.{◌≡◌, ℕ, ◌+◌, List, [], ◌∷◌, ◌++◌, Bool, true, false, cond, Option, Some, None, map as each, refl, sym, ap, ◌∙◌, subst, ⊎_elim}
 use Rattle.std.specs.Prelude.{bytes_eq}
 use Rattle.std.specs.List.{AllByRecursion, flat_map}
 use Rattle.std.specs.Cmp.Lexicographic.{bytes_decides, slice_cmp}
@@ -20,15 +20,15 @@ use Rattle.ob_types.specs.Relations.{is_record}
 use Rattle.ob_desc.specs.Grammar.{by_place, same_object}
 use Rattle.ob_desc.specs.Laws.{object_decides}
 use Rattle.ob_layout.specs.Lists.{put_before, put_in, in_order}
-use Rattle.ob_layout.specs.LaidOut.{type_named, is_own, viewed, base_of, words_in, procedures_in, kept, placed, laid_desc, laid_type, laid_out}
+use Rattle.ob_layout.specs.LaidOut.{type_named, is_own, base_of, words_in, procedures_in, kept, placed, laid_desc, laid_type, laid_out}
 use Rattle.ob_counts.specs.Counts.{Count, Shapes, Layouts, both, own_name, counts_of_mentioned, counts_of_type, counts_of_desc, counts_of_variable, counts_of_procedure, counts_of_all, counts_of_module}
 use Rattle.ob_counts.specs.Noted.{names_of, shape_starts, layout_starts}
 use Rattle.ob_env.specs.Faces.{Face, described}
 use Rattle.ob_uses.specs.declared.way.Way.TheVariants as way
-use Rattle.ob_uses.specs.Uses.{near_types, flat_types}
+use Rattle.ob_uses.specs.Uses.{flat_types}
 use Rattle.ob_uses.specs.Ways.{leads_by, desc_leads, is_of}
 use Rattle.ob_uses.specs.Closed.{is_among, of_found}
-use Rattle.ob_uses.specs.Reaching.{Reaches, first, onward}
+use Rattle.ob_uses.specs.Reaching.{first, onward}
 use Rattle.ob_uses.proofs.SamePairs.{bytes_same}
 use Rattle.ob_uses.proofs.Searching.{itself, left_of, in_back, either}
 use Rattle.ob_local.specs.Agreeing.{Map, On, IsNear, IsFlat}
@@ -37,7 +37,7 @@ use Rattle.ob_local.specs.Read.{TypeRead, ModuleRead}
 use Rattle.ob_local.specs.Tied.{IsTypeOf}
 use Rattle.ob_local.specs.Checked.{AreApart, FieldsApart, IsChecked, CountsAreEnough}
 use Rattle.ob_local.proofs.Told.{among_on}
-use Rattle.ob_local.proofs.Laid.{join_all, to_each, order_all, placed_all}
+use Rattle.ob_local.proofs.Laid.{join_all, to_each, order_all}
 use Rattle.ob_local.proofs.Whole.{some_desc, plain_near}
 use Rattle.ob_local.proofs.Counted.{CountsOn, counts_front, counts_back, variables_read, procedures_read, stmts_read}
 use Rattle.ob_local.proofs.Nears.{Any, module_near}
@@ -150,6 +150,7 @@ laid_named map m (t ∷ ts) x r e = go (bytes_eq x t.name) (laid_named map m ts 
   where
     laid : (d : Desc) → d ≡ desc.Record r → (s : RecordDesc) × (Some (laid_desc (words_in map m) (procedures_in map m) (own_name m t) d) ≡ Some (desc.Record s))
     laid d i = subst (λ k. (s : RecordDesc) × (Some (laid_desc (words_in map m) (procedures_in map m) (own_name m t) k) ≡ Some (desc.Record s))) (sym i) (_, refl)
+
     go : (b : Bool) → (type_named ts x ≡ Some (desc.Record r) → (s : RecordDesc) × (type_named (each (laid_type map m) ts) x ≡ Some (desc.Record s))) → cond b (Some t.desc) (type_named ts x) ≡ Some (desc.Record r) → (s : RecordDesc) × (cond b (Some (laid_type map m t).desc) (type_named (each (laid_type map m) ts) x) ≡ Some (desc.Record s))
     go true more i = laid t.desc (some_desc t.desc (desc.Record r) i)
     go false more i = more i

@@ -1,8 +1,7 @@
 -- What counts, with what is tied to it, is all that code reads.
-use Rattle.std.proofs.Common.{◌≡◌, ℕ, zero, suc, List, [], ◌∷◌, ◌++◌, Bool, true, false, Option, Some, None, refl, sym, ap, ◌∙◌, subst}
+use Rattle.std.proofs.Common.{◌≡◌, ℕ, zero, suc, List, [], ◌∷◌, ◌++◌, true, Option, Some, None, refl, sym, ap, ◌∙◌, subst}
 use Rattle.std.specs.List.{AllByRecursion, flat_map}
 use Rattle.ob_tree.specs.declared.names.QName.{QName}
-use Rattle.ob_types.specs.declared.types.Mode.TheVariants as mode
 use Rattle.ob_types.specs.declared.types.TypeRef.{TypeRef}
 use Rattle.ob_types.specs.declared.types.TypeRef.TheVariants as ref
 use Rattle.ob_types.specs.declared.value.Value.{Value}
@@ -23,18 +22,17 @@ use Rattle.ob_types.specs.declared.typed.TypedVariable.{TypedVariable}
 use Rattle.ob_types.specs.TypedSyntax.{Desig, OfVariable, Field, Index, Deref, Guard, Expr, Constant, ValueOf, ProcedureValue, Monadic, Dyadic, Logical, CompareTexts, IsPointer, IsRecord, Length, Call, CallVariable, Actuals, NoActual, AnActual, Stmt, Assign, CallProper, Updated, Copy, New, NewOpenArray, Assert, Halt, If, Case, While, Repeat, For, Loop, Exit, Return, With, Stmts, Nothing, Then, Branches, NoBranch, Branch, Cases, NoCase, OneCase, Otherwise, NoElse, Else, Procedure}
 use Rattle.ob_types.specs.TypedKinds.{variable_type}
 use Rattle.ob_types.specs.Tests.{target, target_of, follow}
-use Rattle.ob_types.specs.Maps.{listed, signature_types}
+use Rattle.ob_types.specs.Maps.{listed}
 use Rattle.ob_counts.specs.Counts.{Count, Shapes, Layouts, shapes, both, formals, without_receiver, has_receiver, counts_of_call, counts_of_held_call, counts_of_designator, counts_of_expr, counts_of_actuals, counts_of_optional, target_counts, made_counts, counts_of, counts_of_all, counts_of_branches, counts_of_cases, counts_of_else, formal_counts, counts_of_parameter, counts_of_variable, counts_of_binding, counts_of_procedure, mode_of}
-use Rattle.ob_counts.specs.Noted.{names_of}
 use Rattle.ob_uses.specs.declared.way.Way.TheVariants as way
 use Rattle.ob_uses.specs.Closed.{is_among, of_found}
-use Rattle.ob_uses.specs.Reaching.{Reaches, first, onward}
-use Rattle.ob_uses.specs.Ways.{leads_by, desc_leads, is_of}
+use Rattle.ob_uses.specs.Reaching.{first, onward}
+use Rattle.ob_uses.specs.Ways.{leads_by, desc_leads}
 use Rattle.ob_uses.proofs.Searching.{itself, left_of}
 use Rattle.ob_local.specs.Agreeing.{Map, On}
 use Rattle.ob_local.specs.Laws.{IsRoom}
 use Rattle.ob_local.specs.Read.{CalleeRead, RoomRead, DesigRead, ExprRead, ActualsRead, ResultRead, AssignedRead, MadeRead, StmtRead, StmtsRead, BranchesRead, CasesRead, ElseRead, PassedRead, ParameterRead, BindingRead, ProcedureRead}
-use Rattle.ob_local.specs.Tied.{LeadsTo, RoomTied, ReceiverTied, SuperTied, CalleeTied, DesigTied, ExprTied, ActualsTied, ResultTied, AssignedTied, MadeTied, StmtTied, StmtsTied, BranchesTied, CasesTied, ElseTied, BindingTied, ProcedureTied}
+use Rattle.ob_local.specs.Tied.{LeadsTo, RoomTied, ReceiverTied, SuperTied, CalleeTied, DesigTied, ExprTied, ActualsTied, ResultTied, AssignedTied, StmtTied, StmtsTied, BranchesTied, CasesTied, ElseTied, BindingTied, ProcedureTied}
 use Rattle.ob_local.proofs.Told.{among_on}
 
 -- of all that counts the shapes are on P and the layouts on L
@@ -257,9 +255,10 @@ module _ (map : Map) (m : List ℕ) (Own P L : QName → Type 0)
     expr_read (Call c es at t) on tied =
         let a = counts_front P L (counts_of_actuals es) (counts_of_call c es t) on in
         (actuals_read es a (call_rooms c es (counts_front P L (formals (without_receiver (has_receiver c) es)) (shapes (listed t)) (counts_back P L (counts_of_actuals es) (counts_of_call c es t) on)) tied.0 tied.1) tied.0, callee_in c es a tied.1)
-    expr_read (CallVariable d es at t) on tied =
-        (desig_read d (first3 P L (counts_of_designator d) (counts_of_actuals es) (counts_of_held_call es t) on) tied.0,
-        actuals_read es (second3 P L (counts_of_designator d) (counts_of_actuals es) (counts_of_held_call es t) on) (rooms_read es (counts_front P L (formals es) (shapes (listed t)) (third3 P L (counts_of_designator d) (counts_of_actuals es) (counts_of_held_call es t) on)) tied.1) tied.1)
+    expr_read (CallVariable d es at t) on tied = (
+      desig_read d (first3 P L (counts_of_designator d) (counts_of_actuals es) (counts_of_held_call es t) on) tied.0,
+      actuals_read es (second3 P L (counts_of_designator d) (counts_of_actuals es) (counts_of_held_call es t) on) (rooms_read es (counts_front P L (formals es) (shapes (listed t)) (third3 P L (counts_of_designator d) (counts_of_actuals es) (counts_of_held_call es t) on)) tied.1) tied.1,
+    )
 
     pub actuals_read : (es : Actuals) → CountsOn P L (counts_of_actuals es) → RoomsRead P L es → ActualsTied map m Own es → ActualsRead P L es
     actuals_read NoActual on rooms tied = tt

@@ -1,9 +1,8 @@
 -- The code of designators, expressions and actual parameters is the same by maps that agree on what it reads.
-use Rattle.std.proofs.Common.{◌≡◌, ℕ, suc, List, [], ◌∷◌, ◌++◌, Option, Some, None, refl, sym, ap, ◌∙◌}
+use Rattle.std.proofs.Common.{◌≡◌, ℕ, suc, List, refl, ap, ◌∙◌}
 use Rattle.std.specs.List.{AllByRecursion}
 use Rattle.ob_tree.specs.declared.names.QName.{QName}
 use Rattle.ob_types.specs.declared.types.TypeRef.{TypeRef}
-use Rattle.ob_types.specs.declared.value.Value.{Value}
 use Rattle.ob_types.specs.declared.value.Value.TheVariants as literal
 use Rattle.ob_types.specs.declared.typed.Passing.{Passing}
 use Rattle.ob_types.specs.declared.typed.Passing.TheVariants as passing
@@ -18,10 +17,10 @@ use Rattle.ob_types.specs.TypedSyntax.{Desig, OfVariable, Field, Index, Deref, G
 use Rattle.ob_instr.specs.declared.opcode.Opcode.TheVariants as op
 use Rattle.ob_code.specs.declared.want.Want.{Want}
 use Rattle.ob_code.specs.declared.want.Want.TheVariants as want
-use Rattle.ob_code.specs.Lines.{Line, plain, placed, placed_two, count, jump, jump_if_false, behind}
-use Rattle.ob_code.specs.Context.{Context, words, type_operand}
-use Rattle.ob_code.specs.Operations.{unary_code, binary_line, relation_number}
-use Rattle.ob_code.specs.Expressions.{wanted, index_want, guard_want, guard_line, from_place, from_pointer, from_guard, words_of_actuals, end_desig, end_expr, end_actuals, desig_code, expr_code, actuals_code}
+use Rattle.ob_code.specs.Lines.{plain, count, jump, jump_if_false, behind}
+use Rattle.ob_code.specs.Context.{Context, words}
+use Rattle.ob_code.specs.Operations.{unary_code}
+use Rattle.ob_code.specs.Expressions.{wanted, index_want, guard_want, guard_line, from_place, end_desig, end_expr, end_actuals, desig_code, expr_code, actuals_code}
 use Rattle.ob_local.specs.Agreeing.{Map, On, Agree}
 use Rattle.ob_local.specs.Read.{RoomRead, DesigRead, ExprRead, ActualsRead}
 use Rattle.ob_local.proofs.Joined.{after, join, cons}

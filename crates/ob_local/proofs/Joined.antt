@@ -1,5 +1,5 @@
 -- Lists and values that are put together of the same parts.
-use Rattle.std.proofs.Common.{◌≡◌, List, [], ◌∷◌, ◌++◌, refl, ap, ◌∙◌}
+use Rattle.std.proofs.Common.{◌≡◌, List, ◌∷◌, ◌++◌, ap, ◌∙◌}
 
 pub after : {A B : Type 0} {f g : A → B} {a b : A} → ((x : A) → f x ≡ g x) → a ≡ b → f a ≡ g b
 after {g = g} {a = a} h e = h a ∙ ap g e

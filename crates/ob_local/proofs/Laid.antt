@@ -12,23 +12,21 @@ use Rattle.ob_types.specs.declared.desc.Desc.{Desc}
 use Rattle.ob_types.specs.declared.desc.Desc.TheVariants as desc
 use Rattle.ob_types.specs.declared.desc.RecordDesc.{RecordDesc}
 use Rattle.ob_types.specs.declared.desc.Field.{Field}
-use Rattle.ob_types.specs.declared.desc.Method.{Method}
 use Rattle.ob_types.specs.declared.typed.TypedType.{TypedType}
 use Rattle.ob_types.specs.TypedSyntax.{Module}
 use Rattle.ob_types.specs.Maps.{listed}
 use Rattle.ob_desc.specs.Grammar.{by_place}
 use Rattle.ob_layout.specs.Lists.{put_before, put_in, in_order, sum_of}
-use Rattle.ob_layout.specs.Words.{described_words}
-use Rattle.ob_layout.specs.LaidOut.{type_named, is_own, viewed, base_of, record_words, declared_words, summed, declared_procedures, counted, words_in, procedures_in, kept, placed, numbered, laid_record, laid_desc, laid_type, laid_out}
+use Rattle.ob_layout.specs.LaidOut.{type_named, is_own, viewed, base_of, record_words, declared_words, summed, declared_procedures, counted, words_in, procedures_in, kept, placed, numbered, laid_desc, laid_type, laid_out}
 use Rattle.ob_counts.specs.Counts.{own_name}
 use Rattle.ob_counts.specs.Noted.{names_of}
 use Rattle.ob_uses.specs.declared.way.Way.TheVariants as way
 use Rattle.ob_uses.specs.Uses.{near_types, flat_types}
-use Rattle.ob_uses.specs.Ways.{leads_by, desc_leads, is_of}
+use Rattle.ob_uses.specs.Ways.{desc_leads, is_of}
 use Rattle.ob_uses.specs.Closed.{is_among, of_found}
 use Rattle.ob_local.specs.Agreeing.{Map, On, Agree, as_shape}
 use Rattle.ob_local.specs.Read.{TypeRead, ModuleRead}
-use Rattle.ob_local.proofs.Joined.{after, cons}
+use Rattle.ob_local.proofs.Joined.{cons}
 use Rattle.ob_local.proofs.Told.{all_on, among_on, flat_on}
 use Rattle.ob_local.proofs.Places.{every, sum_told}
 

@@ -1,5 +1,5 @@
 -- Where all shapes that count are among some names, all layouts that count are too.
-use Rattle.std.proofs.Common.{◌≡◌, ℕ, zero, suc, List, [], ◌∷◌, ◌++◌, Bool, true, false, Option, Some, None, map as each, refl, sym, ap, ◌∙◌, subst}
+use Rattle.std.proofs.Common.{◌≡◌, ℕ, List, [], ◌∷◌, ◌++◌, true, Option, Some, None, map as each}
 use Rattle.std.specs.List.{AllByRecursion, flat_map}
 use Rattle.ob_tree.specs.declared.names.QName.{QName}
 use Rattle.ob_types.specs.declared.types.Mode.{Mode}
@@ -8,38 +8,22 @@ use Rattle.ob_types.specs.declared.desc.Method.{Method}
 use Rattle.ob_layout.specs.Members.{method_in}
 use Rattle.ob_types.specs.declared.types.TypeRef.{TypeRef}
 use Rattle.ob_types.specs.declared.types.TypeRef.TheVariants as ref
-use Rattle.ob_types.specs.declared.value.Value.{Value}
-use Rattle.ob_types.specs.declared.value.Value.TheVariants as literal
 use Rattle.ob_types.specs.declared.desc.Desc.{Desc}
 use Rattle.ob_types.specs.declared.desc.Desc.TheVariants as desc
-use Rattle.ob_types.specs.declared.typed.Passing.{Passing}
-use Rattle.ob_types.specs.declared.typed.Passing.TheVariants as passing
-use Rattle.ob_types.specs.declared.typed.Callee.{Callee}
-use Rattle.ob_types.specs.declared.typed.Callee.TheVariants as callee
 use Rattle.ob_types.specs.declared.typed.Assigned.{Assigned}
 use Rattle.ob_types.specs.declared.typed.Assigned.TheVariants as assigned
 use Rattle.ob_types.specs.declared.typed.Made.{Made}
 use Rattle.ob_types.specs.declared.typed.Made.TheVariants as made
 use Rattle.ob_types.specs.declared.typed.Binding.{Binding}
-use Rattle.ob_types.specs.declared.typed.TypedParameter.{TypedParameter}
-use Rattle.ob_types.specs.declared.typed.TypedVariable.{TypedVariable}
 use Rattle.ob_types.specs.TypedSyntax.{Desig, OfVariable, Field, Index, Deref, Guard, Expr, Constant, ValueOf, ProcedureValue, Monadic, Dyadic, Logical, CompareTexts, IsPointer, IsRecord, Length, Call, CallVariable, Actuals, NoActual, AnActual, Stmt, Assign, CallProper, Updated, Copy, New, NewOpenArray, Assert, Halt, If, Case, While, Repeat, For, Loop, Exit, Return, With, Stmts, Nothing, Then, Branches, NoBranch, Branch, Cases, NoCase, OneCase, Otherwise, NoElse, Else, Procedure, Module}
 use Rattle.ob_types.specs.TypedKinds.{variable_type}
-use Rattle.ob_types.specs.Tests.{target, target_of, follow}
 use Rattle.ob_types.specs.Maps.{listed, signature_types}
 use Rattle.ob_counts.specs.Counts.{Count, Shapes, Layouts, shapes, both, formals, without_receiver, has_receiver, counts_of_call, counts_of_held_call, counts_of_designator, counts_of_expr, counts_of_actuals, counts_of_optional, target_counts, made_counts, counts_of, counts_of_all, counts_of_branches, counts_of_cases, counts_of_else, formal_counts, counts_of_parameter, counts_of_variable, counts_of_binding, counts_of_procedure, counts_of_method, counts_of_desc, counts_of_type, counts_of_mentioned, counts_of_module, mode_of}
-use Rattle.ob_counts.specs.Noted.{names_of}
 use Rattle.ob_uses.specs.declared.way.Way.TheVariants as way
-use Rattle.ob_uses.specs.Closed.{is_among, of_found}
-use Rattle.ob_uses.specs.Reaching.{Reaches, first, onward}
-use Rattle.ob_uses.specs.Ways.{leads_by, desc_leads, is_of}
-use Rattle.ob_uses.proofs.Searching.{itself, left_of}
+use Rattle.ob_uses.specs.Closed.{is_among}
+use Rattle.ob_uses.specs.Ways.{leads_by}
 use Rattle.ob_local.specs.Agreeing.{Map, On}
-use Rattle.ob_local.specs.Laws.{IsRoom}
-use Rattle.ob_local.specs.Read.{CalleeRead, RoomRead, DesigRead, ExprRead, ActualsRead, ResultRead, AssignedRead, MadeRead, StmtRead, StmtsRead, BranchesRead, CasesRead, ElseRead, PassedRead, ParameterRead, BindingRead, ProcedureRead}
-use Rattle.ob_local.specs.Tied.{LeadsTo, RoomTied, ReceiverTied, SuperTied, CalleeTied, DesigTied, ExprTied, ActualsTied, ResultTied, AssignedTied, MadeTied, StmtTied, StmtsTied, BranchesTied, CasesTied, ElseTied, BindingTied, ProcedureTied}
-use Rattle.ob_local.proofs.Told.{among_on}
-
+use Rattle.ob_local.specs.Tied.{LeadsTo, MadeTied, StmtTied, StmtsTied, BranchesTied, CasesTied, ElseTied, ProcedureTied}
 use Rattle.ob_local.proofs.Counted.{CountsOn, counts_front, counts_back, type_on, leads_on}
 
 pub counts_join : (P L : QName → Type 0) (cs ds : List Count) → CountsOn P L cs → CountsOn P L ds → CountsOn P L (cs ++ ds)

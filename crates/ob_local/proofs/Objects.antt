@@ -1,6 +1,6 @@
 -- The object file of a module is the same by maps that agree on what its code reads.
-use Rattle.std.proofs.Common.{◌≡◌, ℕ, suc, ◌+◌, List, [], ◌∷◌, ◌++◌, Bool, true, false, Option, Some, None, map as each, refl, sym, ap, ◌∙◌}
-use Rattle.std.specs.Prelude.{bytes_eq, if◌then◌else◌, ◌&&◌}
+use Rattle.std.proofs.Common.{◌≡◌, ℕ, suc, ◌+◌, List, [], ◌∷◌, Bool, true, false, Option, Some, None, map as each, refl, ap, ◌∙◌}
+use Rattle.std.specs.Prelude.{if◌then◌else◌, ◌&&◌}
 use Rattle.std.specs.List.{AllByRecursion}
 use Rattle.ob_tree.specs.declared.names.QName.{QName}
 use Rattle.ob_types.specs.declared.types.TypeRef.{TypeRef}
@@ -16,31 +16,27 @@ use Rattle.ob_types.specs.declared.typed.TypedParameter.{TypedParameter}
 use Rattle.ob_types.specs.TypedSyntax.{Procedure, Module}
 use Rattle.ob_types.specs.Maps.{listed}
 use Rattle.ob_instr.specs.declared.procedure.Procedure.{Procedure as Row}
-use Rattle.ob_instr.specs.declared.procedure.Param.{Param}
 use Rattle.ob_instr.specs.declared.procedure.Param.TheVariants as param
 use Rattle.ob_obj.specs.declared.parts.Export.{Export}
 use Rattle.ob_obj.specs.declared.parts.Variable.{Variable}
-use Rattle.ob_obj.specs.declared.parts.Base.{Base}
-use Rattle.ob_obj.specs.declared.parts.Definition.{Definition}
 use Rattle.ob_obj.specs.declared.parts.RecordType.{RecordType}
 use Rattle.ob_obj.specs.declared.parts.Command.{Command}
 use Rattle.ob_obj.specs.declared.file.ObjFile.{ObjFile}
 use Rattle.ob_obj.specs.Grammar.{by_name, by_number}
 use Rattle.ob_layout.specs.Lists.{in_order}
 use Rattle.ob_layout.specs.Words.{words_of}
-use Rattle.ob_layout.specs.Room.{variable_words}
 use Rattle.ob_counts.specs.Counts.{own_name}
 use Rattle.ob_code.specs.Lines.{Line}
-use Rattle.ob_code.specs.Context.{Context, variable_place, words, local_words, first_hidden, all_slots}
+use Rattle.ob_code.specs.Context.{variable_place, local_words, first_hidden, all_slots}
 use Rattle.ob_code.specs.Numbers.{Named, nothing_named, instrs_in, with_lines, positions_at}
-use Rattle.ob_code.specs.Statements.{end_stmts, next_stmts, stmts_code}
-use Rattle.ob_code.specs.Procedures.{body_of, all_procedures, within, end_procedure, procedure_code, procedures_code, module_code, module_rows, param_for, row_of, rows_of, all_local_words, has_result}
+use Rattle.ob_code.specs.Statements.{next_stmts, stmts_code}
+use Rattle.ob_code.specs.Procedures.{body_of, all_procedures, within, end_procedure, procedure_code, procedures_code, module_code, module_rows, param_for, row_of, rows_of, all_local_words}
 use Rattle.ob_code.specs.Object.{is_seen, is_full, is_free, own, own_words, seen_variables, variables, commands_among, commands, is_bound_to, bound_number, definitions_among, definitions, base_type, base_in, record_in, records_in, with_base, with_record, with_bases, all_named, type_links, object_file}
 use Rattle.ob_local.specs.Agreeing.{Map, On, Agree}
 use Rattle.ob_local.specs.Read.{PassedRead, ParameterRead, BindingRead, ProcedureRead, TypeRead, ModuleRead}
 use Rattle.ob_local.proofs.Joined.{after, join, cons}
 use Rattle.ob_local.proofs.Told.{words_told, open_words_told, own_name_told, method_number_told}
-use Rattle.ob_local.proofs.Places.{every, sum_told, before_told, variable_place_told, local_words_told}
+use Rattle.ob_local.proofs.Places.{every, sum_told, variable_place_told, local_words_told}
 use Rattle.ob_local.proofs.Statements.{stmts_end, stmts_are, stmts_next}
 
 module _ (map other : Map) (m : Module) (Shapes Layouts : QName → Type 0) (agree : Agree map other m.name Shapes Layouts) (read : ModuleRead Shapes Layouts m) where

@@ -1,12 +1,10 @@
 -- Places of variables, and what is looked up beside them, are told alike.
-use Rattle.std.proofs.Common.{◌≡◌, ℕ, ◌+◌, List, [], ◌∷◌, ◌++◌, Bool, true, false, Option, Some, None, refl, sym, ap, ◌∙◌}
+use Rattle.std.proofs.Common.{◌≡◌, ℕ, ◌+◌, List, [], ◌∷◌, Bool, true, false, Option, Some, None, refl, ap, ◌∙◌}
 use Rattle.std.specs.Prelude.{bytes_eq, if◌then◌else◌}
 use Rattle.std.specs.List.{AllByRecursion}
 use Rattle.ob_tree.specs.declared.names.QName.{QName}
 use Rattle.ob_tree.specs.declared.pos.Pos.{Pos}
 use Rattle.ob_types.specs.declared.types.TypeRef.{TypeRef}
-use Rattle.ob_types.specs.declared.types.TypeRef.TheVariants as ref
-use Rattle.ob_types.specs.declared.desc.Desc.{Desc}
 use Rattle.ob_types.specs.declared.typed.Passing.{Passing}
 use Rattle.ob_types.specs.declared.typed.Passing.TheVariants as passing
 use Rattle.ob_types.specs.declared.typed.Variable.{Variable}
@@ -23,10 +21,9 @@ use Rattle.ob_instr.specs.declared.opcode.Opcode.TheVariants as op
 use Rattle.ob_layout.specs.Lists.{sum_of}
 use Rattle.ob_code.specs.declared.want.Want.{Want}
 use Rattle.ob_code.specs.declared.want.Want.TheVariants as want
-use Rattle.ob_code.specs.Lines.{Line, Operand, OtherVariable, plain, placed, placed_two, count, bare, bare_at}
-use Rattle.ob_code.specs.Context.{Context, before, words, is_own, variable_place, local_slot, all_slots, local_words, parameter_slot, named_operand, record_operand, type_operand}
-use Rattle.ob_code.specs.Descriptions.{elements_of}
-use Rattle.ob_code.specs.Expressions.{from_place, from_pointer, from_guard, index_line, own_place, held_place, parameter_code, module_line, variable_code, call_line, family_number, measured_behind, length_operand, words_behind_receiver}
+use Rattle.ob_code.specs.Lines.{OtherVariable, plain, placed, placed_two, count}
+use Rattle.ob_code.specs.Context.{Context, before, words, is_own, variable_place, local_slot, all_slots, local_words, parameter_slot, named_operand, type_operand}
+use Rattle.ob_code.specs.Expressions.{from_place, from_pointer, from_guard, index_line, parameter_code, variable_code, call_line, measured_behind, length_operand, words_behind_receiver}
 use Rattle.ob_local.specs.Agreeing.{Map, On, Agree}
 use Rattle.ob_local.specs.Read.{CalleeRead}
 use Rattle.ob_local.proofs.Joined.{cons}

@@ -1,12 +1,10 @@
 -- The uses of a module are the same by maps that agree on what it uses.
-use Rattle.std.proofs.Common.{◌≡◌, ℕ, zero, suc, ◌+◌, List, [], ◌∷◌, ◌++◌, Bool, true, false, cond, ◌&&◌, length, Option, Some, None, map as each, refl, sym, ap, ◌∙◌, subst, ⊎_elim, inl, inr}
-use Rattle.std.specs.Prelude.{◌⊎◌}
+use Rattle.std.proofs.Common.{◌≡◌, ℕ, List, [], ◌∷◌, ◌++◌, Bool, true, ◌&&◌, length, Option, Some, None, map as each, refl, sym, ap, ◌∙◌, subst, ⊎_elim, inl, inr}
 use Rattle.std.specs.Option.{option_map}
 use Rattle.std.specs.List.{AllByRecursion, filter, flat_map}
 use Rattle.ob_tree.specs.declared.names.QName.{QName}
 use Rattle.ob_types.specs.declared.desc.Desc.{Desc}
 use Rattle.ob_types.specs.declared.desc.Desc.TheVariants as desc
-use Rattle.ob_types.specs.declared.desc.Method.{Method}
 use Rattle.ob_types.specs.declared.face.Aspect.{Aspect}
 use Rattle.ob_types.specs.declared.face.Aspect.TheVariants.{Shape, Layout}
 use Rattle.ob_types.specs.declared.typed.Binding.{Binding}
@@ -14,7 +12,6 @@ use Rattle.ob_types.specs.Relations.{is_record}
 use Rattle.ob_types.specs.AssigningTests.{described as is_described}
 use Rattle.ob_types.specs.TypedSyntax.{Procedure, Module}
 use Rattle.ob_layout.specs.Lists.{in_order}
-use Rattle.ob_layout.specs.Members.{method_in}
 use Rattle.ob_counts.specs.Counts.{Count, counts_of_mentioned, counts_of_type, counts_of_variable, counts_of_parameter, shapes, counts_of_method, counts_of_binding, counts_of_procedure, counts_of_all, counts_of_module}
 use Rattle.ob_types.specs.Maps.{listed}
 use Rattle.ob_counts.specs.Noted.{names_of, shape_starts, layout_starts}
@@ -22,16 +19,16 @@ use Rattle.ob_env.specs.Faces.{Wanted}
 use Rattle.ob_uses.specs.declared.pair.Pair.{Pair}
 use Rattle.ob_uses.specs.declared.way.Way.TheVariants as way
 use Rattle.ob_uses.specs.Order.{by_pair, pairs_total}
-use Rattle.ob_uses.specs.Uses.{is_imported, with_kept, pairs_of, uses_of}
+use Rattle.ob_uses.specs.Uses.{is_imported, with_kept, pairs_of}
 use Rattle.ob_uses.specs.Ways.{leads_by, desc_leads, paired, AreAllNames}
 use Rattle.ob_uses.specs.Closed.{is_among, of_found, reached_from}
 use Rattle.ob_uses.specs.Reaching.{Reaches, first, onward, AreEnough}
 use Rattle.ob_uses.proofs.SamePairs.{pair_same}
-use Rattle.ob_uses.proofs.Sorting.{Has, same_order, order_only}
+use Rattle.ob_uses.proofs.Sorting.{Has, same_order}
 use Rattle.ob_uses.proofs.Searching.{exact_here}
 use Rattle.ob_uses.proofs.Pairing.{has_of_among, among_of_has, join_has, has_left, has_right, kept_only, kept_has, all_enough}
 use Rattle.ob_local.specs.Agreeing.{Map, Agree, as_shape}
-use Rattle.ob_local.specs.Read.{BindingRead, ProcedureRead, ModuleRead}
+use Rattle.ob_local.specs.Read.{BindingRead, ProcedureRead}
 use Rattle.ob_local.proofs.Told.{method_told}
 
 -- ---- what is reached

@@ -1,5 +1,5 @@
 -- The code of statements is the same by maps that agree on what it reads.
-use Rattle.std.proofs.Common.{◌≡◌, ℕ, suc, List, [], ◌∷◌, ◌++◌, Bool, true, false, Option, Some, None, refl, sym, ap, ◌∙◌}
+use Rattle.std.proofs.Common.{◌≡◌, ℕ, suc, List, [], ◌∷◌, ◌++◌, Bool, true, false, Option, Some, None, refl, ap, ◌∙◌}
 use Rattle.std.specs.List.{AllByRecursion}
 use Rattle.ob_tree.specs.declared.names.QName.{QName}
 use Rattle.ob_tree.specs.declared.pos.Pos.{Pos}
@@ -18,7 +18,7 @@ use Rattle.ob_types.specs.TypedSyntax.{Desig, Expr, Stmt, Assign, CallProper, Up
 use Rattle.ob_instr.specs.declared.opcode.Opcode.TheVariants as op
 use Rattle.ob_code.specs.declared.want.Want.{Want}
 use Rattle.ob_code.specs.declared.want.Want.TheVariants as want
-use Rattle.ob_code.specs.Lines.{Line, plain, placed, placed_two, count, jump, jump_if_false, jump_back, jump_back_if_false, behind}
+use Rattle.ob_code.specs.Lines.{plain, placed, placed_two, count, jump, jump_if_false, jump_back, behind}
 use Rattle.ob_code.specs.Context.{Context, words, type_operand}
 use Rattle.ob_code.specs.Expressions.{end_desig, end_expr, desig_code, expr_code}
 use Rattle.ob_code.specs.Statements.{has_tag, target_want, source_want, copy_record, assign_line, new_line, for_place, for_value, end_for_test, end_for_step, end_label, label_code, end_labels, labels_code, end_result, result_code, end_stmt, end_stmts, end_branches, end_cases, end_else, next_stmt, next_stmts, next_branches, next_cases, next_else, stmt_code, stmts_code, branches_code, cases_code, else_code}

@@ -1,7 +1,6 @@
 -- The texts of a description tell it.
-use Rattle.std.proofs.Common.{◌≡◌, ℕ, List, [], ◌∷◌, ◌++◌, Bool, true, false, cond, Option, Some, None, map as each, refl, sym, ap, ◌∙◌, subst, arith}
+use Rattle.std.proofs.Common.{◌≡◌, ℕ, List, [], ◌∷◌, Bool, true, false, cond, Option, Some, None, map as each, refl, sym, ap, ◌∙◌, subst, arith}
 use Rattle.std.specs.Prelude.{bytes_eq}
-use Rattle.std.specs.Option.{option_map}
 use Rattle.std.specs.List.{AllByRecursion}
 use Rattle.std.specs.Cmp.Lexicographic.{bytes_decides}
 use Rattle.ob_format.specs.Format.{◌>>=◌, list_of}
@@ -9,12 +8,10 @@ use Rattle.ob_format.specs.Exact.{bind_some, cond_then}
 use Rattle.ob_tree.specs.declared.names.QName.{QName}
 use Rattle.ob_types.specs.declared.desc.Desc.{Desc}
 use Rattle.ob_types.specs.declared.desc.Desc.TheVariants as desc
-use Rattle.ob_types.specs.declared.face.Object.{Object}
 use Rattle.ob_types.specs.Relations.{is_record}
-use Rattle.ob_desc.specs.Grammar.{shape_text, layout_text, shape_fits, layout_fits, layout, shape_at, same_object, joined, description_at, IsSpelled, seen}
+use Rattle.ob_desc.specs.Grammar.{shape_text, layout_text, layout, shape_at, same_object, joined, description_at, IsSpelled, seen}
 use Rattle.ob_desc.specs.Laws.{description_again}
-use Rattle.ob_sym.specs.Grammar.{face, body, object_in, IsObjectOf}
-use Rattle.ob_sym.specs.Grammar as sym_grammar
+use Rattle.ob_sym.specs.Grammar.{face, body, object_in}
 use Rattle.ob_sym.proofs.Seen.{seen_is}
 use Rattle.ob_env.specs.Faces.{Face, object_named, face_named, described, object_of, printed, interface_of}
 use Rattle.ob_local.specs.Agreeing.{as_shape}
@@ -133,6 +130,7 @@ plain_tells d e plain same = shape_is d plain ∙ same ∙ sym (shape_is e (othe
     shape_is (desc.Pointer m t) p = refl
     shape_is (desc.ProcType m s) p = refl
     shape_is (desc.Record r) p = absurd cc
+
     kind : (d : Desc) → is_record (as_shape d) ≡ is_record d
     kind (desc.Const v) = refl
     kind (desc.Var m t) = refl
@@ -143,6 +141,7 @@ plain_tells d e plain same = shape_is d plain ∙ same ∙ sym (shape_is e (othe
     kind (desc.Pointer m t) = refl
     kind (desc.ProcType m s) = refl
     kind (desc.Record r) = refl
+
     other : (d e : Desc) → is_record d ≡ false → as_shape d ≡ as_shape e → is_record e ≡ false
     other d e p same = sym (kind e) ∙ ap is_record (sym same) ∙ kind d ∙ p
 

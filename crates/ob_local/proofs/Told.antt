@@ -1,6 +1,6 @@
 -- What maps that agree tell alike of a type: its words, what it stands for, its members.
-use Rattle.std.proofs.Common.{◌≡◌, ℕ, zero, suc, ◌*◌, List, [], ◌∷◌, ◌++◌, Bool, true, false, cond, map as each, Option, Some, None, refl, sym, ap, ◌∙◌, subst, ⊎_elim}
-use Rattle.std.specs.Prelude.{bytes_eq, unwrap_or}
+use Rattle.std.proofs.Common.{◌≡◌, ℕ, zero, suc, ◌*◌, List, [], ◌∷◌, true, Option, Some, None, refl, sym, ap, ◌∙◌, subst, ⊎_elim}
+use Rattle.std.specs.Prelude.{unwrap_or}
 use Rattle.std.specs.Option.{option_map}
 use Rattle.std.specs.List.{AllByRecursion}
 use Rattle.ob_tree.specs.declared.names.QName.{QName}
@@ -12,18 +12,17 @@ use Rattle.ob_types.specs.declared.desc.RecordDesc.{RecordDesc}
 use Rattle.ob_types.specs.declared.desc.Field.{Field}
 use Rattle.ob_types.specs.declared.desc.Method.{Method}
 use Rattle.ob_types.specs.Maps.{listed}
-use Rattle.ob_types.specs.Tests.{target, target_of, alias_of, follow, shape_at}
+use Rattle.ob_types.specs.Tests.{target, target_of, follow, shape_at}
 use Rattle.ob_desc.specs.Grammar.{same_object}
 use Rattle.ob_desc.specs.Laws.{object_decides}
 use Rattle.ob_layout.specs.Lists.{or_else}
 use Rattle.ob_layout.specs.Words.{words_within, words_of, described_words}
-use Rattle.ob_layout.specs.Members.{nearest, nearest_in, from_base, field_in_record, method_in_record, field_place_in, method_number_in, method_in}
+use Rattle.ob_layout.specs.Members.{nearest, nearest_in, from_base, field_in_record, method_in_record, method_in}
 use Rattle.ob_code.specs.Descriptions.{own_name, name_in, elements_of, elements_in, open_words, open_words_in, field_place, method_number}
 use Rattle.ob_counts.specs.Noted.{names_of}
-use Rattle.ob_uses.specs.declared.way.Way.{Way}
 use Rattle.ob_uses.specs.declared.way.Way.TheVariants as way
 use Rattle.ob_uses.specs.Uses.{near_types, flat_types}
-use Rattle.ob_uses.specs.Ways.{leads_by, desc_leads, is_of}
+use Rattle.ob_uses.specs.Ways.{desc_leads, is_of}
 use Rattle.ob_uses.specs.Closed.{is_among, of_found}
 use Rattle.ob_uses.proofs.Searching.{itself, left_of, in_back, either}
 use Rattle.ob_local.specs.Agreeing.{Map, On, Agree, as_shape}

@@ -1,16 +1,14 @@
 -- A module is the same against all interfaces that have the texts of its uses.
-use Rattle.std.proofs.Common.{◌≡◌, ℕ, ◌+◌, List, [], ◌∷◌, ◌++◌, Bool, true, false, cond, not, ◌&&◌, length, Option, Some, None, map as each, refl, sym, ap, ◌∙◌, subst, ⊎_elim, inl, inr}
-use Rattle.std.specs.Prelude.{◌⊎◌, bytes_eq, IsSome, codes}
+use Rattle.std.proofs.Common.{◌≡◌, ℕ, ◌+◌, List, [], ◌∷◌, ◌++◌, Bool, true, false, cond, not, ◌&&◌, length, Option, Some, None, map as each, refl, sym, ap, ◌∙◌, subst, ⊎_elim}
+use Rattle.std.specs.Prelude.{bytes_eq, IsSome, codes}
 use Rattle.std.specs.Option.{option_map}
 use Rattle.std.specs.List.{AllByRecursion, filter, flat_map}
 use Rattle.std.proofs.lemmas.Bool.{and_parts}
 use Rattle.ob_format.specs.Format.{◌>>=◌}
 use Rattle.ob_tree.specs.declared.names.QName.{QName}
-use Rattle.ob_types.specs.declared.types.TypeRef.{TypeRef}
 use Rattle.ob_types.specs.declared.desc.Desc.{Desc}
 use Rattle.ob_types.specs.declared.desc.Desc.TheVariants as desc
 use Rattle.ob_types.specs.declared.desc.RecordDesc.{RecordDesc}
-use Rattle.ob_types.specs.declared.face.Aspect.{Aspect}
 use Rattle.ob_types.specs.declared.face.Aspect.TheVariants.{Shape, Layout}
 use Rattle.ob_types.specs.declared.typed.TypedType.{TypedType}
 use Rattle.ob_types.specs.Maps.{listed}
@@ -18,28 +16,28 @@ use Rattle.ob_types.specs.Relations.{is_record}
 use Rattle.ob_types.specs.AssigningTests.{described as is_described}
 use Rattle.ob_types.specs.TypedSyntax.{Module}
 use Rattle.ob_desc.specs.Grammar.{text_of, shape_text, seen}
-use Rattle.ob_layout.specs.LaidOut.{type_named, is_own, viewed, laid_desc, laid_type, laid_out, words_in, procedures_in}
+use Rattle.ob_layout.specs.LaidOut.{type_named, is_own, viewed, laid_desc, laid_type, words_in, procedures_in}
 use Rattle.ob_counts.specs.Counts.{own_name, counts_of_module}
 use Rattle.ob_counts.specs.Noted.{names_of, shape_starts, layout_starts}
-use Rattle.ob_env.specs.Faces.{Face, Wanted, described, text_in}
+use Rattle.ob_env.specs.Faces.{Face, described, text_in}
 use Rattle.ob_env.specs.Fit.{count_of}
 use Rattle.ob_uses.specs.declared.pair.Pair.{Pair}
 use Rattle.ob_uses.specs.declared.way.Way.TheVariants as way
-use Rattle.ob_uses.specs.Order.{by_pair, pairs_total}
+use Rattle.ob_uses.specs.Order.{pairs_total}
 use Rattle.ob_uses.specs.Objects.{objects_of}
 use Rattle.ob_uses.specs.Uses.{near_types, flat_types, is_imported, with_kept, pairs_of, uses_of}
 use Rattle.ob_uses.specs.Ways.{leads_by, desc_leads, is_of, paired}
 use Rattle.ob_uses.specs.Closed.{is_among, of_found, reached_from}
-use Rattle.ob_uses.specs.Reaching.{Reaches, first, onward}
+use Rattle.ob_uses.specs.Reaching.{first, onward}
 use Rattle.ob_uses.specs.Made.{face_of_laid, face_from}
 use Rattle.ob_uses.proofs.SamePairs.{pair_same}
 use Rattle.ob_uses.proofs.Sorting.{Has, order_only}
 use Rattle.ob_uses.proofs.Searching.{exact_here}
 use Rattle.ob_uses.proofs.Pairing.{among_of_has, join_has, kept_only, all_enough}
 use Rattle.ob_code.specs.Object.{object_file}
-use Rattle.ob_local.specs.Agreeing.{Map, On, Agree, IsNear, IsFlat, as_shape}
+use Rattle.ob_local.specs.Agreeing.{Map, On, Agree, IsNear, as_shape}
 use Rattle.ob_local.specs.Read.{TypeRead, ModuleRead}
-use Rattle.ob_local.specs.Laws.{Text, AreSpelled, HaveNoOut, AreMet, IsRoom, room, IsLaid, flat, own, told, over, view, IsTied, IsSame, ModulesAreLocal}
+use Rattle.ob_local.specs.Laws.{Text, AreSpelled, HaveNoOut, AreMet, room, IsLaid, flat, own, told, over, view, IsTied, IsSame, ModulesAreLocal}
 use Rattle.ob_local.proofs.Told.{among_on}
 use Rattle.ob_local.proofs.Laid.{join_all, to_each, laid_is, laid_read, near_named, agree_laid}
 use Rattle.ob_local.proofs.Objects.{object_is}

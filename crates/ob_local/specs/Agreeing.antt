@@ -7,11 +7,9 @@ use Rattle.ob_types.specs.declared.types.TypeRef.TheVariants as ref
 use Rattle.ob_types.specs.declared.desc.Desc.{Desc}
 use Rattle.ob_types.specs.declared.desc.Desc.TheVariants as desc
 use Rattle.ob_types.specs.TypedSyntax.{Module}
-use Rattle.ob_layout.specs.LaidOut.{is_own}
 use Rattle.ob_counts.specs.Counts.{counts_of_module}
 use Rattle.ob_counts.specs.Noted.{names_of, shape_starts, layout_starts}
 use Rattle.ob_uses.specs.declared.way.Way.TheVariants as way
-use Rattle.ob_uses.specs.Uses.{near_types, flat_types}
 use Rattle.ob_uses.specs.Closed.{is_among}
 use Rattle.ob_uses.specs.Reaching.{Reaches}
 use Rattle.ob_uses.specs.Ways.{leads_by}

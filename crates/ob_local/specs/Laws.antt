@@ -1,5 +1,5 @@
 -- The law: a module that was checked is the same module against all interfaces that have the texts of its uses.
-use Rattle.std.specs.Prelude.{◌≡◌, ℕ, List, map as each, Option, Some, true, false, Contains, IsSome, codes}
+use Rattle.std.specs.Prelude.{◌≡◌, ℕ, List, map as each, Some, true, false, Contains, IsSome, codes}
 use Rattle.std.specs.List.{AllByRecursion}
 use Rattle.ob_tree.specs.declared.names.QName.{QName}
 use Rattle.ob_types.specs.declared.desc.Desc.{Desc}

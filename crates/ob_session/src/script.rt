@@ -203,8 +203,8 @@ fn do_all<F: Folder, I: Source, O: Sink>(
 /// that the language's meaning gives the loaded modules' sources, taken afresh together. It takes for
 /// granted, as premises in one record (`Promises`), that a build is the same against all interfaces
 /// that have the texts of its uses, that commands by the machine's table are those of the meaning,
-/// that what is written of a build has a spelling, and that the links of a module that compiles name
-/// what it uses.
+/// that what is written of a build has a spelling, and that the links of a module that compiles to
+/// record types name what it uses.
 pub fn session<F: Folder, I: Source, O: Sink>(
     alloc: Global,
     words: &[String],

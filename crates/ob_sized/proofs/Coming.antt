@@ -52,7 +52,9 @@ module _ (source : List ℕ) (c : Compiled Text) where
     from_within : (faces : List (Face Text)) (m : TypedModule) → first_unfit faces ≡ None → is_deep faces tree ≡ false → first_break (shown faces) tree ≡ None → checked (shown faces) tree ≡ Some m →
         (o : Option Which) → exceeds texts (made texts faces (laid_out (described faces) (module_view m))) ≡ o → within (made texts faces (laid_out (described faces) (module_view m))) o ≡ Ok c → ComesFrom source c
     from_within faces m fit deep sound e (Some w) i h = absurd cc
-    from_within faces m fit deep sound e None i h = from_made faces m fit deep sound e cc i
+    from_within faces m fit deep sound e None i h =
+        let same : made texts faces (laid_out (described faces) (module_view m)) ≡ c = cc in
+        from_made faces m fit deep sound e same i
 
     from_checked : (faces : List (Face Text)) → first_unfit faces ≡ None → is_deep faces tree ≡ false → first_break (shown faces) tree ≡ None →
         (found : Option TypedModule) → checked (shown faces) tree ≡ found → and_limits texts (of_checked texts faces found) ≡ Ok c → ComesFrom source c

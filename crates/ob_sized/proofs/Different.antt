@@ -17,7 +17,8 @@ use Rattle.ob_ages.specs.Laws.{IsBehind, AreTogether}
 use Rattle.ob_ages.proofs.Members.{has_left, has_right, has_head}
 use Rattle.ob_ages.proofs.Stood.{of_is}
 use Rattle.ob_joining.specs.Builds.{program_of}
-use Rattle.ob_sized.specs.Sizes.{ModulesDiffer}
+use Rattle.ob_forms.specs.Whole.{Different}
+use Rattle.ob_sized.specs.Sizes.{ModulesDiffer, NamesDiffer}
 use Rattle.ob_sized.proofs.Coming.{ComesFrom, comes_from}
 
 -- a valid build comes from its source
@@ -84,3 +85,18 @@ all_ok program before (b ∷ bs) h =
 
 pub modules_differ : ModulesDiffer
 modules_differ bs h = all_ok (program_of bs) [] bs h.together
+
+-- the same of what makes a program whole
+apart : (before bs : List Build) → AreTogether before bs → Different (λ (m : Module). m.name) (program_of bs)
+apart before [] h = tt
+apart before (b ∷ bs) h =
+    let c = h.0.valid.0 in
+    let v = h.0.valid.1 in
+    (names_fresh (before ++ b ∷ []) (tree_of b).name (subst (Contains (map name_of (before ++ b ∷ []))) (shows_name b c v) (last_there before b)) bs h.1, apart (before ++ b ∷ []) bs h.1)
+
+each_apart : (before bs : List Build) → AreTogether before bs → AllByRecursion (λ (m : Module). Different (λ v. v.name) m.variables) (program_of bs)
+each_apart before [] h = tt
+each_apart before (b ∷ bs) h = (variables_distinct b h.0.valid.0 h.0.valid.1, each_apart (before ++ b ∷ []) bs h.1)
+
+pub names_differ : NamesDiffer
+names_differ bs h = (apart [] bs h.together, each_apart [] bs h.together)

@@ -1,5 +1,5 @@
 -- The fields of the records of a program have different names, also where they are laid out; and nothing is declared of Out.
-use Rattle.std.proofs.Common.{◌≡◌, ◌≢◌, ℕ, suc, Bool, true, false, List, [], ◌∷◌, ◌++◌, map, Option, Some, None, refl, sym, ap, subst, ◌∙◌}
+use Rattle.std.proofs.Common.{◌≡◌, ◌≢◌, ℕ, ◌+◌, Bool, true, false, List, [], ◌∷◌, ◌++◌, map, Option, Some, None, refl, sym, ap, subst, ◌∙◌}
 use Rattle.std.specs.Prelude.{bytes_eq, if◌then◌else◌, codes, MatchOption}
 use Rattle.std.specs.List.{AllByRecursion}
 use Rattle.std.specs.declared.cmp.Ordering.{Ordering}
@@ -62,11 +62,11 @@ names_ordered R (f ∷ fs) h = names_put R f (in_order R fs) (fresh_ordered R f.
 
 fresh_placed : (words : TypeRef → ℕ) (n : ℕ) (x : List ℕ) (fs : List Field) → AllByRecursion (λ f. f.name ≢ x) fs → IsFreshName x (placed words n fs)
 fresh_placed words n x [] h = tt
-fresh_placed words n x (f ∷ fs) h = (λ e. h.0 (sym e), fresh_placed words _ x fs h.1)
+fresh_placed words n x (f ∷ fs) h = (λ e. h.0 (sym e), fresh_placed words (n + words f.of) x fs h.1)
 
 names_placed : (words : TypeRef → ℕ) (n : ℕ) (fs : List Field) → AreDistinct (λ f. f.name) fs → HaveNames (placed words n fs)
 names_placed words n [] h = tt
-names_placed words n (f ∷ fs) h = (fresh_placed words _ f.name fs h.0, names_placed words _ fs h.1)
+names_placed words n (f ∷ fs) h = (fresh_placed words (n + words f.of) f.name fs h.0, names_placed words (n + words f.of) fs h.1)
 
 -- ---- of what a module declares
 

@@ -1,3 +1,4 @@
 pub mod Coming
 pub mod Different
 pub mod Fields
+pub mod Grounded

@@ -6,7 +6,7 @@ use Rattle.ob_types.specs.declared.desc.Desc.{Desc}
 use Rattle.ob_types.specs.declared.typed.TypedStmt.{TypedStmt}
 use Rattle.ob_types.specs.declared.typed.TypedProcedure.{TypedProcedure}
 use Rattle.ob_types.specs.declared.typed.TypedModule.{TypedModule}
-use Rattle.ob_types.specs.TypedSyntax.{Procedure}
+use Rattle.ob_types.specs.TypedSyntax.{Procedure, Stmts}
 use Rattle.ob_types.specs.TypedView.{stmts_view}
 use Rattle.ob_meaning.specs.Values.{Program}
 use Rattle.ob_relation.specs.Layout.{static_held}
@@ -22,18 +22,19 @@ use Rattle.ob_bodies.specs.Judged.{IsJudged}
 use Rattle.ob_bodies.proofs.Held.{hidden_stand}
 use Rattle.ob_surrounded.specs.Laws.{BodiesFit}
 
+module _ (program : Program) (has : Signature → QName → Bool) (shown : QName → Option Desc) (checked : TypedModule) (f : Option TypedProcedure) (body : List TypedStmt) (j : IsJudged ConstantIs shown checked f body) (p : Procedure) (b : p.body ≡ stmts_view body) (different : AreDifferent (static_held program p)) (s : IsSurrounded program (Having has) checked.name (static_held program p) p.result j.u) where
+  abbrev Ok : Stmts → Bool → Type 0
+  Ok x l = StmtsOk program (Having has) checked.name (static_held program p) p.result x l
+
+  some_fit : (ys : List TypedStmt) → (in_turn (map judging j.xs) j.u).node ≡ Some ys → body ≡ ys → Ok (stmts_view ys) false
+  some_fit ys e k =
+      subst (λ l. Ok (stmts_view ys) l) j.stands.in_loop
+      (statements_fit program has checked.name (static_held program p) p.result j.u (surroundings_fit program has checked.name (static_held program p) p.result j.u s) j.xs j.spelled
+      (hidden_stand program has checked.name p.result j.u j.xs ys e p (b ∙ ap stmts_view k) different) ys e)
+
+  by_node : (o : Option (List TypedStmt)) → (in_turn (map judging j.xs) j.u).node ≡ o → Ok (stmts_view body) false
+  by_node None e = subst (λ x. Ok (stmts_view x) false) (sym (j.is ∙ ap stmts_in e)) tt
+  by_node (Some ys) e = let k : body ≡ ys = j.is ∙ ap stmts_in e in subst (λ x. Ok (stmts_view x) false) (sym k) (some_fit ys e k)
+
 pub bodies_fit : BodiesFit
-bodies_fit program has shown checked f body j p b different s = subst (λ x. Ok x false) (sym b) (by (in_turn (map judging j.xs) j.u).node refl)
-  where
-    abbrev Ok : Rattle.ob_types.specs.TypedSyntax.Stmts → Bool → Type 0
-    Ok x l = StmtsOk program (Having has) checked.name (static_held program p) p.result x l
-
-    some : (ys : List TypedStmt) → (in_turn (map judging j.xs) j.u).node ≡ Some ys → body ≡ ys → Ok (stmts_view ys) false
-    some ys e k =
-        subst (λ l. Ok (stmts_view ys) l) j.stands.in_loop
-        (statements_fit program has checked.name (static_held program p) p.result j.u (surroundings_fit program has checked.name (static_held program p) p.result j.u s) j.xs j.spelled
-        (hidden_stand program has checked.name p.result j.u j.xs ys e p (b ∙ ap stmts_view k) different) ys e)
-
-    by : (o : Option (List TypedStmt)) → (in_turn (map judging j.xs) j.u).node ≡ o → Ok (stmts_view body) false
-    by None e = subst (λ x. Ok (stmts_view x) false) (sym (j.is ∙ ap stmts_in e)) tt
-    by (Some ys) e = let k : body ≡ ys = j.is ∙ ap stmts_in e in subst (λ x. Ok (stmts_view x) false) (sym k) (some ys e k)
+bodies_fit program has shown checked f body j p b different s = subst (λ x. Ok program has shown checked f body j p b different s x false) (sym b) (by_node program has shown checked f body j p b different s (in_turn (map judging j.xs) j.u).node refl)

@@ -13,8 +13,9 @@ use Rattle.ob_meaning.specs.Values.{Program, description}
 use Rattle.ob_rules.specs.Shapes.{is_held}
 use Rattle.ob_forms.specs.Formed.{IsDeclared}
 use Rattle.ob_typed.specs.Forms.{AreKnown, ResultIs, SignatureIs}
-use Rattle.ob_valued.specs.Laws.{AreTypesOf}
+use Rattle.ob_valued.specs.Laws.{AreTypesOf, AreDeclared}
 use Rattle.ob_valued.specs.Around.{AreTypesThere, ValuesAround}
+use Rattle.ob_valued.proofs.Equal.{equal_are_forms}
 use Rattle.ob_valued.proofs.Values.{values_are_made, matching_is_having}
 
 module _ (program : Program) (map : QName → Option Desc) (there : AreTypesThere map program) where
@@ -37,9 +38,13 @@ module _ (program : Program) (map : QName → Option Desc) (there : AreTypesTher
   signature_held : (s : Signature) → SignatureIs program map s → AreTypesOf program (signature_types s)
   signature_held s i = params_held s.params (listed s.result) i.params (result_held s.result i.result i.result_held)
 
+params_declared : (map : QName → Option Desc) (ks : List (Mode × TypeRef)) → AreKnown map ks → AreDeclared ks
+params_declared map [] a = tt
+params_declared map (k ∷ ks) a = (a.0.0, params_declared map ks a.1)
+
 -- THE LAW
 pub values_around : ValuesAround
-values_around program map typed there forms = record {
+values_around program map typed there formed alike = record {
   values = λ q s i k v. values_are_made program typed q s i (signature_held program map there s k) v;
-  alike = λ q s t i k l v e. values_are_made program typed q t (matching_is_having program map forms q s t i e) (signature_held program map there t l) v;
+  alike = λ q s t i k l v e. values_are_made program typed q t (matching_is_having program map (equal_are_forms program map formed alike) q s t i (params_declared map s.params k.params) (params_declared map t.params l.params) e) (signature_held program map there t l) v;
 }

@@ -1,4 +1,5 @@
 pub mod Same
 pub mod Values
 pub mod Stays
+pub mod Equal
 pub mod Around

@@ -22,7 +22,7 @@ use Rattle.ob_rules.specs.Shapes.{is_held}
 use Rattle.ob_forms.specs.Formed.{AreParameters}
 use Rattle.ob_valued.specs.Same.{same_form, same_passing}
 use Rattle.ob_valued.specs.Valued.{alike, takes, parameters_take, has_signature, values}
-use Rattle.ob_valued.specs.Laws.{ValuesFit, AreTypesOf, ValuesAreMade, AreForms, MatchingIsHaving}
+use Rattle.ob_valued.specs.Laws.{ValuesFit, AreTypesOf, ValuesAreMade, AreForms, AreDeclared, MatchingIsHaving}
 use Rattle.ob_valued.proofs.Same.{form_is, form_same, passing_is, passing_same, mode_is}
 
 module _ (program : Program) where
@@ -108,17 +108,17 @@ values_are_made program typed q s i known is =
 -- ---- what matches
 
 module _ (program : Program) (map : QName → Option Desc) (forms : AreForms map program) where
-  match_params : (ps : List TypedParameter) (ks ls : List (Mode × TypeRef)) → AreParameters program ps ks → params_alike (λ x y. equal_at map 201 x y) ks ls ≡ true → AreParameters program ps ls
-  match_params [] [] [] a e = tt
-  match_params [] [] (l ∷ ls) a e = absurd (false≢true e)
-  match_params [] (k ∷ ks) ls a e = absurd a
-  match_params (p ∷ ps) [] ls a e = absurd a
-  match_params (p ∷ ps) (k ∷ ks) [] a e = absurd (false≢true e)
-  match_params (p ∷ ps) (k ∷ ks) (l ∷ ls) a e =
+  match_params : (ps : List TypedParameter) (ks ls : List (Mode × TypeRef)) → AreParameters program ps ks → AreDeclared ks → AreDeclared ls → params_alike (λ x y. equal_at map 201 x y) ks ls ≡ true → AreParameters program ps ls
+  match_params [] [] [] a d c e = tt
+  match_params [] [] (l ∷ ls) a d c e = absurd (false≢true e)
+  match_params [] (k ∷ ks) ls a d c e = absurd a
+  match_params (p ∷ ps) [] ls a d c e = absurd a
+  match_params (p ∷ ps) (k ∷ ks) [] a d c e = absurd (false≢true e)
+  match_params (p ∷ ps) (k ∷ ks) (l ∷ ls) a d c e =
       let h = and_both (modes_alike k.0 l.0) (equal_at map 201 k.1 l.1 && params_alike (λ x y. equal_at map 201 x y) ks ls) e in
       let g = and_both (equal_at map 201 k.1 l.1) (params_alike (λ x y. equal_at map 201 x y) ks ls) h.1 in
-      let f : form_in program k.1 ≡ form_in program l.1 = forms.equal k.1 l.1 g.0 in
-      (a.0 ∙ f, (a.1.0 ∙ ap (λ m. passing_for m (form_in program k.1)) (mode_is k.0 l.0 h.0) ∙ ap (passing_for l.0) f, match_params ps ks ls a.1.1 g.1))
+      let f : form_in program k.1 ≡ form_in program l.1 = forms.equal k.1 l.1 d.0 c.0 g.0 in
+      (a.0 ∙ f, (a.1.0 ∙ ap (λ m. passing_for m (form_in program k.1)) (mode_is k.0 l.0 h.0) ∙ ap (passing_for l.0) f, match_params ps ks ls a.1.1 d.1 c.1 g.1))
 
   match_result : (r s : Option TypeRef) → results_alike (λ x y. same_at map x y) r s ≡ true → result_form program r ≡ result_form program s
   match_result None None e = refl
@@ -127,11 +127,11 @@ module _ (program : Program) (map : QName → Option Desc) (forms : AreForms map
   match_result (Some t) (Some u) e = ap (λ f. Some f) (forms.same t u e)
 
 pub matching_is_having : MatchingIsHaving
-matching_is_having program map forms q s t i e =
+matching_is_having program map forms q s t i d c e =
     let h = and_both (params_alike (λ x y. equal_at map 201 x y) s.params t.params) (results_alike (λ x y. same_at map x y) s.result t.result) e in
     record {
       p = i.p;
       found = i.found;
       result = i.result ∙ match_result program map forms s.result t.result h.1;
-      parameters = match_params program map forms i.p.parameters s.params t.params i.parameters h.0;
+      parameters = match_params program map forms i.p.parameters s.params t.params i.parameters d c h.0;
     }

@@ -9,10 +9,10 @@ use Rattle.ob_types.specs.AssigningTests.{is_value, alike_to}
 use Rattle.ob_meaning.specs.Values.{Program, description}
 use Rattle.ob_rules.specs.Shapes.{same_name, is_held}
 use Rattle.ob_rules.specs.Names.{out_string}
-use Rattle.ob_forms.specs.Formed.{IsProcedureOf}
+use Rattle.ob_forms.specs.Formed.{Formed, IsProcedureOf}
 use Rattle.ob_typed.specs.Forms.{SignatureIs}
 use Rattle.ob_valued.specs.Valued as valued
-use Rattle.ob_valued.specs.Laws.{AreProceduresTyped, AreForms}
+use Rattle.ob_valued.specs.Laws.{AreProceduresTyped, MatchingAreAlike}
 
 -- what the map holds as types are types of the program, but that of the parameter of Out.String
 abbrev pub AreTypesThere : (QName → Option Desc) → Program → Type 0
@@ -24,4 +24,4 @@ pub record HasValues (program : Program) (map : QName → Option Desc) : Type 0 
   pub alike : (q : QName) (s t : Signature) → IsProcedureOf program q s → SignatureIs program map s → SignatureIs program map t → is_value q ≡ true → alike_to map s (Some t) ≡ true → valued.values program t q ≡ true
 
 abbrev pub ValuesAround : Type 0
-ValuesAround = (program : Program) (map : QName → Option Desc) → AreProceduresTyped program → AreTypesThere map program → AreForms map program → HasValues program map
+ValuesAround = (program : Program) (map : QName → Option Desc) → AreProceduresTyped program → AreTypesThere map program → Formed map program → MatchingAreAlike map program → HasValues program map

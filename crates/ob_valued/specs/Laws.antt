@@ -1,19 +1,20 @@
 -- The laws of the procedures that may be values.
-use Rattle.std.specs.Prelude.{◌≡◌, List, [], ◌∷◌, ◌++◌, map, Option, Some, true}
+use Rattle.std.specs.Prelude.{◌≡◌, ℕ, List, [], ◌∷◌, ◌++◌, map, Option, Some, true}
 use Rattle.std.specs.List.{AllByRecursion}
 use Rattle.ob_tree.specs.declared.names.QName.{QName}
+use Rattle.ob_types.specs.declared.types.Mode.{Mode}
 use Rattle.ob_types.specs.declared.types.TypeRef.{TypeRef}
 use Rattle.ob_types.specs.declared.types.Signature.{Signature}
 use Rattle.ob_types.specs.declared.desc.Desc.{Desc}
 use Rattle.ob_types.specs.Maps.{listed, signature_types}
-use Rattle.ob_types.specs.Tests.{same_at, equal_at}
+use Rattle.ob_types.specs.Tests.{same_at, signatures_alike, equal_at}
 use Rattle.ob_types.specs.AssigningTests.{is_value, alike_to}
 use Rattle.ob_types.specs.TypedSyntax.{Procedure, Module}
 use Rattle.ob_meaning.specs.Values.{Program, description, procedure_of, form_in, record_in}
 use Rattle.ob_relation.specs.Setting.{Setting, has_of}
 use Rattle.ob_methods.specs.Signatures.{ValuesMatch}
-use Rattle.ob_rules.specs.Shapes.{is_held}
-use Rattle.ob_forms.specs.Formed.{IsProcedureOf}
+use Rattle.ob_rules.specs.Shapes.{signature_at, is_held}
+use Rattle.ob_forms.specs.Formed.{IsDeclared, Formed, IsProcedureOf}
 use Rattle.ob_valued.specs.Valued.{values}
 
 -- WHAT A VALUE IS: a procedure of the program, which matches the signature
@@ -40,11 +41,22 @@ ValuesAreMade = (program : Program) → AreProceduresTyped program → (q : QNam
 -- types that the rules take for the same, or for equal, are of one form
 pub record AreForms (map : QName → Option Desc) (program : Program) : Type 0 where
   pub same : (t u : TypeRef) → same_at map t u ≡ true → form_in program t ≡ form_in program u
-  pub equal : (t u : TypeRef) → equal_at map 201 t u ≡ true → form_in program t ≡ form_in program u
+  pub equal : (t u : TypeRef) → IsDeclared t → IsDeclared u → equal_at map 201 t u ≡ true → form_in program t ≡ form_in program u
+
+-- procedure types whose signatures match are of one form
+abbrev pub MatchingAreAlike : (QName → Option Desc) → Program → Type 0
+MatchingAreAlike map program = (n : ℕ) (t u : TypeRef) (s r : Signature) → signature_at map t ≡ Some s → signature_at map u ≡ Some r → signatures_alike (λ x y. equal_at map n x y) (λ x y. same_at map x y) s r ≡ true → form_in program t ≡ form_in program u
+
+-- if so, types that the rules take for equal are, where the map says what the program has
+abbrev pub EqualAreForms : Type 0
+EqualAreForms = (program : Program) (map : QName → Option Desc) → Formed map program → MatchingAreAlike map program → AreForms map program
+
+abbrev pub AreDeclared : List (Mode × TypeRef) → Type 0
+AreDeclared ks = AllByRecursion (λ k. IsDeclared k.1) ks
 
 -- a procedure that has a signature has each one that matches it
 abbrev pub MatchingIsHaving : Type 0
-MatchingIsHaving = (program : Program) (map : QName → Option Desc) → AreForms map program → (q : QName) (s t : Signature) → IsProcedureOf program q s → alike_to map s (Some t) ≡ true → IsProcedureOf program q t
+MatchingIsHaving = (program : Program) (map : QName → Option Desc) → AreForms map program → (q : QName) (s t : Signature) → IsProcedureOf program q s → AreDeclared s.params → AreDeclared t.params → alike_to map s (Some t) ≡ true → IsProcedureOf program q t
 
 -- VALUES STAY where one more module is behind and types stay what they are
 

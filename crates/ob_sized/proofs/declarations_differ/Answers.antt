@@ -1,10 +1,13 @@
 -- What is declared has different names.
-use Rattle.ob_sized.proofs.Different.{modules_differ}
+use Rattle.ob_sized.proofs.Different.{modules_differ, names_differ}
 use Rattle.ob_sized.proofs.Fields.{fields_have_names, nothing_of_out}
 use Rattle.ob_sized.proofs.declarations_differ.Goals as goal
 
 pub returns-clause-modules : goal.returns-clause-modules
 returns-clause-modules c = modules_differ
+
+pub returns-clause-names : goal.returns-clause-names
+returns-clause-names c = names_differ
 
 pub returns-clause-fields : goal.returns-clause-fields
 returns-clause-fields c = fields_have_names

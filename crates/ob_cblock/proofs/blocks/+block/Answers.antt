@@ -1,8 +1,9 @@
-use Rattle.std.proofs.Common.{rules, ◌≡◌, ◌+◌, ◌-◌, List, ◌++◌, length, drop, true, refl, sym, ap, subst, ◌∙◌, arith}
+use Rattle.std.proofs.Common.{rules, ◌≡◌, ◌+◌, ◌-◌, List, ◌++◌, length, drop, true, suc, refl, sym, ap, subst, ◌∙◌, arith}
 use Rattle.std.specs.Prelude.{reverse}
 use Rattle.ob_tree.specs.declared.decl.Decl.{Decl}
 use Rattle.ob_known.specs.Descending.{are_within}
 use Rattle.ob_known.specs.Scopes.{around_of}
+use Rattle.ob_known.specs.Bodies.{restored}
 use Rattle.ob_rules.specs.declared.entity.Known.{Known}
 use Rattle.ob_rules.specs.declared.notes.Notebook.{Notebook}
 use Rattle.ob_rules.specs.Books.{book_after}
@@ -201,6 +202,24 @@ procedure-returns-clause-added g t c = λ n h k b.
     let full = c.args.aside.now.items ++ u.known in
     let shown = c.in_ok-show.ensures.shown in
     c.in_ok-procedure_here.ensures.added n h k (known_here n u v full c.args.head h k b shown) ∙ ap (λ (p : Part). together (contents_of c.args.contents.now) p.contents) (here_of u v full (drop (length full - c.args.head.behind) full) h c.args.decls.now c.args.body.now c.args.closing.now shown)
+
+pub procedure_here-leave_body-requires-clause-inner : goal.procedure_here-leave_body-requires-clause-inner
+procedure_here-leave_body-requires-clause-inner g t c =
+    let ty = g.E.Types.types in
+    let u = around_of ty c.args.scope.now in
+    let v = around_of ty c.open.new.scope in
+    let w = around_of ty c.block.new.scope in
+    let deep : w.scope ≡ suc u.scope = ap (λ (x : Around). x.scope) (still_inside u v w c.args.head c.in_ok-entered.ensures.around c.requires.coming c.in_ok-block.ensures.stays ∙ c.in_ok-entered.ensures.around) in
+    omega (arith, deep)
+
+pub procedure_here-leave_body-requires-clause-fall : goal.procedure_here-leave_body-requires-clause-fall
+procedure_here-leave_body-requires-clause-fall g t c =
+    let ty = g.E.Types.types in
+    let u = around_of ty c.args.scope.now in
+    let v = around_of ty c.open.new.scope in
+    let w = around_of ty c.block.new.scope in
+    let back : restored c.in_ok-entered.entered.1 w ≡ u = ap (restored c.in_ok-entered.entered.1) (still_inside u v w c.args.head c.in_ok-entered.ensures.around c.requires.coming c.in_ok-block.ensures.stays) ∙ c.in_ok-entered.ensures.outside in
+    subst (λ (x : Around). are_within x.scope x.known ≡ true) (sym back) c.mark.ensures.fall
 
 pub procedure_here-returns-clause-stays : goal.procedure_here-returns-clause-stays
 procedure_here-returns-clause-stays g t c =
