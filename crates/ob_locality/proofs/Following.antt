@@ -27,11 +27,13 @@ use Rattle.ob_local.proofs.Agreed.{named_none}
 use Rattle.ob_local.proofs.Whole.{modules_are_local}
 use Rattle.ob_local.proofs.Bridged.{counts_are_enough}
 use Rattle.ob_local.proofs.Blanked.{shapes_are_told}
-use Rattle.ob_locality.specs.Laws.{ShowAlike, RulesAreLocal, BuildsAreChecked, LocalityFollows}
+use Rattle.ob_locality.specs.Laws.{ShowAlike, RulesAreLocal, BuildsAreTied, LocalityFollows}
+use Rattle.ob_distinct.proofs.FieldBlocks.{fields_differ}
+use Rattle.ob_locality.proofs.Named.{found_all, types_apart}
 use Rattle.ob_locality.proofs.Walked.{have_none, have_no_root}
 use Rattle.ob_locality.proofs.Compiled.{ComesOf, comes_of, checked_name}
 
-module _ (rules : RulesAreLocal) (are_checked : BuildsAreChecked) (b : Build) (c : Compiled Text) (m : Tree) (valid : IsValid b c) (read : reading b.source ≡ Ok m) (faces : List (Face Text)) (around : AreAround c.shows.«module» faces) (wanted : AreAsWanted faces c.shows.uses) where
+module _ (rules : RulesAreLocal) (are_tied : BuildsAreTied) (b : Build) (c : Compiled Text) (m : Tree) (valid : IsValid b c) (read : reading b.source ≡ Ok m) (faces : List (Face Text)) (around : AreAround c.shows.«module» faces) (wanted : AreAsWanted faces c.shows.uses) where
   from : ComesOf m c
   from = comes_of b c m valid read
 
@@ -57,7 +59,14 @@ module _ (rules : RulesAreLocal) (are_checked : BuildsAreChecked) (b : Build) (c
   no_out = have_none m.name.name c.against (comes_of b c m valid read).clean
 
   tied : IsChecked c.against T
-  tied = are_checked b c m t valid read (comes_of b c m valid read).tree_is (comes_of b c m valid read).unbroken
+  tied =
+      let k = are_tied b c m t valid read (comes_of b c m valid read).tree_is (comes_of b c m valid read).unbroken in
+      record {
+        tied = k.tied;
+        held = k.held;
+        types = found_all t.types k.names;
+        fields = types_apart t.types (fields_differ (shown c.against) m t (comes_of b c m valid read).tree_is);
+      }
 
   met : AreMet faces (face_from text_in c.against T).uses
   met = subst (λ (x : Compiled Text). AreAsWanted faces x.shows.uses) is wanted
@@ -113,4 +122,4 @@ module _ (rules : RulesAreLocal) (are_checked : BuildsAreChecked) (b : Build) (c
   )
 
 pub locality_follows : LocalityFollows
-locality_follows rules are_checked b c m valid read faces around wanted = follows rules are_checked b c m valid read faces around wanted
+locality_follows rules are_tied b c m valid read faces around wanted = follows rules are_tied b c m valid read faces around wanted

@@ -1,3 +1,4 @@
 pub mod Walked
 pub mod Compiled
 pub mod Following
+pub mod Named
