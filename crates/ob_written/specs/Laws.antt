@@ -11,7 +11,7 @@
 --   shape of an object       names and references of types: Ruled. Values: characters below 256, INTEGER in 32 bits, strings of bytes
 --                            (Seen.constants); array lengths from 1 to 2^31 - 1 (Seen.lengths, TypeNames); members rise: laid out so
 --   layout of an object      words and numbers below 2^31: limits words and procedures, laid out so
---   texts below 2^32         limit files of `exceeds` (a symbol file's bytes)
+--   texts below 2^32         limit face of `exceeds` (a symbol file's bytes)
 --   prints                   of these texts, by definition
 --   uses rise, their names   sorted where they are written; identifiers of described objects: interfaces against which it compiles are
 --                            spelled
