@@ -8,7 +8,8 @@ use Rattle.ob_mem.specs.Words.{word_at}
 use Rattle.ob_instr.specs.Rows as rows_of
 use Rattle.ob_instr.specs.Rows.{Chars, Endless, Ends, char_or_end, chars_from, chars_lt, chars_eq, related}
 use Rattle.ob_meaning.specs.Values.{Value, Character, character_of, AnObject}
-use Rattle.ob_meaning.specs.Operators.{before_all, up_to_end, characters, character_at, text_equal, text_less, holds}
+use Rattle.ob_types.specs.Numbers.{text_equal, text_less, holds}
+use Rattle.ob_meaning.specs.Operators.{before_all, up_to_end, characters, character_at}
 use Rattle.ob_relation.specs.Stands.{comparison_number}
 use Rattle.ob_relation.specs.Typed.{char, AreCharacters}
 use Rattle.ob_relation.proofs.Slots.{word_got}

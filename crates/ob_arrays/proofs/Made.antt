@@ -13,7 +13,7 @@ use Rattle.ob_instr.specs.Rows.{Traps}
 use Rattle.ob_instr.proofs.Goes as rows
 use Rattle.ob_meaning.specs.Values.{Form, PointerForm, ArrayForm, OpenForm, form_in, words, integer_of, Place, AnObject, Opened, State}
 use Rattle.ob_meaning.specs.Results.{Caller}
-use Rattle.ob_meaning.specs.Operators.{is_in, is_positive}
+use Rattle.ob_types.specs.Numbers.{is_in, is_positive}
 use Rattle.ob_meaning.specs.Meaning.{make_open}
 use Rattle.ob_relation.specs.Layout.{address, place_form}
 use Rattle.ob_relation.specs.Relation.{FormOk, IsLength, LengthFits, Scalar, word_of, PlaceOf, Sub, opened}

@@ -14,7 +14,7 @@ use Rattle.ob_instr.specs.Rows.{Next, is_zero, in_width}
 use Rattle.ob_instr.proofs.Goes as rows
 use Rattle.ob_meaning.specs.Values.{Program, Form, PointerForm, ArrayForm, OpenForm, form_in, words, Value, Integer, Nil, Object, length_of, integer_of, OfModule, OfCall, OfObject, ElementStep, Place, At, inside, value_at, Active, AnObject, Whole, Opened, State}
 use Rattle.ob_meaning.specs.Results.{Trapped, Gives, Stops, Caller}
-use Rattle.ob_meaning.specs.Operators.{is_in}
+use Rattle.ob_types.specs.Numbers.{is_in}
 use Rattle.ob_meaning.specs.Meaning.{pointee, element_place, choose, costs_of}
 use Rattle.ob_meaning.specs.Calls.{element_form}
 use Rattle.ob_relation.specs.Layout.{object_form, object_at, object_offset, extra_words, has_length, has_length_at, element_of_form, path_offset, place_form, address, heap_start}

@@ -33,7 +33,7 @@ use Rattle.ob_relation.proofs.Frames.{referred_fixed, call_alike, slot_alike, sa
 use Rattle.ob_relation.proofs.Moves.{goes, small_word, all_length}
 use Rattle.ob_relation.proofs.Located.{located}
 use Rattle.ob_relation.proofs.Exprs.{widen_kept}
-use Rattle.ob_meaning.specs.Operators.{is_in}
+use Rattle.ob_types.specs.Numbers.{is_in}
 use Rattle.ob_types.specs.declared.typed.Width.TheVariants as width
 use Rattle.ob_relation.proofs.Sources.{place_ok}
 use Rattle.ob_arrays.proofs.Opens.{open_form, long_length}

@@ -13,7 +13,7 @@ use Rattle.ob_instr.specs.Rows.{Next, Traps, truth, related}
 use Rattle.ob_instr.proofs.Goes as rows
 use Rattle.ob_meaning.specs.Values.{Form, BasicForm, PointerForm, ProcedureForm, ArrayForm, OpenForm, RecordForm, Value, Truth, Place, AnObject, State}
 use Rattle.ob_meaning.specs.Results.{Trapped, Res, Gives, Stops, bind, Caller}
-use Rattle.ob_meaning.specs.Operators.{text_equal, text_less, holds}
+use Rattle.ob_types.specs.Numbers.{text_equal, text_less, holds}
 use Rattle.ob_meaning.specs.Meaning.{Source, Stands, Text, text_in, text_of, give_or, place, source}
 use Rattle.ob_relation.specs.Layout.{address, place_form}
 use Rattle.ob_relation.specs.Relation.{PlaceIn, second_word}

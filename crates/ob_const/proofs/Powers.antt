@@ -4,7 +4,7 @@ use Rattle.std.specs.Int.RustNames.{FitsSigned, unsigned_abs}
 use Rattle.std.proofs.lemmas.Int.{fits_signed_mul, to_z_pos}
 use Rattle.std.proofs.Math.Pow.{pow_mono}
 use Rattle.std.specs.Int.{int_div_euclid}
-use Rattle.ob_meaning.specs.Operators.{quotient}
+use Rattle.ob_types.specs.Numbers.{quotient}
 
 small_abs : (x : ℤ) → FitsSigned w32 x → unsigned_abs x ≤ 2147483648
 small_abs (pos n) f = let h = f.sfits in omega arith

@@ -5,7 +5,7 @@ use Rattle.std.specs.Ordering.{nat_cmp, ordering_then}
 use Rattle.std.specs.declared.cmp.Ordering.{Ordering}
 use Rattle.std.specs.declared.cmp.Ordering.TheVariants.{Less, Equal, Greater}
 use Rattle.std.specs.Cmp.Lexicographic.{pointwise, slice_cmp}
-use Rattle.ob_meaning.specs.Operators.{text_equal, text_less}
+use Rattle.ob_types.specs.Numbers.{text_equal, text_less}
 
 pub equal_texts : (a b : List ℕ) → pointwise nat_eq a b ≡ text_equal a b
 equal_texts [] [] = refl

@@ -1,5 +1,5 @@
 ghost use Rattle.std.specs.Prelude.{◌≡◌, ◌+ℤ◌, ◌-ℤ◌, ◌*ℤ◌, neg_ℤ, pos, unsigned_abs};
-ghost use Rattle.ob_meaning.specs.Operators.{quotient, remainder, is_positive, is_odd, capital, element_in};
+ghost use Rattle.ob_types.specs.Numbers.{quotient, remainder, is_positive, is_odd, capital, element_in};
 ghost use Rattle.ob_types.specs.declared.value.Value.TheVariants as literal;
 ghost use Rattle.ob_rules.specs.Constants as spec;
 

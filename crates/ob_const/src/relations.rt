@@ -1,5 +1,5 @@
 ghost use Rattle.std.specs.Prelude.{◌≡◌};
-ghost use Rattle.ob_meaning.specs.Operators.{holds};
+ghost use Rattle.ob_types.specs.Numbers.{holds};
 ghost use Rattle.ob_rules.specs.Constants as spec;
 
 use crate::values::truth;

@@ -1,5 +1,5 @@
 ghost use Rattle.std.specs.Prelude.{◌≡◌, ◌≤◌, ◌<◌, ◌^◌, ◌-◌, bit_or, bit_and, bit_xor, IfSome};
-ghost use Rattle.ob_meaning.specs.Operators.{element_in, has_bit};
+ghost use Rattle.ob_types.specs.Numbers.{element_in, has_bit};
 ghost use Rattle.ob_rules.specs.Constants as spec;
 ghost use Rattle.ob_types.specs.declared.value.Value.TheVariants as literal;
 

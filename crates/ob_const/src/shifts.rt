@@ -1,5 +1,5 @@
 ghost use Rattle.std.specs.Prelude.{◌≡◌, ◌≤◌, ◌<◌, ◌^◌, ◌*ℤ◌, pos, negsuc, nat_le};
-ghost use Rattle.ob_meaning.specs.Operators.{shifted, quotient};
+ghost use Rattle.ob_types.specs.Numbers.{shifted, quotient};
 ghost use Rattle.ob_rules.specs.Constants as spec;
 
 use crate::values::integer_in;

@@ -1,6 +1,6 @@
 ghost use Rattle.std.specs.Prelude.{◌≡◌, ◌∷◌, [], Option, Some, None, ◌≤◌, length};
 ghost use Rattle.std.specs.Option.{option_map};
-ghost use Rattle.ob_meaning.specs.Operators.{holds, text_equal, text_less};
+ghost use Rattle.ob_types.specs.Numbers.{holds, text_equal, text_less};
 ghost use Rattle.ob_types.specs.Assigning.{characters};
 ghost use Rattle.ob_rules.specs.Constants as spec;
 

@@ -38,7 +38,7 @@ use Rattle.ob_rules.specs.Operators.{monadic, dyadic, and_so}
 use Rattle.ob_rules.specs.Calls.{misplaced}
 use Rattle.ob_rules.specs.Predeclared.{is_function, value, does, if_is, on_width, longer, shorter, dimension, length_of, len_at, len_of, number_in, one, step, element_step, is_text, new_array, new_fixed, new_elements, if_held, new_one, new_many, fit_one, fit_two, fit, if_fit, call_fit, extreme, extreme_of, basic_if}
 use Rattle.ob_types.specs.Tests.{target, shape_at}
-use Rattle.ob_meaning.specs.Operators.{is_in}
+use Rattle.ob_types.specs.Numbers.{is_in}
 use Rattle.ob_typed.specs.Known.{ConstantIs}
 use Rattle.ob_described.proofs.Nodes.{Has, then_has, also_has}
 use Rattle.ob_typed.specs.Makes.{IfThere}

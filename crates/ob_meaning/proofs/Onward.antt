@@ -26,6 +26,7 @@ use Rattle.ob_meaning.specs.Values as values
 use Rattle.ob_meaning.specs.Values.{Program, procedure_of, Value, Truth, Character, Integer, SetOf, Nil, Object, ProcedureAt, Elements, Record, Place, Store, Active, State, AnObject}
 use Rattle.ob_meaning.specs.Results.{M, Res, Gives, Stops, Why, Trapped, bind, ◌>>=◌, give, stop, spend_of, spend, read, assign, write, Passed, ByValue, ByPlace, Around}
 use Rattle.ob_meaning.specs.Operators as operators
+use Rattle.ob_types.specs.Numbers as numbers
 use Rattle.ob_meaning.specs.Operators.{Computed, Is, Traps}
 use Rattle.ob_meaning.specs.Meaning as meaning
 use Rattle.ob_meaning.specs.Meaning.{Flow, Done, Leaves, Back, Round, Again, Leave, Source, Stands, Text, place, value, source, actuals, exec, execs, exec_branches, exec_cases, exec_else}
@@ -216,7 +217,7 @@ pub keep_make : (x : AnObject) (p : Place) (u : Around) (at : Pos) → Keeps (me
 keep_make x p u at = record { at = λ s. (keep_choose (nat_le (meaning.costs_of (x ∷ s.made)) u.heap) (keep_object x p) (keep_stop (Trapped 12 (pos 0) u.unit at))).at s }
 
 pub keep_make_open : (n : ℤ) (t : TypeRef) (p : Place) (u : Around) (at : Pos) → Keeps (meaning.make_open n t p u at)
-keep_make_open n t p u at = keep_choose (operators.is_positive n) (keep_make (values.Opened (unsigned_abs n) (values.form_in u.program t)) p u at) (keep_stop (Trapped 16 (pos 0) u.unit at))
+keep_make_open n t p u at = keep_choose (numbers.is_positive n) (keep_make (values.Opened (unsigned_abs n) (values.form_in u.program t)) p u at) (keep_stop (Trapped 16 (pos 0) u.unit at))
 
 pub keep_done : {m : M (Unit {0})} → Keeps m → Keeps (meaning.done m)
 keep_done h = keep_bind h (λ x. keep_give Done)

@@ -31,7 +31,8 @@ use Rattle.ob_types.specs.declared.typed.Binding.{Binding}
 use Rattle.ob_types.specs.TypedSyntax.{Desig, OfVariable, Field, Index, Deref, Guard, Expr, Constant, ValueOf, ProcedureValue, Monadic, Dyadic, Logical, CompareTexts, IsPointer, IsRecord, Length, Call, CallVariable, Actuals, NoActual, AnActual, Stmt, Assign, CallProper, Updated, Copy, New, NewOpenArray, Assert, Halt, If, Case, While, Repeat, For, Loop, Exit, Return, With, Stmts, Nothing, Then, Branches, NoBranch, Branch, Cases, NoCase, OneCase, Otherwise, NoElse, Else, Procedure}
 use Rattle.ob_meaning.specs.Values.{same_name, changed_at, Program, Fields, NoField, AField, form_in, record_in, bases_in, is_among, fields_of, words, Value, Truth, Integer, Nil, Object, ProcedureAt, Elements, Record, first, truth_of, character_of, integer_of, length_of, element_of, field_of, type_of, OfModule, OfCall, OfObject, FieldStep, ElementStep, Place, At, inside, value_at, Store, Active, AnObject, Whole, Opened}
 use Rattle.ob_meaning.specs.Results.{M, Gives, Trapped, Spent, ◌>>=◌, give, stop, spend, read, assign, write, Passed, ByValue, ByPlace, ByText, Around, trap}
-use Rattle.ob_meaning.specs.Operators.{Computed, Is, Traps, compute, compute_both, updated, holds, text_equal, text_less, constant_value, up_to_end, characters, with_text, padded, is_positive}
+use Rattle.ob_types.specs.Numbers.{holds, text_equal, text_less, is_positive}
+use Rattle.ob_meaning.specs.Operators.{Computed, Is, Traps, compute, compute_both, updated, constant_value, up_to_end, characters, with_text, padded}
 use Rattle.ob_meaning.specs.Traps as traps
 
 -- VARIABLES

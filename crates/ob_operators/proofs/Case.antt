@@ -14,7 +14,7 @@ use Rattle.ob_instr.specs.Rows.{Next, truth}
 use Rattle.ob_instr.proofs.Goes as rows
 use Rattle.ob_meaning.specs.Values.{Form, Value, Integer, integer_of, value_at, AnObject, State}
 use Rattle.ob_meaning.specs.Results.{M, bind, trap, Caller}
-use Rattle.ob_meaning.specs.Operators.{is_in}
+use Rattle.ob_types.specs.Numbers.{is_in}
 use Rattle.ob_meaning.specs.Meaning.{value, choose, Flow, Done, Leaves, Back, hidden, keep, is_labelled, execs, exec_cases, exec_else}
 use Rattle.ob_relation.specs.Layout.{static_held, address}
 use Rattle.ob_relation.specs.Relation.{Fine, Scalar, word_of}

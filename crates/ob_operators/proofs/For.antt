@@ -13,7 +13,8 @@ use Rattle.ob_instr.specs.Image.{World, Point}
 use Rattle.ob_instr.specs.Rows.{Next, truth}
 use Rattle.ob_meaning.specs.Values.{changed, Form, Value, Integer, OfCall, Place, At, Store, AnObject, State, value_at, with_value_at}
 use Rattle.ob_meaning.specs.Results.{Gives, M, bind, ◌>>=◌, give, read, assign, Caller}
-use Rattle.ob_meaning.specs.Operators.{is_positive, updated}
+use Rattle.ob_types.specs.Numbers.{is_positive}
+use Rattle.ob_meaning.specs.Operators.{updated}
 use Rattle.ob_meaning.specs.Meaning.{computed, place_of, find, own_place, choose, Flow, Done, Leaves, Back, Round, Again, Leave as Leaving, after_body, hidden, keep, kept, is_within, for_test, update_at, execs}
 use Rattle.ob_relation.specs.Layout.{static_held, address}
 use Rattle.ob_relation.specs.Relation.{Fine, word_of, Scalar}

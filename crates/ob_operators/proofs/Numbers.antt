@@ -10,7 +10,7 @@ use Rattle.ob_types.specs.declared.typed.Width.{Width}
 use Rattle.ob_types.specs.declared.typed.Width.TheVariants as width
 use Rattle.ob_instr.specs.Rows as rows
 use Rattle.ob_instr.specs.Rows.{truth, is_within}
-use Rattle.ob_meaning.specs.Operators.{is_in, is_odd, is_positive, capital, remainder, shifted}
+use Rattle.ob_types.specs.Numbers.{is_in, is_odd, is_positive, capital, remainder, shifted}
 
 -- MOD, of a positive divisor
 

@@ -17,7 +17,8 @@ use Rattle.ob_instr.specs.Image.{World}
 use Rattle.ob_instr.specs.Rows.{Effect, Next, in_type, truth, is_within, on_element, set_from, has_element}
 use Rattle.ob_instr.specs.Rows as rows
 use Rattle.ob_meaning.specs.Values.{Form, Value, Truth, Character, Integer, SetOf, AnObject}
-use Rattle.ob_meaning.specs.Operators.{is_positive, is_in, is_odd, is_same, capital, remainder, shifted, Computed, Is, unless, element_in, with_element_in, with_elements_in, agree_below, holds}
+use Rattle.ob_types.specs.Numbers.{is_positive, is_in, is_odd, capital, remainder, shifted, element_in, holds}
+use Rattle.ob_meaning.specs.Operators.{is_same, Computed, Is, unless, with_element_in, with_elements_in, agree_below}
 use Rattle.ob_relation.specs.Relation.{Fine, word_of, set_word}
 use Rattle.ob_relation.specs.Layout.{static_held}
 use Rattle.ob_relation.specs.Typed as typed

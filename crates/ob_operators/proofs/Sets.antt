@@ -10,7 +10,8 @@ use Rattle.std.specs.Int.{w32, cast_signed, cast_unsigned, bit_at, bit_not, int_
 use Rattle.std.specs.Int.Bits.{bit_and}
 use Rattle.std.specs.Int.RustNames.{bit_or, bit_xor}
 use Rattle.ob_instr.specs.Rows.{set_from, has_element}
-use Rattle.ob_meaning.specs.Operators.{agree_below, has_bit}
+use Rattle.ob_types.specs.Numbers.{has_bit}
+use Rattle.ob_meaning.specs.Operators.{agree_below}
 use Rattle.ob_relation.specs.Relation.{bits_below, set_word}
 
 abbrev pub digit : Bool → ℕ

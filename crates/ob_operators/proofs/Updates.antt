@@ -13,7 +13,8 @@ use Rattle.ob_instr.specs.Rows as rows_of
 use Rattle.ob_instr.specs.Rows.{Effect, Next, on_found, on_element, set_from, with_memory}
 use Rattle.ob_meaning.specs.Values.{Integer, SetOf, Place, value_at, AnObject, State}
 use Rattle.ob_meaning.specs.Results.{bind, assign, Caller}
-use Rattle.ob_meaning.specs.Operators.{updated, element_in, with_element_in}
+use Rattle.ob_types.specs.Numbers.{element_in}
+use Rattle.ob_meaning.specs.Operators.{updated, with_element_in}
 use Rattle.ob_meaning.specs.Meaning.{computed, exec}
 use Rattle.ob_relation.specs.Layout.{address, place_form}
 use Rattle.ob_relation.specs.Relation.{Fine, Scalar, PlaceOf, word_of, set_word, IsSet}

@@ -13,7 +13,7 @@ use Rattle.ob_types.specs.declared.desc.Desc.TheVariants as desc
 use Rattle.ob_format.specs.Format.{◌>>=◌, list_of}
 use Rattle.ob_desc.specs.Grammar.{value_fits, IsByte, IsSpelled as IsSpelledDesc}
 use Rattle.ob_sym.specs.Grammar.{face as face_form, body, object_in}
-use Rattle.ob_meaning.specs.Operators.{is_in}
+use Rattle.ob_types.specs.Numbers.{is_in}
 use Rattle.ob_relation.specs.Typed.{AreCharacters}
 use Rattle.ob_env.specs.Faces.{Face, object_named, face_named, described, object_of}
 use Rattle.ob_env.specs.Shown.{blank, shown}

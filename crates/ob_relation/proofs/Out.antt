@@ -23,7 +23,8 @@ use Rattle.ob_instr.specs.Rows.{Next, with_memory, printed, turn_or}
 use Rattle.ob_instr.proofs.Goes as rows
 use Rattle.ob_meaning.specs.Values.{Program, BasicForm, form_in, form_within, description, number_of_types, Value, Integer, Place, value_at, AnObject, State}
 use Rattle.ob_meaning.specs.Results.{Res, Gives, Stops, M, bind, assign, spend_of, write, Passed, ByValue, Caller}
-use Rattle.ob_meaning.specs.Operators.{unless, is_in, updated, padded}
+use Rattle.ob_types.specs.Numbers.{is_in}
+use Rattle.ob_meaning.specs.Operators.{unless, updated, padded}
 use Rattle.ob_meaning.specs.Meaning.{computed, value, call_out, result_of, Done}
 use Rattle.ob_relation.specs.Layout.{static_held, address, place_form}
 use Rattle.ob_relation.specs.Relation.{Fine, Scalar, PlaceOf, word_of}

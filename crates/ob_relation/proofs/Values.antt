@@ -22,7 +22,8 @@ use Rattle.ob_instr.specs.Image.{World}
 use Rattle.ob_instr.specs.Rows.{Effect, Next, Goto, in_width, in_type, truth, is_within, is_zero}
 use Rattle.ob_instr.specs.Rows as rows
 use Rattle.ob_meaning.specs.Values.{Form, BasicForm, Value, Truth, Character, Integer, AnObject}
-use Rattle.ob_meaning.specs.Operators.{quotient, Computed, Is, Traps, unless, is_in, integer_in, holds, compute, compute_both}
+use Rattle.ob_types.specs.Numbers.{quotient, is_in, holds}
+use Rattle.ob_meaning.specs.Operators.{Computed, Is, Traps, unless, integer_in, compute, compute_both}
 use Rattle.ob_relation.specs.Relation.{Fine, word_of, IsInteger, Sub, itself, extended, opened, Scalar}
 use Rattle.ob_relation.specs.Layout.{static_held}
 use Rattle.ob_relation.specs.Typed as typed

@@ -13,7 +13,7 @@ use Rattle.ob_types.specs.TypedSyntax.{Module}
 use Rattle.ob_instr.specs.Image.{Image, World}
 use Rattle.ob_instr.specs.Rows.{truth, tag, proc_value}
 use Rattle.ob_meaning.specs.Values.{same_name, Program, Form, BasicForm, PointerForm, ProcedureForm, ArrayForm, OpenForm, RecordForm, Fields, NoField, AField, joined, form_in, record_in, words, Value, Truth, Character, Integer, SetOf, Nil, Object, ProcedureAt, Elements, Record, field_of, element_of, length_of, type_of, Root, OfModule, OfCall, OfObject, Step, FieldStep, ElementStep, Place, At, Held, Own, Referred, Copied, Active, AnObject, Whole, Opened, State}
-use Rattle.ob_meaning.specs.Operators.{is_in}
+use Rattle.ob_types.specs.Numbers.{is_in}
 use Rattle.ob_meaning.specs.Meaning.{costs_of}
 use Rattle.ob_meaning.specs.Calls.{cost_of_calls}
 use Rattle.ob_relation.specs.Layout.{module_number, procedure_index, procedures_in, type_number, held_name, slots_words, held_at, object_at, object_form, object_offset, has_length_at, module_held, stack_start, heap_start, root_form, place_form, address, variables_in, field_form}

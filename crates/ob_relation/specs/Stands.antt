@@ -42,7 +42,7 @@ use Rattle.ob_instr.specs.Image.{ModuleImage, Image}
 use Rattle.ob_instr.specs.Rows.{truth}
 use Rattle.ob_instr.specs.Table.{position_at}
 use Rattle.ob_meaning.specs.Values.{Program, Form, ArrayForm, OpenForm, RecordForm, fields_of, form_in, record_in, words, Held}
-use Rattle.ob_meaning.specs.Operators.{is_positive}
+use Rattle.ob_types.specs.Numbers.{is_positive}
 use Rattle.ob_meaning.specs.Meaning.{hidden}
 use Rattle.ob_meaning.specs.Globals.{texts_of_designator, texts_of_expr, texts_of, texts_of_all, texts_of_branches, texts_of_cases, passed_words}
 use Rattle.ob_relation.specs.Layout.{type_number, field_offset, slot, slots_words, variables_in, module_offset}

@@ -14,7 +14,7 @@ use Rattle.ob_types.specs.declared.typed.Binary.TheVariants as binary
 use Rattle.ob_types.specs.declared.typed.Connective.{Connective}
 use Rattle.ob_types.specs.declared.typed.Connective.TheVariants as connective
 use Rattle.ob_types.specs.Assigning.{characters}
-use Rattle.ob_meaning.specs.Operators.{is_in, is_positive, quotient, remainder, shifted, is_odd, capital, has_bit, element_in, holds, text_equal, text_less}
+use Rattle.ob_types.specs.Numbers.{is_in, is_positive, quotient, remainder, shifted, is_odd, capital, has_bit, element_in, holds, text_equal, text_less}
 
 abbrev pub when : {A : Type 0} → Bool → A → Option A
 when true x = Some x

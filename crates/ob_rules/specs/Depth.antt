@@ -11,7 +11,7 @@ use Rattle.ob_types.specs.declared.desc.Field.{Field}
 use Rattle.ob_types.specs.declared.desc.Method.{Method}
 use Rattle.ob_types.specs.declared.typed.TypedType.{TypedType}
 use Rattle.ob_types.specs.Maps.{stands_on, named_by, is_type}
-use Rattle.ob_meaning.specs.Operators.{text_less}
+use Rattle.ob_types.specs.Numbers.{text_less}
 use Rattle.ob_rules.specs.Shapes.{Map, is_held}
 use Rattle.ob_rules.specs.Names.{Around, map_of, in_unit}
 

@@ -13,7 +13,7 @@ use Rattle.ob_types.specs.declared.value.Value.TheVariants as literal
 use Rattle.ob_types.specs.Tests.{target, basic_number}
 use Rattle.ob_types.specs.TypedKinds.{of_basic, of_width, smallest, constant_type}
 use Rattle.ob_meaning.specs.Values.{Program, Form, BasicForm, PointerForm, ProcedureForm, ArrayForm, OpenForm, RecordForm, number_of_types, description, form_within, form_in}
-use Rattle.ob_meaning.specs.Operators.{is_in, bits_but_one}
+use Rattle.ob_types.specs.Numbers.{is_in, bits_but_one}
 use Rattle.ob_relation.specs.Relation.{FormOk}
 use Rattle.ob_relation.specs.Passed.{IsClosed}
 use Rattle.ob_relation.specs.Typed as typed

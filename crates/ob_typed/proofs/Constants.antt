@@ -17,7 +17,7 @@ use Rattle.ob_types.specs.declared.typed.Binary.TheVariants as binary
 use Rattle.ob_types.specs.declared.typed.Connective.{Connective}
 use Rattle.ob_types.specs.declared.typed.Connective.TheVariants as connective
 use Rattle.ob_types.specs.Assigning.{characters}
-use Rattle.ob_meaning.specs.Operators.{is_in, is_positive, quotient, remainder, shifted, is_odd, capital, has_bit, element_in, holds, text_equal, text_less}
+use Rattle.ob_types.specs.Numbers.{is_in, is_positive, quotient, remainder, shifted, is_odd, capital, has_bit, element_in, holds, text_equal, text_less}
 use Rattle.ob_rules.specs.Constants.{when, integer, long, bounded_shift, shift_down, ash, of_nat, of_nats, all_elements, elements, byte_of, and_so, integer_in, set_in, char_in, truth_in, truth, fold_one, divided, up_to_end, same_truth, related, on_integers, on_sets, fold_two, texts_related, fold_texts, on_truths, fold_logical}
 use Rattle.ob_typed.specs.Makes.{IfThere}
 use Rattle.ob_typed.specs.Known.{ConstantIs}

@@ -26,7 +26,7 @@ use Rattle.ob_types.specs.TypedSyntax.{Expr, Stmt}
 use Rattle.ob_types.specs.TypedView.{designator_view, expr_view, stmt_view}
 use Rattle.ob_types.proofs.TypedViews.{view_while, view_repeat, view_loop, view_for}
 use Rattle.ob_meaning.specs.Values.{Program, Form, BasicForm, PointerForm, ProcedureForm, RecordForm, form_in, fields_of, Held}
-use Rattle.ob_meaning.specs.Operators.{is_in}
+use Rattle.ob_types.specs.Numbers.{is_in}
 use Rattle.ob_relation.specs.Relation.{Scalar}
 use Rattle.ob_relation.specs.Passed.{IsPassed}
 use Rattle.ob_relation.specs.Typed as typed

@@ -30,7 +30,7 @@ use Rattle.ob_types.specs.TypedKinds.{of_basic, variable_type}
 use Rattle.ob_types.specs.TypedView.{designator_view, expr_view, stmt_view}
 use Rattle.ob_types.proofs.TypedViews.{view_length, view_updated, view_copy, view_new, view_new_open_array, view_assert, view_halt}
 use Rattle.ob_meaning.specs.Values.{Program, Form, BasicForm, PointerForm, OpenForm, form_in, record_in, Held}
-use Rattle.ob_meaning.specs.Operators.{is_in}
+use Rattle.ob_types.specs.Numbers.{is_in}
 use Rattle.ob_relation.specs.Relation.{IsLength}
 use Rattle.ob_relation.specs.Typed as typed
 use Rattle.ob_relation.specs.Typed.{Within, integer, longint, boolean, char, set}

@@ -21,7 +21,7 @@ use Rattle.ob_types.specs.TypedSyntax.{Procedure}
 use Rattle.ob_meaning.specs.Values.{Program, procedure_of, form_in, record_in, bases_in, Held}
 use Rattle.ob_meaning.specs.Meaning.{nearest}
 use Rattle.ob_relation.specs.Relation.{Sub}
-use Rattle.ob_meaning.specs.Operators.{is_in}
+use Rattle.ob_types.specs.Numbers.{is_in}
 use Rattle.ob_relation.specs.Passed.{IsPassed}
 use Rattle.ob_relation.specs.Typed as typed
 use Rattle.ob_relation.specs.Typed.{AreCharacters, IsRecordType, ReceiverOk, passing_for, result_form}

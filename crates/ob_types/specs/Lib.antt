@@ -4,6 +4,7 @@ pub mod SpelledLaws
 pub mod TypedSyntax
 pub mod TypedView
 pub mod TypedKinds
+pub mod Numbers
 pub mod Relations
 pub mod Tests
 pub mod Assigning
