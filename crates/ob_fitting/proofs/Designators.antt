@@ -2,7 +2,6 @@
 use Rattle.std.proofs.Common.{◌≡◌, sym, subst, ℕ, List, ◌∷◌, Option, Some, None, Bool}
 use Rattle.ob_tree.specs.declared.names.QName.{QName}
 use Rattle.ob_types.specs.declared.types.TypeRef.{TypeRef}
-use Rattle.ob_types.specs.declared.types.Signature.{Signature}
 use Rattle.ob_types.specs.declared.value.Value.{Value as Literal}
 use Rattle.ob_types.specs.declared.value.Value.TheVariants as literal
 use Rattle.ob_types.specs.declared.typed.Passing.TheVariants as passing
@@ -10,7 +9,7 @@ use Rattle.ob_types.specs.declared.typed.Guarded.TheVariants as guarded
 use Rattle.ob_types.specs.declared.typed.Callee.TheVariants as callee
 use Rattle.ob_types.specs.TypedSyntax.{Desig, OfVariable, Field, Index, Deref, Guard, Expr, Constant, ValueOf, ProcedureValue, Monadic, Dyadic, Logical, CompareTexts, IsPointer, IsRecord, Length, Call, CallVariable, Actuals, NoActual, AnActual}
 use Rattle.ob_types.specs.TypedKinds.{variable_type}
-use Rattle.ob_meaning.specs.Values.{Program, Form, OpenForm, record_in, form_in, Held}
+use Rattle.ob_meaning.specs.Values.{Program, Form, OpenForm, record_in, form_in, Held, Formals, formals_in}
 use Rattle.ob_code.specs.declared.want.Want.{Want}
 use Rattle.ob_code.specs.declared.want.Want.TheVariants as want
 use Rattle.ob_code.specs.Context.{Context, words}
@@ -25,7 +24,7 @@ use Rattle.ob_fitting.specs.There.{DesigThere, ExprThere, ActualsThere}
 use Rattle.ob_fitting.specs.Laws.{Having, NamesStand}
 use Rattle.ob_fitting.proofs.Wants.{Need, plain_need, place_gives, pointer_gives, variable_gives, pointer_guard_gives, record_guard_gives, below_guard}
 
-module _ (program : Program) (has : Signature → QName → Bool) (c : Context) (names : NamesStand program has c) (unit : List ℕ) (held : List Held) (result : Option TypeRef) where
+module _ (program : Program) (has : Formals → QName → Bool) (c : Context) (names : NamesStand program has c) (unit : List ℕ) (held : List Held) (result : Option TypeRef) where
   abbrev pub Fine : Desig → Type 0
   Fine d = Ok program (Having has) unit held result d
 
@@ -81,7 +80,7 @@ module _ (program : Program) (has : Signature → QName → Bool) (c : Context) 
     fit_expr (Call (callee.Bound f g) es at r) t h k = (tt, (has_result r t h.1, (fit_formed es (formed_actuals program (Having has) unit held result es h.0.2.parameters h.0.8) k, tt)))
     fit_expr (Call (callee.Super base f g) es at r) t h k = (tt, (has_result r t h.1, (fit_formed es (formed_actuals program (Having has) unit held result es h.0.1.parameters h.0.6) k, names.known base h.0.2)))
     fit_expr (Call (callee.Out o) es at r) t h k = absurd (subst (λ z. typed.ResultOk program (Having has) unit held result z t) h.0.0 h.1)
-    fit_expr (CallVariable d es at r) t h k = (tt, (fit_desig want.Value d h.0.0 k.0 (of_procedure program (Having has) unit held result (F d) h.0.1.0 h.0.1.1), fit_formed es (formed_signature program (Having has) unit held result es h.0.1.0.params h.0.1.3) k.1))
+    fit_expr (CallVariable d es at r) t h k = (tt, (fit_desig want.Value d h.0.0 k.0 (of_procedure program (Having has) unit held result (F d) (formals_in program h.0.1.0) h.0.1.1), fit_formed es (formed_signature program (Having has) unit held result es h.0.1.0.params h.0.1.3) k.1))
 
     pub fit_text : (x : Expr) → typed.TextOk program (Having has) unit held result x → ExprThere c x → ExprFits program c want.PlaceAndLength x
     fit_text (Constant (literal.Str text)) h k = tt

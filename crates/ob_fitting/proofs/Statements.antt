@@ -5,7 +5,6 @@ use Rattle.ob_tree.specs.declared.names.QName.{QName}
 use Rattle.ob_types.specs.declared.types.TypeRef.{TypeRef}
 use Rattle.ob_types.specs.declared.types.TypeRef.TheVariants as ref
 use Rattle.ob_types.specs.declared.types.Basic.TheVariants as basic
-use Rattle.ob_types.specs.declared.types.Signature.{Signature}
 use Rattle.ob_types.specs.declared.value.Value.TheVariants as literal
 use Rattle.ob_types.specs.declared.typed.Passing.TheVariants as passing
 use Rattle.ob_types.specs.declared.typed.Guarded.TheVariants as guarded
@@ -19,7 +18,7 @@ use Rattle.ob_types.specs.declared.typed.Update.TheVariants as update
 use Rattle.ob_types.specs.declared.typed.Made.{Made}
 use Rattle.ob_types.specs.declared.typed.Made.TheVariants as made
 use Rattle.ob_types.specs.TypedSyntax.{Desig, OfVariable, Field, Index, Deref, Guard, Expr, Constant, ValueOf, ProcedureValue, Monadic, Dyadic, Logical, CompareTexts, IsPointer, IsRecord, Length, Call, CallVariable, Stmt, Assign, CallProper, Updated, Copy, New, NewOpenArray, Assert, Halt, If, Case, While, Repeat, For, Loop, Exit, Return, With, Stmts, Nothing, Then, Branches, NoBranch, Branch, Cases, NoCase, OneCase, Otherwise, NoElse, Else}
-use Rattle.ob_meaning.specs.Values.{Program, Form, record_in, form_in, Held}
+use Rattle.ob_meaning.specs.Values.{Program, Form, record_in, form_in, Held, Formals, formals_in}
 use Rattle.ob_code.specs.declared.want.Want.TheVariants as want
 use Rattle.ob_code.specs.Context.{Context}
 use Rattle.ob_code.specs.Statements.{record_want, has_tag, target_want, source_want}
@@ -53,7 +52,7 @@ counter_gives program c (variable.Parameter passing.OpenArray x) t p = absurd p
 counter_gives program c (variable.Parameter passing.VariableRecord x) t p = absurd p
 counter_gives program c (variable.Parameter passing.VariableOpenArray x) t p = absurd p
 
-module _ (program : Program) (has : Signature → QName → Bool) (c : Context) (names : NamesStand program has c) (unit : List ℕ) (held : List Held) (result : Option TypeRef) where
+module _ (program : Program) (has : Formals → QName → Bool) (c : Context) (names : NamesStand program has c) (unit : List ℕ) (held : List Held) (result : Option TypeRef) where
   abbrev Ok : Desig → Type 0
   Ok d = Fine program has c names unit held result d
 
@@ -110,7 +109,7 @@ module _ (program : Program) (has : Signature → QName → Bool) (c : Context) 
   fit_proper (Call (callee.Bound f g) es at r) h k = (fit_formed program has c names unit held result es (formed_actuals program (Having has) unit held result es h.0.2.parameters h.0.8) k, tt)
   fit_proper (Call (callee.Super base f g) es at r) h k = (fit_formed program has c names unit held result es (formed_actuals program (Having has) unit held result es h.0.1.parameters h.0.6) k, names.known base h.0.2)
   fit_proper (Call (callee.Out o) es at r) h k = (fit_out program has c names unit held result es h.0.1 k, tt)
-  fit_proper (CallVariable d es at r) h k = (fit_desig program has c names unit held result want.Value d h.0.0 k.0 (of_procedure program (Having has) unit held result (T d) h.0.1.0 h.0.1.1), fit_formed program has c names unit held result es (formed_signature program (Having has) unit held result es h.0.1.0.params h.0.1.3) k.1)
+  fit_proper (CallVariable d es at r) h k = (fit_desig program has c names unit held result want.Value d h.0.0 k.0 (of_procedure program (Having has) unit held result (T d) (formals_in program h.0.1.0) h.0.1.1), fit_formed program has c names unit held result es (formed_signature program (Having has) unit held result es h.0.1.0.params h.0.1.3) k.1)
   fit_proper (Constant v) h k = absurd h
   fit_proper (ValueOf d) h k = absurd h
   fit_proper (ProcedureValue q s) h k = absurd h

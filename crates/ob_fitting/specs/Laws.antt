@@ -2,9 +2,8 @@
 use Rattle.std.specs.Prelude.{◌≡◌, ℕ, List, Option, Some, Bool, true}
 use Rattle.ob_tree.specs.declared.names.QName.{QName}
 use Rattle.ob_types.specs.declared.types.TypeRef.{TypeRef}
-use Rattle.ob_types.specs.declared.types.Signature.{Signature}
 use Rattle.ob_types.specs.TypedSyntax.{Stmts, Procedure}
-use Rattle.ob_meaning.specs.Values.{Program, procedure_of, fields_of, form_in, record_in, Held}
+use Rattle.ob_meaning.specs.Values.{Program, procedure_of, fields_of, form_in, record_in, Held, Formals}
 use Rattle.ob_code.specs.Context.{Context}
 use Rattle.ob_relation.specs.Relation.{FieldIn}
 use Rattle.ob_relation.specs.Typed as typed
@@ -13,11 +12,11 @@ use Rattle.ob_standing.specs.Fits.{IsKnown, IsNamed, IsRecordType, StmtsFit}
 use Rattle.ob_fitting.specs.There.{StmtsThere}
 
 -- procedures that may be values
-abbrev pub Having : (Signature → QName → Bool) → Signature → QName → Type 0
-Having has s q = has s q ≡ true
+abbrev pub Having : (Formals → QName → Bool) → Formals → QName → Type 0
+Having has fs q = has fs q ≡ true
 
 -- The names of a program, as the code of a procedure looks them up.
-pub record NamesStand (program : Program) (has : Signature → QName → Bool) (c : Context) : Type 0 where
+pub record NamesStand (program : Program) (has : Formals → QName → Bool) (c : Context) : Type 0 where
   -- record types of the module are among its own
   pub known : (q : QName) → typed.IsRecordType program q → IsKnown c q
   -- a record type has a name of its own
@@ -26,7 +25,7 @@ pub record NamesStand (program : Program) (has : Signature → QName → Bool) (
   pub fields : (t : TypeRef) (o : QName) (x : List ℕ) → FieldIn (fields_of (form_in program t)) o x → FieldIn (fields_of (record_in program o)) o x
   -- procedures have names
   pub procedures : (q : QName) (p : Procedure) → procedure_of program q ≡ Some p → IsNamed q.object
-  pub values : (s : Signature) (q : QName) → has s q ≡ true → IsNamed q.object
+  pub values : (fs : Formals) (q : QName) → has fs q ≡ true → IsNamed q.object
 
 abbrev pub TypedStatementsFit : Type 0
-TypedStatementsFit = (program : Program) (has : Signature → QName → Bool) (c : Context) (unit : List ℕ) (held : List Held) (result : Option TypeRef) (xs : Stmts) (in_loop : Bool) → NamesStand program has c → typed.StmtsOk program (Having has) unit held result xs in_loop → StmtsThere c xs → StmtsFit program c xs
+TypedStatementsFit = (program : Program) (has : Formals → QName → Bool) (c : Context) (unit : List ℕ) (held : List Held) (result : Option TypeRef) (xs : Stmts) (in_loop : Bool) → NamesStand program has c → typed.StmtsOk program (Having has) unit held result xs in_loop → StmtsThere c xs → StmtsFit program c xs

@@ -2,14 +2,13 @@
 use Rattle.std.specs.Prelude.{◌≡◌, ℕ, List, [], ◌∷◌, Option, Some, IfSome}
 use Rattle.ob_tree.specs.declared.names.QName.{QName}
 use Rattle.ob_types.specs.declared.types.TypeRef.{TypeRef}
-use Rattle.ob_types.specs.declared.types.Signature.{Signature}
 use Rattle.ob_types.specs.declared.desc.Desc.{Desc}
 use Rattle.ob_types.specs.declared.desc.Desc.TheVariants as desc
 use Rattle.ob_types.specs.declared.desc.RecordDesc.{RecordDesc}
 use Rattle.ob_types.specs.declared.typed.TypedType.{TypedType}
 use Rattle.ob_types.specs.TypedSyntax.{Procedure}
 use Rattle.ob_obj.specs.declared.file.ObjFile.{ObjFile}
-use Rattle.ob_meaning.specs.Values.{Program, RecordForm, Fields, joined, base_line, base_fields, form_in, record_in, procedure_of}
+use Rattle.ob_meaning.specs.Values.{Program, RecordForm, Fields, joined, base_line, base_fields, form_in, record_in, procedure_of, Formals}
 use Rattle.ob_relation.specs.Relation.{FormOk}
 use Rattle.ob_relation.specs.Typed.{IsRecordType}
 use Rattle.ob_relation.specs.Setting.{Setting, has_of}
@@ -46,7 +45,7 @@ AllDeclared program (b ∷ builds) = AreDeclared program b.types b.unit.name b.u
 
 -- only procedures of the program are values of variables
 abbrev pub ValuesThere : Setting → Type 0
-ValuesThere c = (s : Signature) (q : QName) → has_of c s q → (p : Procedure) × (procedure_of c.program q ≡ Some p)
+ValuesThere c = (fs : Formals) (q : QName) → has_of c fs q → (p : Procedure) × (procedure_of c.program q ≡ Some p)
 
 -- THE LAWS: each record type of the program has its descriptor, with its words, and so have its bases, each before what extends it;
 -- the procedures that variables may have as values are told by their numbers.

@@ -5,6 +5,7 @@ use Rattle.ob_types.specs.declared.types.Basic.{Basic}
 use Rattle.ob_types.specs.declared.types.Basic.TheVariants as basic
 use Rattle.ob_types.specs.declared.types.TypeRef.{TypeRef}
 use Rattle.ob_types.specs.declared.types.TypeRef.TheVariants as ref
+use Rattle.ob_types.specs.declared.types.Mode.{Mode}
 use Rattle.ob_types.specs.declared.types.Signature.{Signature}
 use Rattle.ob_types.specs.declared.desc.Desc.{Desc}
 use Rattle.ob_types.specs.declared.desc.Desc.TheVariants as desc
@@ -54,12 +55,13 @@ number_of_types (m ∷ ms) = length m.types + number_of_types ms
 -- WHAT A TYPE IS
 
 -- a basic type, a pointer with what it points to, a procedure type, an array of so many elements, an open array, or a record: itself and its bases,
--- the nearest first, and its fields, those of the farthest base first
+-- the nearest first, and its fields, those of the farthest base first. Procedure types are one form where their parameters and results match: a
+-- procedure type is what its parameters, in turn, and its result are, by whatever names it is written.
 mutual
   pub data Form : Type 0 where
     BasicForm : (b : Basic) → Form
     PointerForm : (base : TypeRef) → Form
-    ProcedureForm : (signature : Signature) → Form
+    ProcedureForm : (formals : Formals) → Form
     ArrayForm : (n : ℕ) → (element : Form) → Form
     OpenForm : (element : Form) → Form
     RecordForm : (line : List QName) → (fields : Fields) → Form
@@ -67,6 +69,12 @@ mutual
   pub data Fields : Type 0 where
     NoField : Fields
     AField : (owner : QName) → (name : List ℕ) → (form : Form) → (rest : Fields) → Fields
+
+  -- parameters, and behind the last of them the result, where there is one
+  pub data Formals : Type 0 where
+    NoResult : Formals
+    AResult : (form : Form) → Formals
+    AFormal : (mode : Mode) → (form : Form) → (rest : Formals) → Formals
 
 abbrev pub joined : Fields → Fields → Fields
 joined NoField gs = gs
@@ -92,13 +100,24 @@ abbrev pub base_fields : (TypeRef → Form) → Option TypeRef → Fields
 base_fields form None = NoField
 base_fields form (Some t) = fields_of (form t)
 
+abbrev pub result_formals : (TypeRef → Form) → Option TypeRef → Formals
+result_formals form None = NoResult
+result_formals form (Some t) = AResult (form t)
+
+abbrev pub formals_before : (TypeRef → Form) → List (Mode × TypeRef) → Formals → Formals
+formals_before form [] rest = rest
+formals_before form (p ∷ ps) rest = AFormal p.0 (form p.1) (formals_before form ps rest)
+
+abbrev pub formals_of : (TypeRef → Form) → Signature → Formals
+formals_of form s = formals_before form s.params (result_formals form s.result)
+
 -- what its declaration says, the types in it being known: BOOLEAN where it says nothing else
 abbrev pub described : (TypeRef → Form) → QName → Option Desc → Form
 described form q (Some (desc.Alias m t)) = form t
 described form q (Some (desc.Array m n t)) = ArrayForm n (form t)
 described form q (Some (desc.OpenArray m t)) = OpenForm (form t)
 described form q (Some (desc.Pointer m t)) = PointerForm t
-described form q (Some (desc.ProcType m s)) = ProcedureForm s
+described form q (Some (desc.ProcType m s)) = ProcedureForm (formals_of form s)
 described form q (Some (desc.Record r)) = RecordForm (q ∷ base_line form r.base) (joined (base_fields form r.base) (own_fields form q r.fields))
 described form q d = BasicForm basic.Boolean
 
@@ -116,6 +135,10 @@ form_in program = form_within (description program) (number_of_types program)
 abbrev pub record_in : Program → QName → Form
 record_in program q = form_in program (ref.Named q)
 
+-- what a procedure type of that signature takes and gives
+abbrev pub formals_in : Program → Signature → Formals
+formals_in program s = formals_of (form_in program) s
+
 -- the types that a record type extends, itself first
 abbrev pub bases_in : Program → QName → List QName
 bases_in program q = line_of (record_in program q)
@@ -130,7 +153,7 @@ abbrev mutual
   pub words : Form → ℕ
   words (BasicForm b) = 1
   words (PointerForm t) = 1
-  words (ProcedureForm sig) = 1
+  words (ProcedureForm fs) = 1
   words (ArrayForm n t) = n * words t
   words (OpenForm t) = 0
   words (RecordForm line fs) = fields_words fs
@@ -172,7 +195,7 @@ abbrev mutual
   pub first : Form → Value
   first (BasicForm b) = first_basic b
   first (PointerForm t) = Nil
-  first (ProcedureForm sig) = Nil
+  first (ProcedureForm fs) = Nil
   first (ArrayForm n t) = Elements n (λ i. first t)
   first (OpenForm t) = Elements 0 (λ i. first t)
   first (RecordForm line fs) = record_of line (firsts fs)

@@ -15,7 +15,7 @@ use Rattle.ob_types.specs.TypedSyntax.{Desig, Expr, CallVariable, Actuals, NoAct
 use Rattle.ob_instr.specs.declared.opcode.Opcode.TheVariants as op
 use Rattle.ob_instr.specs.Image.{World}
 use Rattle.ob_instr.specs.Rows.{Traps, calls, is_zero, on_one, on_found, proc_value, proc_of_value}
-use Rattle.ob_meaning.specs.Values.{Form, ProcedureForm, form_in, Value, Nil, ProcedureAt, AnObject, State}
+use Rattle.ob_meaning.specs.Values.{Form, ProcedureForm, form_in, formals_in, Value, Nil, ProcedureAt, AnObject, State}
 use Rattle.ob_meaning.specs.Results.{give, Passed, Caller}
 use Rattle.ob_meaning.specs.Meaning.{call_held, value, result_of}
 use Rattle.ob_relation.specs.Layout.{static_held}
@@ -86,7 +86,7 @@ module _ (c : Setting) (a : Activation c) (n : ℕ) (call : Caller) (b : ℕ) wh
 
   module _ (numbered : ValuesNumbered c) (match : ValuesMatch c) (calls_follow : CallsFollow c call b) where
     -- the call, where the value is known and its arguments are on the stack
-    held_goes : (v : Value) (sig : Signature) (es : Actuals) (xs : List Passed) (ws ops : List ℤ) (at : Pos) (pc : ℕ) (os os2 : List AnObject) (s : State) (w : World) → Fine c.program (has_of c) os2 (ProcedureForm sig) v → code.HasAt (scope c a) pc (code.with_a op.CallV (operands_of es)) at → Sg es sig.params → ArgumentsFit c s.made (K c a) (parameters_of sig.params) xs ws → length ops + 1 ≤ 256 → Keeps c a n call b os s w →
+    held_goes : (v : Value) (sig : Signature) (es : Actuals) (xs : List Passed) (ws ops : List ℤ) (at : Pos) (pc : ℕ) (os os2 : List AnObject) (s : State) (w : World) → Fine c.program (has_of c) os2 (ProcedureForm (formals_in c.program sig)) v → code.HasAt (scope c a) pc (code.with_a op.CallV (operands_of es)) at → Sg es sig.params → ArgumentsFit c s.made (K c a) (parameters_of sig.params) xs ws → length ops + 1 ≤ 256 → Keeps c a n call b os s w →
         Follows c (go c a pc (onto ws (W os2 v ∷ ops)) w) (λ r s w. go c a (suc pc) (result_words c s.made r ++ ops) w) (λ r s w. ResultFine c sig.result s.made r × Keeps c a n call b os s w) (call_held v xs (here_in c a n call b) at s)
     held_goes v sig es xs ws ops at pc os os2 s w fine has ok fit le st = ⊎_elim (λ e. subst Goal (sym e) nothing) (λ k. subst Goal (sym k.1) (something k.0 k.2)) fine
       where
@@ -106,9 +106,9 @@ module _ (c : Setting) (a : Activation c) (n : ℕ) (call : Caller) (b : ℕ) wh
         by None = omega (arith, le)
         by (Some t) = le
 
-        something : (q : QName) → has_of c sig q → Goal (ProcedureAt q)
+        something : (q : QName) → has_of c (formals_in c.program sig) q → Goal (ProcedureAt q)
         something q may =
-            let num = numbered sig q may in
+            let num = numbered (formals_in c.program sig) q may in
             let m = match sig q num.p may num.is in
             let r = number_of c.program (has_of c) c.img q in
             let is : effect c a pc (onto ws (proc_value r ∷ ops)) w (code.with_a op.CallV (operands_of es)) ≡ calls c.img r ws ops w = taken (proc_value r) ∙ ap (λ z. if is_zero z then Traps 2 (pos 0) w else on_found (proc_of_value z) (λ r. calls c.img r ws ops w)) (value_is r) ∙ ap (λ o. on_found o (λ r. calls c.img r ws ops w)) (value_tells r num.below) in
@@ -118,7 +118,7 @@ module _ (c : Setting) (a : Activation c) (n : ℕ) (call : Caller) (b : ℕ) wh
             (λ r s w k. here c _) (λ r s w k. (result_fine c num.p.result sig.result s.made r m.0 k.0, k.1))
 
     abbrev VariableOk : Desig → Actuals → Option TypeRef → Type 0
-    VariableOk d es r = DesigOk c a n call b d × ((s : Signature) × (T d ≡ ProcedureForm s) × (result_form c.program s.result ≡ result_form c.program r) × Sg es s.params)
+    VariableOk d es r = DesigOk c a n call b d × ((s : Signature) × (T d ≡ ProcedureForm (formals_in c.program s)) × (result_form c.program s.result ≡ result_form c.program r) × Sg es s.params)
 
     pub call_variable_case : (d : Desig) (es : Actuals) (at : Pos) (r : Option TypeRef) → HolderFollows c a n call b d → ActualsFollow c a n call b es → ExprFollows c a n call b (CallVariable d es at r)
     call_variable_case d es at r ih_d ih_es t pc k ops os s w le has ok st = by r refl ok.1

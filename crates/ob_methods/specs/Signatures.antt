@@ -6,7 +6,7 @@ use Rattle.ob_types.specs.declared.types.TypeRef.{TypeRef}
 use Rattle.ob_types.specs.declared.types.Signature.{Signature}
 use Rattle.ob_types.specs.declared.typed.TypedParameter.{TypedParameter}
 use Rattle.ob_types.specs.TypedSyntax.{Procedure}
-use Rattle.ob_meaning.specs.Values.{Program, procedure_of, form_in}
+use Rattle.ob_meaning.specs.Values.{Program, procedure_of, form_in, formals_in}
 use Rattle.ob_relation.specs.Typed.{passing_for, result_form}
 use Rattle.ob_relation.specs.Setting.{Setting, has_of}
 
@@ -19,7 +19,7 @@ ParametersMatch program (p ∷ ps) (t ∷ ts) = ((p.passing ≡ passing_for t.0 
 
 -- a procedure that a variable may have as its value has the result and the parameters of the variable's signature, by their forms
 abbrev pub ValuesMatch : Setting → Type 0
-ValuesMatch c = (s : Signature) (q : QName) (p : Procedure) → has_of c s q → procedure_of c.program q ≡ Some p → (result_form c.program p.result ≡ result_form c.program s.result) × ParametersMatch c.program p.parameters s.params
+ValuesMatch c = (s : Signature) (q : QName) (p : Procedure) → has_of c (formals_in c.program s) q → procedure_of c.program q ≡ Some p → (result_form c.program p.result ≡ result_form c.program s.result) × ParametersMatch c.program p.parameters s.params
 
 -- parameters that differ in nothing but their names and the names of their types
 abbrev pub Alike : Program → List TypedParameter → List TypedParameter → Type 0

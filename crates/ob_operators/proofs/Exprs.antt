@@ -15,7 +15,7 @@ use Rattle.ob_instr.specs.declared.opcode.Opcode.TheVariants as op
 use Rattle.ob_instr.specs.Image.{World, Point}
 use Rattle.ob_instr.specs.Rows.{Next, in_width, procedures_of, proc_value}
 use Rattle.ob_instr.proofs.Goes as rows
-use Rattle.ob_meaning.specs.Values.{Form, Value, ProcedureAt, AnObject, State}
+use Rattle.ob_meaning.specs.Values.{Form, Value, ProcedureAt, AnObject, State, Formals}
 use Rattle.ob_meaning.specs.Results.{Caller}
 use Rattle.ob_meaning.specs.Operators.{compute, compute_both, constant_value}
 use Rattle.ob_meaning.specs.Meaning.{computed}
@@ -103,10 +103,10 @@ module _ (c : Setting) (a : Activation c) (n : ℕ) (call : Caller) (b : ℕ) wh
 
   -- PROCEDURES AS VALUES
 
-  procedure_goes : (q : QName) (pc : ℕ) (ops : List ℤ) (w : World) → Linked c → (s : Signature) → has_of c s q → ValuesNumbered c → length ops + 1 ≤ 256 → (z : Bool) → bytes_eq q.module a.unit ≡ z → OrElse z (code.Has (scope c a) pc (code.with_a op.Proc ((number_of c.program (has_of c) c.img q).proc))) ((k : ℕ) × code.Has (scope c a) pc (code.with_a op.ProcX k) × (slice_get a.u.procedure_links k ≡ Some (number_of c.program (has_of c) c.img q))) →
+  procedure_goes : (q : QName) (pc : ℕ) (ops : List ℤ) (w : World) → Linked c → (fs : Formals) → has_of c fs q → ValuesNumbered c → length ops + 1 ≤ 256 → (z : Bool) → bytes_eq q.module a.unit ≡ z → OrElse z (code.Has (scope c a) pc (code.with_a op.Proc ((number_of c.program (has_of c) c.img q).proc))) ((k : ℕ) × code.Has (scope c a) pc (code.with_a op.ProcX k) × (slice_get a.u.procedure_links k ≡ Some (number_of c.program (has_of c) c.img q))) →
       Reach c (go c a pc ops w) (go c a (suc pc) (W [] (ProcedureAt q) ∷ ops) w)
-  procedure_goes q pc ops w link s may nu le true e h =
-      let num = nu s q may in
+  procedure_goes q pc ops w link fs may nu le true e h =
+      let num = nu fs q may in
       let ps = link q num.p num.is in
       let proc = (number_of c.program (has_of c) c.img q).proc in
       let same : module_number c.program q.module ≡ a.m = ap (module_number c.program) (bytes_true q.module a.unit e) ∙ a.named in
@@ -115,8 +115,8 @@ module _ (c : Setting) (a : Activation c) (n : ℕ) (call : Caller) (b : ℕ) wh
       let below : nat_lt proc (length a.u.procedures) ≡ true = grind (arith, nat_tests) in
       let fits : in_width 4 (proc_value (record { «module» = a.m; proc = proc })) ≡ true = ap (λ m. in_width 4 (proc_value (record { «module» = m; proc = proc }))) (sym same) ∙ num.fits in
       goes c a _ w h (rows.proc_next c.img a.u a.m a.p (fb c a) pc w proc ops below fits ∙ ap (λ m. Next (proc_value (record { «module» = m; proc = proc }) ∷ ops) w) (sym same)) (omega (arith, le))
-  procedure_goes q pc ops w link s may nu le false e h =
-      goes c a _ w h.1 (rows.proc_x_next c.img a.u a.m a.p (fb c a) pc w h.0 (number_of c.program (has_of c) c.img q) ops h.2 ((nu s q may).fits)) (omega (arith, le))
+  procedure_goes q pc ops w link fs may nu le false e h =
+      goes c a _ w h.1 (rows.proc_x_next c.img a.u a.m a.p (fb c a) pc w h.0 (number_of c.program (has_of c) c.img q) ops h.2 ((nu fs q may).fits)) (omega (arith, le))
 
   pub procedure_value_case : (q : QName) (signature : Signature) → Linked c → ValuesNumbered c → E (ProcedureValue q signature)
   procedure_value_case q signature link nu t pc at ops os s w le has ok st =

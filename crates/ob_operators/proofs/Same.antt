@@ -7,10 +7,9 @@ use Rattle.std.specs.Ordering.{int_eq}
 use Rattle.ob_tree.specs.declared.names.QName.{QName}
 use Rattle.ob_tree.specs.declared.proc_ref.ProcRef.{ProcRef}
 use Rattle.ob_types.specs.declared.types.TypeRef.{TypeRef}
-use Rattle.ob_types.specs.declared.types.Signature.{Signature}
 use Rattle.ob_types.specs.TypedSyntax.{Procedure}
 use Rattle.ob_instr.specs.Rows.{proc_value}
-use Rattle.ob_meaning.specs.Values.{same_name, Program, procedure_of, procedure_named, PointerForm, ProcedureForm, Value, Nil, Object, ProcedureAt, AnObject, Whole, Opened}
+use Rattle.ob_meaning.specs.Values.{same_name, Program, procedure_of, procedure_named, PointerForm, ProcedureForm, Value, Nil, Object, ProcedureAt, AnObject, Whole, Opened, Formals}
 use Rattle.ob_meaning.specs.Operators.{is_same}
 use Rattle.ob_meaning.specs.Meaning.{cost_of, costs_of}
 use Rattle.ob_relation.specs.Layout.{module_number, procedure_number, procedure_index, procedures_in, extra_words, object_offset, heap_start}
@@ -143,7 +142,7 @@ module _ (c : Setting) (os : List AnObject) where
           let same : p ≡ q = ap (λ (x : List ℕ). record { «module» = p.module; object = x }) object_same ∙ ap (λ (x : List ℕ). record { «module» = x; object = q.object }) same_module in
           subst (λ q. same_name p q ≡ true) same (name_same p)
 
-  pub procedures_same : (numbered : ValuesNumbered c) (s t : Signature) (x y : Value) → Fine c.program (has_of c) os (ProcedureForm s) x → Fine c.program (has_of c) os (ProcedureForm t) y → F x y
-  procedures_same numbered s t x y h k = ⊎_elim
+  pub procedures_same : (numbered : ValuesNumbered c) (fs gs : Formals) (x y : Value) → Fine c.program (has_of c) os (ProcedureForm fs) x → Fine c.program (has_of c) os (ProcedureForm gs) y → F x y
+  procedures_same numbered fs gs x y h k = ⊎_elim
       (λ e. ⊎_elim (λ f. at_both x y Nil Nil e f nil_nil) (λ f. at_both x y Nil (ProcedureAt f.0) e f.1 (nil_procedure f.0)) k)
-      (λ e. ⊎_elim (λ f. at_both x y (ProcedureAt e.0) Nil e.1 f (procedure_nil e.0)) (λ f. at_both x y (ProcedureAt e.0) (ProcedureAt f.0) e.1 f.1 (numbers_same e.0 f.0 (numbered s e.0 e.2) (numbered t f.0 f.2))) k) h
+      (λ e. ⊎_elim (λ f. at_both x y (ProcedureAt e.0) Nil e.1 f (procedure_nil e.0)) (λ f. at_both x y (ProcedureAt e.0) (ProcedureAt f.0) e.1 f.1 (numbers_same e.0 f.0 (numbered fs e.0 e.2) (numbered gs f.0 f.2))) k) h

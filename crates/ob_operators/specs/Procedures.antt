@@ -1,10 +1,9 @@
 -- What an image has of the procedures that variables may have as values.
 use Rattle.std.specs.Prelude.{◌≡◌, ◌<◌, Some, true}
 use Rattle.ob_tree.specs.declared.names.QName.{QName}
-use Rattle.ob_types.specs.declared.types.Signature.{Signature}
 use Rattle.ob_types.specs.TypedSyntax.{Procedure}
 use Rattle.ob_instr.specs.Rows.{in_width, proc_value}
-use Rattle.ob_meaning.specs.Values.{procedure_of}
+use Rattle.ob_meaning.specs.Values.{procedure_of, Formals}
 use Rattle.ob_relation.specs.Relation.{number_of}
 use Rattle.ob_relation.specs.Setting.{Setting, has_of}
 
@@ -16,4 +15,4 @@ pub record IsNumbered (c : Setting) (q : QName) : Type 0 where
   pub fits : in_width 4 (proc_value (number_of c.program (has_of c) c.img q)) ≡ true
 
 abbrev pub ValuesNumbered : Setting → Type 0
-ValuesNumbered c = (s : Signature) (q : QName) → has_of c s q → IsNumbered c q
+ValuesNumbered c = (fs : Formals) (q : QName) → has_of c fs q → IsNumbered c q

@@ -6,8 +6,7 @@ use Rattle.ob_tree.specs.declared.names.QName.{QName}
 use Rattle.ob_types.specs.declared.types.Basic.{Basic}
 use Rattle.ob_types.specs.declared.types.Basic.TheVariants as basic
 use Rattle.ob_types.specs.declared.types.TypeRef.{TypeRef}
-use Rattle.ob_types.specs.declared.types.Signature.{Signature}
-use Rattle.ob_meaning.specs.Values.{Form, BasicForm, PointerForm, ProcedureForm, ArrayForm, OpenForm, RecordForm, Fields, NoField, AField, form_in, words, Value, field_of, element_of, Root, OfModule, OfCall, OfObject, Place, At, Held, Own, Referred, Copied, Active, AnObject}
+use Rattle.ob_meaning.specs.Values.{Form, BasicForm, PointerForm, ProcedureForm, ArrayForm, OpenForm, RecordForm, Fields, NoField, AField, form_in, words, Value, field_of, element_of, Root, OfModule, OfCall, OfObject, Place, At, Held, Own, Referred, Copied, Active, AnObject, Formals}
 use Rattle.ob_relation.specs.Layout.{object_form, path_offset, path_form, root_form, root_address, place_form, address, heap_start, slots_words, module_held}
 use Rattle.ob_relation.specs.Relation.{LengthFits, Sub, Scalar, IsBasic, IsPointer, IsProcedure, Fine, FieldsFine, PathIn, RootIn, PlaceIn, PlaceOf, HeldFine, CallsFine, ObjectsFine, ModulesFine, word_of, flat, flat_fields, flat_elements, flat_slots, flat_copies, flat_calls, flat_objects, pointing, extra, Grows, call_start, flat_modules, no_places}
 use Rattle.ob_types.specs.TypedSyntax.{Module}
@@ -41,7 +40,7 @@ module _ (c : Setting) where
     pointer_word : (t : TypeRef) (v : Value) → IsPointer c.program os t v → word_of c.program (has_of c) c.img all v ≡ word_of c.program (has_of c) c.img os v
     pointer_word t v h = ⊎_elim (λ e. ap (word_of c.program (has_of c) c.img all) e ∙ sym (ap (word_of c.program (has_of c) c.img os) e)) (λ k. ap (word_of c.program (has_of c) c.img all) k.1 ∙ ap (λ n. pos (heap_start c.program c.img + n)) (gr.offset k.0 k.2) ∙ sym (ap (word_of c.program (has_of c) c.img os) k.1)) h
 
-    procedure_word : (s : Signature) (v : Value) → IsProcedure c.program (has_of c) s v → word_of c.program (has_of c) c.img all v ≡ word_of c.program (has_of c) c.img os v
+    procedure_word : (fs : Formals) (v : Value) → IsProcedure c.program (has_of c) fs v → word_of c.program (has_of c) c.img all v ≡ word_of c.program (has_of c) c.img os v
     procedure_word s v h = ⊎_elim (λ e. ap (word_of c.program (has_of c) c.img all) e ∙ sym (ap (word_of c.program (has_of c) c.img os) e)) (λ k. ap (word_of c.program (has_of c) c.img all) k.1 ∙ sym (ap (word_of c.program (has_of c) c.img os) k.1)) h
 
     -- scalars keep their words

@@ -6,13 +6,12 @@ use Rattle.ob_tree.specs.declared.proc_ref.ProcRef.{ProcRef}
 use Rattle.ob_types.specs.declared.types.Basic.{Basic}
 use Rattle.ob_types.specs.declared.types.Basic.TheVariants as basic
 use Rattle.ob_types.specs.declared.types.TypeRef.{TypeRef}
-use Rattle.ob_types.specs.declared.types.Signature.{Signature}
 use Rattle.ob_types.specs.declared.typed.Width.{Width}
 use Rattle.ob_types.specs.declared.typed.Width.TheVariants as width
 use Rattle.ob_types.specs.TypedSyntax.{Module}
 use Rattle.ob_instr.specs.Image.{Image, World}
 use Rattle.ob_instr.specs.Rows.{truth, tag, proc_value}
-use Rattle.ob_meaning.specs.Values.{same_name, Program, Form, BasicForm, PointerForm, ProcedureForm, ArrayForm, OpenForm, RecordForm, Fields, NoField, AField, joined, form_in, record_in, words, Value, Truth, Character, Integer, SetOf, Nil, Object, ProcedureAt, Elements, Record, field_of, element_of, length_of, type_of, Root, OfModule, OfCall, OfObject, Step, FieldStep, ElementStep, Place, At, Held, Own, Referred, Copied, Active, AnObject, Whole, Opened, State}
+use Rattle.ob_meaning.specs.Values.{same_name, Program, Form, BasicForm, PointerForm, ProcedureForm, ArrayForm, OpenForm, RecordForm, Fields, NoField, AField, joined, form_in, record_in, words, Value, Truth, Character, Integer, SetOf, Nil, Object, ProcedureAt, Elements, Record, field_of, element_of, length_of, type_of, Root, OfModule, OfCall, OfObject, Step, FieldStep, ElementStep, Place, At, Held, Own, Referred, Copied, Active, AnObject, Whole, Opened, State, Formals}
 use Rattle.ob_types.specs.Numbers.{is_in}
 use Rattle.ob_meaning.specs.Meaning.{costs_of}
 use Rattle.ob_meaning.specs.Calls.{cost_of_calls}
@@ -34,7 +33,7 @@ pub data Sub : Form → Form → Type 0 where
 abbrev pub Scalar : Form → Type 0
 Scalar (BasicForm b) = Unit {0}
 Scalar (PointerForm t) = Unit {0}
-Scalar (ProcedureForm sig) = Unit {0}
+Scalar (ProcedureForm fs) = Unit {0}
 Scalar (ArrayForm n t) = ⊥
 Scalar (OpenForm t) = ⊥
 Scalar (RecordForm line fs) = ⊥
@@ -43,7 +42,7 @@ Scalar (RecordForm line fs) = ⊥
 abbrev pub IsStructure : Form → Type 0
 IsStructure (BasicForm b) = ⊥
 IsStructure (PointerForm t) = ⊥
-IsStructure (ProcedureForm sig) = ⊥
+IsStructure (ProcedureForm fs) = ⊥
 IsStructure (ArrayForm n t) = Unit {0}
 IsStructure (OpenForm t) = ⊥
 IsStructure (RecordForm line fs) = Unit {0}
@@ -143,7 +142,7 @@ module _ (program : Program) where
     pub FormOk : Form → Type 0
     FormOk (BasicForm b) = Unit {0}
     FormOk (PointerForm t) = Unit {0}
-    FormOk (ProcedureForm sig) = Unit {0}
+    FormOk (ProcedureForm fs) = Unit {0}
     FormOk (ArrayForm n t) = IsLength n × FormOk t
     FormOk (OpenForm t) = ⊥
     FormOk (RecordForm [] fs) = ⊥
@@ -156,21 +155,21 @@ module _ (program : Program) where
   abbrev pub ObjectOk : Form → Type 0
   ObjectOk t = IsStructure t × FormOk t
 
-  -- a procedure that is there, of a signature (its declared one is compared by the program's own rules)
-  abbrev pub IsProcedure : (Signature → QName → Type 0) → Signature → Value → Type 0
-  IsProcedure Has sig v = (v ≡ Nil) ⊎ ((q : QName) × (v ≡ ProcedureAt q) × Has sig q)
+  -- a procedure that is there, and that can be called so
+  abbrev pub IsProcedure : (Formals → QName → Type 0) → Formals → Value → Type 0
+  IsProcedure Has fs v = (v ≡ Nil) ⊎ ((q : QName) × (v ≡ ProcedureAt q) × Has fs q)
 
   abbrev pub IsPointer : List AnObject → TypeRef → Value → Type 0
   IsPointer os t v = (v ≡ Nil) ⊎ ((n : ℕ) × (v ≡ Object n) × (n < length os) × Sub (object_at os n) (form_in program t) × LengthFits (form_in program t) (has_length_at os n))
 
-  -- a procedure that can be called by a signature
-  module _ (Has : Signature → QName → Type 0) where
+  -- a procedure that can be called with such parameters, for such a result
+  module _ (Has : Formals → QName → Type 0) where
     -- a value fits its type, exactly
     abbrev mutual
       pub Fine : List AnObject → Form → Value → Type 0
       Fine os (BasicForm b) v = IsBasic b v
       Fine os (PointerForm t) v = IsPointer os t v
-      Fine os (ProcedureForm sig) v = IsProcedure Has sig v
+      Fine os (ProcedureForm fs) v = IsProcedure Has fs v
       Fine os (ArrayForm n t) v = (length_of v ≡ n) × ((i : ℕ) → i < n → Fine os t (element_of v i))
       Fine os (OpenForm t) v = ⊥
       Fine os (RecordForm line fs) v = (type_of v ≡ head line) × FieldsFine os fs (field_of v)
@@ -207,7 +206,7 @@ module _ (program : Program) where
         pub flat : List AnObject → Form → Value → List ℤ
         flat os (BasicForm b) v = word_of os v ∷ []
         flat os (PointerForm t) v = word_of os v ∷ []
-        flat os (ProcedureForm sig) v = word_of os v ∷ []
+        flat os (ProcedureForm fs) v = word_of os v ∷ []
         flat os (ArrayForm n t) v = flat_elements n (λ i. flat os t (element_of v i))
         flat os (OpenForm t) v = []
         flat os (RecordForm line fs) v = flat_fields os fs (field_of v)

@@ -1,10 +1,9 @@
 -- A program in an image, and what it means that words stand for a state.
 use Rattle.std.specs.Prelude.{◌≡◌, ℕ, ◌≤◌, Bool, true, List, ℤ}
 use Rattle.ob_tree.specs.declared.names.QName.{QName}
-use Rattle.ob_types.specs.declared.types.Signature.{Signature}
 use Rattle.ob_instr.specs.Image as image
 use Rattle.ob_instr.specs.Image.{Image, World, End}
-use Rattle.ob_meaning.specs.Values.{Program, Active, AnObject, State}
+use Rattle.ob_meaning.specs.Values.{Program, Active, AnObject, State, Formals}
 use Rattle.ob_meaning.specs.Results.{Why, Trapped, Spent}
 use Rattle.ob_relation.specs.Layout.{module_number}
 use Rattle.ob_relation.specs.Relation.{ModulesOk, StandsIn, StandsAt}
@@ -12,8 +11,8 @@ use Rattle.ob_relation.specs.Relation.{ModulesOk, StandsIn, StandsAt}
 -- a program in an image, with a heap of so many words, and the words behind the globals of its modules
 pub record Setting : Type 0 where
   pub program : Program
-  -- whether a procedure may be the value of a variable of a procedure type with that signature
-  pub has : Signature → QName → Bool
+  -- whether a procedure may be the value of a variable of the procedure type with these parameters and this result
+  pub has : Formals → QName → Bool
   pub img : Image
   pub heap : ℕ
   pub behind : List ℤ
@@ -24,8 +23,8 @@ pub record Setting : Type 0 where
   pub operands : img.room.operands ≡ 256
   pub heap_few : heap ≤ 4194304
 
-abbrev pub has_of : Setting → Signature → QName → Type 0
-has_of c s q = c.has s q ≡ true
+abbrev pub has_of : Setting → Formals → QName → Type 0
+has_of c fs q = c.has fs q ≡ true
 
 module _ (c : Setting) where
   abbrev pub Stands : State → World → Type 0

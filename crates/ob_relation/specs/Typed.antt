@@ -37,7 +37,7 @@ use Rattle.ob_types.specs.declared.typed.Made.TheVariants as made
 use Rattle.ob_types.specs.declared.typed.TypedParameter.{TypedParameter}
 use Rattle.ob_types.specs.TypedSyntax.{Desig, OfVariable, Field, Index, Deref, Guard, Expr, Constant, ValueOf, ProcedureValue, Monadic, Dyadic, Logical, CompareTexts, IsPointer, IsRecord, Length, Call, CallVariable, Actuals, NoActual, AnActual, Stmt, Assign, CallProper, Updated, Copy, New, NewOpenArray, Assert, Halt, If, Case, While, Repeat, For, Loop, Exit, Return, With, Stmts, Nothing, Then, Branches, NoBranch, Branch, Cases, NoCase, OneCase, Otherwise, NoElse, Else, Procedure}
 use Rattle.ob_types.specs.TypedKinds.{variable_type}
-use Rattle.ob_meaning.specs.Values.{Program, procedure_of, Form, BasicForm, PointerForm, ProcedureForm, ArrayForm, OpenForm, RecordForm, fields_of, form_in, record_in, bases_in, Held, Own, Referred, Copied}
+use Rattle.ob_meaning.specs.Values.{Program, procedure_of, Form, BasicForm, PointerForm, ProcedureForm, ArrayForm, OpenForm, RecordForm, fields_of, form_in, record_in, bases_in, Held, Own, Referred, Copied, Formals, formals_in}
 use Rattle.ob_types.specs.Numbers.{is_in}
 use Rattle.ob_meaning.specs.Meaning.{nearest, hidden}
 use Rattle.ob_relation.specs.Layout.{field_offset, field_form, held_name, form_named, variables_in}
@@ -143,13 +143,13 @@ IsRecordForm t = (line : List QName) × (t ≡ RecordForm line (fields_of t))
 abbrev pub IsArrayOf : Form → Form → Type 0
 IsArrayOf t u = (t ≡ OpenForm u) ⊎ ((n : ℕ) × (t ≡ ArrayForm n u))
 
-module _ (program : Program) (Has : Signature → QName → Type 0) (unit : List ℕ) (held : List Held) (result : Option TypeRef) where
+module _ (program : Program) (Has : Formals → QName → Type 0) (unit : List ℕ) (held : List Held) (result : Option TypeRef) where
   -- what may stand for a scalar type: itself; a smaller integer type; a pointer to an extension
   pub data Widens : Form → Form → Type 0 where
     itself : {t : Form} → Widens t t
     integers : (v w : Width) → Within v w → Widens (integer v) (integer w)
     pointers : (t u : TypeRef) → ((a : Form) → Sub a (form_in program t) → Sub a (form_in program u)) → ((has : Bool) → LengthFits (form_in program t) has → LengthFits (form_in program u) has) → Widens (PointerForm t) (PointerForm u)
-    procedures : (s t : Signature) → ((q : QName) → Has s q → Has t q) → Widens (ProcedureForm s) (ProcedureForm t)
+    procedures : (fs gs : Formals) → ((q : QName) → Has fs q → Has gs q) → Widens (ProcedureForm fs) (ProcedureForm gs)
 
   -- a parameter has its kind, and an open array by value the type of one
   abbrev pub ParameterOk : Passing → List ℕ → Type 0
@@ -171,7 +171,7 @@ module _ (program : Program) (Has : Signature → QName → Type 0) (unit : List
   ConstantOk (literal.Int z) t = (w : Width) × (is_in w z ≡ true) × (t ≡ integer w)
   ConstantOk (literal.Set n) t = (n < 2 ^ 32) × (t ≡ set)
   ConstantOk (literal.Str text) t = ⊥
-  ConstantOk literal.Nil t = ((u : TypeRef) × (t ≡ PointerForm u)) ⊎ ((s : Signature) × (t ≡ ProcedureForm s))
+  ConstantOk literal.Nil t = ((u : TypeRef) × (t ≡ PointerForm u)) ⊎ ((fs : Formals) × (t ≡ ProcedureForm fs))
 
   abbrev pub unary_in : Unary → Form
   unary_in (unary.Negate w) = integer w
@@ -218,7 +218,7 @@ module _ (program : Program) (Has : Signature → QName → Type 0) (unit : List
     booleans : (r : Comparison) → IsEquality r → BinaryOk (binary.Compare r compared.Boolean) boolean boolean boolean
     sets : (r : Comparison) → IsEquality r → BinaryOk (binary.Compare r compared.Set) set set boolean
     pointers : (r : Comparison) (t u : TypeRef) → IsEquality r → BinaryOk (binary.Compare r compared.Pointer) (PointerForm t) (PointerForm u) boolean
-    procedures : (r : Comparison) (s t : Signature) → IsEquality r → BinaryOk (binary.Compare r compared.Procedure) (ProcedureForm s) (ProcedureForm t) boolean
+    procedures : (r : Comparison) (fs gs : Formals) → IsEquality r → BinaryOk (binary.Compare r compared.Procedure) (ProcedureForm fs) (ProcedureForm gs) boolean
 
   abbrev pub form_of : Desig → Form
   form_of d = form_in program (variable_type d)
@@ -262,7 +262,7 @@ module _ (program : Program) (Has : Signature → QName → Type 0) (unit : List
     pub ExprOk : Expr → Form → Type 0
     ExprOk (Constant c) t = ConstantOk c t
     ExprOk (ValueOf d) t = DesigOk d × (Scalar (form_of d) × Widens (form_of d) t)
-    ExprOk (ProcedureValue q signature) t = (s : Signature) × (t ≡ ProcedureForm s) × Has s q
+    ExprOk (ProcedureValue q signature) t = (fs : Formals) × (t ≡ ProcedureForm fs) × Has fs q
     ExprOk (Monadic o e at) t = ExprOk e (unary_in o) × Widens (unary_out o) t
     ExprOk (Dyadic o a b at) t = (u : Form) × (v : Form) × (r : Form) × BinaryOk o u v r × ExprOk a u × ExprOk b v × Widens r t
     ExprOk (Logical o a b) t = ExprOk a boolean × (ExprOk b boolean × Widens boolean t)
@@ -271,7 +271,7 @@ module _ (program : Program) (Has : Signature → QName → Type 0) (unit : List
     ExprOk (IsRecord d q) t = DesigOk d × (IsVariableRecord d × (TestOk program q (form_of d) × Widens boolean t))
     ExprOk (Length d) t = DesigOk d × (((u : Form) × (form_of d ≡ OpenForm u)) × Widens longint t)
     ExprOk (Call c es at r) t = CallOk c r (ActualsOk es) (OutOk es) × ResultOk r t
-    ExprOk (CallVariable d es at r) t = (DesigOk d × ((s : Signature) × (form_of d ≡ ProcedureForm s) × (result_form program s.result ≡ result_form program r) × SignatureOk es s.params)) × ResultOk r t
+    ExprOk (CallVariable d es at r) t = (DesigOk d × ((s : Signature) × (form_of d ≡ ProcedureForm (formals_in program s)) × (result_form program s.result ≡ result_form program r) × SignatureOk es s.params)) × ResultOk r t
 
     pub TextOk : Expr → Type 0
     TextOk (ValueOf d) = DesigOk d × IsText (form_of d)
@@ -355,7 +355,7 @@ module _ (program : Program) (Has : Signature → QName → Type 0) (unit : List
   -- a call of a proper procedure
   abbrev pub ProperOk : Expr → Type 0
   ProperOk (Call c es at r) = CallOk c r (ActualsOk es) (OutOk es) × (r ≡ None) × CalleeTakes c es
-  ProperOk (CallVariable d es at r) = (DesigOk d × ((s : Signature) × (form_of d ≡ ProcedureForm s) × (result_form program s.result ≡ result_form program r) × SignatureOk es s.params)) × (r ≡ None)
+  ProperOk (CallVariable d es at r) = (DesigOk d × ((s : Signature) × (form_of d ≡ ProcedureForm (formals_in program s)) × (result_form program s.result ≡ result_form program r) × SignatureOk es s.params)) × (r ≡ None)
   ProperOk e = ⊥
 
   -- inside a LOOP or not

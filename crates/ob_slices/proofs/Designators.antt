@@ -3,7 +3,6 @@ use Rattle.std.proofs.Common.{◌≡◌, ◌⊎◌, ⊎_elim, refl, sym, ap, ◌
 use Rattle.ob_tree.specs.declared.names.QName.{QName}
 use Rattle.ob_types.specs.declared.types.Mode.{Mode}
 use Rattle.ob_types.specs.declared.types.TypeRef.{TypeRef}
-use Rattle.ob_types.specs.declared.types.Signature.{Signature}
 use Rattle.ob_types.specs.declared.value.Value.TheVariants as literal
 use Rattle.ob_types.specs.declared.typed.Passing.{Passing}
 use Rattle.ob_types.specs.declared.typed.Passing.TheVariants as passing
@@ -12,7 +11,7 @@ use Rattle.ob_types.specs.declared.typed.Callee.TheVariants as callee
 use Rattle.ob_types.specs.declared.typed.TypedParameter.{TypedParameter}
 use Rattle.ob_types.specs.TypedSyntax.{Desig, OfVariable, Field, Index, Deref, Guard, Expr, Constant, ValueOf, ProcedureValue, Monadic, Dyadic, Logical, CompareTexts, IsPointer, IsRecord, Length, Call, CallVariable, Actuals, NoActual, AnActual}
 use Rattle.ob_types.specs.TypedKinds.{variable_type}
-use Rattle.ob_meaning.specs.Values.{Program, Form, BasicForm, PointerForm, ProcedureForm, ArrayForm, OpenForm, RecordForm, form_in, record_in, Held}
+use Rattle.ob_meaning.specs.Values.{Program, Form, BasicForm, PointerForm, ProcedureForm, ArrayForm, OpenForm, RecordForm, form_in, record_in, Held, Formals, formals_in}
 use Rattle.ob_relation.specs.Relation.{Scalar, IsStructure}
 use Rattle.ob_relation.specs.Passed.{passing_for, IsClosed, IsUnguarded}
 use Rattle.ob_relation.specs.Typed as typed
@@ -21,7 +20,7 @@ use Rattle.ob_relation.proofs.Passings.{structure_is}
 use Rattle.ob_simulation.specs.Slice.{InDesig, InHolder, InTagged, InOpen, InArray, InExpr, InText, InActuals}
 use Rattle.ob_slices.proofs.Forms.{IsArrayForm, IsPointerForm, tagged_variable, array_variable, open_variable, record_above, no_pointer, structure_no_pointer}
 
-module _ (program : Program) (Has : Signature → QName → Type 0) (unit : List ℕ) (held : List Held) (result : Option TypeRef) where
+module _ (program : Program) (Has : Formals → QName → Type 0) (unit : List ℕ) (held : List Held) (result : Option TypeRef) where
   abbrev pub Ok : Desig → Type 0
   Ok d = typed.DesigOk program Has unit held result d
 
@@ -115,7 +114,7 @@ module _ (program : Program) (Has : Signature → QName → Type 0) (unit : List
   pub of_pointer : (t : Form) (r : TypeRef) → t ≡ PointerForm r → Scalar t
   of_pointer t r e = subst Scalar (sym e) tt
 
-  pub of_procedure : (t : Form) (s : Signature) → t ≡ ProcedureForm s → Scalar t
+  pub of_procedure : (t : Form) (fs : Formals) → t ≡ ProcedureForm fs → Scalar t
   of_procedure t s e = subst Scalar (sym e) tt
 
   of_record : (d : Desig) → Ok d → IsRecordForm (T d) → IsUnguarded d
@@ -216,7 +215,7 @@ module _ (program : Program) (Has : Signature → QName → Type 0) (unit : List
     in_expr (Call (callee.Bound f k) es at r) t h = in_formed es (formed_actuals es h.0.2.parameters h.0.8)
     in_expr (Call (callee.Super base f k) es at r) t h = in_formed es (formed_actuals es h.0.1.parameters h.0.6)
     in_expr (Call (callee.Out o) es at r) t h = absurd (subst (λ z. typed.ResultOk program Has unit held result z t) h.0.0 h.1)
-    in_expr (CallVariable d es at r) t h = (in_holder d h.0.0 (of_procedure (T d) h.0.1.0 h.0.1.1), in_formed es (formed_signature es h.0.1.0.params h.0.1.3))
+    in_expr (CallVariable d es at r) t h = (in_holder d h.0.0 (of_procedure (T d) (formals_in program h.0.1.0) h.0.1.1), in_formed es (formed_signature es h.0.1.0.params h.0.1.3))
 
     pub in_text : (x : Expr) → typed.TextOk program Has unit held result x → InText x
     in_text (Constant (literal.Str text)) h = tt

@@ -6,7 +6,6 @@ use Rattle.ob_types.specs.declared.types.Basic.{Basic}
 use Rattle.ob_types.specs.declared.types.Basic.TheVariants as basic
 use Rattle.ob_types.specs.declared.types.TypeRef.{TypeRef}
 use Rattle.ob_types.specs.declared.types.TypeRef.TheVariants as ref
-use Rattle.ob_types.specs.declared.types.Signature.{Signature}
 use Rattle.ob_types.specs.declared.value.Value.TheVariants as literal
 use Rattle.ob_types.specs.declared.typed.Passing.{Passing}
 use Rattle.ob_types.specs.declared.typed.Passing.TheVariants as passing
@@ -20,7 +19,7 @@ use Rattle.ob_types.specs.declared.typed.Update.TheVariants as update
 use Rattle.ob_types.specs.declared.typed.Made.{Made}
 use Rattle.ob_types.specs.declared.typed.Made.TheVariants as made
 use Rattle.ob_types.specs.TypedSyntax.{Desig, Expr, Constant, ValueOf, ProcedureValue, Monadic, Dyadic, Logical, CompareTexts, IsPointer, IsRecord, Length, Call, CallVariable, Actuals, NoActual, AnActual, Stmt, Assign, CallProper, Updated, Copy, New, NewOpenArray, Assert, Halt, If, Case, While, Repeat, For, Loop, Exit, Return, With, Stmts, Nothing, Then, Branches, NoBranch, Branch, Cases, NoCase, OneCase, Otherwise, NoElse, Else}
-use Rattle.ob_meaning.specs.Values.{Program, Form, BasicForm, ArrayForm, form_in, record_in, Held}
+use Rattle.ob_meaning.specs.Values.{Program, Form, BasicForm, ArrayForm, form_in, record_in, Held, Formals, formals_in}
 use Rattle.ob_relation.specs.Relation.{Sub, Scalar}
 use Rattle.ob_relation.specs.Passed.{IsUnguarded, AreOut}
 use Rattle.ob_relation.specs.Typed as typed
@@ -29,7 +28,7 @@ use Rattle.ob_simulation.specs.Slice.{InExpr, InOptional, InStmt, InStmts, InBra
 use Rattle.ob_slices.proofs.Forms.{IsArrayForm, IsPointerForm, plain_variable, no_pointer}
 use Rattle.ob_slices.proofs.Designators.{Ok, T, unguarded, unguarded_base, record_no_pointer, array_no_pointer, text_array, of_pointer, of_length, of_any, of_procedure, of_array, formed_actuals, formed_signature, in_desig, in_holder, in_tagged, in_array, in_expr, in_text, in_formed}
 
-module _ (program : Program) (Has : Signature → QName → Type 0) (unit : List ℕ) (held : List Held) (result : Option TypeRef) where
+module _ (program : Program) (Has : Formals → QName → Type 0) (unit : List ℕ) (held : List Held) (result : Option TypeRef) where
   abbrev Fine : Desig → Type 0
   Fine d = Ok program Has unit held result d
 
@@ -108,7 +107,7 @@ module _ (program : Program) (Has : Signature → QName → Type 0) (unit : List
   in_proper (Call (callee.Bound f k) es at r) h = in_formed program Has unit held result es (formed_actuals program Has unit held result es h.0.2.parameters h.0.8)
   in_proper (Call (callee.Super base f k) es at r) h = in_formed program Has unit held result es (formed_actuals program Has unit held result es h.0.1.parameters h.0.6)
   in_proper (Call (callee.Out o) es at r) h = in_out o es at r h.0.1 h.2
-  in_proper (CallVariable d es at r) h = (in_holder program Has unit held result d h.0.0 (of_procedure program Has unit held result (F d) h.0.1.0 h.0.1.1), in_formed program Has unit held result es (formed_signature program Has unit held result es h.0.1.0.params h.0.1.3))
+  in_proper (CallVariable d es at r) h = (in_holder program Has unit held result d h.0.0 (of_procedure program Has unit held result (F d) (formals_in program h.0.1.0) h.0.1.1), in_formed program Has unit held result es (formed_signature program Has unit held result es h.0.1.0.params h.0.1.3))
   in_proper (Constant c) h = absurd h
   in_proper (ValueOf d) h = absurd h
   in_proper (ProcedureValue q s) h = absurd h

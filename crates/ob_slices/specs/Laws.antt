@@ -2,9 +2,8 @@
 use Rattle.std.specs.Prelude.{◌≡◌, ℕ, List, Option, Bool, true}
 use Rattle.ob_tree.specs.declared.names.QName.{QName}
 use Rattle.ob_types.specs.declared.types.TypeRef.{TypeRef}
-use Rattle.ob_types.specs.declared.types.Signature.{Signature}
 use Rattle.ob_types.specs.TypedSyntax.{Stmts, Module}
-use Rattle.ob_meaning.specs.Values.{Program, Held}
+use Rattle.ob_meaning.specs.Values.{Program, Held, Formals}
 use Rattle.ob_meaning.specs.Commands.{body_name, body_procedure}
 use Rattle.ob_relation.specs.Typed as typed
 use Rattle.ob_relation.specs.Setting.{Setting}
@@ -12,12 +11,12 @@ use Rattle.ob_relation.specs.Linked.{Linked, ProcedureStands}
 use Rattle.ob_simulation.specs.Slice.{InStmts, AllIn}
 
 -- procedures that may be values, as a setting tells them
-abbrev pub Having : (Signature → QName → Bool) → Signature → QName → Type 0
-Having has s q = has s q ≡ true
+abbrev pub Having : (Formals → QName → Bool) → Formals → QName → Type 0
+Having has fs q = has fs q ≡ true
 
 -- Well typed statements are in the slice.
 abbrev pub StatementsAreIn : Type 0
-StatementsAreIn = (program : Program) (has : Signature → QName → Bool) (unit : List ℕ) (held : List Held) (result : Option TypeRef) (xs : Stmts) (in_loop : Bool) → typed.StmtsOk program (Having has) unit held result xs in_loop → InStmts xs
+StatementsAreIn = (program : Program) (has : Formals → QName → Bool) (unit : List ℕ) (held : List Held) (result : Option TypeRef) (xs : Stmts) (in_loop : Bool) → typed.StmtsOk program (Having has) unit held result xs in_loop → InStmts xs
 
 -- Procedures that stand in an image are well typed, so their bodies are in the slice.
 abbrev pub ProceduresAreIn : Type 0

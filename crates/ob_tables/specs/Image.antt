@@ -1,11 +1,10 @@
 -- That an image of files is as the law of simulation asks: the law.
 use Rattle.std.specs.Prelude.{◌≡◌, ℕ, List, [], ◌∷◌, Some}
 use Rattle.ob_tree.specs.declared.names.QName.{QName}
-use Rattle.ob_types.specs.declared.types.Signature.{Signature}
 use Rattle.ob_types.specs.declared.typed.Family.{Family}
 use Rattle.ob_types.specs.TypedSyntax.{Procedure}
 use Rattle.ob_obj.specs.declared.file.ObjFile.{ObjFile}
-use Rattle.ob_meaning.specs.Values.{Program, procedure_of, record_in}
+use Rattle.ob_meaning.specs.Values.{Program, procedure_of, record_in, Formals}
 use Rattle.ob_meaning.specs.Commands.{body_name, body_procedure}
 use Rattle.ob_code.specs.Procedures.{body_of}
 use Rattle.ob_relation.specs.Relation.{FormOk}
@@ -47,7 +46,7 @@ pub record RulesKept (c : Setting) (builds : List Build) : Type 0 where
   pub families : AllFamiliesDeclared c.program number builds
   pub redefinitions : RedefinitionsKept c.program
   -- what a variable of a procedure type may have as its value is a procedure of the program, of the variable's signature
-  pub values : (s : Signature) (q : QName) → has_of c s q → (p : Procedure) × (procedure_of c.program q ≡ Some p)
+  pub values : (fs : Formals) (q : QName) → has_of c fs q → (p : Procedure) × (procedure_of c.program q ≡ Some p)
   pub match : ValuesMatch c
 
 -- a procedure stands in the image, and the tables are those that its calls rest on
