@@ -1,5 +1,5 @@
 -- What is bound leaves the names of types, and each is described.
-use Rattle.std.proofs.Common.{◌≡◌, ⊎_elim, ℕ, Bool, true, false, List, [], ◌∷◌, Option, Some, None, refl, sym, ap, ◌∙◌, subst, inl, inr}
+use Rattle.std.proofs.Common.{◌≡◌, ℕ, Bool, true, false, List, [], ◌∷◌, Option, Some, None, refl, ap, ◌∙◌, inl, inr}
 use Rattle.std.specs.Prelude.{bytes_eq}
 use Rattle.std.specs.List.{AllByRecursion, filter}
 use Rattle.ob_tree.specs.declared.names.QName.{QName}
@@ -12,10 +12,9 @@ use Rattle.ob_types.specs.declared.typed.TypedType.{TypedType}
 use Rattle.ob_types.specs.Maps.{is_type}
 use Rattle.ob_rules.specs.Shapes.{Map, Member, AField, AMethod, member}
 use Rattle.ob_rules.specs.Names.{Around, map_of}
-use Rattle.ob_rules.specs.Headings.{Head, BoundAs, Binding, counted, change_desc, changed_if, change_type, with_method, new_method, redefined, bind_method, bind_by, bind_one, bind_all, of_record, bind_records, reversed, bindings}
+use Rattle.ob_rules.specs.Headings.{Head, BoundAs, Binding, counted, change_desc, changed_if, change_type, with_method, new_method, redefined, bind_method, bind_by, bind_one, bind_all, of_record, bind_records, reversed}
 use Rattle.ob_rules.specs.Declarations.{binding_at}
-use Rattle.ob_forms.specs.Said.{IsOneOf}
-use Rattle.ob_bodies.specs.Knows.{HasName, Grows, LengthIs, IsDescribed}
+use Rattle.ob_bodies.specs.Knows.{Grows, LengthIs, IsDescribed}
 use Rattle.ob_bodies.proofs.Standing.{grows_same, grows_then}
 
 module _ (IsConstant : Value → Type 0) where

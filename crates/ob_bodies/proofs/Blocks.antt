@@ -1,43 +1,32 @@
 -- Procedures, and sequences of declarations with their statements.
-use Rattle.std.proofs.Common.{◌≡◌, ◌⊎◌, ⊎_elim, refl, sym, ap, ◌∙◌, subst, ℕ, suc, ◌≤◌, ◌<◌, Bool, true, false, List, [], ◌∷◌, ◌++◌, map, Option, Some, None, inl, inr, arith}
-use Rattle.std.specs.Prelude.{nat_lt, codes}
-use Rattle.std.specs.List.{AllByRecursion, filter_map}
+use Rattle.std.proofs.Common.{◌≡◌, refl, sym, ap, ◌∙◌, subst, ℕ, suc, ◌≤◌, ◌<◌, Bool, true, false, List, [], ◌∷◌, ◌++◌, Option, Some, None, inl, inr, arith}
+use Rattle.std.specs.Prelude.{nat_lt}
+use Rattle.std.specs.List.{AllByRecursion}
 use Rattle.ob_tree.specs.declared.names.QName.{QName}
-use Rattle.ob_tree.specs.declared.stmt.Stmt.{Stmt}
-use Rattle.ob_types.specs.declared.types.Mode.{Mode}
 use Rattle.ob_types.specs.declared.types.TypeRef.{TypeRef}
 use Rattle.ob_types.specs.declared.value.Value.{Value}
 use Rattle.ob_types.specs.declared.desc.Desc.{Desc}
 use Rattle.ob_types.specs.declared.typed.Variable.{Variable}
 use Rattle.ob_types.specs.declared.typed.TypedType.{TypedType}
 use Rattle.ob_types.specs.declared.typed.TypedVariable.{TypedVariable}
-use Rattle.ob_types.specs.declared.typed.TypedParameter.{TypedParameter}
 use Rattle.ob_types.specs.declared.typed.TypedProcedure.{TypedProcedure}
-use Rattle.ob_types.specs.declared.typed.TypedStmt.{TypedStmt}
 use Rattle.ob_types.specs.declared.typed.TypedModule.{TypedModule}
 use Rattle.ob_rules.specs.declared.entity.Entity.{Entity}
 use Rattle.ob_rules.specs.declared.entity.Entity.TheVariants as entity
 use Rattle.ob_rules.specs.declared.entity.Known.{Known}
-use Rattle.ob_rules.specs.declared.notes.Later.{Later}
 use Rattle.ob_rules.specs.Shapes.{Map}
-use Rattle.ob_rules.specs.Names.{Around, map_of, in_unit, is_out}
-use Rattle.ob_rules.specs.Types.{Parameters, nothing, is_module_level}
-use Rattle.ob_rules.specs.Statements.{Judging, judging, in_turn}
-use Rattle.ob_rules.specs.Headings.{Head, Heads, Binding, head_entity, entity_as, reversed}
-use Rattle.ob_rules.specs.Declarations.{Contents, no_contents, together, Part, no_part, Declared, Written_procedure, Declaration, plain_of, procedure_of, type_name_of, in_order, headings_in_order, around_body, result_in, bound_to, typed_procedure, types_of_head, procedure_contents, procedure_judged, procedures_judged, stmts_in, body_part, block_inside, with_bound, block_bound, binding_at, heads_later, block_headed, block_declared, block}
+use Rattle.ob_rules.specs.Names.{Around, map_of, is_out}
+use Rattle.ob_rules.specs.Types.{Parameters, nothing}
+use Rattle.ob_rules.specs.Headings.{Head, reversed}
+use Rattle.ob_rules.specs.Declarations.{Contents, Part, Written_procedure, around_body, result_in, bound_to, typed_procedure, types_of_head, procedure_judged, procedures_judged}
 use Rattle.ob_forms.specs.Said.{IsOneOf}
 use Rattle.ob_typed.specs.Makes.{IfThere}
-use Rattle.ob_typed.specs.Spelled.{all_true}
-use Rattle.ob_typed.specs.Bodies.{stmt_spelled}
-use Rattle.ob_bodies.specs.Knows.{Grows, Stands, IsDescribed, EntityStands, Knows}
-use Rattle.ob_bodies.specs.Judged.{AreOf, IsParameter, IsInside, result_of, VariableStands, IsProcedureIn, NameIs, StandsAround, IsJudged, ProcedureIsJudged}
-use Rattle.ob_bodies.proofs.Lists.{one_left, one_right, one_all, all_of, all_one, all_both, there_of}
-use Rattle.ob_bodies.proofs.Standing.{grows_same, grows_then, stands_grown, all_grown}
-use Rattle.ob_bodies.proofs.Heads.{InsideEntity, SignatureStands, HeadStands, head_grown, all_parameters}
-use Rattle.ob_bodies.proofs.Headings.{Aligned, named_at, IsBehind, Behind, aligned_in_order, names_in_order, AreGoodHeadings, HeadsStand, named_fine, stand_in_order}
-use Rattle.ob_bodies.proofs.Binding.{Changes, binding_changes}
-use Rattle.ob_bodies.proofs.Levels.{Level, AtModule, Within, frame, IsPlaced, IsVariableAt, Included, IsFull, none_full, both_full, first_included, second_included, BlockAt, name_grown, not_module, outer_name}
-use Rattle.ob_bodies.proofs.Plain.{DeclaredIs, IsPlain, order_plain}
+use Rattle.ob_bodies.specs.Knows.{Stands, IsDescribed, EntityStands}
+use Rattle.ob_bodies.specs.Judged.{IsParameter, IsInside, result_of, NameIs, StandsAround, IsJudged, ProcedureIsJudged}
+use Rattle.ob_bodies.proofs.Lists.{one_left, one_right, all_of, all_both}
+use Rattle.ob_bodies.proofs.Heads.{InsideEntity, SignatureStands, HeadStands, all_parameters}
+use Rattle.ob_bodies.proofs.Headings.{Aligned, AreGoodHeadings}
+use Rattle.ob_bodies.proofs.Levels.{Level, AtModule, Within, frame, IsPlaced, IsVariableAt, Included, IsFull, none_full, both_full, first_included, second_included, BlockAt, not_module, outer_name}
 
 -- ---- lists
 

@@ -14,8 +14,8 @@ use Rattle.ob_rules.specs.Declarations.{Written_procedure, headings_in_order}
 use Rattle.ob_forms.specs.Said.{IsOneOf}
 use Rattle.ob_typed.specs.Makes.{IfThere}
 use Rattle.ob_bodies.specs.Knows.{Grows, IsDescribed, EntityStands, Knows}
-use Rattle.ob_bodies.proofs.Lists.{all_of, there_of}
-use Rattle.ob_bodies.proofs.Standing.{grows_same, grows_front, grows_then, with_types_known}
+use Rattle.ob_bodies.proofs.Lists.{all_of}
+use Rattle.ob_bodies.proofs.Standing.{grows_front, grows_then, with_types_known}
 use Rattle.ob_bodies.proofs.Sections.{AreGoodSections}
 use Rattle.ob_bodies.proofs.Heads.{InsideEntity, inside_none, inside_again, HeadStands, head_grown, head_stands}
 

@@ -1,8 +1,8 @@
 -- Headings: what is known inside one is its receiver and its parameters, and behind it is its name.
-use Rattle.std.proofs.Common.{◌≡◌, ◌⊎◌, refl, sym, ap, ◌∙◌, subst, ℕ, zero, suc, ◌+◌, ◌≤◌, ◌<◌, Bool, true, false, List, [], ◌∷◌, ◌++◌, map, Option, Some, None, inl, inr, arith, append_assoc}
-use Rattle.std.specs.Prelude.{bytes_eq, codes, nat_lt, is_some}
+use Rattle.std.proofs.Common.{◌≡◌, refl, sym, ap, ◌∙◌, subst, ℕ, suc, ◌≤◌, Bool, true, false, List, [], ◌∷◌, ◌++◌, Option, Some, None, inl, arith}
+use Rattle.std.specs.Prelude.{nat_lt, is_some}
 use Rattle.std.specs.Option.{option_map}
-use Rattle.std.specs.List.{AllByRecursion, filter}
+use Rattle.std.specs.List.{AllByRecursion}
 use Rattle.std.proofs.lemmas.Bool.Decides.{nat_tests}
 use Rattle.ob_tree.specs.declared.pos.Pos.{Pos}
 use Rattle.ob_tree.specs.declared.names.QName.{QName}
@@ -11,7 +11,6 @@ use Rattle.ob_tree.specs.declared.ident.Mark.{Mark}
 use Rattle.ob_tree.specs.declared.decl.Receiver.{Receiver as RawReceiver}
 use Rattle.ob_types.specs.declared.types.Mode.{Mode}
 use Rattle.ob_types.specs.declared.types.TypeRef.{TypeRef}
-use Rattle.ob_types.specs.declared.types.Signature.{Signature}
 use Rattle.ob_types.specs.declared.value.Value.{Value}
 use Rattle.ob_types.specs.declared.desc.Desc.{Desc}
 use Rattle.ob_types.specs.declared.desc.Receiver.{Receiver}
@@ -23,11 +22,10 @@ use Rattle.ob_types.specs.declared.typed.TypedParameter.{TypedParameter}
 use Rattle.ob_rules.specs.declared.entity.Entity.{Entity}
 use Rattle.ob_rules.specs.declared.entity.Entity.TheVariants as entity
 use Rattle.ob_rules.specs.declared.entity.Known.{Known}
-use Rattle.ob_rules.specs.Judged.{Judged, sound, both, made, paired, ◌▷◌}
-use Rattle.ob_rules.specs.Shapes.{pointed}
-use Rattle.ob_rules.specs.Names.{Around, map_of, type_named, is_out}
-use Rattle.ob_rules.specs.Types.{Parameters, Sections, parameters_in, with_types, is_module_level, marked, inner, knows}
-use Rattle.ob_rules.specs.Headings.{WrittenHeading, Head, BoundAs, Heads, own_record, received_record, silent_base, bound_to, owner_of, owner_if, self_of, self_parameter, knows_receiver, path_by, forward_name, bound_in, of_scope, as_parameters, heading_parameters, head_from, head_of, types_of}
+use Rattle.ob_rules.specs.Judged.{Judged, sound, paired}
+use Rattle.ob_rules.specs.Names.{Around, type_named, is_out}
+use Rattle.ob_rules.specs.Types.{Parameters, Sections, parameters_in, marked, inner}
+use Rattle.ob_rules.specs.Headings.{WrittenHeading, Head, BoundAs, bound_to, owner_of, owner_if, self_of, self_parameter, knows_receiver, path_by, forward_name, bound_in, as_parameters, heading_parameters, head_from, head_of, types_of}
 use Rattle.ob_rules.specs.Declarations.{self_parameters}
 use Rattle.ob_forms.specs.Said.{IsOneOf}
 use Rattle.ob_described.proofs.Nodes.{Has, then_has}
@@ -35,7 +33,7 @@ use Rattle.ob_typed.specs.Makes.{IfThere}
 use Rattle.ob_bodies.specs.Knows.{Grows, Stands, IsDescribed, EntityStands, Knows, IsPlain}
 use Rattle.ob_bodies.specs.Judged.{AreOf, IsParameter}
 use Rattle.ob_bodies.proofs.Lists.{one_right, all_of, all_filtered, there_of}
-use Rattle.ob_bodies.proofs.Standing.{grows_front, grows_behind, stands_grown}
+use Rattle.ob_bodies.proofs.Standing.{grows_front, stands_grown}
 use Rattle.ob_bodies.proofs.Named.{type_named_stands}
 use Rattle.ob_bodies.proofs.Sections.{AreGoodSections, ParametersAre, ParameterEntity, SectionsAre, parameters_are, inner_known}
 

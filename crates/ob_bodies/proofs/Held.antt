@@ -1,27 +1,21 @@
 -- Variables of a procedure with different names are found by them.
-use Rattle.std.proofs.Common.{◌≡◌, refl, sym, ap, ◌∙◌, subst, ℕ, List, [], ◌∷◌, ◌++◌, map, Option, Some, None, Bool, true, false, inl, inr}
+use Rattle.std.proofs.Common.{◌≡◌, sym, ap, ◌∙◌, subst, ℕ, List, [], ◌∷◌, ◌++◌, map, false, inl, inr}
 use Rattle.std.specs.Prelude.{bytes_eq, if◌then◌else◌}
-use Rattle.std.specs.List.{AllByRecursion}
 use Rattle.ob_tree.specs.declared.pos.Pos.{Pos}
-use Rattle.ob_tree.specs.declared.names.QName.{QName}
-use Rattle.ob_types.specs.declared.types.TypeRef.{TypeRef}
-use Rattle.ob_types.specs.declared.types.Signature.{Signature}
 use Rattle.ob_types.specs.TypedSyntax.{Procedure}
-use Rattle.ob_types.specs.TypedView.{stmts_view}
-use Rattle.ob_meaning.specs.Values.{Program, Form, Held}
+use Rattle.ob_meaning.specs.Values.{Program, Held}
 use Rattle.ob_meaning.specs.Calls.{held_variable, hidden_held, hidden_of_all}
 use Rattle.ob_relation.specs.Layout.{held_name, held_form, form_named, static_parameter, static_held}
 use Rattle.ob_relation.specs.Relation.{OrElse, Fresh, AreDifferent}
 use Rattle.ob_relation.specs.Typed as typed
 use Rattle.ob_relation.specs.Typed.{As, IsOwn}
 use Rattle.ob_relation.proofs.Names.{bytes_same, bytes_sym}
-use Rattle.ob_rules.specs.Statements.{judging, in_turn}
 use Rattle.ob_forms.specs.Said.{IsOneOf}
 use Rattle.ob_described.proofs.Nodes.{IfThere}
-use Rattle.ob_typed.specs.Bodies.{in_all, hidden_places, AreHidden}
+use Rattle.ob_typed.specs.Bodies.{in_all, hidden_places}
 use Rattle.ob_typed.specs.Laws.{Having}
 use Rattle.ob_bodies.specs.Laws.{HiddenStand}
-use Rattle.ob_bodies.proofs.Lists.{one_left, one_right, all_one}
+use Rattle.ob_bodies.proofs.Lists.{one_right, all_one}
 use Rattle.ob_bodies.proofs.Places.{Keeps, stmts_keep}
 
 fresh_of : (x : List ℕ) (hs : List Held) (h : Held) → Fresh x hs → IsOneOf hs h → bytes_eq x (held_name h) ≡ false

@@ -1,5 +1,5 @@
 -- What stands around a sequence of declarations, at the level of the module or in a procedure.
-use Rattle.std.proofs.Common.{◌≡◌, refl, sym, ap, ◌∙◌, subst, ℕ, suc, ◌≤◌, ◌<◌, Bool, true, false, List, [], ◌∷◌, ◌++◌, Option, Some, None, inl, inr, arith}
+use Rattle.std.proofs.Common.{◌≡◌, refl, ℕ, suc, ◌≤◌, ◌<◌, true, false, List, [], ◌∷◌, ◌++◌, Option, Some, None, arith}
 use Rattle.std.specs.Prelude.{nat_lt}
 use Rattle.std.specs.List.{AllByRecursion}
 use Rattle.std.proofs.lemmas.Bool.Decides.{nat_tests}
@@ -7,7 +7,6 @@ use Rattle.ob_tree.specs.declared.names.QName.{QName}
 use Rattle.ob_tree.specs.declared.ident.Ident.{Ident}
 use Rattle.ob_types.specs.declared.types.Mode.{Mode}
 use Rattle.ob_types.specs.declared.types.TypeRef.{TypeRef}
-use Rattle.ob_types.specs.declared.types.Signature.{Signature}
 use Rattle.ob_types.specs.declared.value.Value.{Value}
 use Rattle.ob_types.specs.declared.desc.Desc.{Desc}
 use Rattle.ob_types.specs.declared.typed.Variable.{Variable}
@@ -21,13 +20,12 @@ use Rattle.ob_rules.specs.declared.entity.Entity.TheVariants as entity
 use Rattle.ob_rules.specs.declared.entity.Known.{Known}
 use Rattle.ob_rules.specs.Names.{Around, found_in_scope}
 use Rattle.ob_rules.specs.Types.{with_types, nothing}
-use Rattle.ob_rules.specs.Declarations.{Contents, no_contents, together, Declared, declare_if, declare}
+use Rattle.ob_rules.specs.Declarations.{Contents, no_contents, together, declare_if, declare}
 use Rattle.ob_forms.specs.Said.{IsOneOf}
-use Rattle.ob_typed.specs.Makes.{IfThere}
 use Rattle.ob_bodies.specs.Knows.{Grows, Stands, IsDescribed, EntityStands, Knows}
-use Rattle.ob_bodies.specs.Judged.{IsInside, result_of, StandsIn, IsProcedureIn, VariableStands, NameIs}
+use Rattle.ob_bodies.specs.Judged.{IsInside, result_of, NameIs}
 use Rattle.ob_bodies.proofs.Lists.{one_left, one_right, all_of, all_both, there_of}
-use Rattle.ob_bodies.proofs.Standing.{grows_front, stands_grown, all_grown, with_types_known}
+use Rattle.ob_bodies.proofs.Standing.{grows_front, stands_grown, with_types_known}
 
 -- in the module, or in a procedure, whose heading may break a rule
 pub data Level : Type 0 where

@@ -1,6 +1,6 @@
 -- Modules: the bodies of a checked module are judged where what is known is as the module has it.
-use Rattle.std.proofs.Common.{◌≡◌, refl, sym, ap, ◌∙◌, subst, ℕ, suc, ◌≤◌, Bool, true, false, List, [], ◌∷◌, ◌++◌, map, Option, Some, None, inl, inr, arith}
-use Rattle.std.specs.Prelude.{bytes_eq, codes, ◌&&◌, ◌||◌}
+use Rattle.std.proofs.Common.{◌≡◌, refl, sym, ap, ◌∙◌, subst, ℕ, ◌≤◌, Bool, true, false, List, [], ◌∷◌, ◌++◌, map, Option, Some, None, arith}
+use Rattle.std.specs.Prelude.{bytes_eq, ◌&&◌, ◌||◌}
 use Rattle.std.specs.List.{AllByRecursion, cons_option, filter_map, find}
 use Rattle.ob_tree.specs.declared.pos.Pos.{Pos}
 use Rattle.ob_tree.specs.declared.names.QName.{QName}
@@ -19,7 +19,6 @@ use Rattle.ob_types.specs.declared.typed.TypedType.{TypedType}
 use Rattle.ob_types.specs.declared.typed.TypedProcedure.{TypedProcedure}
 use Rattle.ob_types.specs.declared.typed.TypedModule.{TypedModule}
 use Rattle.ob_rules.specs.declared.broken.Broken.{Broken}
-use Rattle.ob_rules.specs.declared.entity.Entity.TheVariants as entity
 use Rattle.ob_rules.specs.declared.entity.Known.{Known}
 use Rattle.ob_rules.specs.Judged.{notes_if}
 use Rattle.ob_rules.specs.Names.{Around, predeclared, is_out}
@@ -31,14 +30,14 @@ use Rattle.ob_typed.specs.Makes.{IfThere}
 use Rattle.ob_typed.specs.Spelled.{all_true, is_spelled}
 use Rattle.ob_typed.specs.Bodies.{stmt_spelled}
 use Rattle.ob_relation.proofs.Names.{and_both}
-use Rattle.ob_bodies.specs.Spelled.{parameters_spelled, type_spelled, decl_layer, decl_spelled, tree_spelled}
-use Rattle.ob_bodies.specs.Knows.{IsDescribed, EntityStands, Knows}
-use Rattle.ob_bodies.specs.Judged.{NameIs, IsJudged, BodiesAreJudged, ProcedureIsJudged}
+use Rattle.ob_bodies.specs.Spelled.{parameters_spelled, decl_layer, decl_spelled, tree_spelled}
+use Rattle.ob_bodies.specs.Knows.{IsDescribed, EntityStands}
+use Rattle.ob_bodies.specs.Judged.{NameIs, BodiesAreJudged, ProcedureIsJudged}
 use Rattle.ob_bodies.proofs.Lists.{all_both, find_has}
 use Rattle.ob_bodies.proofs.Typings.{ConstantPhrase}
 use Rattle.ob_bodies.proofs.Written.{written_good, written_parameters_good}
 use Rattle.ob_bodies.proofs.Levels.{Level, AtModule, Within, frame, IsPlaced, Included, none_full, both_full, first_included, second_included, BlockAt, block_declared as name_declared}
-use Rattle.ob_bodies.proofs.Plain.{DeclaredIs, IsPlain, constant_plain, type_plain, variables_declared_plain, order_plain}
+use Rattle.ob_bodies.proofs.Plain.{IsPlain, constant_plain, type_plain, variables_declared_plain, order_plain}
 use Rattle.ob_bodies.proofs.Blocks.{all_empty, PartIs, IsBlock, IsProcedure, stands_at}
 use Rattle.ob_bodies.proofs.Sequences.{block_is}
 

@@ -1,7 +1,6 @@
 -- The statements that are made of a text keep the places of its FOR and CASE.
-use Rattle.std.proofs.Common.{◌≡◌, ⊎_elim, inl, inr, refl, sym, ap, ◌∙◌, subst, ℕ, ℤ, List, [], ◌∷◌, ◌++◌, map, Option, Some, None, Bool, true, false}
+use Rattle.std.proofs.Common.{◌≡◌, ⊎_elim, inl, inr, sym, subst, ℤ, List, [], ◌∷◌, ◌++◌, map, Option, Some, None}
 use Rattle.ob_tree.specs.declared.pos.Pos.{Pos}
-use Rattle.ob_tree.specs.declared.expr.Expr.{Expr as Raw}
 use Rattle.ob_tree.specs.declared.stmt.Stmt.{Stmt, roll-Stmt, map-Stmt}
 use Rattle.ob_tree.specs.declared.stmt.Branch.{Branch, roll-Branch, map-Branch}
 use Rattle.ob_tree.specs.declared.stmt.Case.{Case, roll-Case, map-Case}
@@ -22,7 +21,7 @@ use Rattle.ob_meaning.specs.Calls.{hidden_of, hidden_of_all, hidden_of_branches,
 use Rattle.ob_rules.specs.declared.meant.Selects.{Selects}
 use Rattle.ob_rules.specs.declared.values.Place.{Place}
 use Rattle.ob_rules.specs.declared.values.Valued.{Valued}
-use Rattle.ob_rules.specs.Judged.{Judged, sound, both, made, noted, ◌▷◌}
+use Rattle.ob_rules.specs.Judged.{Judged, sound, both, made, ◌▷◌}
 use Rattle.ob_rules.specs.Shapes.{Map}
 use Rattle.ob_rules.specs.Names.{Around, map_of, named}
 use Rattle.ob_rules.specs.Expressions.{phrase_of}
@@ -31,8 +30,8 @@ use Rattle.ob_rules.specs.Phrases.{Phrase}
 use Rattle.ob_rules.specs.Statements as rules
 use Rattle.ob_rules.specs.Statements.{Judging, Conditional, Labelled, GuardedBody, in_turn, in_turn_if, one, branch_of, empty_if_none, condition, Labels, labels, case_of, case_behind, cases, selects_if, case_judged, for_made, for_parts, bound_if, for_step, for_variable, in_loop, conditional, conditionals, guarded_body, with_test, with_branch, with_branches, if_statement, while_statement, repeat_statement, loop_statement, with_statement, case, for, phrase_if, stmt_rule, branch_rule, case_rule, guarded_rule, judging, conditional_of, labelled_of, guarded_of}
 use Rattle.ob_forms.specs.Said.{IsOneOf}
-use Rattle.ob_described.proofs.Nodes.{IfThere, Has, then_has, any_then, both_have, first_has, second_has}
-use Rattle.ob_typed.specs.Bodies.{in_all, in_if, place_layer, branch_places_layer, case_places_layer, guarded_places_layer, hidden_places, branch_places, case_places, guarded_places}
+use Rattle.ob_described.proofs.Nodes.{IfThere, Has, then_has, both_have, first_has, second_has}
+use Rattle.ob_typed.specs.Bodies.{in_all, place_layer, branch_places_layer, case_places_layer, guarded_places_layer, hidden_places, branch_places, case_places, guarded_places}
 use Rattle.ob_bodies.proofs.Lists.{one_left, one_right, one_joined}
 
 -- each of these is among those

@@ -1,5 +1,5 @@
 -- Constants, types and variables that are declared.
-use Rattle.std.proofs.Common.{◌≡◌, refl, sym, ap, ◌∙◌, subst, ℕ, suc, ◌≤◌, ◌<◌, Bool, true, false, List, [], ◌∷◌, ◌++◌, map, Option, Some, None, inl, inr, arith}
+use Rattle.std.proofs.Common.{◌≡◌, refl, sym, ap, ◌∙◌, subst, ℕ, Bool, true, false, List, [], ◌∷◌, ◌++◌, Option, Some, None, inl}
 use Rattle.std.specs.Prelude.{nat_lt, codes}
 use Rattle.std.specs.List.{AllByRecursion}
 use Rattle.ob_tree.specs.declared.pos.Pos.{Pos}
@@ -14,28 +14,23 @@ use Rattle.ob_types.specs.declared.value.Value.{Value}
 use Rattle.ob_types.specs.declared.value.Value.TheVariants as literal
 use Rattle.ob_types.specs.declared.desc.Desc.{Desc}
 use Rattle.ob_types.specs.declared.desc.Desc.TheVariants as desc
-use Rattle.ob_types.specs.declared.typed.Variable.{Variable}
 use Rattle.ob_types.specs.declared.typed.Variable.TheVariants as variable
 use Rattle.ob_types.specs.declared.typed.TypedType.{TypedType}
-use Rattle.ob_types.specs.declared.typed.TypedVariable.{TypedVariable}
 use Rattle.ob_types.specs.declared.typed.TypedProcedure.{TypedProcedure}
 use Rattle.ob_types.specs.declared.typed.TypedModule.{TypedModule}
-use Rattle.ob_rules.specs.declared.entity.Entity.TheVariants as entity
 use Rattle.ob_rules.specs.Judged.{Judged, sound, both, ◌▷◌}
-use Rattle.ob_rules.specs.Names.{Around, in_unit, is_out}
+use Rattle.ob_rules.specs.Names.{Around, is_out}
 use Rattle.ob_rules.specs.Phrases.{Phrase}
 use Rattle.ob_rules.specs.Expressions.{constant_value}
-use Rattle.ob_rules.specs.Types.{Typing, Written, with_types, is_module_level, marked, nothing, typed_as}
+use Rattle.ob_rules.specs.Types.{Typing, Written, with_types, is_module_level, marked, nothing}
 use Rattle.ob_rules.specs.Headings.{mark_or_hidden}
-use Rattle.ob_rules.specs.Declarations.{Contents, no_contents, together, Part, Declared, declare, no_nil, constant_entity, constant_contents, constant_declared, equated, typing_as, type_entity, types_made, type_declared, variable_of, variable_entity, variable_contents, paired_typing, variable_marked, variables_with, first_name, made_in, variables_typed, variables_declared, in_order}
-use Rattle.ob_forms.specs.Said.{IsOneOf}
+use Rattle.ob_rules.specs.Declarations.{Contents, no_contents, Declared, declare, no_nil, constant_entity, constant_contents, constant_declared, equated, typing_as, type_entity, types_made, type_declared, variable_of, variable_entity, variable_contents, paired_typing, variables_with, first_name, made_in, variables_declared, in_order}
 use Rattle.ob_described.proofs.Nodes.{Has, then_has, second_has}
 use Rattle.ob_typed.specs.Makes.{IfThere}
 use Rattle.ob_bodies.specs.Knows.{Stands, IsDescribed, EntityStands, Knows}
 use Rattle.ob_bodies.specs.Judged.{IsInside, VariableStands, NameIs}
-use Rattle.ob_bodies.proofs.Lists.{one_left, one_right, there_of}
 use Rattle.ob_bodies.proofs.Typings.{TypingIs, ConstantPhrase, IsGood, typed_is}
-use Rattle.ob_bodies.proofs.Levels.{Level, AtModule, Within, frame, IsPlaced, IsVariableAt, Included, IsFull, none_full, both_full, first_included, second_included, BlockAt, block_typed, block_declared, declared_own, not_outer, not_module}
+use Rattle.ob_bodies.proofs.Levels.{Level, AtModule, Within, frame, IsVariableAt, Included, IsFull, none_full, both_full, first_included, second_included, BlockAt, block_typed, block_declared, declared_own, not_outer, not_module}
 
 module _ (IsConstant : Value → Type 0) (shown : QName → Option Desc) (m : TypedModule) (out : is_out m.name ≡ false) where
   abbrev S : List TypedType → TypeRef → Type 0

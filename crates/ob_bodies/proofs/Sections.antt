@@ -1,6 +1,6 @@
 -- Parameters: their types stand, they have the modes and types of the signature, and what is known behind them are they.
-use Rattle.std.proofs.Common.{◌≡◌, ◌⊎◌, ⊎_elim, refl, sym, ap, ◌∙◌, subst, ℕ, zero, suc, ◌+◌, Bool, true, false, List, [], ◌∷◌, ◌++◌, length, map, Option, Some, None, inl, inr}
-use Rattle.std.specs.Prelude.{bytes_eq, codes}
+use Rattle.std.proofs.Common.{◌≡◌, ⊎_elim, refl, sym, ap, subst, ℕ, ◌+◌, Bool, true, false, List, [], ◌∷◌, ◌++◌, length, map, Option, Some, None, inl, inr}
+use Rattle.std.specs.Prelude.{bytes_eq}
 use Rattle.std.specs.List.{AllByRecursion}
 use Rattle.ob_tree.specs.declared.pos.Pos.{Pos}
 use Rattle.ob_tree.specs.declared.names.QName.{QName}
@@ -11,11 +11,9 @@ use Rattle.ob_tree.specs.declared.ident.Qualident.{Qualident}
 use Rattle.ob_types.specs.declared.types.Mode.{Mode}
 use Rattle.ob_types.specs.declared.types.Mode.TheVariants as mode
 use Rattle.ob_types.specs.declared.types.TypeRef.{TypeRef}
-use Rattle.ob_types.specs.declared.types.Signature.{Signature}
 use Rattle.ob_types.specs.declared.value.Value.{Value}
 use Rattle.ob_types.specs.declared.desc.Desc.{Desc}
 use Rattle.ob_types.specs.declared.desc.Desc.TheVariants as desc
-use Rattle.ob_types.specs.declared.typed.Passing.{Passing}
 use Rattle.ob_types.specs.declared.typed.Variable.{Variable}
 use Rattle.ob_types.specs.declared.typed.Variable.TheVariants as variable
 use Rattle.ob_types.specs.declared.typed.TypedType.{TypedType}
@@ -23,18 +21,18 @@ use Rattle.ob_types.specs.declared.typed.TypedParameter.{TypedParameter}
 use Rattle.ob_rules.specs.declared.entity.Entity.{Entity}
 use Rattle.ob_rules.specs.declared.entity.Entity.TheVariants as entity
 use Rattle.ob_rules.specs.declared.entity.Known.{Known}
-use Rattle.ob_rules.specs.Judged.{Judged, Notes, sound, both, made, noted, if_sound, paired, unless, ◌▷◌}
+use Rattle.ob_rules.specs.Judged.{Judged, Notes, sound, both, made, if_sound, paired, unless}
 use Rattle.ob_rules.specs.Shapes.{same_name, passing_of, by_value, by_var, is_open, is_structured, is_record}
 use Rattle.ob_rules.specs.Names.{Around, map_of, type_desc, out_string, type_named, is_out}
-use Rattle.ob_rules.specs.Types.{Typing, Written, with_types, section_name, Parameters, WrittenSection, WrittenParameters, Sections, mode_of, parameter_as, knows, Named, declare_all, parameters_of, parameters_joined, behind_section, with_made, section, sections, result_fits, result_of, first_of, with_result, behind_sections, parameters_in, inner, procedure_type, typed_as}
+use Rattle.ob_rules.specs.Types.{Typing, with_types, section_name, Parameters, WrittenSection, WrittenParameters, Sections, mode_of, parameter_as, knows, declare_all, parameters_of, parameters_joined, behind_section, with_made, section, sections, result_fits, result_of, first_of, with_result, behind_sections, parameters_in, inner, procedure_type, typed_as}
 use Rattle.ob_forms.specs.Said.{IsOneOf}
-use Rattle.ob_described.proofs.Nodes.{Has, then_has, both_have, unless_has}
+use Rattle.ob_described.proofs.Nodes.{Has, then_has, both_have}
 use Rattle.ob_typed.specs.Makes.{IfThere}
-use Rattle.ob_bodies.specs.Knows.{HasName, Grows, Stands, IsDescribed, EntityStands, Knows, IsPlain}
+use Rattle.ob_bodies.specs.Knows.{Grows, Stands, IsDescribed, EntityStands, Knows, IsPlain}
 use Rattle.ob_bodies.specs.Judged as judged
 use Rattle.ob_bodies.specs.Judged.{AreOf, IsParameter}
 use Rattle.ob_bodies.proofs.Lists.{one_left, one_right, one_joined, all_of, all_both, all_same, there_of}
-use Rattle.ob_bodies.proofs.Standing.{grows_same, grows_front, grows_behind, grows_then, stands_grown, with_types_known}
+use Rattle.ob_bodies.proofs.Standing.{stands_grown, with_types_known}
 use Rattle.ob_bodies.proofs.Named.{type_named_stands}
 use Rattle.ob_bodies.proofs.Typings.{TypingIs, IsGood, typed_is}
 

@@ -1,33 +1,29 @@
 -- A sequence of declarations with its statements: the bodies of its procedures and its own are judged where what is known is as the module has it.
-use Rattle.std.proofs.Common.{◌≡◌, refl, sym, ap, ◌∙◌, subst, ℕ, suc, ◌≤◌, ◌<◌, Bool, true, false, List, [], ◌∷◌, ◌++◌, map, Option, Some, None, inl, inr}
-use Rattle.std.specs.List.{AllByRecursion, filter_map}
+use Rattle.std.proofs.Common.{◌≡◌, refl, sym, ap, ◌∙◌, subst, ℕ, ◌≤◌, Bool, true, false, List, [], ◌++◌, map, Option, Some, None}
+use Rattle.std.specs.List.{AllByRecursion}
 use Rattle.ob_tree.specs.declared.names.QName.{QName}
 use Rattle.ob_tree.specs.declared.stmt.Stmt.{Stmt}
-use Rattle.ob_types.specs.declared.types.TypeRef.{TypeRef}
 use Rattle.ob_types.specs.declared.value.Value.{Value}
 use Rattle.ob_types.specs.declared.desc.Desc.{Desc}
 use Rattle.ob_types.specs.declared.typed.TypedType.{TypedType}
-use Rattle.ob_types.specs.declared.typed.TypedProcedure.{TypedProcedure}
-use Rattle.ob_types.specs.declared.typed.TypedStmt.{TypedStmt}
 use Rattle.ob_types.specs.declared.typed.TypedModule.{TypedModule}
-use Rattle.ob_rules.specs.declared.entity.Entity.{Entity}
 use Rattle.ob_rules.specs.declared.entity.Known.{Known}
 use Rattle.ob_rules.specs.declared.entity.Bound.{Bound}
 use Rattle.ob_rules.specs.Names.{Around, in_unit, is_out}
 use Rattle.ob_rules.specs.Types.{Parameters, is_module_level}
-use Rattle.ob_rules.specs.Statements.{Judging, judging, in_turn}
-use Rattle.ob_rules.specs.Headings.{Head, Heads, Binding, head_entity, entity_as, reversed}
-use Rattle.ob_rules.specs.Declarations.{Contents, no_contents, together, Part, Declared, Written_procedure, headings_in_order, procedures_judged, stmts_in, body_part, block_inside, with_bound, binding_at, block_headed, block_declared}
+use Rattle.ob_rules.specs.Statements.{judging, in_turn}
+use Rattle.ob_rules.specs.Headings.{Head, Heads, head_entity, entity_as, reversed}
+use Rattle.ob_rules.specs.Declarations.{Contents, no_contents, together, Part, Declared, Written_procedure, headings_in_order, procedures_judged, stmts_in, body_part, block_inside, with_bound, binding_at, block_declared}
 use Rattle.ob_forms.specs.Said.{IsOneOf}
 use Rattle.ob_typed.specs.Makes.{IfThere}
 use Rattle.ob_typed.specs.Spelled.{all_true}
 use Rattle.ob_typed.specs.Bodies.{stmt_spelled}
-use Rattle.ob_bodies.specs.Knows.{Grows, Stands, IsDescribed, EntityStands, Knows}
-use Rattle.ob_bodies.specs.Judged.{AreOf, NameIs, IsJudged, ProcedureIsJudged}
-use Rattle.ob_bodies.proofs.Lists.{one_all, all_of, all_both, all_pairs, all_one}
+use Rattle.ob_bodies.specs.Knows.{Grows, IsDescribed, EntityStands}
+use Rattle.ob_bodies.specs.Judged.{AreOf, NameIs, ProcedureIsJudged}
+use Rattle.ob_bodies.proofs.Lists.{one_all, all_of, all_both, all_pairs}
 use Rattle.ob_bodies.proofs.Standing.{grows_same, grows_then, entity_grown}
-use Rattle.ob_bodies.proofs.Heads.{SignatureStands, HeadStands, head_grown, all_parameters}
-use Rattle.ob_bodies.proofs.Headings.{Aligned, named_at, IsBehind, aligned_in_order, names_in_order, HeadsStand, named_fine, stand_in_order}
+use Rattle.ob_bodies.proofs.Heads.{SignatureStands, HeadStands, head_grown}
+use Rattle.ob_bodies.proofs.Headings.{Aligned, named_at, aligned_in_order, names_in_order, HeadsStand, named_fine, stand_in_order}
 use Rattle.ob_bodies.proofs.Binding.{binding_changes}
 use Rattle.ob_bodies.proofs.Levels.{Level, AtModule, Within, frame, IsPlaced, Included, none_full, both_full, first_included, second_included, BlockAt, name_grown}
 use Rattle.ob_bodies.proofs.Plain.{DeclaredIs}

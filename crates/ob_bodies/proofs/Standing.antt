@@ -1,5 +1,5 @@
 -- A type that stands still stands where more types of the module are known.
-use Rattle.std.proofs.Common.{◌≡◌, refl, sym, ap, ◌∙◌, subst, ℕ, Bool, true, false, List, [], ◌∷◌, ◌++◌, Option, Some, None, inl, inr}
+use Rattle.std.proofs.Common.{◌≡◌, sym, ap, subst, ℕ, Bool, true, false, List, ◌++◌, Option}
 use Rattle.std.specs.Prelude.{bytes_eq, codes, ◌&&◌}
 use Rattle.std.specs.List.{AllByRecursion}
 use Rattle.ob_tree.specs.declared.names.QName.{QName}
@@ -11,10 +11,8 @@ use Rattle.ob_types.specs.declared.typed.TypedType.{TypedType}
 use Rattle.ob_rules.specs.declared.entity.Entity.{Entity}
 use Rattle.ob_rules.specs.declared.entity.Entity.TheVariants as entity
 use Rattle.ob_rules.specs.declared.entity.Known.{Known}
-use Rattle.ob_rules.specs.Shapes.{same_name}
-use Rattle.ob_rules.specs.Names.{Around, in_unit, out_string}
+use Rattle.ob_rules.specs.Names.{Around}
 use Rattle.ob_rules.specs.Types.{with_types}
-use Rattle.ob_forms.specs.Said.{IsOneOf}
 use Rattle.ob_relation.proofs.Names.{bytes_same}
 use Rattle.ob_bodies.specs.Knows.{HasName, Grows, StandsBy, Stands, IsDescribed, EntityStands, Knows}
 use Rattle.ob_bodies.proofs.Lists.{one_left, one_right, all_of, all_both}

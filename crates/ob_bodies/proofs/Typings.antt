@@ -1,6 +1,6 @@
 -- A type that is written stands among those that it makes, and each that it makes is described.
-use Rattle.std.proofs.Common.{◌≡◌, refl, sym, ap, ◌∙◌, subst, ℕ, zero, suc, ◌+◌, ◌≤◌, Bool, true, false, List, [], ◌∷◌, ◌++◌, length, map, Option, Some, None, inl, inr, arith}
-use Rattle.std.specs.Prelude.{is_none, bytes_eq, codes, pos, negsuc, not, ◌||◌, ◌&&◌}
+use Rattle.std.proofs.Common.{◌≡◌, refl, sym, subst, ℕ, zero, suc, ◌≤◌, Bool, true, false, List, [], ◌∷◌, ◌++◌, Option, Some, None, inl, arith}
+use Rattle.std.specs.Prelude.{is_none, pos, negsuc}
 use Rattle.std.specs.List.{AllByRecursion}
 use Rattle.ob_tree.specs.declared.pos.Pos.{Pos}
 use Rattle.ob_tree.specs.declared.names.QName.{QName}
@@ -15,21 +15,18 @@ use Rattle.ob_types.specs.declared.value.Value.{Value}
 use Rattle.ob_types.specs.declared.value.Value.TheVariants as literal
 use Rattle.ob_types.specs.declared.desc.Desc.{Desc}
 use Rattle.ob_types.specs.declared.desc.Desc.TheVariants as desc
-use Rattle.ob_types.specs.declared.desc.Field.{Field}
 use Rattle.ob_types.specs.declared.typed.TypedType.{TypedType}
 use Rattle.ob_types.specs.Maps.{is_type}
-use Rattle.ob_rules.specs.declared.notes.Later.TheVariants as later
-use Rattle.ob_rules.specs.Judged.{Judged, sound, both, made, unless, ◌▷◌, each_sound}
-use Rattle.ob_rules.specs.Shapes.{same_name, is_open, is_structured, is_pointer}
-use Rattle.ob_rules.specs.Names.{Around, map_of, in_unit, out_string, type_named, is_out}
+use Rattle.ob_rules.specs.Judged.{Judged, sound, both, ◌▷◌, each_sound}
+use Rattle.ob_rules.specs.Shapes.{is_structured, is_pointer}
+use Rattle.ob_rules.specs.Names.{Around, map_of, type_named, is_out}
 use Rattle.ob_rules.specs.Phrases.{Phrase}
 use Rattle.ob_rules.specs.Expressions.{constant_value}
-use Rattle.ob_rules.specs.Types.{Typing, Written, typed_as, with_types, base_name, element_name, field_name, named_typing, length_of, array_length, fixed_array, open_array, array, first_of, fields_of, WrittenFields, first_name, names_behind, Fields, with_fields, fields_joined, field_lists, record_desc, record_with, pointer_to, base_judged, pointer_base, pointer_by}
-use Rattle.ob_forms.specs.Said.{IsOneOf}
-use Rattle.ob_described.proofs.Nodes.{Has, then_has, any_then, both_have, first_has, second_has, also_has, unless_has}
-use Rattle.ob_bodies.specs.Knows.{HasName, Grows, Stands, LengthIs, IsDescribed, Knows}
+use Rattle.ob_rules.specs.Types.{Typing, Written, typed_as, with_types, base_name, element_name, field_name, named_typing, length_of, array_length, fixed_array, array, first_of, fields_of, WrittenFields, first_name, names_behind, Fields, with_fields, fields_joined, field_lists, record_desc, record_with, pointer_to, base_judged, pointer_base, pointer_by}
+use Rattle.ob_described.proofs.Nodes.{Has, then_has, both_have, first_has, second_has, also_has, unless_has}
+use Rattle.ob_bodies.specs.Knows.{Stands, LengthIs, IsDescribed, Knows}
 use Rattle.ob_bodies.proofs.Lists.{all_both}
-use Rattle.ob_bodies.proofs.Standing.{grows_behind, grows_front, stands_grown, own_stands}
+use Rattle.ob_bodies.proofs.Standing.{own_stands}
 use Rattle.ob_bodies.proofs.Named.{type_named_stands}
 
 module _ (IsConstant : Value → Type 0) (unit : List ℕ) (shown : QName → Option Desc) (out : is_out unit ≡ false) where

@@ -1,6 +1,6 @@
 -- Each type of the grammar is good, by induction over its tree.
-use Rattle.std.proofs.Common.{◌≡◌, Bool, true, List, [], ◌∷◌, map, sym, subst, refl, ◌∙◌, Option}
-use Rattle.std.specs.Prelude.{ℕ, false, ◌&&◌}
+use Rattle.std.proofs.Common.{◌≡◌, Bool, true, List, [], ◌∷◌, map, sym, subst, ◌∙◌, Option}
+use Rattle.std.specs.Prelude.{ℕ, false}
 use Rattle.ob_tree.specs.declared.names.QName.{QName}
 use Rattle.ob_tree.specs.declared.expr.Expr.{Expr}
 use Rattle.ob_tree.specs.declared.type_node.TypeNode.{TypeNode, roll-TypeNode, map-TypeNode}

@@ -7,13 +7,12 @@ use Rattle.ob_tree.specs.declared.expr.Expr.{Expr}
 use Rattle.ob_tree.specs.declared.stmt.Stmt.{Stmt}
 use Rattle.ob_tree.specs.declared.decl.Module.{Module as Tree}
 use Rattle.ob_types.specs.declared.types.TypeRef.{TypeRef}
-use Rattle.ob_types.specs.declared.types.Signature.{Signature}
 use Rattle.ob_types.specs.declared.desc.Desc.{Desc}
 use Rattle.ob_types.specs.declared.typed.TypedStmt.{TypedStmt}
 use Rattle.ob_types.specs.declared.typed.TypedModule.{TypedModule}
 use Rattle.ob_types.specs.TypedSyntax.{Procedure}
 use Rattle.ob_types.specs.TypedView.{stmts_view}
-use Rattle.ob_meaning.specs.Values.{Program}
+use Rattle.ob_meaning.specs.Values.{Formals, Program}
 use Rattle.ob_relation.specs.Layout.{static_held}
 use Rattle.ob_relation.specs.Relation.{AreDifferent}
 use Rattle.ob_rules.specs.Names.{Around}
@@ -48,6 +47,6 @@ ImportsAreOthers = (shown : QName → Option Desc) (tree : Tree) (m : TypedModul
 -- A procedure whose variables have different names has those that the FOR and CASE of its text keep.
 abbrev pub HiddenStand : Type 0
 HiddenStand =
-    (program : Program) (has : Signature → QName → Bool) (unit : List ℕ) (result : Option TypeRef) (u : Around) (xs : List Stmt) (ys : List TypedStmt) → (in_turn (map judging xs) u).node ≡ Some ys
+    (program : Program) (has : Formals → QName → Bool) (unit : List ℕ) (result : Option TypeRef) (u : Around) (xs : List Stmt) (ys : List TypedStmt) → (in_turn (map judging xs) u).node ≡ Some ys
     → (p : Procedure) → p.body ≡ stmts_view ys → AreDifferent (static_held program p)
     → AreHidden program (Having has) unit (static_held program p) result (in_all (map hidden_places xs))

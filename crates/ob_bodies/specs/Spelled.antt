@@ -1,5 +1,5 @@
 -- Modules whose strings are of characters.
-use Rattle.std.specs.Prelude.{Bool, true, ◌&&◌, List, [], ◌∷◌, map}
+use Rattle.std.specs.Prelude.{Bool, true, ◌&&◌, map}
 use Rattle.ob_tree.specs.declared.type_node.TypeNode.{TypeNode}
 use Rattle.ob_tree.specs.declared.type_node.FieldList.{FieldList}
 use Rattle.ob_tree.specs.declared.type_node.FormalPars.{FormalPars}

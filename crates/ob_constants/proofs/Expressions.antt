@@ -1,6 +1,6 @@
 -- Expressions of the grammar that are constant come to constants.
-use Rattle.std.proofs.Common.{◌≡◌, refl, sym, ap, ◌∙◌, subst, ℕ, zero, suc, ◌+◌, ◌<◌, ◌≤◌, List, [], ◌∷◌, length, map, Option, Some, None, Bool, true, false, arith}
-use Rattle.std.specs.Prelude.{ℤ, pos, negsuc, ◌^◌, bytes_eq, nat_le, nat_lt, cond, ◌&&◌, ◌||◌, not}
+use Rattle.std.proofs.Common.{◌≡◌, refl, sym, ap, ◌∙◌, subst, ℕ, suc, ◌<◌, List, [], ◌∷◌, length, map, Option, Some, None, Bool, true, false, arith}
+use Rattle.std.specs.Prelude.{pos, bytes_eq, nat_le, nat_lt, not}
 use Rattle.std.specs.List.{AllByRecursion, find}
 use Rattle.std.proofs.lemmas.Bool.Decides.{nat_tests}
 use Rattle.ob_tree.specs.declared.pos.Pos.{Pos}
@@ -16,7 +16,7 @@ use Rattle.ob_tree.specs.declared.expr.Designator.{Designator, roll-Designator, 
 use Rattle.ob_tree.specs.declared.expr.Element.{Element, roll-Element, map-Element}
 use Rattle.ob_tree.specs.declared.expr.Tail.{Tail, roll-Tail, map-Tail}
 use Rattle.ob_tree.specs.declared.expr.Selector.{Selector, roll-Selector, map-Selector}
-use Rattle.ob_tree.specs.declared.expr.Expr.TheOpen.{Expr-F, Tail-F, Element-F, Designator-F, Selector-F}
+use Rattle.ob_tree.specs.declared.expr.Expr.TheOpen.{Expr-F, Tail-F, Designator-F, Selector-F}
 use Rattle.ob_tree.specs.declared.expr.Expr.TheFolds.{ind-Expr, fold-roll-Expr, fold-roll-Designator, fold-roll-Element, fold-roll-Tail, fold-roll-Selector}
 use Rattle.ob_types.specs.declared.types.Basic.TheVariants as basic
 use Rattle.ob_types.specs.declared.types.TypeRef.{TypeRef}
@@ -35,7 +35,6 @@ use Rattle.ob_rules.specs.declared.meant.Meant.{Meant}
 use Rattle.ob_rules.specs.declared.meant.Meant.TheVariants as means
 use Rattle.ob_rules.specs.declared.meant.Where.{Where}
 use Rattle.ob_rules.specs.declared.meant.Where.TheVariants.{InExpression}
-use Rattle.ob_rules.specs.declared.meant.ElementOf.{ElementOf}
 use Rattle.ob_types.specs.declared.typed.Guarded.{Guarded}
 use Rattle.ob_types.specs.declared.typed.Guarded.TheVariants as guarded
 use Rattle.ob_types.specs.declared.typed.TypedExpr.TheVariants as e
@@ -49,21 +48,21 @@ use Rattle.ob_rules.specs.Names.{Around, map_of, type_desc, own_desc, out_string
 use Rattle.ob_rules.specs.Constants.{text_value}
 use Rattle.ob_rules.specs.Values.{constant, computed, constant_in, place_in, type_in, type}
 use Rattle.ob_rules.specs.Operators.{combined, opposite, signed, related, element, set_of}
-use Rattle.ob_rules.specs.Phrases.{Phrase, Behind, Dot, Index, Up, Round}
+use Rattle.ob_rules.specs.Phrases.{Phrase, Behind}
 use Rattle.ob_rules.specs.Designators as designators
-use Rattle.ob_rules.specs.Expressions.{Named, Ranged, Tailed, meant_by, designator_phrase, procedure_value, value_meant, integer_literal, integer_text, char_literal, marked, record_if, record_test, pointer_test, test_record, test_of, test, testable, untestable, is_test, phrase, combine_all, bracketed, value_if, element_value, relation_of, relation_value, expr_rule, tail_rule, element_rule, designator_rule, selector_rule, phrase_of, named_of, ranged_of, tailed_of, behind_of, constant_of, constant_if, constant_judged, constant_value}
+use Rattle.ob_rules.specs.Expressions.{Named, Ranged, Tailed, meant_by, designator_phrase, procedure_value, value_meant, integer_literal, integer_text, char_literal, marked, record_if, record_test, pointer_test, test_record, test_of, test, testable, untestable, is_test, phrase, combine_all, bracketed, value_if, element_value, relation_of, relation_value, expr_rule, tail_rule, element_rule, designator_rule, selector_rule, phrase_of, named_of, ranged_of, tailed_of, behind_of, constant_of, constant_if, constant_value}
 use Rattle.ob_relation.specs.Typed.{AreCharacters}
 use Rattle.ob_typed.specs.Known.{ConstantIs}
 use Rattle.ob_typed.specs.Spelled as spelled
 use Rattle.ob_typed.specs.Spelled.{all_true, are_bytes, is_spelled, designator_spelled, element_spelled, tail_spelled, selector_spelled}
 use Rattle.ob_relation.proofs.Names.{and_both}
-use Rattle.ob_described.proofs.Nodes.{Has, then_has, any_then, both_have, first_has, second_has, also_has}
+use Rattle.ob_described.proofs.Nodes.{Has, then_has, any_then, both_have}
 use Rattle.ob_typed.specs.Makes.{IfThere, Makes}
 use Rattle.ob_bodies.specs.Knows.{LengthIs, IsDescribed, EntityStands, Knows}
 use Rattle.ob_bodies.proofs.Lists.{find_has}
 use Rattle.ob_bodies.proofs.Whole.{bodies_known}
 use Rattle.ob_constants.specs.Laws.{AreShown, ConstantsStand, BodiesStand}
-use Rattle.ob_constants.proofs.Folded.{V, E, constant_is, combined_is, opposite_is, only_is, signed_is, related_is, element_is, set_is, each_has}
+use Rattle.ob_constants.proofs.Folded.{V, E, constant_is, combined_is, opposite_is, signed_is, related_is, element_is, set_is, each_has}
 use Rattle.ob_constants.proofs.Functions.{M, AreLengths}
 use Rattle.ob_constants.proofs.Phrased.{also_broken, PhraseIs, ArePhrases, BehindIs, AreBehind, behind_are, DescIs, marked_has, out_has, place_has, meant_exported, from_has}
 

@@ -1,15 +1,13 @@
 -- Operators on constants come to constants.
-use Rattle.std.proofs.Common.{◌≡◌, refl, sym, ap, ◌∙◌, subst, ℕ, suc, ◌+◌, ◌<◌, ◌≤◌, List, [], ◌∷◌, Option, Some, None, Bool, true, false, arith}
-use Rattle.std.specs.Prelude.{ℤ, pos, negsuc, ◌^◌, ◌-◌, ◌||◌, ◌&&◌, not, is_some, nat_eq, nat_le}
+use Rattle.std.proofs.Common.{◌<◌, List, [], ◌∷◌, Option, Some, None, Bool, true, false, arith}
+use Rattle.std.specs.Prelude.{◌^◌, ◌&&◌}
 use Rattle.std.specs.List.{AllByRecursion}
-use Rattle.std.proofs.lemmas.Bool.Decides.{nat_tests}
 use Rattle.ob_tree.specs.declared.pos.Pos.{Pos}
 use Rattle.ob_tree.specs.declared.expr.Operator.{Operator}
 use Rattle.ob_tree.specs.declared.expr.Operator.TheVariants as op
 use Rattle.ob_tree.specs.declared.expr.Relation.{Relation}
 use Rattle.ob_tree.specs.declared.expr.Sign.{Sign}
 use Rattle.ob_tree.specs.declared.expr.Sign.TheVariants as sign
-use Rattle.ob_types.specs.declared.types.Basic.{Basic}
 use Rattle.ob_types.specs.declared.types.Basic.TheVariants as basic
 use Rattle.ob_types.specs.declared.value.Value.{Value}
 use Rattle.ob_types.specs.declared.value.Value.TheVariants as literal
@@ -24,14 +22,13 @@ use Rattle.ob_types.specs.declared.typed.Connective.TheVariants as connective
 use Rattle.ob_types.specs.declared.typed.TypedExpr.{TypedExpr}
 use Rattle.ob_types.specs.declared.typed.Width.{Width}
 use Rattle.ob_rules.specs.declared.meant.ElementOf.{ElementOf}
-use Rattle.ob_rules.specs.declared.values.Place.{Place}
 use Rattle.ob_rules.specs.declared.values.Valued.{Valued}
 use Rattle.ob_rules.specs.declared.values.Valued.TheVariants as valued
-use Rattle.ob_rules.specs.Judged.{Judged, sound, both, each_sound, made, ◌▷◌}
+use Rattle.ob_rules.specs.Judged.{Judged, sound, both, each_sound}
 use Rattle.ob_rules.specs.Shapes.{Map}
 use Rattle.ob_rules.specs.Constants.{fold_one, fold_two, fold_texts, fold_logical}
-use Rattle.ob_rules.specs.Values.{constant, computed, is, width, tree, text_tree, constant_in, is_integer}
-use Rattle.ob_rules.specs.Operators.{folded, one_of, monadic, two_of, dyadic, logical, texts, if_fit, integers, are, binary_of, connected, combined, negated, opposite, only_value, signed_as, signed, is_text, compared_as, compare_as, comparison_of, is_equality, contained, compare, related, element_as, element_folded, single, ranged, if_integer, if_integers, element, all_constant, set_from, set_of, and_so}
+use Rattle.ob_rules.specs.Values.{is, width, constant_in, is_integer}
+use Rattle.ob_rules.specs.Operators.{folded, one_of, monadic, two_of, dyadic, logical, texts, if_fit, are, binary_of, connected, combined, negated, opposite, only_value, signed_as, signed, is_text, compared_as, compare_as, comparison_of, is_equality, contained, compare, related, element_folded, single, ranged, if_integer, if_integers, element, all_constant, set_from, set_of, and_so}
 use Rattle.ob_typed.specs.Known.{ConstantIs}
 use Rattle.ob_typed.proofs.Constants.{fold_one_is, fold_two_is, fold_texts_is, fold_logical_is}
 use Rattle.ob_described.proofs.Nodes.{Has, then_has, both_have}

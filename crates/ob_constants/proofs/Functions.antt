@@ -1,44 +1,35 @@
 -- Predeclared procedures on constants come to constants.
-use Rattle.std.proofs.Common.{◌≡◌, refl, sym, ap, ◌∙◌, subst, ℕ, zero, suc, ◌+◌, ◌<◌, ◌≤◌, List, [], ◌∷◌, Option, Some, None, Bool, true, false, arith}
-use Rattle.std.specs.Prelude.{ℤ, pos, negsuc, ◌^◌, ◌-◌, ◌||◌, ◌&&◌, not, is_some, nat_eq, nat_le}
+use Rattle.std.proofs.Common.{◌≡◌, refl, ℕ, zero, suc, List, [], ◌∷◌, Option, Some, None, Bool, true, false, arith}
+use Rattle.std.specs.Prelude.{ℤ, pos, negsuc, ◌&&◌, nat_eq}
 use Rattle.std.specs.List.{AllByRecursion}
-use Rattle.std.proofs.lemmas.Bool.Decides.{nat_tests}
 use Rattle.ob_tree.specs.declared.pos.Pos.{Pos}
 use Rattle.ob_tree.specs.declared.names.QName.{QName}
 use Rattle.ob_tree.specs.declared.ident.Mark.{Mark}
-use Rattle.ob_tree.specs.declared.ident.Qualident.{Qualident}
 use Rattle.ob_types.specs.declared.types.Basic.{Basic}
 use Rattle.ob_types.specs.declared.types.Basic.TheVariants as basic
 use Rattle.ob_types.specs.declared.types.TypeRef.{TypeRef}
 use Rattle.ob_types.specs.declared.types.TypeRef.TheVariants as ref
-use Rattle.ob_types.specs.declared.value.Value.{Value}
 use Rattle.ob_types.specs.declared.value.Value.TheVariants as literal
 use Rattle.ob_types.specs.declared.desc.Desc.{Desc}
 use Rattle.ob_types.specs.declared.desc.Desc.TheVariants as desc
 use Rattle.ob_types.specs.declared.typed.Unary.{Unary}
 use Rattle.ob_types.specs.declared.typed.Unary.TheVariants as unary
-use Rattle.ob_types.specs.declared.typed.Binary.{Binary}
 use Rattle.ob_types.specs.declared.typed.Binary.TheVariants as binary
 use Rattle.ob_types.specs.declared.typed.Update.{Update}
 use Rattle.ob_types.specs.declared.typed.Update.TheVariants as update
 use Rattle.ob_types.specs.declared.typed.Width.{Width}
-use Rattle.ob_types.specs.declared.typed.TypedStmt.{TypedStmt}
 use Rattle.ob_rules.specs.declared.meant.Meant.{Meant}
 use Rattle.ob_rules.specs.declared.meant.Meant.TheVariants as means
 use Rattle.ob_rules.specs.declared.broken.Predeclared.{Predeclared}
 use Rattle.ob_rules.specs.declared.broken.Predeclared.TheVariants as pre
 use Rattle.ob_rules.specs.declared.values.Place.{Place}
 use Rattle.ob_rules.specs.declared.values.Valued.{Valued}
-use Rattle.ob_rules.specs.declared.meant.Where.{Where}
-use Rattle.ob_rules.specs.Judged.{Judged, sound, made, also, each_sound, names_type, ◌▷◌}
+use Rattle.ob_rules.specs.Judged.{Judged, sound, also}
 use Rattle.ob_rules.specs.Shapes.{Map, shape, array_at, array_of, basic_of}
-use Rattle.ob_rules.specs.Names.{Around, map_of, type_named}
 use Rattle.ob_rules.specs.Values.{is, width as width_of, is_integer, constant_in, place_in}
 use Rattle.ob_rules.specs.Operators.{monadic, dyadic, and_so}
-use Rattle.ob_rules.specs.Calls.{misplaced}
-use Rattle.ob_rules.specs.Predeclared.{is_function, value, does, if_is, on_width, longer, shorter, dimension, length_of, len_at, len_of, number_in, one, step, element_step, is_text, new_array, new_fixed, new_elements, if_held, new_one, new_many, fit_one, fit_two, fit, if_fit, call_fit, extreme, extreme_of, basic_if}
+use Rattle.ob_rules.specs.Predeclared.{value, if_is, on_width, longer, shorter, dimension, length_of, len_at, len_of, number_in, one, step, element_step, is_text, new_array, new_fixed, new_elements, if_held, new_one, new_many, fit_one, fit_two, fit, if_fit, extreme, extreme_of}
 use Rattle.ob_types.specs.Tests.{target, shape_at}
-use Rattle.ob_types.specs.Numbers.{is_in}
 use Rattle.ob_typed.specs.Known.{ConstantIs}
 use Rattle.ob_described.proofs.Nodes.{Has, then_has, also_has}
 use Rattle.ob_typed.specs.Makes.{IfThere}

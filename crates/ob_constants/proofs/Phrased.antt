@@ -1,8 +1,7 @@
 -- Expressions that are constant come to constants, where names of constants do.
-use Rattle.std.proofs.Common.{◌≡◌, refl, sym, ap, ◌∙◌, subst, ℕ, zero, suc, ◌+◌, ◌<◌, ◌≤◌, List, [], ◌∷◌, map, Option, Some, None, Bool, true, false, arith}
-use Rattle.std.specs.Prelude.{nat_eq, length, ◌&&◌, ◌||◌, not, is_none, is_some}
-use Rattle.std.specs.List.{AllByRecursion, find}
-use Rattle.std.proofs.lemmas.Bool.Decides.{nat_tests}
+use Rattle.std.proofs.Common.{ℕ, List, [], ◌∷◌, Option, Some, None, Bool, true, false}
+use Rattle.std.specs.Prelude.{nat_eq, length, ◌&&◌, not, is_none, is_some}
+use Rattle.std.specs.List.{AllByRecursion}
 use Rattle.ob_tree.specs.declared.pos.Pos.{Pos}
 use Rattle.ob_tree.specs.declared.names.QName.{QName}
 use Rattle.ob_tree.specs.declared.ident.Ident.{Ident}
@@ -11,8 +10,6 @@ use Rattle.ob_tree.specs.declared.ident.Mark.TheVariants as mark
 use Rattle.ob_tree.specs.declared.ident.Qualident.{Qualident}
 use Rattle.ob_types.specs.declared.types.TypeRef.{TypeRef}
 use Rattle.ob_types.specs.declared.types.Signature.{Signature}
-use Rattle.ob_types.specs.declared.value.Value.{Value}
-use Rattle.ob_types.specs.declared.value.Value.TheVariants as literal
 use Rattle.ob_types.specs.declared.desc.Desc.{Desc}
 use Rattle.ob_types.specs.declared.desc.Desc.TheVariants as desc
 use Rattle.ob_types.specs.declared.desc.Receiver.{Receiver}
@@ -20,7 +17,6 @@ use Rattle.ob_types.specs.declared.desc.Receiver.TheVariants as receiver
 use Rattle.ob_types.specs.declared.typed.Actual.{Actual}
 use Rattle.ob_types.specs.declared.typed.TypedExpr.{TypedExpr}
 use Rattle.ob_types.specs.declared.typed.OutProcedure.{OutProcedure}
-use Rattle.ob_types.specs.declared.typed.TypedType.{TypedType}
 use Rattle.ob_types.specs.declared.typed.Variable.TheVariants as variable
 use Rattle.ob_types.specs.declared.typed.Callee.TheVariants as callee
 use Rattle.ob_types.specs.declared.typed.TypedExpr.TheVariants as e
@@ -28,37 +24,28 @@ use Rattle.ob_types.specs.declared.typed.ExprType.{ExprType}
 use Rattle.ob_types.specs.TypedKinds.{result_type}
 use Rattle.ob_rules.specs.Values.{computed, value_at, constant_in}
 use Rattle.ob_rules.specs.Operators.{only_value}
-use Rattle.ob_rules.specs.declared.entity.Entity.{Entity}
-use Rattle.ob_rules.specs.declared.entity.Entity.TheVariants as entity
-use Rattle.ob_rules.specs.declared.entity.Known.{Known}
 use Rattle.ob_rules.specs.declared.entity.Received.{Received}
 use Rattle.ob_rules.specs.declared.meant.Chosen.{Chosen}
 use Rattle.ob_rules.specs.declared.meant.Meant.{Meant}
 use Rattle.ob_rules.specs.declared.meant.Meant.TheVariants as means
 use Rattle.ob_rules.specs.declared.meant.Where.{Where}
-use Rattle.ob_rules.specs.declared.meant.Where.TheVariants.{InExpression}
-use Rattle.ob_rules.specs.declared.meant.ElementOf.{ElementOf}
 use Rattle.ob_rules.specs.declared.broken.Predeclared.{Predeclared}
 use Rattle.ob_rules.specs.declared.broken.Predeclared.TheVariants as pre
 use Rattle.ob_rules.specs.declared.values.Place.{Place}
 use Rattle.ob_rules.specs.declared.values.Valued.{Valued}
-use Rattle.ob_rules.specs.declared.values.Valued.TheVariants as valued
-use Rattle.ob_rules.specs.Judged.{Judged, sound, silent, breaks, both, also, wants, found_or, each_sound, ◌▷◌}
-use Rattle.ob_rules.specs.Shapes.{Map, Member, AField, AMethod, same_name, member, base_record, record_of, pointed, signature_at, is_array}
-use Rattle.ob_rules.specs.Names.{Around, map_of, type_desc, own_desc, out_string, find_name, variable_known, is_enclosing, entity_known, name_known, named, exported, export_known, unless_hidden, shown_of, is_out, out_procedure, type_named}
+use Rattle.ob_rules.specs.Judged.{Judged, sound, silent, breaks, also, wants, found_or, each_sound, ◌▷◌}
+use Rattle.ob_rules.specs.Shapes.{Map, Member, AField, AMethod, member, base_record, record_of, pointed, signature_at}
+use Rattle.ob_rules.specs.Names.{Around, map_of, export_known, unless_hidden, type_named}
 use Rattle.ob_rules.specs.Phrases.{receiver_place, Phrase, Behind, Dot, Index, Up, Round}
 use Rattle.ob_rules.specs.Calls as calls
 use Rattle.ob_rules.specs.Calls.{misplaced, called_with, called, call_procedure, call_variable, call_out, call_bound_sound, call_bound, actuals}
-use Rattle.ob_rules.specs.Predeclared.{changed_meant, changed_as, changed, must_be_constant, values, parameter, asked_first, asked_second, parameters_behind, parameters, is_function, call_fit, fit, if_fit, type_parameter, extreme_of, basic_if, extreme_call, call_predeclared}
+use Rattle.ob_rules.specs.Predeclared.{changed_meant, changed_as, values, parameter, asked_first, asked_second, parameters_behind, parameters, is_function, call_fit, type_parameter, extreme_of, basic_if, extreme_call, call_predeclared}
 use Rattle.ob_rules.specs.declared.meant.Asked.{Asked}
 use Rattle.ob_rules.specs.declared.meant.Asked.TheVariants as asked
 use Rattle.ob_rules.specs.Designators as designators
-use Rattle.ob_forms.proofs.Members.{found}
 use Rattle.ob_typed.specs.Known.{ConstantIs}
-use Rattle.ob_described.proofs.Nodes.{Has, then_has, any_then, both_have, first_has, second_has, also_has, unless_has}
+use Rattle.ob_described.proofs.Nodes.{Has, then_has, any_then, also_has, unless_has}
 use Rattle.ob_typed.specs.Makes.{IfThere}
-use Rattle.ob_bodies.specs.Knows.{IsDescribed, EntityStands, Knows}
-use Rattle.ob_bodies.proofs.Lists.{find_has}
 use Rattle.ob_constants.proofs.Folded.{V, only_is, each_has}
 use Rattle.ob_constants.proofs.Functions.{M, AreLengths, fits_is, extreme_of_is}
 

@@ -1,11 +1,10 @@
 -- What a module uses of others is enough for it to stand over them.
-use Rattle.std.proofs.Common.{◌≡◌, ◌≢◌, ◌⊎◌, ⊎_elim, inl, inr, ℕ, zero, suc, List, [], ◌∷◌, ◌++◌, map as each, Option, Some, None, refl, sym, ap, subst, ◌∙◌}
+use Rattle.std.proofs.Common.{◌≡◌, ◌⊎◌, inl, inr, ℕ, zero, suc, List, [], ◌∷◌, ◌++◌, map as each, Option, Some, None, refl, sym, ap, subst, ◌∙◌}
 use Rattle.std.specs.Prelude.{Bool, true, false, ◌||◌, cond, MatchOption, IfSome, IsTrue}
 use Rattle.std.specs.List.{AllByRecursion, flat_map}
 use Rattle.ob_tree.specs.declared.names.QName.{QName}
 use Rattle.ob_types.specs.declared.types.TypeRef.{TypeRef}
 use Rattle.ob_types.specs.declared.types.TypeRef.TheVariants as ref
-use Rattle.ob_types.specs.declared.types.Signature.{Signature}
 use Rattle.ob_types.specs.declared.desc.Desc.{Desc}
 use Rattle.ob_types.specs.declared.desc.Desc.TheVariants as desc
 use Rattle.ob_types.specs.declared.desc.RecordDesc.{RecordDesc}
@@ -19,10 +18,10 @@ use Rattle.ob_layout.specs.LaidOut.{type_named as own_named, is_own, viewed}
 use Rattle.ob_uses.specs.Uses.{near_types}
 use Rattle.ob_forms.proofs.Within.{all_left, all_from}
 use Rattle.ob_forms.proofs.Modules.{of_all}
-use Rattle.ob_declares.specs.Ordered.{bare, StandsOver}
-use Rattle.ob_declares.specs.Near.{core, IsNear, IsUsed, AreUsed, UsersStand}
-use Rattle.ob_declares.proofs.Keeping.{core_bare, Says, record_kind, structure_kind, open_kind, kind_forward, kind_held, structure_type, record_type}
-use Rattle.ob_declares.proofs.Ordered.{types_named, type_bare}
+use Rattle.ob_declares.specs.Ordered.{bare}
+use Rattle.ob_declares.specs.Near.{core, IsNear, AreUsed, UsersStand}
+use Rattle.ob_declares.proofs.Keeping.{core_bare, Says, record_kind, structure_kind, open_kind, kind_forward, kind_held, structure_type}
+use Rattle.ob_declares.proofs.Ordered.{types_named}
 use Rattle.ob_declares.proofs.Views.{type_found}
 
 open_type : (d : Desc) → is_open d ≡ true → is_type d ≡ true

@@ -15,6 +15,7 @@ use Rattle.ob_types.specs.TypedSyntax.{Module}
 use Rattle.ob_meaning.specs.Values.{Program, type_named, description}
 use Rattle.ob_relation.proofs.Names.{bytes_true, bytes_same}
 use Rattle.ob_desc.specs.Grammar.{seen}
+use Rattle.ob_uses.specs.Objects.{in_places}
 use Rattle.ob_layout.specs.LaidOut.{type_named as own_named, is_own, viewed}
 use Rattle.ob_forms.proofs.Within.{all_from}
 use Rattle.ob_forms.proofs.Modules.{other_name}
@@ -68,7 +69,7 @@ type_bare (desc.Pointer m t) = refl
 type_bare (desc.ProcType m s) = refl
 type_bare (desc.Record r) = refl
 
-bare_again : (d : Desc) → bare (seen d) ≡ bare d
+bare_again : (d : Desc) → bare (seen (in_places d)) ≡ bare d
 bare_again (desc.Const v) = refl
 bare_again (desc.Var m t) = refl
 bare_again (desc.Proc s) = refl
@@ -80,7 +81,7 @@ bare_again (desc.ProcType m s) = refl
 bare_again (desc.Record r) = refl
 
 -- what an interface shows of it is as it is, but for members
-pub seen_bare : (e d : Desc) → seen e ≡ d → bare e ≡ bare d
+pub seen_bare : (e d : Desc) → seen (in_places e) ≡ d → bare e ≡ bare d
 seen_bare e d h = sym (bare_again e) ∙ ap bare h
 
 -- ---- one module more

@@ -11,11 +11,12 @@ use Rattle.ob_types.specs.Relations.{IsGrounded}
 use Rattle.ob_types.specs.TypedSyntax.{Module}
 use Rattle.ob_meaning.specs.Values.{Program, description}
 use Rattle.ob_relation.proofs.Names.{bytes_true}
-use Rattle.ob_desc.specs.Grammar.{is_shown, seen}
+use Rattle.ob_desc.specs.Grammar.{is_shown, by_place, seen}
+use Rattle.ob_layout.specs.Lists.{in_order}
 use Rattle.ob_layout.specs.LaidOut.{type_named, is_own, viewed}
 use Rattle.ob_env.specs.Faces.{Face, described}
 use Rattle.ob_counts.specs.Counts.{own_name}
-use Rattle.ob_uses.specs.Objects.{signature_of, is_exported, constant_object, variable_object, procedure_object, type_object, types_among, reached_types, by_name, objects_of}
+use Rattle.ob_uses.specs.Objects.{signature_of, is_exported, constant_object, variable_object, procedure_object, in_places, type_object, types_among, reached_types, by_name, objects_of}
 use Rattle.ob_uses.specs.Closed.{is_among}
 use Rattle.ob_rules.specs.Names.{out_string}
 use Rattle.ob_forms.specs.Said.{IsOneOf, IsSound}
@@ -38,7 +39,7 @@ module _ (program : Program) where
   placed_itself : (q : QName) (r : RecordDesc) → description program q ≡ Some (desc.Record r) → IsPlaced program q r
   placed_itself q r e = record { s = r; is = e; words_are = refl; fields = λ f i. i }
 
-  placed_seen : (q : QName) (d : Desc) (r : RecordDesc) → description program q ≡ Some d → seen d ≡ desc.Record r → IsPlaced program q r
+  placed_seen : (q : QName) (d : Desc) (r : RecordDesc) → description program q ≡ Some d → seen (in_places d) ≡ desc.Record r → IsPlaced program q r
   placed_seen q (desc.Const v) r e h = absurd cc
   placed_seen q (desc.Var m t) r e h = absurd cc
   placed_seen q (desc.Proc s) r e h = absurd cc
@@ -48,9 +49,9 @@ module _ (program : Program) where
   placed_seen q (desc.Pointer m t) r e h = absurd cc
   placed_seen q (desc.ProcType m s) r e h = absurd cc
   placed_seen q (desc.Record s) r e h =
-      let x : RecordDesc = record s { fields = filter (λ f. is_shown f.mark) s.fields; methods = filter (λ m. is_shown m.mark) s.methods } in
+      let x : RecordDesc = record s { fields = filter (λ f. is_shown f.mark) (in_order by_place s.fields); methods = filter (λ m. is_shown m.mark) s.methods } in
       let k : x ≡ r = cc in
-      subst (λ r. IsPlaced program q r) k (record { s = s; is = e; words_are = refl; fields = λ f i. one_filtered (λ f. is_shown f.mark) s.fields f i })
+      subst (λ r. IsPlaced program q r) k (record { s = s; is = e; words_are = refl; fields = λ f i. one_ordered by_place s.fields f (one_filtered (λ f. is_shown f.mark) (in_order by_place s.fields) f i) })
 
   module _ (whole : IsWhole program) where
     abbrev at : Module → List ℕ → QName
@@ -73,7 +74,7 @@ module _ (program : Program) where
         (λ k.
         let x = one_mapped type_object (types_among m (reached_types m)) o k in
         let there = one_filtered (λ t. is_among (reached_types m) (own_name m t)) m.types x.0 x.1.0 in
-        let d : seen x.0.desc ≡ desc.Record r = ap (λ (o : List ℕ × Desc). o.1) x.1.1 ∙ e in
+        let d : seen (in_places x.0.desc) ≡ desc.Record r = ap (λ (o : List ℕ × Desc). o.1) x.1.1 ∙ e in
         subst (λ (y : List ℕ). IsPlaced program (at m y) r) (ap (λ (o : List ℕ × Desc). o.0) x.1.1) (placed_seen (at m x.0.name) x.0.desc r (type_there program whole m x.0 i there) d))
         (one_joined ((cs ++ vs) ++ ps) ts o (one_ordered by_name (((cs ++ vs) ++ ps) ++ ts) o j))
 

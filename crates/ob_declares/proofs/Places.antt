@@ -1,48 +1,22 @@
--- The places of the fields of a filled record.
-use Rattle.std.proofs.Common.{◌≡◌, ◌⊎◌, inl, inr, ℕ, ◌+◌, ◌≤◌, ◌<◌, List, [], ◌∷◌, refl, sym, ap, ◌∙◌, arith}
-use Rattle.std.proofs.lemmas.Bool.Decides.{nat_tests}
-use Rattle.std.specs.Prelude.{Bool, true, false, ◌&&◌, ◌==◌, nat_lt, bytes_eq, cond, if◌then◌else◌}
+-- The places of the fields of a record that is laid out.
+use Rattle.std.proofs.Common.{◌≡◌, ◌⊎◌, inl, inr, ℕ, ◌+◌, ◌≤◌, List, [], ◌∷◌, refl, sym, ap, ◌∙◌, arith}
+use Rattle.std.specs.Prelude.{Bool, true, false, ◌&&◌, bytes_eq, if◌then◌else◌}
 use Rattle.std.specs.List.{AllByRecursion}
-use Rattle.std.specs.Ordering.{nat_cmp, ordering_then}
-use Rattle.std.specs.Cmp.Lexicographic.{slice_cmp}
-use Rattle.std.specs.declared.cmp.Ordering.TheVariants as order
 use Rattle.ob_tree.specs.declared.names.QName.{QName}
 use Rattle.ob_types.specs.declared.types.TypeRef.{TypeRef}
 use Rattle.ob_types.specs.declared.desc.Field.{Field}
 use Rattle.ob_meaning.specs.Values.{same_name, Form, Fields, NoField, AField, joined, own_fields, words, fields_words}
 use Rattle.ob_relation.specs.Layout.{field_offset}
 use Rattle.ob_relation.proofs.Names.{bytes_true, name_true, field_same}
-use Rattle.ob_desc.specs.Grammar.{by_place}
-use Rattle.ob_layout.specs.Lists.{put_before, put_in, in_order, sum_of}
+use Rattle.ob_layout.specs.Lists.{sum_of}
 use Rattle.ob_layout.specs.Words.{most_words}
 use Rattle.ob_layout.specs.LaidOut.{kept, placed}
 use Rattle.ob_forms.specs.Said.{IsOneOf, HaveNames}
 use Rattle.ob_forms.proofs.Built.{OwnerIn}
 use Rattle.ob_declares.proofs.Laid.{fresh_other, placed_fresh}
 
-less_first : (a b : ℕ) (x y : List ℕ) → a < b → ordering_then (nat_cmp a b) (slice_cmp nat_cmp x y) ≡ order.Less
-less_first a b x y lt =
-    let t : nat_lt a b ≡ true = grind (arith, nat_tests) in
-    ap (λ c. ordering_then (cond c order.Less (cond (a == b) order.Equal order.Greater)) (slice_cmp nat_cmp x y)) t
-
 kept_few : (n : ℕ) → n ≤ most_words → kept n ≡ n
 kept_few n le = omega (arith, le)
-
--- fields with words stand in their order as the text has them
-pub stays_placed : (w : TypeRef → ℕ) (n : ℕ) (fs : List Field) → AllByRecursion (λ f. 1 ≤ w f.of) fs → n + sum_of (λ f. w f.of) fs ≤ most_words → in_order by_place (placed w n fs) ≡ placed w n fs
-stays_placed w n [] h le = refl
-stays_placed w n (f ∷ fs) h le =
-    let r = stays_placed w (n + w f.of) fs h.1 (omega (arith, le)) in
-    ap (put_in by_place (record f { place = kept n })) r ∙ first fs h.1 le
-  where
-    first : (fs : List Field) → AllByRecursion (λ f. 1 ≤ w f.of) fs → n + (w f.of + sum_of (λ f. w f.of) fs) ≤ most_words → put_in by_place (record f { place = kept n }) (placed w (n + w f.of) fs) ≡ record f { place = kept n } ∷ placed w (n + w f.of) fs
-    first [] k le = refl
-    first (g ∷ gs) k le =
-        let a : kept n ≡ n = kept_few n (omega (arith, le)) in
-        let b : kept (n + w f.of) ≡ n + w f.of = kept_few (n + w f.of) (omega (arith, le)) in
-        let one : 1 ≤ w f.of = h.0 in
-        let lt : kept n < kept (n + w f.of) = omega (arith, a, b, one) in
-        ap (λ o. put_before o (record f { place = kept n }) (record g { place = kept (n + w f.of) }) (placed w (n + w f.of + w g.of) gs) (put_in by_place (record f { place = kept n }) (placed w (n + w f.of + w g.of) gs))) (less_first (kept n) (kept (n + w f.of)) f.name g.name lt)
 
 and_left : (x y : Bool) → (x && y) ≡ true → x ≡ true
 and_left true y e = refl

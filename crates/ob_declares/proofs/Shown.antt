@@ -20,11 +20,11 @@ use Rattle.ob_meaning.specs.Values.{Program, Form, BasicForm, PointerForm, Proce
 use Rattle.ob_relation.specs.Typed.{passing_for}
 use Rattle.ob_relation.proofs.Names.{bytes_true}
 use Rattle.ob_format.specs.Format.{◌>>=◌}
-use Rattle.ob_desc.specs.Grammar.{is_shown, seen}
+use Rattle.ob_desc.specs.Grammar.{is_shown, by_place, seen}
 use Rattle.ob_layout.specs.Lists.{put_before, put_in, in_order}
 use Rattle.ob_env.specs.Faces.{Face, object_named, face_named, described}
 use Rattle.ob_counts.specs.Counts.{mode_of, own_name}
-use Rattle.ob_uses.specs.Objects.{formal_of, signature_of, is_exported, constant_object, variable_object, procedure_object, type_object, types_among, reached_types, by_name, objects_of}
+use Rattle.ob_uses.specs.Objects.{formal_of, signature_of, is_exported, constant_object, variable_object, procedure_object, in_places, type_object, types_among, reached_types, by_name, objects_of}
 use Rattle.ob_uses.specs.Closed.{is_among}
 use Rattle.ob_forms.specs.Formed.{IsDeclared, AreParameters, IsProcedureOf}
 use Rattle.ob_forms.proofs.Chains.{chains}
@@ -96,12 +96,12 @@ face_found (f ∷ fs) q d e = by (bytes_eq q.«module» f.«module») refl e (λ
 
 -- ---- less is said
 
+among_those : (s fs : List Field) → ((f : Field) → IsOneOf fs f → IsOneOf s f) → AllByRecursion (λ f. IsAmong s f) fs
+among_those s [] r = tt
+among_those s (f ∷ fs) r = (record { g = f; there = r f (inl refl); name = refl; of = refl }, among_those s fs (λ g i. r g (inr i)))
+
 among_itself : (fs : List Field) → AllByRecursion (λ f. IsAmong fs f) fs
-among_itself fs = by fs fs (λ f i. i)
-  where
-    by : (fs gs : List Field) → ((f : Field) → IsOneOf gs f → IsOneOf fs f) → AllByRecursion (λ f. IsAmong fs f) gs
-    by fs [] r = tt
-    by fs (g ∷ gs) r = (record { g = g; there = r g (inl refl); name = refl; of = refl }, by fs gs (λ f i. r f (inr i)))
+among_itself fs = among_those fs fs (λ f i. i)
 
 bound_itself : (ms : List Method) → AllByRecursion (λ m. IsBoundAmong ms m) ms
 bound_itself ms = by ms ms (λ m i. i)
@@ -121,12 +121,13 @@ all_filtered P f (x ∷ xs) h = by (f x) (all_filtered P f xs h.1)
 pub part_itself : (r : RecordDesc) → IsPartOf r r
 part_itself r = record { base = refl; fields = among_itself r.fields; methods = bound_itself r.methods }
 
--- what an interface leaves out
-part_seen : (r s : RecordDesc) → seen (desc.Record s) ≡ desc.Record r → IsPartOf r s
-part_seen r s e =
-    let x : RecordDesc = record s { fields = filter (λ f. is_shown f.mark) s.fields; methods = filter (λ m. is_shown m.mark) s.methods } in
-    let k : x ≡ r = cc in
-    subst (λ r. IsPartOf r s) k (record { base = refl; fields = all_filtered (λ f. IsAmong s.fields f) (λ f. is_shown f.mark) s.fields (among_itself s.fields); methods = all_filtered (λ m. IsBoundAmong s.methods m) (λ m. is_shown m.mark) s.methods (bound_itself s.methods) })
+-- what an interface leaves out, with the fields in the order of their places
+part_seen : (s : RecordDesc) → IsPartOf (record s { fields = filter (λ f. is_shown f.mark) (in_order by_place s.fields); methods = filter (λ m. is_shown m.mark) s.methods }) s
+part_seen s = record {
+  base = refl;
+  fields = among_those s.fields (filter (λ f. is_shown f.mark) (in_order by_place s.fields)) (λ f i. one_ordered by_place s.fields f (one_filtered (λ f. is_shown f.mark) (in_order by_place s.fields) f i));
+  methods = all_filtered (λ m. IsBoundAmong s.methods m) (λ m. is_shown m.mark) s.methods (bound_itself s.methods);
+}
 
 pub within_type : (types : QName → Option Desc) (n : ℕ) (q : QName) (d : Desc) → types q ≡ Some d → IsWithin types n (ref.Named q) → is_type d ≡ true
 unfolding IsWithin
@@ -165,10 +166,10 @@ parameters_declared program (x ∷ xs) h = (h.0.declared, parameters_declared pr
 
 module _ (program : Program) (sound : IsSound program) where
   -- a type that the program declares says itself, and what is seen of it
-  pub type_said : (q : QName) (d : Desc) → description program q ≡ Some d → IsSaid program q (seen d)
+  pub type_said : (q : QName) (d : Desc) → description program q ≡ Some d → IsSaid program q (seen (in_places d))
   type_said q d e = by d e (within_type (description program) (number_of_types program) q d e (chains program sound q d e))
     where
-      by : (d : Desc) → description program q ≡ Some d → is_type d ≡ true → IsSaid program q (seen d)
+      by : (d : Desc) → description program q ≡ Some d → is_type d ≡ true → IsSaid program q (seen (in_places d))
       by (desc.Const v) e t = tt
       by (desc.Var m u) e t = absurd cc
       by (desc.Proc s) e t = absurd cc
@@ -177,7 +178,7 @@ module _ (program : Program) (sound : IsSound program) where
       by (desc.OpenArray m u) e t = inr (m, e)
       by (desc.Pointer m u) e t = (m, e)
       by (desc.ProcType m s) e t = (m, e)
-      by (desc.Record s) e t = (s, (e, part_seen (record s { fields = filter (λ f. is_shown f.mark) s.fields; methods = filter (λ m. is_shown m.mark) s.methods }) s refl))
+      by (desc.Record s) e t = (s, (e, part_seen s))
 
   module _ (whole : IsWhole program) where
     abbrev at : Module → List ℕ → QName

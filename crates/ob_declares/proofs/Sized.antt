@@ -13,7 +13,7 @@ use Rattle.ob_types.specs.declared.desc.Field.{Field}
 use Rattle.ob_types.specs.Maps.{is_type, stands_on, IsHeld, IsWithin}
 use Rattle.ob_types.specs.Relations.{is_alias, IsGrounded}
 use Rattle.ob_types.specs.Tests.{target, shape_at}
-use Rattle.ob_meaning.specs.Values.{Program, Form, BasicForm, PointerForm, ProcedureForm, ArrayForm, OpenForm, RecordForm, Fields, base_line, base_fields, joined, fields_of, form_in, record_in, words}
+use Rattle.ob_meaning.specs.Values.{Program, Form, BasicForm, PointerForm, ProcedureForm, ArrayForm, OpenForm, RecordForm, Fields, base_line, base_fields, joined, fields_of, form_in, record_in, formals_in, words}
 use Rattle.ob_relation.specs.Layout.{field_offset}
 use Rattle.ob_relation.proofs.Names.{bytes_true}
 use Rattle.ob_rules.specs.Shapes.{same_name}
@@ -98,7 +98,7 @@ module _ (types : QName → Option Desc) (program : Program) (formed : Formed ty
         on q (desc.Array m n u) is e ty al = array n u (named_form t q is ∙ formed.arrays q m n u e) (ap elements_in (shape_is t q (desc.Array m n u) is e))
         on q (desc.OpenArray m u) is e ty al = opened u (named_form t q is ∙ formed.opens q m u e (no_out q (desc.OpenArray m u) e)) (grounded.held q (desc.OpenArray m u) e).0 (ap elements_in (shape_is t q (desc.OpenArray m u) is e)) (ap (open_words_in types) (shape_is t q (desc.OpenArray m u) is e))
         on q (desc.Pointer m u) is e ty al = plain (PointerForm u) (named_form t q is ∙ formed.pointers q m u e) (λ n f k. absurd cc) (λ f k. absurd cc) (λ l f k. absurd cc) (ap elements_in (shape_is t q (desc.Pointer m u) is e))
-        on q (desc.ProcType m s) is e ty al = plain (ProcedureForm s) (named_form t q is ∙ formed.procedures q m s e) (λ n f k. absurd cc) (λ f k. absurd cc) (λ l f k. absurd cc) (ap elements_in (shape_is t q (desc.ProcType m s) is e))
+        on q (desc.ProcType m s) is e ty al = plain (ProcedureForm (formals_in program s)) (named_form t q is ∙ formed.procedures q m s e) (λ n f k. absurd cc) (λ f k. absurd cc) (λ l f k. absurd cc) (ap elements_in (shape_is t q (desc.ProcType m s) is e))
         on q (desc.Record r) is e ty al = record_type q (base_line form r.base) (joined (base_fields form r.base) (formed.records q r e).own) (named_form t q is ∙ (formed.records q r e).is) (ap elements_in (shape_is t q (desc.Record r) is e)) (ap name_in is)
 
         by : Sort types program formed grounded t → Looks t

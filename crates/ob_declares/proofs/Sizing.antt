@@ -1,4 +1,4 @@
--- The records of filled modules laid out in order have their words and places.
+-- The records of modules laid out in order have their words and places.
 use Rattle.std.proofs.Common.{◌≡◌, ⊎_elim, inl, inr, ℕ, ◌+◌, ◌≤◌, List, [], ◌∷◌, ◌++◌, map as each, Some, refl, sym, ap, subst, ◌∙◌, append_assoc}
 use Rattle.std.specs.Prelude.{true, bytes_eq, cond, MatchOption, IsTrue}
 use Rattle.std.specs.List.{AllByRecursion}
@@ -15,8 +15,7 @@ use Rattle.ob_types.specs.TypedSyntax.{Module}
 use Rattle.ob_meaning.specs.Values.{Program, Form, own_fields, base_fields, joined, fields_of, fields_words, form_in, record_in, words, description}
 use Rattle.ob_relation.specs.Layout.{field_offset}
 use Rattle.ob_relation.proofs.Names.{bytes_same}
-use Rattle.ob_desc.specs.Grammar.{by_place}
-use Rattle.ob_layout.specs.Lists.{in_order, sum_of}
+use Rattle.ob_layout.specs.Lists.{sum_of}
 use Rattle.ob_layout.specs.Words.{most_words}
 use Rattle.ob_layout.specs.LaidOut.{type_named as own_named, is_own, viewed, base_of, words_in, procedures_in, placed, laid_record, laid_desc}
 use Rattle.ob_forms.specs.Said.{IsOneOf, HaveNames, IsSound}
@@ -27,13 +26,12 @@ use Rattle.ob_forms.proofs.Modules.{of_all}
 use Rattle.ob_forms.proofs.Staying.{HasMore}
 use Rattle.ob_declares.specs.Sized.{IsSized}
 use Rattle.ob_declares.specs.Views.{FieldsDiffer}
-use Rattle.ob_declares.specs.Words.{IsSmall, IsLaidOver}
-use Rattle.ob_declares.specs.Filled.{IsFilled, AreFilledInOrder}
+use Rattle.ob_declares.specs.Words.{IsSmall, IsLaidOver, AreLaidInOrder}
 use Rattle.ob_declares.proofs.Views.{type_found}
 use Rattle.ob_declares.proofs.Ordered.{either_there, types_named}
 use Rattle.ob_declares.proofs.Words.{HaveWords, based_words, base_records, record_sum, summed_words}
 use Rattle.ob_declares.proofs.Summed.{laid_found, has_more, words_more}
-use Rattle.ob_declares.proofs.Places.{stays_placed, places_sum, offset_behind}
+use Rattle.ob_declares.proofs.Places.{places_sum, offset_behind}
 
 -- a record that is laid out was one before
 laid_of : (w p : TypeRef → ℕ) (q : QName) (d : Desc) (s : RecordDesc) → laid_desc w p q d ≡ desc.Record s → (r : RecordDesc) × ((d ≡ desc.Record r) × (laid_record w p q r ≡ s))
@@ -51,38 +49,32 @@ each_field : (P : TypeRef → Type 0) (fs : List Field) → AllByRecursion P (ea
 each_field P [] h = tt
 each_field P (f ∷ fs) h = (h.0, each_field P fs h.1)
 
-filled_by : (w g : TypeRef → ℕ) (fs : List Field) → AllByRecursion (λ f. w f.of ≡ g f.of) fs → AllByRecursion (λ f. 1 ≤ g f.of) fs → AllByRecursion (λ f. 1 ≤ w f.of) fs
-filled_by w g [] h k = tt
-filled_by w g (f ∷ fs) h k = (subst (λ n. 1 ≤ n) (sym h.0) k.0, filled_by w g fs h.1 k.1)
-
 module _ (program : Program) (sound : IsSound program) (whole : IsWhole program) where
   abbrev form : TypeRef → Form
   form = form_in program
 
-  -- A FILLED RECORD
-  filled_places : (q : QName) (r : RecordDesc) (w p : TypeRef → ℕ) → HaveNames r.fields → description program q ≡ Some (desc.Record (laid_record w p q r)) → AllByRecursion (λ t. w t ≡ words (form t)) (listed r.base ++ each (λ f. f.of) r.fields) → AllByRecursion (λ f. 1 ≤ words (form f.of)) r.fields → words (record_in program q) ≤ most_words → (g : Field) → IsOneOf (in_order by_place (placed w (base_of w r.base) r.fields)) g → g.place ≡ field_offset (fields_of (record_in program q)) q g.name
-  filled_places q r w p names e parts filled few g i =
+  -- A RECORD THAT IS LAID OUT
+  laid_places : (q : QName) (r : RecordDesc) (w p : TypeRef → ℕ) → HaveNames r.fields → description program q ≡ Some (desc.Record (laid_record w p q r)) → AllByRecursion (λ t. w t ≡ words (form t)) (listed r.base ++ each (λ f. f.of) r.fields) → words (record_in program q) ≤ most_words → (g : Field) → IsOneOf (placed w (base_of w r.base) r.fields) g → g.place ≡ field_offset (fields_of (record_in program q)) q g.name
+  laid_places q r w p names e parts few g i =
       let n = base_of w r.base in
       let b = all_left (λ t. w t ≡ words (form t)) (listed r.base) (each (λ f. f.of) r.fields) parts in
       let o = each_field (λ t. w t ≡ words (form t)) r.fields (all_right (λ t. w t ≡ words (form t)) (listed r.base) (each (λ f. f.of) r.fields) parts) in
       let base : n ≡ fields_words (base_fields form r.base) = based_words program sound whole w r.base b (base_records program sound whole r.base (sound.keeps q (desc.Record (laid_record w p q r)) e).0) in
-      let sum : n + sum_of (λ f. w f.of) r.fields ≡ words (record_in program q) = record_sum program sound whole w w p q r names e parts in
+      let sum : n + sum_of (λ f. w f.of) r.fields ≡ words (record_in program q) = record_sum program sound whole w w p q r e parts in
       let le : n + sum_of (λ f. w f.of) r.fields ≤ most_words = subst (λ k. k ≤ most_words) (sym sum) few in
-      let stay : in_order by_place (placed w n r.fields) ≡ placed w n r.fields = stays_placed w n r.fields (filled_by w (λ t. words (form t)) r.fields o filled) le in
-      let place : g.place ≡ n + field_offset (own_fields form q (placed w n r.fields)) q g.name = places_sum form q w n r.fields g names o le (subst (λ fs. IsOneOf fs g) stay i) in
-      let fs : fields_of (record_in program q) ≡ joined (base_fields form r.base) (own_fields form q (in_order by_place (placed w n r.fields))) = ap fields_of (form_described program sound q (desc.Record (laid_record w p q r)) e) in
+      let place : g.place ≡ n + field_offset (own_fields form q (placed w n r.fields)) q g.name = places_sum form q w n r.fields g names o le i in
+      let fs : fields_of (record_in program q) ≡ joined (base_fields form r.base) (own_fields form q (placed w n r.fields)) = ap fields_of (form_described program sound q (desc.Record (laid_record w p q r)) e) in
       place
       ∙ ap (λ k. k + field_offset (own_fields form q (placed w n r.fields)) q g.name) base
-      ∙ ap (λ ks. fields_words (base_fields form r.base) + field_offset (own_fields form q ks) q g.name) (sym stay)
-      ∙ sym (offset_behind q g.name (base_fields form r.base) (own_fields form q (in_order by_place (placed w n r.fields))) (base_apart program sound q (laid_record w p q r) e))
+      ∙ sym (offset_behind q g.name (base_fields form r.base) (own_fields form q (placed w n r.fields)) (base_apart program sound q (laid_record w p q r) e))
       ∙ ap (λ ks. field_offset ks q g.name) (sym fs)
 
   abbrev HavePlaces : Program → Type 0
   HavePlaces ms = (q : QName) (s : RecordDesc) (g : Field) → description ms q ≡ Some (desc.Record s) → IsOneOf s.fields g → g.place ≡ field_offset (fields_of (record_in program q)) q g.name
 
   -- one module more
-  places_more : (before : Program) (m : Module) → IsOneOf program m → HasMore (description before) (description program) → HaveWords program sound whole before → HavePlaces before → (over : IsLaidOver before m) → AllByRecursion (λ t. IsFilled program t.desc) over.checked.types → HavePlaces (before ++ m ∷ [])
-  places_more before m i more known known_places over filled q s g e j =
+  places_more : (before : Program) (m : Module) → IsOneOf program m → HasMore (description before) (description program) → HaveWords program sound whole before → HavePlaces before → (over : IsLaidOver before m) → HavePlaces (before ++ m ∷ [])
+  places_more before m i more known known_places over q s g e j =
       ⊎_elim
       (λ k. known_places q s g k j)
       (λ k.
@@ -102,11 +94,10 @@ module _ (program : Program) (sound : IsSound program) (whole : IsWhole program)
       let parts = all_from (λ t. IsWithin (viewed types c) 200 t) (λ t. w t ≡ words (form t)) (λ t h. summed_words program sound whole before m i more known over 201 t (one_more (viewed types c) 200 t h)) (stands_on (desc.Record l.0)) (parts_within (viewed types c) 200 q (desc.Record l.0) view within) in
       let checked = type_found c.types q.object f.t.desc f.has in
       let names : HaveNames l.0.fields = subst FieldsDiffer (checked.desc ∙ l.1.0) (of_all (λ t. FieldsDiffer t.desc) c.types checked.t over.laid.fields checked.there) in
-      let full : IsFilled program (desc.Record l.0) = subst (IsFilled program) (checked.desc ∙ l.1.0) (of_all (λ t. IsFilled program t.desc) c.types checked.t filled checked.there) in
       let x = type_found m.types q.object (desc.Record s) at_m in
       let small : s.words ≤ most_words = subst IsSmall x.desc (of_all (λ t. IsSmall t.desc) m.types x.t over.small x.there) in
       let few : words (record_in program q) ≤ most_words = subst (λ n. n ≤ most_words) (words_more program sound whole before m i more known over q s e) small in
-      filled_places q l.0 w p names in_program parts full few g (subst (λ (y : RecordDesc). IsOneOf y.fields g) (sym l.1.1) j))
+      laid_places q l.0 w p names in_program parts few g (subst (λ (y : RecordDesc). IsOneOf y.fields g) (sym l.1.1) j))
       (either_there before m over.over before q (desc.Record s) e)
 
   append_none : (ms : List Module) → ms ++ [] ≡ ms
@@ -116,16 +107,16 @@ module _ (program : Program) (sound : IsSound program) (whole : IsWhole program)
   abbrev Both : Program → Type 0
   Both ms = HaveWords program sound whole ms × HavePlaces ms
 
-  in_turn : (before : Program) (ms : List Module) → ((m : Module) → IsOneOf ms m → IsOneOf program m) → HasMore (description before) (description program) → Both before → AreFilledInOrder program before ms → Both (before ++ ms)
+  in_turn : (before : Program) (ms : List Module) → ((m : Module) → IsOneOf ms m → IsOneOf program m) → HasMore (description before) (description program) → Both before → AreLaidInOrder before ms → Both (before ++ ms)
   in_turn before [] i more known h = subst Both (sym (append_none before)) known
   in_turn before (m ∷ ms) i more known h =
       let here = i m (inl refl) in
-      let over = h.0.0 in
+      let over = h.0 in
       subst Both (append_assoc before (m ∷ []) ms)
-      (in_turn (before ++ m ∷ []) ms (λ k j. i k (inr j)) (has_more program sound whole before m here more over) (words_more program sound whole before m here more known.0 over, places_more before m here more known.0 known.1 over h.0.1) h.1)
+      (in_turn (before ++ m ∷ []) ms (λ k j. i k (inr j)) (has_more program sound whole before m here more over) (words_more program sound whole before m here more known.0 over, places_more before m here more known.0 known.1 over) h.1)
 
   -- ALL RECORDS ARE SIZED
-  pub program_sized : AreFilledInOrder program [] program → IsSized program
+  pub program_sized : AreLaidInOrder [] program → IsSized program
   program_sized h =
       let both = in_turn [] program (λ m i. i) (λ q d e. absurd cc) (λ q s e. absurd cc, λ q s g e j. absurd cc) h in
       record { words_are = both.0; places = both.1 }

@@ -15,7 +15,7 @@ use Rattle.ob_relation.specs.Relation.{IsLength}
 use Rattle.ob_desc.specs.Grammar.{is_shown, seen}
 use Rattle.ob_env.specs.Faces.{Face, described}
 use Rattle.ob_counts.specs.Counts.{own_name}
-use Rattle.ob_uses.specs.Objects.{is_exported, constant_object, variable_object, procedure_object, type_object, types_among, reached_types, by_name, objects_of}
+use Rattle.ob_uses.specs.Objects.{is_exported, constant_object, variable_object, procedure_object, in_places, type_object, types_among, reached_types, by_name, objects_of}
 use Rattle.ob_uses.specs.Closed.{is_among}
 use Rattle.ob_rules.specs.Names.{out_string}
 use Rattle.ob_forms.specs.Formed.{IsMethodOf}
@@ -31,7 +31,7 @@ module _ (program : Program) (whole : IsWhole program) where
   abbrev at : Module → List ℕ → QName
   at m x = record { «module» = m.name; object = x }
 
-  object_declared : (m : Module) (o : List ℕ × Desc) → IsOneOf program m → IsOneOf (objects_of m) o → is_type o.1 ≡ true → (e : Desc) × ((description program (at m o.0) ≡ Some e) × (seen e ≡ o.1))
+  object_declared : (m : Module) (o : List ℕ × Desc) → IsOneOf program m → IsOneOf (objects_of m) o → is_type o.1 ≡ true → (e : Desc) × ((description program (at m o.0) ≡ Some e) × (seen (in_places e) ≡ o.1))
   object_declared m o i j ty =
       let cs = each constant_object (filter (λ c. is_shown c.mark) m.constants) in
       let vs = each variable_object (filter (λ v. is_shown v.mark) m.variables) in
@@ -48,17 +48,17 @@ module _ (program : Program) (whole : IsWhole program) where
       (λ k.
       let x = one_mapped type_object (types_among m (reached_types m)) o k in
       let there = one_filtered (λ t. is_among (reached_types m) (own_name m t)) m.types x.0 x.1.0 in
-      subst (λ (o : List ℕ × Desc). (e : Desc) × ((description program (at m o.0) ≡ Some e) × (seen e ≡ o.1))) x.1.1 (x.0.desc, (type_there program whole m x.0 i there, refl)))
+      subst (λ (o : List ℕ × Desc). (e : Desc) × ((description program (at m o.0) ≡ Some e) × (seen (in_places e) ≡ o.1))) x.1.1 (x.0.desc, (type_there program whole m x.0 i there, refl)))
       (one_joined ((cs ++ vs) ++ ps) ts o (one_ordered by_name (((cs ++ vs) ++ ps) ++ ts) o j))
 
   -- WHAT INTERFACES SHOW OF TYPES is what is seen of the declarations
-  pub types_shown : {K : Type 0} (faces : List (Face K)) → AreShown program faces → (q : QName) (d : Desc) → described faces q ≡ Some d → is_type d ≡ true → (e : Desc) × ((description program q ≡ Some e) × (seen e ≡ d))
+  pub types_shown : {K : Type 0} (faces : List (Face K)) → AreShown program faces → (q : QName) (d : Desc) → described faces q ≡ Some d → is_type d ≡ true → (e : Desc) × ((description program q ≡ Some e) × (seen (in_places e) ≡ d))
   types_shown faces age q d e ty =
       let f = face_found faces q d e in
       let s : IsShownBy program f.f = of_all (λ f. IsShownBy program f) faces f.f age f.there in
       let o : IsOneOf (objects_of s.m) (q.object, d) = subst (λ os. IsOneOf os (q.object, d)) s.objects (object_found f.f.objects q.object d f.object) in
       let n : q.«module» ≡ s.m.name = f.name ∙ s.name in
-      subst (λ (x : List ℕ). (e : Desc) × ((description program (let p : QName = record { «module» = x; object = q.object } in p) ≡ Some e) × (seen e ≡ d))) (sym n) (object_declared s.m (q.object, d) s.there o ty)
+      subst (λ (x : List ℕ). (e : Desc) × ((description program (let p : QName = record { «module» = x; object = q.object } in p) ≡ Some e) × (seen (in_places e) ≡ d))) (sym n) (object_declared s.m (q.object, d) s.there o ty)
 
 -- MODULES IN ORDER make a sound program, where the rest is so
 pub sound_in_order : (program : Program) → StandInOrder [] program

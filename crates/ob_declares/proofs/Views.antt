@@ -26,7 +26,7 @@ use Rattle.ob_forms.specs.Whole.{IsWhole}
 use Rattle.ob_forms.proofs.Modules.{of_all, type_there}
 use Rattle.ob_forms.proofs.Saying.{formed}
 use Rattle.ob_declares.specs.Ages.{AreShown}
-use Rattle.ob_declares.specs.Views.{FieldsDiffer, IsAround}
+use Rattle.ob_declares.specs.Views.{IsAround}
 use Rattle.ob_declares.proofs.Shown.{within_type, part_itself, described_said}
 use Rattle.ob_declares.proofs.Laid.{part_laid, part_blank}
 
@@ -77,16 +77,16 @@ module _ (program : Program) (sound : IsSound program) where
       by (desc.Record s) e t = (s, (e, part_itself s))
 
   -- so it does as it was checked
-  checked_said : (types : QName → Option Desc) (c : Module) (q p : QName) (d : Desc) → FieldsDiffer d → description program q ≡ Some (laid_desc (words_in types c) (procedures_in types c) p d) → IsSaid program q d
-  checked_said types c q p (desc.Const v) h e = tt
-  checked_said types c q p (desc.Var m u) h e = let t = a_type q (desc.Var m u) e in absurd cc
-  checked_said types c q p (desc.Proc s) h e = let t = a_type q (desc.Proc s) e in absurd cc
-  checked_said types c q p (desc.Alias m u) h e = (m, e)
-  checked_said types c q p (desc.Array m n u) h e = (m, e)
-  checked_said types c q p (desc.OpenArray m u) h e = inr (m, e)
-  checked_said types c q p (desc.Pointer m u) h e = (m, e)
-  checked_said types c q p (desc.ProcType m s) h e = (m, e)
-  checked_said types c q p (desc.Record r) h e = (laid_record (words_in types c) (procedures_in types c) p r, (e, part_laid (words_in types c) (procedures_in types c) p r h))
+  checked_said : (types : QName → Option Desc) (c : Module) (q p : QName) (d : Desc) → description program q ≡ Some (laid_desc (words_in types c) (procedures_in types c) p d) → IsSaid program q d
+  checked_said types c q p (desc.Const v) e = tt
+  checked_said types c q p (desc.Var m u) e = let t = a_type q (desc.Var m u) e in absurd cc
+  checked_said types c q p (desc.Proc s) e = let t = a_type q (desc.Proc s) e in absurd cc
+  checked_said types c q p (desc.Alias m u) e = (m, e)
+  checked_said types c q p (desc.Array m n u) e = (m, e)
+  checked_said types c q p (desc.OpenArray m u) e = inr (m, e)
+  checked_said types c q p (desc.Pointer m u) e = (m, e)
+  checked_said types c q p (desc.ProcType m s) e = (m, e)
+  checked_said types c q p (desc.Record r) e = (laid_record (words_in types c) (procedures_in types c) p r, (e, part_laid (words_in types c) (procedures_in types c) p r))
 
   -- so it does without places and numbers
   blank_said : (q : QName) (d : Desc) → IsSaid program q d → IsSaid program q (blank d)
@@ -136,7 +136,7 @@ module _ (program : Program) (sound : IsSound program) where
             let there : description program (record { «module» = around.m.name; object = k.t.name }) ≡ Some laid.desc = type_there program whole around.m laid around.there in_m in
             let unit : q.«module» ≡ around.m.name = bytes_true q.«module» u.unit n ∙ around.unit in
             let at_q : description program q ≡ Some laid.desc = ap (λ (x : List ℕ). description program (let p : QName = record { «module» = x; object = q.object } in p)) unit ∙ ap (λ (x : List ℕ). description program (let p : QName = record { «module» = around.m.name; object = x } in p)) (sym k.name) ∙ there in
-            let said : IsSaid program q k.t.desc = checked_said types c q (record { «module» = c.name; object = k.t.name }) k.t.desc (of_all (λ t. FieldsDiffer t.desc) c.types k.t around.laid.fields in_checked) at_q in
+            let said : IsSaid program q k.t.desc = checked_said types c q (record { «module» = c.name; object = k.t.name }) k.t.desc at_q in
             subst (λ d. IsSaid program q d) k.desc said
         by false true n s e = let k : desc.OpenArray mark.Hidden (ref.Basic basic.Char) ≡ d = cc in subst (λ d. IsSaid program q d) k (inl (s, refl))
         by false false n s e = shown_said (described faces q) refl (ap (λ f. f q) (sym around.interfaces) ∙ e)

@@ -16,7 +16,7 @@ use Rattle.ob_types.specs.declared.desc.Field.{Field}
 use Rattle.ob_types.specs.Maps.{is_type}
 use Rattle.ob_types.specs.Relations.{is_alias}
 use Rattle.ob_types.specs.Tests.{target, target_of, follow, shape_at}
-use Rattle.ob_meaning.specs.Values.{same_name, Program, Form, BasicForm, PointerForm, ProcedureForm, ArrayForm, OpenForm, RecordForm, Fields, NoField, AField, own_fields, base_line, base_fields, joined, fields_of, form_in, form_within, record_in, words, described, description, number_of_types}
+use Rattle.ob_meaning.specs.Values.{same_name, Program, Form, BasicForm, PointerForm, ProcedureForm, ArrayForm, OpenForm, RecordForm, Fields, NoField, AField, own_fields, base_line, base_fields, joined, fields_of, form_in, form_within, record_in, formals_in, words, described, description, number_of_types}
 use Rattle.ob_relation.specs.Layout.{field_offset}
 use Rattle.ob_relation.specs.Relation.{OrElse, FieldIn}
 use Rattle.ob_relation.proofs.Names.{name_true}
@@ -165,7 +165,7 @@ module _ (program : Program) (sound : IsSound program) (sized : IsSized program)
   elements_all t n e (of_name q (desc.Array m i u) k j a f) h = let s : ArrayForm i (form u) ≡ ArrayForm n e = sym f ∙ h in let g : i ≡ n = cc in ap elements_in (shape_is (target types 201 t) q (Some (desc.Array m i u)) k j) ∙ ap (λ x. Some x) g
   elements_all t n e (of_name q (desc.OpenArray m u) k j a f) h = let s : OpenForm (form u) ≡ ArrayForm n e = sym f ∙ h in absurd cc
   elements_all t n e (of_name q (desc.Pointer m u) k j a f) h = let s : PointerForm u ≡ ArrayForm n e = sym f ∙ h in absurd cc
-  elements_all t n e (of_name q (desc.ProcType m g) k j a f) h = let s : ProcedureForm g ≡ ArrayForm n e = sym f ∙ h in absurd cc
+  elements_all t n e (of_name q (desc.ProcType m g) k j a f) h = let s : ProcedureForm (formals_in program g) ≡ ArrayForm n e = sym f ∙ h in absurd cc
   elements_all t n e (of_name q (desc.Record r) k j a f) h = absurd (apart_array f h)
 
   -- OPEN ARRAYS
@@ -183,7 +183,7 @@ module _ (program : Program) (sound : IsSound program) (sized : IsSized program)
       let d = shape_is (target types 201 t) q (Some (desc.OpenArray m u)) k j in
       (ap elements_in d, ap (open_words_in types) d ∙ sizes_all u ∙ ap words g)
   opens_all t e (of_name q (desc.Pointer m u) k j a f) h = let s : PointerForm u ≡ OpenForm e = sym f ∙ h in absurd cc
-  opens_all t e (of_name q (desc.ProcType m g) k j a f) h = let s : ProcedureForm g ≡ OpenForm e = sym f ∙ h in absurd cc
+  opens_all t e (of_name q (desc.ProcType m g) k j a f) h = let s : ProcedureForm (formals_in program g) ≡ OpenForm e = sym f ∙ h in absurd cc
   opens_all t e (of_name q (desc.Record r) k j a f) h = absurd (apart_open f h)
 
   -- RECORDS
@@ -197,7 +197,7 @@ module _ (program : Program) (sound : IsSound program) (sized : IsSized program)
   records_all t p l gs (of_name q (desc.Array m i u) k j a f) h = let s : ArrayForm i (form u) ≡ RecordForm (p ∷ l) gs = sym f ∙ h in absurd cc
   records_all t p l gs (of_name q (desc.OpenArray m u) k j a f) h = let s : OpenForm (form u) ≡ RecordForm (p ∷ l) gs = sym f ∙ h in absurd cc
   records_all t p l gs (of_name q (desc.Pointer m u) k j a f) h = let s : PointerForm u ≡ RecordForm (p ∷ l) gs = sym f ∙ h in absurd cc
-  records_all t p l gs (of_name q (desc.ProcType m g) k j a f) h = let s : ProcedureForm g ≡ RecordForm (p ∷ l) gs = sym f ∙ h in absurd cc
+  records_all t p l gs (of_name q (desc.ProcType m g) k j a f) h = let s : ProcedureForm (formals_in program g) ≡ RecordForm (p ∷ l) gs = sym f ∙ h in absurd cc
   records_all t p l gs (of_name q (desc.Record r) k j a f) h =
       let s : RecordForm (q ∷ base_line form r.base) (joined (base_fields form r.base) (own_fields form q r.fields)) ≡ RecordForm (p ∷ l) gs = sym f ∙ h in
       let n : q ≡ p = cc in
@@ -232,7 +232,7 @@ module _ (program : Program) (sound : IsSound program) (sized : IsSized program)
       by (Some (desc.Array m n u)) e = absurd (none (ArrayForm n (form u)) (form_described program sound o (desc.Array m n u) e))
       by (Some (desc.OpenArray m u)) e = absurd (none (OpenForm (form u)) (form_described program sound o (desc.OpenArray m u) e))
       by (Some (desc.Pointer m u)) e = absurd (none (PointerForm u) (form_described program sound o (desc.Pointer m u) e))
-      by (Some (desc.ProcType m s)) e = absurd (none (ProcedureForm s) (form_described program sound o (desc.ProcType m s) e))
+      by (Some (desc.ProcType m s)) e = absurd (none (ProcedureForm (formals_in program s)) (form_described program sound o (desc.ProcType m s) e))
       by (Some (desc.Record r)) e = record_field o r x e h
 
   -- DECLARATIONS DESCRIBE

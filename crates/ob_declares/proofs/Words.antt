@@ -1,9 +1,7 @@
 -- The words that the layout gives a record are those of its type.
-use Rattle.std.proofs.Common.{◌≡◌, ◌≢◌, inl, inr, ℕ, zero, suc, ◌+◌, ◌*◌, List, [], ◌∷◌, ◌++◌, map as each, Option, Some, None, refl, sym, ap, subst, ◌∙◌, arith}
+use Rattle.std.proofs.Common.{◌≡◌, ℕ, zero, suc, ◌+◌, ◌*◌, List, [], ◌∷◌, ◌++◌, map as each, Option, Some, None, refl, sym, ap, subst, ◌∙◌, arith}
 use Rattle.std.specs.Prelude.{Bool, true, false, cond, MatchOption, IfSome, IsTrue}
 use Rattle.std.specs.List.{AllByRecursion}
-use Rattle.std.specs.declared.cmp.Ordering.{Ordering}
-use Rattle.std.specs.declared.cmp.Ordering.TheVariants as order
 use Rattle.ob_tree.specs.declared.names.QName.{QName}
 use Rattle.ob_types.specs.declared.types.TypeRef.{TypeRef}
 use Rattle.ob_types.specs.declared.types.TypeRef.TheVariants as ref
@@ -18,38 +16,21 @@ use Rattle.ob_types.specs.TypedSyntax.{Module}
 use Rattle.ob_meaning.specs.Values.{Program, Form, Fields, NoField, AField, joined, own_fields, base_fields, fields_of, form_in, record_in, words, fields_words, description}
 use Rattle.ob_relation.specs.Typed.{IsRecordForm}
 use Rattle.ob_relation.proofs.Names.{bytes_true}
-use Rattle.ob_desc.specs.Grammar.{by_place}
-use Rattle.ob_layout.specs.Lists.{put_before, put_in, in_order, sum_of}
+use Rattle.ob_layout.specs.Lists.{sum_of}
 use Rattle.ob_layout.specs.Words.{described_words}
 use Rattle.ob_layout.specs.LaidOut.{type_named as own_named, is_own, viewed, base_of, declared_words, summed, words_in, procedures_in, placed, laid_record, laid_desc, laid_type}
-use Rattle.ob_forms.specs.Said.{IsOneOf, HaveNames, IsSound}
+use Rattle.ob_forms.specs.Said.{IsOneOf, IsSound}
 use Rattle.ob_forms.specs.Whole.{IsWhole}
 use Rattle.ob_forms.proofs.Within.{form_described, all_left, all_right}
 use Rattle.ob_forms.proofs.Built.{record_base}
 use Rattle.ob_forms.proofs.Shapes.{basic_is}
-use Rattle.ob_forms.proofs.Modules.{of_all, type_there}
+use Rattle.ob_forms.proofs.Modules.{type_there}
 use Rattle.ob_forms.proofs.Staying.{HasMore}
-use Rattle.ob_declares.specs.Views.{FieldsDiffer}
 use Rattle.ob_declares.specs.Ordered.{bare}
 use Rattle.ob_declares.specs.Words.{IsLaidOver}
-use Rattle.ob_declares.proofs.Shown.{one_ordered}
-use Rattle.ob_declares.proofs.Laid.{place_name, placed_names, fresh_other}
 use Rattle.ob_declares.proofs.Views.{type_found, one_each}
 
--- ---- sums do not ask for the order
-
-sum_put : (g : Field → ℕ) (x : Field) (ys : List Field) → ((y : Field) → IsOneOf ys y → x.name ≢ y.name) → sum_of g (put_in by_place x ys) ≡ g x + sum_of g ys
-sum_put g x [] h = refl
-sum_put g x (y ∷ ys) h = by (by_place x y) refl (sum_put g x ys (λ z i. h z (inr i)))
-  where
-    by : (o : Ordering) → by_place x y ≡ o → sum_of g (put_in by_place x ys) ≡ g x + sum_of g ys → sum_of g (put_before o x y ys (put_in by_place x ys)) ≡ g x + (g y + sum_of g ys)
-    by order.Less e r = refl
-    by order.Equal e r = absurd (h y (inl refl) (place_name x y e))
-    by order.Greater e r = omega (arith, r)
-
-sum_order : (g : Field → ℕ) (fs : List Field) → HaveNames fs → sum_of g (in_order by_place fs) ≡ sum_of g fs
-sum_order g [] h = refl
-sum_order g (f ∷ fs) h = sum_put g f (in_order by_place fs) (λ y i. fresh_other f.name fs y h.0 (one_ordered by_place fs y i)) ∙ ap (λ n. g f + n) (sum_order g fs h.1)
+-- ---- sums do not ask for places
 
 sum_placed : (w : TypeRef → ℕ) (h : TypeRef → ℕ) (n : ℕ) (fs : List Field) → sum_of (λ f. h f.of) (placed w n fs) ≡ sum_of (λ f. h f.of) fs
 sum_placed w h n [] = refl
@@ -121,16 +102,16 @@ module _ (program : Program) (sound : IsSound program) (whole : IsWhole program)
   base_records (Some t) h = record_base program sound t h
 
   -- a record as it was checked, and its type as it is laid out
-  pub record_sum : (f w p : TypeRef → ℕ) (q : QName) (r : RecordDesc) → HaveNames r.fields → description program q ≡ Some (desc.Record (laid_record w p q r)) → AllByRecursion (λ t. f t ≡ words (form t)) (listed r.base ++ each (λ x. x.of) r.fields) → base_of f r.base + sum_of (λ x. f x.of) r.fields ≡ words (record_in program q)
-  record_sum f w p q r names e h =
+  pub record_sum : (f w p : TypeRef → ℕ) (q : QName) (r : RecordDesc) → description program q ≡ Some (desc.Record (laid_record w p q r)) → AllByRecursion (λ t. f t ≡ words (form t)) (listed r.base ++ each (λ x. x.of) r.fields) → base_of f r.base + sum_of (λ x. f x.of) r.fields ≡ words (record_in program q)
+  record_sum f w p q r e h =
       let laid = placed w (base_of w r.base) r.fields in
       let b = all_left (λ t. f t ≡ words (form t)) (listed r.base) (each (λ x. x.of) r.fields) h in
       let o = all_right (λ t. f t ≡ words (form t)) (listed r.base) (each (λ x. x.of) r.fields) h in
       let base = based_words f r.base b (base_records r.base (sound.keeps q (desc.Record (laid_record w p q r)) e).0) in
-      let own : sum_of (λ x. f x.of) r.fields ≡ fields_words (own_fields form q (in_order by_place laid)) = fields_sum f (λ t. words (form t)) r.fields o ∙ sym (sum_placed w (λ t. words (form t)) (base_of w r.base) r.fields) ∙ sym (sum_order (λ x. words (form x.of)) laid (placed_names w (base_of w r.base) r.fields names)) ∙ sym (own_words form q (in_order by_place laid)) in
+      let own : sum_of (λ x. f x.of) r.fields ≡ fields_words (own_fields form q laid) = fields_sum f (λ t. words (form t)) r.fields o ∙ sym (sum_placed w (λ t. words (form t)) (base_of w r.base) r.fields) ∙ sym (own_words form q laid) in
       ap (λ n. n + sum_of (λ x. f x.of) r.fields) base
       ∙ ap (λ n. fields_words (base_fields form r.base) + n) own
-      ∙ sym (joined_words (base_fields form r.base) (own_fields form q (in_order by_place laid)))
+      ∙ sym (joined_words (base_fields form r.base) (own_fields form q laid))
       ∙ sym (ap words (form_described program sound q (desc.Record (laid_record w p q r)) e))
 
   module _ (before : Program) (m : Module) (i : IsOneOf program m) (more : HasMore (description before) (description program)) (known : HaveWords before) (over : IsLaidOver before m) where
@@ -162,16 +143,16 @@ module _ (program : Program) (sound : IsSound program) (whole : IsWhole program)
     Parts f d = AllByRecursion (λ t. f t ≡ words (form t)) (stands_on d)
 
     -- of the module's own types
-    own_sum : (f : TypeRef → ℕ) (q : QName) (d : Desc) → FieldsDiffer d → description program q ≡ Some (laid_desc (words_in others over.checked) (procedures_in others over.checked) q d) → is_type d ≡ true → Parts f d → declared_words f true (Some d) ≡ words (record_in program q)
-    own_sum f q (desc.Const v) n e ty h = plain_words f q (desc.Const v) e ty (λ r k. absurd cc) h
-    own_sum f q (desc.Var m t) n e ty h = plain_words f q (desc.Var m t) e ty (λ r k. absurd cc) h
-    own_sum f q (desc.Proc s) n e ty h = plain_words f q (desc.Proc s) e ty (λ r k. absurd cc) h
-    own_sum f q (desc.Alias m t) n e ty h = plain_words f q (desc.Alias m t) e ty (λ r k. absurd cc) h
-    own_sum f q (desc.Array m k t) n e ty h = plain_words f q (desc.Array m k t) e ty (λ r k. absurd cc) h
-    own_sum f q (desc.OpenArray m t) n e ty h = plain_words f q (desc.OpenArray m t) e ty (λ r k. absurd cc) h
-    own_sum f q (desc.Pointer m t) n e ty h = plain_words f q (desc.Pointer m t) e ty (λ r k. absurd cc) h
-    own_sum f q (desc.ProcType m s) n e ty h = plain_words f q (desc.ProcType m s) e ty (λ r k. absurd cc) h
-    own_sum f q (desc.Record r) n e ty h = record_sum f (words_in others over.checked) (procedures_in others over.checked) q r n e h
+    own_sum : (f : TypeRef → ℕ) (q : QName) (d : Desc) → description program q ≡ Some (laid_desc (words_in others over.checked) (procedures_in others over.checked) q d) → is_type d ≡ true → Parts f d → declared_words f true (Some d) ≡ words (record_in program q)
+    own_sum f q (desc.Const v) e ty h = plain_words f q (desc.Const v) e ty (λ r k. absurd cc) h
+    own_sum f q (desc.Var m t) e ty h = plain_words f q (desc.Var m t) e ty (λ r k. absurd cc) h
+    own_sum f q (desc.Proc s) e ty h = plain_words f q (desc.Proc s) e ty (λ r k. absurd cc) h
+    own_sum f q (desc.Alias m t) e ty h = plain_words f q (desc.Alias m t) e ty (λ r k. absurd cc) h
+    own_sum f q (desc.Array m k t) e ty h = plain_words f q (desc.Array m k t) e ty (λ r k. absurd cc) h
+    own_sum f q (desc.OpenArray m t) e ty h = plain_words f q (desc.OpenArray m t) e ty (λ r k. absurd cc) h
+    own_sum f q (desc.Pointer m t) e ty h = plain_words f q (desc.Pointer m t) e ty (λ r k. absurd cc) h
+    own_sum f q (desc.ProcType m s) e ty h = plain_words f q (desc.ProcType m s) e ty (λ r k. absurd cc) h
+    own_sum f q (desc.Record r) e ty h = record_sum f (words_in others over.checked) (procedures_in others over.checked) q r e h
 
     -- of the types that it sees of others
     other_sum : (f : TypeRef → ℕ) (q : QName) (e d : Desc) → description before q ≡ Some e → bare e ≡ bare d → is_type d ≡ true → Parts f d → declared_words f false (Some d) ≡ words (record_in program q)
@@ -207,7 +188,7 @@ module _ (program : Program) (sound : IsSound program) (whole : IsWhole program)
         own is (Some d) e w r =
             let k = type_found over.checked.types q.object d e in
             let there = own_laid q k.t (bytes_true q.«module» over.checked.name is) k.there k.name ∙ ap (λ x. Some (laid_desc (words_in others over.checked) (procedures_in others over.checked) q x)) k.desc in
-            own_sum (summed others over.checked n) q d (subst FieldsDiffer k.desc (of_all (λ t. FieldsDiffer t.desc) over.checked.types k.t over.laid.fields k.there)) there w.0 (parts d r w.1)
+            own_sum (summed others over.checked n) q d there w.0 (parts d r w.1)
 
         other : (o : Option Desc) → others q ≡ o → Within o → ((t : TypeRef) → IsWithin (viewed others over.checked) n t → summed others over.checked n t ≡ words (form t)) → declared_words (summed others over.checked n) false o ≡ words (record_in program q)
         other None e w r = absurd w

@@ -5,5 +5,4 @@ pub mod Ordered
 pub mod Laws
 pub mod Words
 pub mod Shallow
-pub mod Filled
 pub mod Near

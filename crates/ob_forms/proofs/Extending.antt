@@ -4,13 +4,12 @@ use Rattle.std.specs.Prelude.{Bool, true, false, ◌||◌, IfSome}
 use Rattle.ob_tree.specs.declared.names.QName.{QName}
 use Rattle.ob_types.specs.declared.types.TypeRef.{TypeRef}
 use Rattle.ob_types.specs.declared.types.TypeRef.TheVariants as ref
-use Rattle.ob_types.specs.declared.types.Signature.{Signature}
 use Rattle.ob_types.specs.declared.desc.Desc.{Desc}
 use Rattle.ob_types.specs.declared.desc.Desc.TheVariants as desc
 use Rattle.ob_types.specs.declared.desc.RecordDesc.{RecordDesc}
 use Rattle.ob_types.specs.Tests.{target, alias_of, target_of, same_at, shape_at, base_of, holds_of, climbs, both, extends_at}
 use Rattle.ob_types.proofs.Targets.{stays}
-use Rattle.ob_meaning.specs.Values.{Program, Form, PointerForm, RecordForm, Fields, joined, line_of, fields_of, base_line, base_fields, form_in, record_in, Held}
+use Rattle.ob_meaning.specs.Values.{Program, Form, PointerForm, RecordForm, Fields, joined, line_of, fields_of, base_line, base_fields, form_in, record_in, Formals, Held}
 use Rattle.ob_relation.specs.Relation.{Sub, itself, extended, opened, LengthFits, Scalar}
 use Rattle.ob_relation.specs.Typed.{Widens, pointers, itself as widens_itself, IsRecordForm, TestOk}
 use Rattle.ob_relation.proofs.Actuals.{sub_on}
@@ -124,7 +123,7 @@ module _ (map : QName → Option Desc) (program : Program) (formed : Formed map 
 
   -- SCALARS
 
-  module _ (Has : Signature → QName → Type 0) (unit : List ℕ) (held : List Held) (result : Option TypeRef) where
+  module _ (Has : Formals → QName → Type 0) (unit : List ℕ) (held : List Held) (result : Option TypeRef) where
     -- an extension of a pointer widens to it
     pub extends_widens : (a b : TypeRef) → Scalar (form b) → extends_at map a b ≡ true → Widens program Has unit held result (form a) (form b)
     extends_widens a b h e = by (extends_form a b e)

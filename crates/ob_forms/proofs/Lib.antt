@@ -10,3 +10,4 @@ pub mod Built
 pub mod Saying
 pub mod Modules
 pub mod Staying
+pub mod Alike

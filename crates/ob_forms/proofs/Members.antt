@@ -11,7 +11,7 @@ use Rattle.ob_types.specs.declared.desc.RecordDesc.{RecordDesc}
 use Rattle.ob_types.specs.declared.desc.Field.{Field}
 use Rattle.ob_types.specs.declared.desc.Method.{Method}
 use Rattle.ob_types.specs.Maps.{listed, signature_types}
-use Rattle.ob_meaning.specs.Values.{Program, Form, BasicForm, PointerForm, ProcedureForm, ArrayForm, OpenForm, RecordForm, line_of, fields_of, FieldStep, bases_in, base_line, form_in, record_in, Held}
+use Rattle.ob_meaning.specs.Values.{Program, Form, BasicForm, PointerForm, ProcedureForm, ArrayForm, OpenForm, RecordForm, line_of, fields_of, FieldStep, bases_in, base_line, form_in, record_in, Formals, Held}
 use Rattle.ob_meaning.specs.Meaning.{nearest, first_of_both}
 use Rattle.ob_relation.specs.Layout.{field_form}
 use Rattle.ob_relation.specs.Relation.{FieldIn, PathIn}
@@ -159,7 +159,7 @@ module _ (map : QName → Option Desc) (program : Program) (formed : Formed map 
       by None (Some b) is at e r = below q b x m (based q b at) (r b e)
 
   -- A FIELD, IN A RECORD TYPE OR AN EXTENSION
-  module _ (Has : Signature → QName → Type 0) (unit : List ℕ) (held : List Held) (result : Option TypeRef) where
+  module _ (Has : Formals → QName → Type 0) (unit : List ℕ) (held : List Held) (result : Option TypeRef) where
     pub field_ok : (t : Form) (q : QName) (r : RecordDesc) (x : List ℕ) (o : QName) (f : Field) → t ≡ record_in program q → map q ≡ Some (desc.Record r) → member map q x ≡ Some (AField o f) → FieldOk program Has unit held result t o x (form f.of)
     field_ok t q r x o f is has e =
         let h = member_is 201 q x (AField o f) e in

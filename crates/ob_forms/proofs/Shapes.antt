@@ -13,7 +13,7 @@ use Rattle.ob_types.specs.declared.desc.RecordDesc.{RecordDesc}
 use Rattle.ob_types.specs.Relations.{StandsFor, itself, equated, Same}
 use Rattle.ob_types.specs.Tests.{alias_of, follow, target, same_at, shape_at}
 use Rattle.ob_types.proofs.Sameness.{type_eq_decides}
-use Rattle.ob_meaning.specs.Values.{Program, base_line, Form, BasicForm, PointerForm, ProcedureForm, ArrayForm, OpenForm, RecordForm, fields_of, form_in, record_in, form_within, description, number_of_types}
+use Rattle.ob_meaning.specs.Values.{Program, base_line, Form, BasicForm, PointerForm, ProcedureForm, ArrayForm, OpenForm, RecordForm, fields_of, form_in, record_in, formals_in, form_within, description, number_of_types}
 use Rattle.ob_relation.specs.Typed.{IsRecordType}
 use Rattle.ob_rules.specs.Shapes.{shape, basic_of, record_of, record_if, pointed, pointed_record, array_of, open_element, signature_at}
 use Rattle.ob_forms.specs.Formed.{IsDeclared, IsRecordOf, Formed}
@@ -85,7 +85,7 @@ module _ (map : QName → Option Desc) (program : Program) (formed : Formed map 
       let s = shaped t (desc.Pointer h.0 u) h.1 in
       s.form ∙ formed.pointers s.q h.0 u s.has
 
-  pub procedure_form : (t : TypeRef) (s : Signature) → signature_at map t ≡ Some s → form t ≡ ProcedureForm s
+  pub procedure_form : (t : TypeRef) (s : Signature) → signature_at map t ≡ Some s → form t ≡ ProcedureForm (formals_in program s)
   procedure_form t g e =
       let h = finds.is_procedure (shape map t) g e in
       let s = shaped t (desc.ProcType h.0 g) h.1 in

@@ -19,7 +19,7 @@ use Rattle.ob_types.specs.Relations as relations
 use Rattle.ob_types.specs.Relations.{is_alias, IsOwn, StandsFor, itself, equated, Is, is_structure, Keeps, IsGrounded}
 use Rattle.ob_types.specs.Tests.{target, shape_at}
 use Rattle.ob_types.proofs.Sameness.{at}
-use Rattle.ob_meaning.specs.Values.{Program, Form, BasicForm, PointerForm, ProcedureForm, ArrayForm, OpenForm, RecordForm, joined, base_line, base_fields, Fields, form_in, record_in}
+use Rattle.ob_meaning.specs.Values.{Program, Form, BasicForm, PointerForm, ProcedureForm, ArrayForm, OpenForm, RecordForm, joined, base_line, base_fields, Fields, form_in, record_in, formals_in}
 use Rattle.ob_relation.specs.Relation.{FormOk, Scalar}
 use Rattle.ob_relation.specs.Typed.{passing_for}
 use Rattle.ob_rules.specs.Shapes.{shape, record_at, array_at, open_at, is_structured, passing_of, by_value, by_var}
@@ -100,7 +100,7 @@ module _ (map : QName → Option Desc) (program : Program) (formed : Formed map 
       of_pointer mode.Value q m u = refl
       of_pointer mode.Var q m u = refl
 
-      of_procedure : (k : Mode) (q : QName) (m : Mark) (s : Signature) → passing_at k (ref.Named q) (Some (desc.ProcType m s)) ≡ passing_for k (ProcedureForm s)
+      of_procedure : (k : Mode) (q : QName) (m : Mark) (s : Signature) → passing_at k (ref.Named q) (Some (desc.ProcType m s)) ≡ passing_for k (ProcedureForm (formals_in program s))
       of_procedure mode.Value q m s = refl
       of_procedure mode.Var q m s = refl
 
@@ -116,7 +116,7 @@ module _ (map : QName → Option Desc) (program : Program) (formed : Formed map 
       on q (desc.Array m n u) is e ty al = so (ArrayForm n (form u)) (named_form t q is ∙ formed.arrays q m n u e) (at_shape (passing_at k) t q (desc.Array m n u) is e ∙ of_array k q m n u)
       on q (desc.OpenArray m u) is e ty al = so (OpenForm (form u)) (named_form t q is ∙ formed.opens q m u e (subst IsDeclared is (shapes.declared_target map program formed 201 t d))) (at_shape (passing_at k) t q (desc.OpenArray m u) is e ∙ of_open k q m u)
       on q (desc.Pointer m u) is e ty al = so (PointerForm u) (named_form t q is ∙ formed.pointers q m u e) (at_shape (passing_at k) t q (desc.Pointer m u) is e ∙ of_pointer k q m u)
-      on q (desc.ProcType m s) is e ty al = so (ProcedureForm s) (named_form t q is ∙ formed.procedures q m s e) (at_shape (passing_at k) t q (desc.ProcType m s) is e ∙ of_procedure k q m s)
+      on q (desc.ProcType m s) is e ty al = so (ProcedureForm (formals_in program s)) (named_form t q is ∙ formed.procedures q m s e) (at_shape (passing_at k) t q (desc.ProcType m s) is e ∙ of_procedure k q m s)
       on q (desc.Record r) is e ty al = so (RecordForm (q ∷ base_line form r.base) (joined (base_fields form r.base) (formed.records q r e).own)) (named_form t q is ∙ (formed.records q r e).is) (at_shape (passing_at k) t q (desc.Record r) is e ∙ of_record k q r (q ∷ base_line form r.base) (joined (base_fields form r.base) (formed.records q r e).own))
 
       by : Sort t → passing_at k (target map 201 t) (shape map t) ≡ passing_for k (form t)
@@ -146,7 +146,7 @@ module _ (map : QName → Option Desc) (program : Program) (formed : Formed map 
       on q (desc.Array m n u) is e ty al = wrong q (desc.Array m n u) is e refl
       on q (desc.OpenArray m u) is e ty al = wrong q (desc.OpenArray m u) is e refl
       on q (desc.Pointer m u) is e ty al = so (PointerForm u) (named_form t q is ∙ formed.pointers q m u e) tt
-      on q (desc.ProcType m s) is e ty al = so (ProcedureForm s) (named_form t q is ∙ formed.procedures q m s e) tt
+      on q (desc.ProcType m s) is e ty al = so (ProcedureForm (formals_in program s)) (named_form t q is ∙ formed.procedures q m s e) tt
       on q (desc.Record r) is e ty al = wrong q (desc.Record r) is e refl
 
       by : Sort t → Scalar (form t)
@@ -173,7 +173,7 @@ module _ (map : QName → Option Desc) (program : Program) (formed : Formed map 
       on q (desc.Array m n u) is e ty al = wrong q (desc.Array m n u) is e refl
       on q (desc.OpenArray m u) is e ty al = wrong q (desc.OpenArray m u) is e refl
       on q (desc.Pointer m u) is e ty al = so (PointerForm u) (named_form t q is ∙ formed.pointers q m u e) tt
-      on q (desc.ProcType m s) is e ty al = so (ProcedureForm s) (named_form t q is ∙ formed.procedures q m s e) tt
+      on q (desc.ProcType m s) is e ty al = so (ProcedureForm (formals_in program s)) (named_form t q is ∙ formed.procedures q m s e) tt
       on q (desc.Record r) is e ty al = wrong q (desc.Record r) is e refl
 
       by : Sort t → Scalar (form t)
@@ -204,7 +204,7 @@ module _ (map : QName → Option Desc) (program : Program) (formed : Formed map 
       by (Some (desc.Array m k u)) e h r = so (ArrayForm k (form u)) (formed.arrays q m k u e) (formed.lengths q m k u e, r u h.1.0 (keeps q (desc.Array m k u) e))
       by (Some (desc.OpenArray m u)) e h r = absurd (never (q, (itself (subst (λ o. MatchOption o (Unit {0}) (λ d. is_alias d ≡ false)) (sym e) refl), subst (λ o. MatchOption o ⊥ (λ d. IsTrue (relations.is_open d))) (sym e) refl)))
       by (Some (desc.Pointer m u)) e h r = so (PointerForm u) (formed.pointers q m u e) tt
-      by (Some (desc.ProcType m s)) e h r = so (ProcedureForm s) (formed.procedures q m s e) tt
+      by (Some (desc.ProcType m s)) e h r = so (ProcedureForm (formals_in program s)) (formed.procedures q m s e) tt
       by (Some (desc.Record s)) e h r = (formed.records q s e).fits
 
   pub form_ok : (t : TypeRef) → IsHeld map t → (Is map relations.is_open t → ⊥) → FormOk program (form t)

@@ -7,21 +7,20 @@ use Rattle.ob_types.specs.declared.types.Basic.{Basic}
 use Rattle.ob_types.specs.declared.types.Basic.TheVariants as basic
 use Rattle.ob_types.specs.declared.types.TypeRef.{TypeRef}
 use Rattle.ob_types.specs.declared.types.TypeRef.TheVariants as ref
-use Rattle.ob_types.specs.declared.types.Signature.{Signature}
 use Rattle.ob_types.specs.declared.desc.Desc.{Desc}
 use Rattle.ob_types.specs.declared.desc.Desc.TheVariants as desc
 use Rattle.ob_types.specs.declared.typed.Width.{Width}
 use Rattle.ob_types.specs.declared.typed.Width.TheVariants as width
 use Rattle.ob_types.specs.Tests.{target, same_at, extends_at}
-use Rattle.ob_types.specs.Assigning.{includes, is_extensible, has_nil}
-use Rattle.ob_types.specs.AssigningTests.{is_at, described, widens, takes_type, has_room, takes_text, alike_to}
+use Rattle.ob_types.specs.Assigning.{includes, is_extensible}
+use Rattle.ob_types.specs.AssigningTests.{is_at, widens, takes_type, has_room, takes_text}
 use Rattle.ob_types.specs.Relations as relations
 use Rattle.ob_types.proofs.Sameness.{type_eq_decides}
-use Rattle.ob_meaning.specs.Values.{Program, Form, BasicForm, PointerForm, ProcedureForm, ArrayForm, OpenForm, form_in, record_in, Held}
+use Rattle.ob_meaning.specs.Values.{Program, Form, BasicForm, ArrayForm, OpenForm, form_in, record_in, Formals, Held}
 use Rattle.ob_relation.specs.Relation.{IsLength, Sub, itself, Scalar}
 use Rattle.ob_relation.specs.Typed as typed
 use Rattle.ob_relation.specs.Typed.{Widens, Within, short, shorter, middle, integer, char, IsArrayOf, IsText, IsRecordForm}
-use Rattle.ob_rules.specs.Shapes.{shape, same_basic, is_this, is_basic, basic_of, width_of, record_of, array_of, element_is, is_char_array, signature_at}
+use Rattle.ob_rules.specs.Shapes.{shape, same_basic, is_this, is_basic, basic_of, width_of, record_of, array_of, element_is, is_char_array}
 use Rattle.ob_rules.specs.Calls.{both_records, takes_variable}
 use Rattle.ob_forms.specs.Formed.{IsDeclared, Formed}
 use Rattle.ob_forms.proofs.Finds as finds
@@ -110,34 +109,9 @@ module _ (map : QName → Option Desc) (program : Program) (formed : Formed map 
       by (Some (desc.ProcType m s)) is e = absurd cc
       by (Some (desc.Record r)) is e = absurd cc
 
-  -- NIL AND PROCEDURES
-
-  pub nil_form : (v : TypeRef) → is_at map has_nil v ≡ true → ((u : TypeRef) × (form v ≡ PointerForm u)) ⊎ ((s : Signature) × (form v ≡ ProcedureForm s))
-  nil_form v e = by (shape map v) refl e
-    where
-      by : (o : Option Desc) → shape map v ≡ o → described has_nil o ≡ true → ((u : TypeRef) × (form v ≡ PointerForm u)) ⊎ ((s : Signature) × (form v ≡ ProcedureForm s))
-      by None is e = absurd cc
-      by (Some (desc.Const c)) is e = absurd cc
-      by (Some (desc.Var m t)) is e = absurd cc
-      by (Some (desc.Proc s)) is e = absurd cc
-      by (Some (desc.Alias m t)) is e = absurd cc
-      by (Some (desc.Array m n t)) is e = absurd cc
-      by (Some (desc.OpenArray m t)) is e = absurd cc
-      by (Some (desc.Pointer m t)) is e = let s = shapes.shaped map program formed v (desc.Pointer m t) is in inl (t, s.form ∙ formed.pointers s.q m t s.has)
-      by (Some (desc.ProcType m g)) is e = let s = shapes.shaped map program formed v (desc.ProcType m g) is in inr (g, s.form ∙ formed.procedures s.q m g s.has)
-      by (Some (desc.Record r)) is e = absurd cc
-
-  -- the procedure type that a procedure fits
-  pub alike_form : (v : TypeRef) (s : Signature) → alike_to map s (signature_at map v) ≡ true → (t : Signature) × (form v ≡ ProcedureForm t) × (alike_to map s (Some t) ≡ true)
-  alike_form v s e = by (signature_at map v) refl e
-    where
-      by : (o : Option Signature) → signature_at map v ≡ o → alike_to map s o ≡ true → (t : Signature) × (form v ≡ ProcedureForm t) × (alike_to map s (Some t) ≡ true)
-      by None is e = absurd cc
-      by (Some t) is e = (t, shapes.procedure_form map program formed v t is, e)
-
   -- VARIABLES
 
-  module _ (Has : Signature → QName → Type 0) (unit : List ℕ) (held : List Held) (result : Option TypeRef) where
+  module _ (Has : Formals → QName → Type 0) (unit : List ℕ) (held : List Held) (result : Option TypeRef) where
     abbrev W : Form → Form → Type 0
     W = Widens program Has unit held result
 

@@ -5,11 +5,13 @@ use Rattle.std.specs.List.{AllByRecursion}
 use Rattle.ob_tree.specs.declared.names.QName.{QName}
 use Rattle.ob_types.specs.declared.types.TypeRef.{TypeRef}
 use Rattle.ob_types.specs.declared.types.TypeRef.TheVariants as ref
+use Rattle.ob_types.specs.declared.types.Mode.{Mode}
+use Rattle.ob_types.specs.declared.types.Signature.{Signature}
 use Rattle.ob_types.specs.declared.desc.Desc.{Desc}
 use Rattle.ob_types.specs.declared.desc.Desc.TheVariants as desc
 use Rattle.ob_types.specs.declared.desc.Field.{Field}
-use Rattle.ob_types.specs.Maps.{is_type, stands_on, listed, IsWithin}
-use Rattle.ob_meaning.specs.Values.{Program, Form, ArrayForm, OpenForm, RecordForm, AField, joined, own_fields, base_line, base_fields, line_of, fields_of, described, form_within, form_in, record_in, description, number_of_types}
+use Rattle.ob_types.specs.Maps.{is_type, stands_on, listed, signature_types, IsWithin}
+use Rattle.ob_meaning.specs.Values.{Program, Form, ProcedureForm, ArrayForm, OpenForm, RecordForm, AField, Formals, AResult, AFormal, result_formals, formals_before, formals_of, joined, own_fields, base_line, base_fields, line_of, fields_of, described, form_within, form_in, record_in, description, number_of_types}
 use Rattle.ob_forms.proofs.Chains.{chains}
 use Rattle.ob_forms.specs.Said.{IsSound}
 
@@ -35,6 +37,19 @@ module _ (f g : TypeRef → Form) where
   fields_agree None h = refl
   fields_agree (Some t) h = ap fields_of h.0
 
+  before_agree : (ks : List (Mode × TypeRef)) (a b : Formals) → AllByRecursion (λ t. f t ≡ g t) (each (λ k. k.1) ks) → a ≡ b → formals_before f ks a ≡ formals_before g ks b
+  before_agree [] a b h e = e
+  before_agree (k ∷ ks) a b h e = ap (λ t. AFormal k.0 t (formals_before f ks a)) h.0 ∙ ap (λ r. AFormal k.0 (g k.1) r) (before_agree ks a b h.1 e)
+
+  result_agree : (o : Option TypeRef) → AllByRecursion (λ t. f t ≡ g t) (listed o) → result_formals f o ≡ result_formals g o
+  result_agree None h = refl
+  result_agree (Some t) h = ap (λ x. AResult x) h.0
+
+  formals_agree : (s : Signature) → AllByRecursion (λ t. f t ≡ g t) (signature_types s) → formals_of f s ≡ formals_of g s
+  formals_agree s h =
+      before_agree s.params (result_formals f s.result) (result_formals g s.result) (all_left (λ t. f t ≡ g t) (each (λ k. k.1) s.params) (listed s.result) h)
+      (result_agree s.result (all_right (λ t. f t ≡ g t) (each (λ k. k.1) s.params) (listed s.result) h))
+
   pub agree : (q : QName) (d : Desc) → AllByRecursion (λ t. f t ≡ g t) (stands_on d) → described f q (Some d) ≡ described g q (Some d)
   agree q (desc.Const v) h = refl
   agree q (desc.Var m t) h = refl
@@ -43,7 +58,7 @@ module _ (f g : TypeRef → Form) where
   agree q (desc.Array m n t) h = ap (λ x. ArrayForm n x) h.0
   agree q (desc.OpenArray m t) h = ap (λ x. OpenForm x) h.0
   agree q (desc.Pointer m t) h = refl
-  agree q (desc.ProcType m s) h = refl
+  agree q (desc.ProcType m s) h = ap (λ x. ProcedureForm x) (formals_agree s h)
   agree q (desc.Record r) h =
       let b = all_left (λ t. f t ≡ g t) (listed r.base) (each (λ x. x.of) r.fields) h in
       let o = all_right (λ t. f t ≡ g t) (listed r.base) (each (λ x. x.of) r.fields) h in

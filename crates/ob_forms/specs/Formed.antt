@@ -16,7 +16,7 @@ use Rattle.ob_types.specs.declared.typed.Family.{Family}
 use Rattle.ob_types.specs.declared.typed.TypedParameter.{TypedParameter}
 use Rattle.ob_types.specs.Maps.{named_by}
 use Rattle.ob_types.specs.TypedSyntax.{Procedure}
-use Rattle.ob_meaning.specs.Values.{Program, procedure_of, PointerForm, ProcedureForm, ArrayForm, OpenForm, RecordForm, Fields, joined, base_line, base_fields, fields_of, form_in, record_in}
+use Rattle.ob_meaning.specs.Values.{Program, procedure_of, PointerForm, ProcedureForm, ArrayForm, OpenForm, RecordForm, Fields, joined, base_line, base_fields, fields_of, form_in, record_in, formals_in}
 use Rattle.ob_meaning.specs.Meaning.{declared_for}
 use Rattle.ob_relation.specs.Layout.{field_form, form_named, variables_in}
 use Rattle.ob_relation.specs.Relation.{IsLength, FormOk, FieldIn, ValueIn}
@@ -87,7 +87,7 @@ pub record Formed (map : QName → Option Desc) (program : Program) : Type 0 whe
   pub lengths : (q : QName) (m : Mark) (n : ℕ) (t : TypeRef) → map q ≡ Some (desc.Array m n t) → IsLength n
   pub opens : (q : QName) (m : Mark) (t : TypeRef) → map q ≡ Some (desc.OpenArray m t) → same_name q out_string ≡ false → record_in program q ≡ OpenForm (form_in program t)
   pub pointers : (q : QName) (m : Mark) (t : TypeRef) → map q ≡ Some (desc.Pointer m t) → record_in program q ≡ PointerForm t
-  pub procedures : (q : QName) (m : Mark) (s : Signature) → map q ≡ Some (desc.ProcType m s) → record_in program q ≡ ProcedureForm s
+  pub procedures : (q : QName) (m : Mark) (s : Signature) → map q ≡ Some (desc.ProcType m s) → record_in program q ≡ ProcedureForm (formals_in program s)
   pub records : (q : QName) (r : RecordDesc) → map q ≡ Some (desc.Record r) → IsRecordOf program q r
   pub variables : (q : QName) (m : Mark) (t : TypeRef) → map q ≡ Some (desc.Var m t) → IsVariableOf program q t
   pub proper : (q : QName) (s : Signature) → map q ≡ Some (desc.Proc s) → IsProcedureOf program q s

@@ -1,14 +1,13 @@
 -- A body that is judged where what is known is so in the program is well typed.
-use Rattle.std.proofs.Common.{◌≡◌, refl, sym, ap, ◌∙◌, subst, ℕ, List, [], ◌∷◌, map, Option, Some, None, Bool, true, false}
+use Rattle.std.proofs.Common.{◌≡◌, refl, sym, ap, ◌∙◌, subst, List, map, Option, Some, None, Bool, false}
 use Rattle.ob_tree.specs.declared.names.QName.{QName}
-use Rattle.ob_types.specs.declared.types.Signature.{Signature}
 use Rattle.ob_types.specs.declared.desc.Desc.{Desc}
 use Rattle.ob_types.specs.declared.typed.TypedStmt.{TypedStmt}
 use Rattle.ob_types.specs.declared.typed.TypedProcedure.{TypedProcedure}
 use Rattle.ob_types.specs.declared.typed.TypedModule.{TypedModule}
 use Rattle.ob_types.specs.TypedSyntax.{Procedure, Stmts}
 use Rattle.ob_types.specs.TypedView.{stmts_view}
-use Rattle.ob_meaning.specs.Values.{Program}
+use Rattle.ob_meaning.specs.Values.{Formals, Program}
 use Rattle.ob_relation.specs.Layout.{static_held}
 use Rattle.ob_relation.specs.Relation.{AreDifferent}
 use Rattle.ob_relation.specs.Typed.{StmtsOk}
@@ -22,7 +21,7 @@ use Rattle.ob_bodies.specs.Judged.{IsJudged}
 use Rattle.ob_bodies.proofs.Held.{hidden_stand}
 use Rattle.ob_surrounded.specs.Laws.{BodiesFit}
 
-module _ (program : Program) (has : Signature → QName → Bool) (shown : QName → Option Desc) (checked : TypedModule) (f : Option TypedProcedure) (body : List TypedStmt) (j : IsJudged ConstantIs shown checked f body) (p : Procedure) (b : p.body ≡ stmts_view body) (different : AreDifferent (static_held program p)) (s : IsSurrounded program (Having has) checked.name (static_held program p) p.result j.u) where
+module _ (program : Program) (has : Formals → QName → Bool) (shown : QName → Option Desc) (checked : TypedModule) (f : Option TypedProcedure) (body : List TypedStmt) (j : IsJudged ConstantIs shown checked f body) (p : Procedure) (b : p.body ≡ stmts_view body) (different : AreDifferent (static_held program p)) (s : IsSurrounded program (Having has) checked.name (static_held program p) p.result j.u) where
   abbrev Ok : Stmts → Bool → Type 0
   Ok x l = StmtsOk program (Having has) checked.name (static_held program p) p.result x l
 

@@ -1,16 +1,13 @@
 -- What is known around a body is so in the program.
-use Rattle.std.proofs.Common.{◌≡◌, ⊎_elim, refl, sym, ap, ◌∙◌, subst, ℕ, ◌≤◌, List, [], ◌∷◌, map, Option, Some, None, Bool, true, false, inl, inr, arith}
+use Rattle.std.proofs.Common.{◌≡◌, ⊎_elim, refl, sym, ap, ◌∙◌, subst, ℕ, ◌≤◌, List, [], ◌∷◌, Option, Some, None, Bool, true, false, arith}
 use Rattle.std.specs.Prelude.{◌&&◌, bytes_eq, codes, nat_lt}
-use Rattle.std.specs.List.{AllByRecursion, find}
+use Rattle.std.specs.List.{AllByRecursion}
 use Rattle.std.proofs.lemmas.Bool.Decides.{nat_tests}
 use Rattle.ob_tree.specs.declared.names.QName.{QName}
 use Rattle.ob_types.specs.declared.types.Mode.{Mode}
 use Rattle.ob_types.specs.declared.types.TypeRef.{TypeRef}
 use Rattle.ob_types.specs.declared.types.Signature.{Signature}
-use Rattle.ob_types.specs.declared.value.Value.{Value as Literal}
 use Rattle.ob_types.specs.declared.desc.Desc.{Desc}
-use Rattle.ob_types.specs.declared.typed.Passing.{Passing}
-use Rattle.ob_types.specs.declared.typed.Passing.TheVariants as passing
 use Rattle.ob_types.specs.declared.types.Mode.TheVariants as mode
 use Rattle.ob_types.specs.declared.typed.Variable.{Variable}
 use Rattle.ob_types.specs.declared.typed.TypedParameter.{TypedParameter}
@@ -18,30 +15,29 @@ use Rattle.ob_types.specs.declared.typed.TypedProcedure.{TypedProcedure}
 use Rattle.ob_types.specs.declared.typed.TypedModule.{TypedModule}
 use Rattle.ob_types.specs.Maps.{listed}
 use Rattle.ob_types.specs.Maps as maps
-use Rattle.ob_types.specs.TypedSyntax.{Procedure, Module}
+use Rattle.ob_types.specs.TypedSyntax.{Module}
 use Rattle.ob_types.specs.TypedView.{procedure_view}
-use Rattle.ob_meaning.specs.Values.{Program, procedure_of, Form, BasicForm, PointerForm, ProcedureForm, ArrayForm, OpenForm, RecordForm, form_in, Held}
+use Rattle.ob_meaning.specs.Values.{Program, procedure_of, Form, BasicForm, PointerForm, ProcedureForm, ArrayForm, OpenForm, RecordForm, form_in, Formals, Held}
 use Rattle.ob_relation.specs.Layout.{static_held}
-use Rattle.ob_relation.specs.Relation.{FormOk, AreDifferent}
+use Rattle.ob_relation.specs.Relation.{FormOk}
 use Rattle.ob_relation.specs.Typed.{result_form}
 use Rattle.ob_relation.specs.Passed.{passing_for}
 use Rattle.ob_relation.proofs.Names.{bytes_sym}
 use Rattle.ob_rules.specs.declared.entity.Entity.{Entity}
 use Rattle.ob_rules.specs.declared.entity.Entity.TheVariants as entity
 use Rattle.ob_rules.specs.declared.entity.Known.{Known}
-use Rattle.ob_rules.specs.Shapes.{Map}
 use Rattle.ob_rules.specs.Names.{Around, map_of, find_name, is_enclosing, is_out}
 use Rattle.ob_forms.specs.Formed.{AreParameters, IsProcedureOf}
 use Rattle.ob_forms.specs.Said.{IsOneOf}
-use Rattle.ob_forms.specs.Whole.{IsPassed, HeadingOk, IsWholeModule, IsWhole}
+use Rattle.ob_forms.specs.Whole.{IsPassed, HeadingOk, IsWhole}
 use Rattle.ob_forms.proofs.Modules.{own, procedure_there}
 use Rattle.ob_typed.specs.Makes.{IfThere}
 use Rattle.ob_typed.specs.Forms.{IsKnown, AreKnown, ResultIs, SignatureIs}
 use Rattle.ob_typed.specs.Known.{ConstantIs, VariableIs, ProcedureIs}
 use Rattle.ob_typed.specs.Laws.{Having}
 use Rattle.ob_typed.specs.Surrounded.{IsSurrounded}
-use Rattle.ob_bodies.specs.Knows.{EntityStands, Knows}
-use Rattle.ob_bodies.specs.Judged.{mode_of, AreOf, IsGlobal, IsInside, result_of, StandsIn, IsProcedureIn, VariableStands, NameIs, StandsAround}
+use Rattle.ob_bodies.specs.Knows.{EntityStands}
+use Rattle.ob_bodies.specs.Judged.{mode_of, AreOf, IsGlobal, IsInside, StandsIn, IsProcedureIn, VariableStands, NameIs, StandsAround}
 use Rattle.ob_bodies.proofs.Lists.{one_all, find_has}
 use Rattle.ob_bodies.proofs.Held.{one_mapped}
 use Rattle.ob_surrounded.specs.Left.{IsModuleOf, IsLeft}
@@ -82,8 +78,8 @@ module _ (program : Program) where
 at_name : (P : Known → Type 0) (ks : List Known) (x : List ℕ) (k : Known) → AllByRecursion P ks → find_name ks x ≡ Some k → P k
 at_name P ks x k h e = subst (IfThere P) e (find_has P (λ k. bytes_eq k.name x) ks h)
 
-module _ (program : Program) (has : Signature → QName → Bool) (shown : QName → Option Desc) (checked : TypedModule) (m : Module) (whole : IsWhole program) (is : IsModuleOf program checked m) (out : is_out checked.name ≡ false) where
-  abbrev Has : Signature → QName → Type 0
+module _ (program : Program) (has : Formals → QName → Bool) (shown : QName → Option Desc) (checked : TypedModule) (m : Module) (whole : IsWhole program) (is : IsModuleOf program checked m) (out : is_out checked.name ≡ false) where
+  abbrev Has : Formals → QName → Type 0
   Has = Having has
 
   -- a procedure of the checked module is one of the program's
@@ -147,7 +143,6 @@ module _ (program : Program) (has : Signature → QName → Bool) (shown : QName
           parameters = parameters;
           signature = signature;
           own = λ e. left.values q s of signature e;
-          alike = λ t g e f. left.alike q s t of signature g e f;
         }
 
     procedures : (x : List ℕ) (k : Known) (q : QName) (s : Signature) → find_name u.known x ≡ Some k → k.what ≡ entity.Procedure q s → ProcedureIs program Has checked.name held result (map_of u) q s
@@ -172,7 +167,6 @@ module _ (program : Program) (has : Signature → QName → Bool) (shown : QName
       guards = subst (AllByRecursion (λ (g : Variable × Option TypeRef). IfThere (IsKnown (map_of u)) g.1)) (sym around.guards) tt;
       shown_constants = left.shown_constants;
       values = left.values;
-      alike = left.alike;
       result_is = same;
       result_plain = plain;
       receivers = left.receivers;

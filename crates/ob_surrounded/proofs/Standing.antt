@@ -1,6 +1,6 @@
 -- What stands around a body is held by its map.
-use Rattle.std.proofs.Common.{◌≡◌, refl, sym, ap, ◌∙◌, subst, ℕ, List, [], ◌∷◌, Option, Some, None, Bool, true, false, inl, inr}
-use Rattle.std.specs.Prelude.{bytes_eq, cond, MatchOption, IsTrue}
+use Rattle.std.proofs.Common.{◌≡◌, refl, sym, ap, ◌∙◌, subst, ℕ, List, [], ◌∷◌, Option, Some, Bool, true, false, inl, inr}
+use Rattle.std.specs.Prelude.{bytes_eq, cond}
 use Rattle.std.specs.List.{AllByRecursion, find}
 use Rattle.ob_tree.specs.declared.names.QName.{QName}
 use Rattle.ob_types.specs.declared.types.TypeRef.{TypeRef}
@@ -8,11 +8,10 @@ use Rattle.ob_types.specs.declared.types.TypeRef.TheVariants as ref
 use Rattle.ob_types.specs.declared.value.Value.{Value}
 use Rattle.ob_types.specs.declared.desc.Desc.{Desc}
 use Rattle.ob_types.specs.declared.typed.TypedType.{TypedType}
-use Rattle.ob_types.specs.Maps.{is_type, IsHeld}
+use Rattle.ob_types.specs.Maps.{IsHeld}
 use Rattle.ob_relation.proofs.Names.{bytes_same}
 use Rattle.ob_rules.specs.Shapes.{same_name}
 use Rattle.ob_rules.specs.Names.{Around, map_of, type_desc, own_desc, out_string}
-use Rattle.ob_forms.specs.Said.{IsOneOf}
 use Rattle.ob_typed.specs.Forms.{IsKnown}
 use Rattle.ob_bodies.specs.Knows.{HasName, IsTypeDesc, StandsBy, Stands, IsDescribed, Knows}
 

@@ -1,29 +1,24 @@
 -- Variables and parameters by their names.
-use Rattle.std.proofs.Common.{◌≡◌, ◌⊎◌, ⊎_elim, refl, sym, ap, ◌∙◌, subst, ℕ, List, [], ◌∷◌, ◌++◌, map, Option, Some, None, Bool, true, false, inl, inr}
+use Rattle.std.proofs.Common.{◌≡◌, refl, sym, ap, ◌∙◌, subst, ℕ, List, ◌++◌, map, Option, Bool, true, false}
 use Rattle.std.specs.List.{AllByRecursion}
 use Rattle.ob_tree.specs.declared.names.QName.{QName}
 use Rattle.ob_types.specs.declared.types.Mode.{Mode}
 use Rattle.ob_types.specs.declared.types.Mode.TheVariants as mode
 use Rattle.ob_types.specs.declared.types.TypeRef.{TypeRef}
-use Rattle.ob_types.specs.declared.types.Signature.{Signature}
 use Rattle.ob_types.specs.declared.typed.Passing.{Passing}
 use Rattle.ob_types.specs.declared.typed.Passing.TheVariants as passing
 use Rattle.ob_types.specs.declared.typed.Variable.{Variable}
 use Rattle.ob_types.specs.declared.typed.Variable.TheVariants as variable
 use Rattle.ob_types.specs.declared.typed.TypedVariable.{TypedVariable}
 use Rattle.ob_types.specs.declared.typed.TypedParameter.{TypedParameter}
-use Rattle.ob_types.specs.declared.typed.TypedProcedure.{TypedProcedure}
-use Rattle.ob_types.specs.declared.typed.TypedModule.{TypedModule}
 use Rattle.ob_types.specs.Relations.{IsGrounded}
 use Rattle.ob_types.specs.TypedSyntax.{Procedure, Module}
-use Rattle.ob_types.specs.TypedView.{procedure_view}
-use Rattle.ob_meaning.specs.Values.{Program, Form, BasicForm, PointerForm, ProcedureForm, ArrayForm, OpenForm, RecordForm, form_in, Held, Own, Referred, Copied}
+use Rattle.ob_meaning.specs.Values.{Program, Form, BasicForm, PointerForm, ProcedureForm, ArrayForm, OpenForm, RecordForm, form_in, Held, Own, Referred, Formals, Copied}
 use Rattle.ob_meaning.specs.Calls.{held_variable, hidden_held, hidden_of_all}
-use Rattle.ob_relation.specs.Layout.{held_form, form_named, static_parameter, static_held}
+use Rattle.ob_relation.specs.Layout.{form_named, static_parameter, static_held}
 use Rattle.ob_relation.specs.Relation.{FormOk, AreDifferent}
 use Rattle.ob_relation.specs.Typed as typed
 use Rattle.ob_relation.specs.Typed.{IsOwn, IsReferred, IsCopied}
-use Rattle.ob_relation.specs.Passed as passed
 use Rattle.ob_relation.specs.Passed.{passing_for, IsOpen, IsClosed}
 use Rattle.ob_rules.specs.Shapes.{Map, is_open, is_structured, is_record, by_value, by_var, passing_of}
 use Rattle.ob_rules.specs.Designators.{is_var_record}
@@ -74,7 +69,7 @@ passed_record : (types : Map) (m : Mode) (t : TypeRef) → passing_of types m t 
 passed_record types mode.Value t e = absurd (value_record (is_open types t) (is_structured types t) e)
 passed_record types mode.Var t e = var_is_record (is_open types t) (is_record types t) e
 
-module _ (program : Program) (whole : IsWhole program) (Has : Signature → QName → Type 0) (unit : List ℕ) (result : Option TypeRef) (types : Map) (formed : Formed types program) (grounded : IsGrounded types) where
+module _ (program : Program) (whole : IsWhole program) (Has : Formals → QName → Type 0) (unit : List ℕ) (result : Option TypeRef) (types : Map) (formed : Formed types program) (grounded : IsGrounded types) where
   -- of the module
   global_variable : (held : List Held) (m : Module) → IsOneOf program m → (x : TypedVariable) → IsOneOf m.variables x → FormOk program (form_in program x.of) → IsKnown types x.of → VariableIs program Has unit held result types (variable.Module m.name x.name) x.of
   global_variable held m i x j f k =

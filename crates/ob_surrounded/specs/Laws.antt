@@ -1,15 +1,14 @@
 -- The laws: what stands around the bodies of a checked module is as it is in a program, and the bodies are well typed.
-use Rattle.std.specs.Prelude.{◌≡◌, ℕ, List, Option, Some, None, Bool, false}
+use Rattle.std.specs.Prelude.{◌≡◌, List, Option, Some, None, Bool, false}
 use Rattle.std.specs.List.{AllByRecursion}
 use Rattle.ob_tree.specs.declared.names.QName.{QName}
-use Rattle.ob_types.specs.declared.types.Signature.{Signature}
 use Rattle.ob_types.specs.declared.desc.Desc.{Desc}
 use Rattle.ob_types.specs.declared.typed.TypedProcedure.{TypedProcedure}
 use Rattle.ob_types.specs.declared.typed.TypedModule.{TypedModule}
 use Rattle.ob_types.specs.declared.typed.TypedStmt.{TypedStmt}
 use Rattle.ob_types.specs.TypedSyntax.{Procedure, Module}
 use Rattle.ob_types.specs.TypedView.{procedure_view, stmts_view}
-use Rattle.ob_meaning.specs.Values.{Program, form_in, Held}
+use Rattle.ob_meaning.specs.Values.{Program, form_in, Formals, Held}
 use Rattle.ob_relation.specs.Layout.{static_held}
 use Rattle.ob_relation.specs.Relation.{FormOk, AreDifferent}
 use Rattle.ob_relation.specs.Typed.{StmtsOk}
@@ -25,7 +24,7 @@ use Rattle.ob_surrounded.specs.Left.{IsModuleOf, IsLeft}
 -- Around the body of a procedure, whose variables have different names and can be built.
 abbrev pub ProceduresSurrounded : Type 0
 ProceduresSurrounded =
-    (program : Program) (has : Signature → QName → Bool) (shown : QName → Option Desc) (checked : TypedModule) (m : Module) → IsWhole program → IsModuleOf program checked m → is_out checked.name ≡ false
+    (program : Program) (has : Formals → QName → Bool) (shown : QName → Option Desc) (checked : TypedModule) (m : Module) → IsWhole program → IsModuleOf program checked m → is_out checked.name ≡ false
     → (p : TypedProcedure) → IsOneOf checked.procedures p → AreDifferent (static_held program (procedure_view p)) → AllByRecursion (λ v. FormOk program (form_in program v.of)) p.locals
     → (u : Around) → StandsAround ConstantIs shown checked (Some p) u → IsLeft program (Having has) checked.name (static_held program (procedure_view p)) p.result u
     → IsSurrounded program (Having has) checked.name (static_held program (procedure_view p)) p.result u
@@ -33,14 +32,14 @@ ProceduresSurrounded =
 -- Around the body of the module, which has no variables of its own but those that FOR and CASE keep.
 abbrev pub ModulesSurrounded : Type 0
 ModulesSurrounded =
-    (program : Program) (has : Signature → QName → Bool) (shown : QName → Option Desc) (checked : TypedModule) (m : Module) → IsWhole program → IsModuleOf program checked m → is_out checked.name ≡ false
+    (program : Program) (has : Formals → QName → Bool) (shown : QName → Option Desc) (checked : TypedModule) (m : Module) → IsWhole program → IsModuleOf program checked m → is_out checked.name ≡ false
     → (held : List Held) (u : Around) → StandsAround ConstantIs shown checked None u → u.scope ≡ 1 → IsLeft program (Having has) checked.name held None u
     → IsSurrounded program (Having has) checked.name held None u
 
 -- A body that is judged in such surroundings is well typed, where its variables have different names.
 abbrev pub BodiesFit : Type 0
 BodiesFit =
-    (program : Program) (has : Signature → QName → Bool) (shown : QName → Option Desc) (checked : TypedModule) (f : Option TypedProcedure) (body : List TypedStmt) (j : IsJudged ConstantIs shown checked f body)
+    (program : Program) (has : Formals → QName → Bool) (shown : QName → Option Desc) (checked : TypedModule) (f : Option TypedProcedure) (body : List TypedStmt) (j : IsJudged ConstantIs shown checked f body)
     → (p : Procedure) → p.body ≡ stmts_view body → AreDifferent (static_held program p)
     → IsSurrounded program (Having has) checked.name (static_held program p) p.result j.u
     → StmtsOk program (Having has) checked.name (static_held program p) p.result p.body false

@@ -1,5 +1,5 @@
 -- A checked module in a program, and what is left to ask of what stands around its bodies.
-use Rattle.std.specs.Prelude.{◌≡◌, ℕ, List, [], ◌∷◌, map, Option, Some, Bool, true, false}
+use Rattle.std.specs.Prelude.{◌≡◌, ℕ, List, map, Option, Some, true}
 use Rattle.std.specs.List.{AllByRecursion}
 use Rattle.ob_tree.specs.declared.names.QName.{QName}
 use Rattle.ob_types.specs.declared.types.TypeRef.{TypeRef}
@@ -9,11 +9,11 @@ use Rattle.ob_types.specs.declared.desc.Desc.TheVariants as desc
 use Rattle.ob_types.specs.declared.desc.Method.{Method}
 use Rattle.ob_types.specs.declared.typed.Variable.{Variable}
 use Rattle.ob_types.specs.declared.typed.TypedModule.{TypedModule}
-use Rattle.ob_types.specs.AssigningTests.{is_value, alike_to}
+use Rattle.ob_types.specs.AssigningTests.{is_value}
 use Rattle.ob_types.specs.Relations.{IsGrounded}
-use Rattle.ob_types.specs.TypedSyntax.{Procedure, Module}
-use Rattle.ob_types.specs.TypedView.{procedure_view, stmts_view}
-use Rattle.ob_meaning.specs.Values.{Program, form_in, record_in, Held}
+use Rattle.ob_types.specs.TypedSyntax.{Module}
+use Rattle.ob_types.specs.TypedView.{procedure_view}
+use Rattle.ob_meaning.specs.Values.{Program, Formals, form_in, record_in, formals_in, Held}
 use Rattle.ob_relation.specs.Relation.{Sub, FormOk}
 use Rattle.ob_rules.specs.declared.entity.Entity.TheVariants as entity
 use Rattle.ob_rules.specs.declared.entity.Known.{Known}
@@ -37,12 +37,11 @@ pub record IsModuleOf (program : Program) (checked : TypedModule) (m : Module) :
 
 -- What is left to ask around a body: of the map of types; of procedures that are known by forward declarations alone; of constants of
 -- other modules; of procedures as values; and of receivers.
-pub record IsLeft (program : Program) (Has : Signature → QName → Type 0) (unit : List ℕ) (held : List Held) (result : Option TypeRef) (u : Around) : Type 0 where
+pub record IsLeft (program : Program) (Has : Formals → QName → Type 0) (unit : List ℕ) (held : List Held) (result : Option TypeRef) (u : Around) : Type 0 where
   pub formed : Formed (map_of u) program
   pub grounded : IsGrounded (map_of u)
   pub forwards : (x : List ℕ) (k : Known) (q : QName) (s : Signature) → find_name u.known x ≡ Some k → k.what ≡ entity.Forward q s → ProcedureIs program Has unit held result (map_of u) q s
   pub shown_constants : (q : QName) (v : Literal) → u.shown q ≡ Some (desc.Const v) → ConstantIs v
-  pub values : (q : QName) (s : Signature) → IsProcedureOf program q s → SignatureIs program (map_of u) s → is_value q ≡ true → Has s q
-  pub alike : (q : QName) (s t : Signature) → IsProcedureOf program q s → SignatureIs program (map_of u) s → SignatureIs program (map_of u) t → is_value q ≡ true → alike_to (map_of u) s (Some t) ≡ true → Has t q
+  pub values : (q : QName) (s : Signature) → IsProcedureOf program q s → SignatureIs program (map_of u) s → is_value q ≡ true → Has (formals_in program s) q
   pub receivers : (r : Received) (v : Variable) (t : TypeRef) → u.receiver ≡ Some r → same_variable v r.variable ≡ true → VariableIs program Has unit held result (map_of u) v t → ReceiverIs program (map_of u) r t
   pub supers : (r : Received) (b o : QName) (x : List ℕ) (m : Method) → u.receiver ≡ Some r → base_record (map_of u) r.owner ≡ Some b → member (map_of u) b x ≡ Some (AMethod o m) → SuperIs program Has unit held result (map_of u) r.variable b o m × Sub (record_in program r.owner) (record_in program b)

@@ -1,18 +1,15 @@
 -- Actual parameters that keep the rules fit their formal ones.
-use Rattle.std.proofs.Common.{◌≡◌, ◌⊎◌, inl, inr, ⊎_elim, refl, sym, ap, ◌∙◌, subst, ℕ, zero, suc, List, [], ◌∷◌, length, Option, Some, None, Bool, true, false, not, arith}
-use Rattle.std.specs.Prelude.{◌&&◌, ◌||◌, is_some}
+use Rattle.std.proofs.Common.{◌≡◌, inl, inr, ⊎_elim, refl, sym, ap, ◌∙◌, subst, ℕ, suc, List, [], ◌∷◌, length, Option, Some, None, Bool, true, false, not, arith}
+use Rattle.std.specs.Prelude.{◌&&◌, is_some}
 use Rattle.ob_tree.specs.declared.pos.Pos.{Pos}
 use Rattle.ob_tree.specs.declared.names.QName.{QName}
-use Rattle.ob_types.specs.declared.types.Basic.{Basic}
 use Rattle.ob_types.specs.declared.types.Basic.TheVariants as basic
 use Rattle.ob_types.specs.declared.types.Mode.{Mode}
 use Rattle.ob_types.specs.declared.types.Mode.TheVariants as mode
 use Rattle.ob_types.specs.declared.types.TypeRef.{TypeRef}
 use Rattle.ob_types.specs.declared.types.TypeRef.TheVariants as ref
-use Rattle.ob_types.specs.declared.types.Signature.{Signature}
 use Rattle.ob_types.specs.declared.desc.Desc.{Desc}
 use Rattle.ob_types.specs.declared.desc.Desc.TheVariants as desc
-use Rattle.ob_types.specs.declared.value.Value.{Value as Literal}
 use Rattle.ob_types.specs.declared.value.Value.TheVariants as literal
 use Rattle.ob_types.specs.declared.typed.Passing.{Passing}
 use Rattle.ob_types.specs.declared.typed.Passing.TheVariants as passing
@@ -24,10 +21,10 @@ use Rattle.ob_types.specs.declared.typed.ExprType.TheVariants as kind
 use Rattle.ob_types.specs.declared.typed.Designator.TheFolds.{fold-roll-Actual}
 use Rattle.ob_types.specs.Tests.{same_at}
 use Rattle.ob_types.specs.TypedSyntax.{Desig, Expr, ValueOf, Actuals, NoActual, AnActual}
-use Rattle.ob_types.specs.TypedKinds.{constant_type, variable_type}
+use Rattle.ob_types.specs.TypedKinds.{variable_type}
 use Rattle.ob_types.specs.TypedView.{OneActual, designator_layer, expr_layer, actual_layer, designator_view, expr_view, actual_view, actuals_view}
 use Rattle.ob_types.proofs.TypedViews.{view_constant, view_value_of}
-use Rattle.ob_meaning.specs.Values.{Program, Form, BasicForm, PointerForm, ProcedureForm, ArrayForm, OpenForm, RecordForm, fields_of, form_in, record_in, Held}
+use Rattle.ob_meaning.specs.Values.{Program, Form, BasicForm, PointerForm, ProcedureForm, ArrayForm, OpenForm, RecordForm, fields_of, form_in, Formals, Held}
 use Rattle.ob_relation.specs.Relation.{Scalar, Sub}
 use Rattle.ob_relation.specs.Passed.{IsUnguarded}
 use Rattle.ob_relation.specs.Typed as typed
@@ -40,16 +37,16 @@ use Rattle.ob_rules.specs.declared.meant.Where.TheVariants.{InExpression}
 use Rattle.ob_rules.specs.declared.values.Place.{Place}
 use Rattle.ob_rules.specs.declared.values.Valued.{Valued}
 use Rattle.ob_rules.specs.declared.values.Valued.TheVariants as valued
-use Rattle.ob_rules.specs.Judged.{Judged, sound, breaks, both, also, wants, ◌▷◌}
-use Rattle.ob_rules.specs.Shapes.{Map, shape, array_of, array_at, open_element, open_at, is_array, is_open, is_structured, is_record, record_of, element_is, by_value, by_var, passing_of, extends_record}
+use Rattle.ob_rules.specs.Judged.{Judged, sound, breaks, both}
+use Rattle.ob_rules.specs.Shapes.{Map, shape, array_of, array_at, open_element, open_at, is_array, is_open, is_structured, record_of, element_is, by_value, by_var, passing_of}
 use Rattle.ob_rules.specs.Names.{Around, map_of}
-use Rattle.ob_rules.specs.Values.{tree, type, type_in, text_of, text_in, text_tree, constant_in, fits}
+use Rattle.ob_rules.specs.Values.{tree, type, type_in, text_of, fits}
 use Rattle.ob_rules.specs.Calls.{actual_of, both_records, takes_variable, unless_guarded, unless_read_only, variable_actual, meant_actual, var_actual, array_takes, takes_value, tree_for, value_actual, actual, actuals}
 use Rattle.ob_rules.specs.Phrases.{Phrase}
 use Rattle.ob_typed.specs.Makes.{IfThere, Makes}
 use Rattle.ob_typed.specs.Forms.{IsDeclared, IsKnown, AreKnown, ArrayIs, Forms}
 use Rattle.ob_typed.specs.Known.{IsScoped}
-use Rattle.ob_typed.specs.Kept.{DesignatorIs, PlaceIs, NodeIs, ValuedIs}
+use Rattle.ob_typed.specs.Kept.{PlaceIs, NodeIs, ValuedIs}
 use Rattle.ob_typed.specs.Meant.{GuardIs, MeantIs, MeantBy, PhraseIs, ArePhrases}
 use Rattle.ob_typed.proofs.Makes.{makes_then, makes_both, makes_wants, makes_also}
 use Rattle.ob_typed.proofs.Basics.{form_basic, none_some, not_true, some_is}
@@ -105,7 +102,7 @@ AreFormals NoActual (p ∷ ps) = ⊥
 AreFormals (AnActual how t x rest) [] = ⊥
 AreFormals (AnActual how t x rest) (p ∷ ps) = (t ≡ p.1) × AreFormals rest ps
 
-module _ (program : Program) (Has : Signature → QName → Type 0) (unit : List ℕ) (held : List Held) (result : Option TypeRef) where
+module _ (program : Program) (Has : Formals → QName → Type 0) (unit : List ℕ) (held : List Held) (result : Option TypeRef) where
   abbrev Ex : Expr → Form → Type 0
   Ex x t = Fits program Has unit held result x t
 

@@ -1,9 +1,8 @@
 -- A value that the rules find assignable to a type fits that type.
-use Rattle.std.proofs.Common.{◌≡◌, ◌⊎◌, inl, inr, ⊎_elim, refl, sym, ap, ◌∙◌, subst, ℕ, zero, suc, ◌<◌, List, [], ◌∷◌, length, Option, Some, None, Bool, true, false, arith}
+use Rattle.std.proofs.Common.{◌≡◌, inl, inr, ⊎_elim, refl, sym, ap, ◌∙◌, subst, ℕ, ◌<◌, List, [], ◌∷◌, length, Option, Some, None, Bool, true, false, arith}
 use Rattle.std.proofs.lemmas.Bool.Decides.{nat_tests}
-use Rattle.std.specs.Prelude.{◌&&◌, ◌||◌, is_some, nat_eq, nat_lt, ℤ}
+use Rattle.std.specs.Prelude.{◌&&◌, nat_eq, nat_lt}
 use Rattle.ob_tree.specs.declared.names.QName.{QName}
-use Rattle.ob_tree.specs.declared.ident.Mark.{Mark}
 use Rattle.ob_types.specs.declared.types.Basic.{Basic}
 use Rattle.ob_types.specs.declared.types.Basic.TheVariants as basic
 use Rattle.ob_types.specs.declared.types.TypeRef.{TypeRef}
@@ -14,18 +13,17 @@ use Rattle.ob_types.specs.declared.desc.Desc.TheVariants as desc
 use Rattle.ob_types.specs.declared.value.Value.{Value as Literal}
 use Rattle.ob_types.specs.declared.value.Value.TheVariants as literal
 use Rattle.ob_types.specs.declared.typed.Width.{Width}
-use Rattle.ob_types.specs.declared.typed.TypedExpr.{TypedExpr}
 use Rattle.ob_types.specs.declared.typed.TypedExpr.TheVariants as e
 use Rattle.ob_types.specs.declared.typed.ExprType.{ExprType}
 use Rattle.ob_types.specs.declared.typed.ExprType.TheVariants as kind
 use Rattle.ob_types.specs.Assigning.{has_nil}
 use Rattle.ob_types.specs.AssigningTests.{described, is_at, takes_type, takes_kind, takes_text, takes_constant, has_room, alike_to}
 use Rattle.ob_types.specs.Tests.{same_at, pointer_of, signature_of}
-use Rattle.ob_types.specs.TypedSyntax.{Desig, Expr}
-use Rattle.ob_types.specs.TypedKinds.{of_basic, constant_type, variable_type}
+use Rattle.ob_types.specs.TypedSyntax.{Expr}
+use Rattle.ob_types.specs.TypedKinds.{variable_type}
 use Rattle.ob_types.specs.TypedView.{designator_view, expr_view}
 use Rattle.ob_types.proofs.TypedViews.{view_constant, view_value_of}
-use Rattle.ob_meaning.specs.Values.{Program, Form, BasicForm, PointerForm, ProcedureForm, ArrayForm, OpenForm, RecordForm, form_in, Held}
+use Rattle.ob_meaning.specs.Values.{Program, Form, BasicForm, ProcedureForm, ArrayForm, form_in, Formals, formals_in, Held}
 use Rattle.ob_relation.specs.Relation.{Scalar, Sub}
 use Rattle.ob_relation.specs.Relation as relation
 use Rattle.ob_relation.specs.Typed as typed
@@ -33,17 +31,17 @@ use Rattle.ob_relation.specs.Typed.{Within, integer, char, AreCharacters}
 use Rattle.ob_rules.specs.declared.values.Place.{Place}
 use Rattle.ob_rules.specs.declared.values.Valued.{Valued}
 use Rattle.ob_rules.specs.declared.values.Valued.TheVariants as valued
-use Rattle.ob_rules.specs.Shapes.{Map, shape, pointed, signature_at, array_of, array_at, is_array, width_of}
-use Rattle.ob_rules.specs.Values.{tree, type, text_tree, takes_value_of, fits}
+use Rattle.ob_rules.specs.Shapes.{Map, shape, signature_at, array_of, array_at, is_array, width_of}
+use Rattle.ob_rules.specs.Values.{tree, takes_value_of, fits}
 use Rattle.ob_rules.specs.Calls.{tree_for}
 use Rattle.ob_typed.specs.Forms.{IsDeclared, Forms}
 use Rattle.ob_typed.specs.Known.{ConstantIs}
-use Rattle.ob_typed.specs.Kept.{DesignatorIs, PlaceIs, NodeIs, ValuedIs}
+use Rattle.ob_typed.specs.Kept.{NodeIs, ValuedIs}
 use Rattle.ob_typed.proofs.Basics.{form_basic, none_some, not_true, some_is, width_back, number_fits, number_type, smallest_of}
 use Rattle.ob_typed.proofs.Values.{Fits, W, place_fits, shown_place, shown_constant}
 use Rattle.ob_typed.proofs.Operators.{and_is}
 use Rattle.ob_typed.proofs.Designators.{form_is, some_true}
-use Rattle.ob_typed.proofs.Relations.{or_is, some_of}
+use Rattle.ob_typed.proofs.Relations.{or_is}
 use Rattle.ob_typed.proofs.Sets.{widens_back}
 
 pub nat_is : (n m : ℕ) → nat_eq n m ≡ true → n ≡ m
@@ -62,7 +60,7 @@ scalar_sub _ _ relation.itself s = s
 scalar_sub _ _ (relation.extended more gs) s = absurd s
 scalar_sub _ _ (relation.opened n) s = absurd s
 
-module _ (program : Program) (Has : Signature → QName → Type 0) (unit : List ℕ) (held : List Held) (result : Option TypeRef) where
+module _ (program : Program) (Has : Formals → QName → Type 0) (unit : List ℕ) (held : List Held) (result : Option TypeRef) where
   abbrev Ex : Expr → Form → Type 0
   Ex x t = Fits program Has unit held result x t
 
@@ -105,7 +103,7 @@ module _ (program : Program) (Has : Signature → QName → Type 0) (unit : List
       where
         go : (o : Option Desc) → shape map v ≡ o → described has_nil o ≡ true → typed.ConstantOk program Has unit held result literal.Nil (form_in program v)
         go (Some (desc.Pointer m t)) f h = inl (t, (forms.pointers v t (ap pointer_of f)).0)
-        go (Some (desc.ProcType m s)) f h = inr (s, (forms.procedures v s (ap signature_of f)).0)
+        go (Some (desc.ProcType m s)) f h = inr (formals_in program s, (forms.procedures v s (ap signature_of f)).0)
         go None f h = not_true h
         go (Some (desc.Const c)) f h = not_true h
         go (Some (desc.Var m t)) f h = not_true h
@@ -141,12 +139,12 @@ module _ (program : Program) (Has : Signature → QName → Type 0) (unit : List
     constant_scalar v (literal.Set n) d h e s = (h, basic_taken v basic.Set refl e s)
     constant_scalar v literal.Nil d h e s = has_nil_is v e
 
-    pub procedure_taken : (x : Expr) (v : TypeRef) (s : Signature) → NodeIs program Has unit held result map x (kind.Procedure s) → alike_to map s (signature_at map v) ≡ true → (t : Signature) × (form_in program v ≡ ProcedureForm t) × Ex x (form_in program v)
+    pub procedure_taken : (x : Expr) (v : TypeRef) (s : Signature) → NodeIs program Has unit held result map x (kind.Procedure s) → alike_to map s (signature_at map v) ≡ true → (t : Formals) × (form_in program v ≡ ProcedureForm t) × Ex x (form_in program v)
     procedure_taken x v s h e = go (signature_at map v) refl e
       where
-        go : (o : Option Signature) → signature_at map v ≡ o → alike_to map s o ≡ true → (t : Signature) × (form_in program v ≡ ProcedureForm t) × Ex x (form_in program v)
+        go : (o : Option Signature) → signature_at map v ≡ o → alike_to map s o ≡ true → (t : Formals) × (form_in program v ≡ ProcedureForm t) × Ex x (form_in program v)
         go None f g = not_true g
-        go (Some t) f g = let k = forms.procedures v t f in let p = k.0 in (t, p, subst (λ y. Ex x y) (sym p) (h.1 t k.1 g))
+        go (Some t) f g = let k = forms.procedures v t f in (formals_in program t, k.0, subst (λ y. Ex x y) (ap (λ y. ProcedureForm y) (forms.alike s t h.0 k.1 g) ∙ sym k.0) h.1)
 
     node_scalar : (x : Expr) (k : ExprType) (v : TypeRef) → NodeIs program Has unit held result map x k → takes_value_of map v k ≡ true → Scalar (form_in program v) → Ex x (form_in program v)
     node_scalar x (kind.Of t) v h e s = h.2 (form_in program v) (forms.scalars v t e s).1

@@ -1,12 +1,11 @@
 -- Assignments are well typed.
-use Rattle.std.proofs.Common.{◌≡◌, ◌⊎◌, inl, inr, ⊎_elim, refl, sym, ap, ◌∙◌, subst, ℕ, List, [], ◌∷◌, length, Option, Some, None, Bool, true, false, not}
+use Rattle.std.proofs.Common.{◌≡◌, refl, sym, ap, ◌∙◌, subst, ℕ, List, [], ◌∷◌, Option, Some, None, Bool, true, false, not}
 use Rattle.std.specs.Prelude.{◌&&◌, ◌||◌, is_some}
 use Rattle.ob_tree.specs.declared.pos.Pos.{Pos}
 use Rattle.ob_tree.specs.declared.names.QName.{QName}
 use Rattle.ob_types.specs.declared.types.TypeRef.{TypeRef}
 use Rattle.ob_types.specs.declared.types.TypeRef.TheVariants as ref
 use Rattle.ob_types.specs.declared.types.Mode.TheVariants as mode
-use Rattle.ob_types.specs.declared.types.Signature.{Signature}
 use Rattle.ob_types.specs.declared.desc.Desc.{Desc}
 use Rattle.ob_types.specs.declared.desc.Desc.TheVariants as desc
 use Rattle.ob_types.specs.declared.value.Value.{Value as Literal}
@@ -14,19 +13,16 @@ use Rattle.ob_types.specs.declared.value.Value.TheVariants as literal
 use Rattle.ob_types.specs.declared.typed.Passing.TheVariants as passing
 use Rattle.ob_types.specs.declared.typed.Assigned.{Assigned}
 use Rattle.ob_types.specs.declared.typed.Assigned.TheVariants as assigned
-use Rattle.ob_types.specs.declared.typed.ExprType.{ExprType}
-use Rattle.ob_types.specs.declared.typed.ExprType.TheVariants as kind
-use Rattle.ob_types.specs.declared.typed.TypedExpr.TheVariants as e
 use Rattle.ob_types.specs.declared.typed.TypedStmt.TheVariants as stmt
 use Rattle.ob_types.specs.Relations.{is_open}
 use Rattle.ob_types.specs.Assigning.{is_extensible}
 use Rattle.ob_types.specs.AssigningTests.{takes_type, widens, described}
 use Rattle.ob_types.specs.Tests.{target, same_at, extends_at, shape_at}
-use Rattle.ob_types.specs.TypedSyntax.{Desig, Expr, Assign}
+use Rattle.ob_types.specs.TypedSyntax.{Desig, Expr}
 use Rattle.ob_types.specs.TypedKinds.{variable_type}
-use Rattle.ob_types.specs.TypedView.{designator_view, expr_view, stmt_view}
+use Rattle.ob_types.specs.TypedView.{designator_view, expr_view}
 use Rattle.ob_types.proofs.TypedViews.{view_constant, view_value_of, view_assign}
-use Rattle.ob_meaning.specs.Values.{Program, Form, BasicForm, PointerForm, ProcedureForm, ArrayForm, OpenForm, RecordForm, form_in, record_in, Held}
+use Rattle.ob_meaning.specs.Values.{Program, Form, BasicForm, PointerForm, ProcedureForm, ArrayForm, OpenForm, RecordForm, form_in, Formals, Held}
 use Rattle.ob_relation.specs.Relation.{Scalar}
 use Rattle.ob_relation.specs.Passed.{IsString, IsVariable}
 use Rattle.ob_relation.specs.Typed as typed
@@ -34,22 +30,21 @@ use Rattle.ob_relation.specs.Typed.{char, passing_for}
 use Rattle.ob_rules.specs.declared.values.Place.{Place}
 use Rattle.ob_rules.specs.declared.values.Valued.{Valued}
 use Rattle.ob_rules.specs.declared.values.Valued.TheVariants as valued
-use Rattle.ob_rules.specs.Judged.{Judged, wants}
 use Rattle.ob_rules.specs.Shapes.{Map, array_of, array_at, open_element, open_at, is_array, is_record, is_structured, record_of, by_value, passing_of}
 use Rattle.ob_rules.specs.Shapes as shapes
-use Rattle.ob_rules.specs.Values.{tree, type, text_of, text_tree, fits, takes_value_of}
+use Rattle.ob_rules.specs.Values.{text_of, fits}
 use Rattle.ob_rules.specs.Calls.{tree_for}
 use Rattle.ob_rules.specs.Statements.{assigned_as, assignment_of, assigned_tree, assigns}
-use Rattle.ob_typed.specs.Makes.{IfThere, Makes}
+use Rattle.ob_typed.specs.Makes.{Makes}
 use Rattle.ob_typed.specs.Forms.{IsDeclared, IsKnown, ArrayIs, Forms}
-use Rattle.ob_typed.specs.Kept.{DesignatorIs, PlaceIs, NodeIs, ValuedIs}
+use Rattle.ob_typed.specs.Kept.{PlaceIs, ValuedIs}
 use Rattle.ob_typed.specs.Bodies.{AreStatements}
 use Rattle.ob_typed.proofs.Makes.{makes_wants}
 use Rattle.ob_typed.proofs.Basics.{none_some, not_true, some_is}
 use Rattle.ob_typed.proofs.Values.{Fits}
 use Rattle.ob_typed.proofs.Operators.{and_is}
 use Rattle.ob_typed.proofs.Designators.{form_is}
-use Rattle.ob_typed.proofs.Relations.{or_is, some_of}
+use Rattle.ob_typed.proofs.Relations.{some_of}
 use Rattle.ob_typed.proofs.Assignable.{scalar_fits, structure_fits, node_structure}
 use Rattle.ob_typed.proofs.Actuals.{open_array}
 
@@ -110,7 +105,7 @@ scalar_passed (ArrayForm n t) e = absurd cc
 scalar_passed (OpenForm t) e = absurd cc
 scalar_passed (RecordForm line fs) e = absurd cc
 
-module _ (program : Program) (Has : Signature → QName → Type 0) (unit : List ℕ) (held : List Held) (result : Option TypeRef) (map : Map) (forms : Forms program Has unit held result map) where
+module _ (program : Program) (Has : Formals → QName → Type 0) (unit : List ℕ) (held : List Held) (result : Option TypeRef) (map : Map) (forms : Forms program Has unit held result map) where
   abbrev Is : Valued → Type 0
   Is x = ValuedIs program Has unit held result map x
 

@@ -1,5 +1,5 @@
 -- Basic types and their widths.
-use Rattle.std.proofs.Common.{◌≡◌, refl, sym, ap, ◌∙◌, subst, ℕ, zero, suc, ◌<◌, Option, Some, None, Bool, true, false, arith}
+use Rattle.std.proofs.Common.{◌≡◌, refl, sym, ap, ℕ, zero, suc, ◌<◌, Option, Some, None, Bool, true, false, arith}
 use Rattle.std.specs.Prelude.{◌^◌, ℤ, pos, negsuc, nat_lt, nat_eq, if◌then◌else◌}
 use Rattle.std.proofs.lemmas.Bool.Decides.{nat_tests}
 use Rattle.ob_types.specs.declared.types.Basic.{Basic}
@@ -8,7 +8,6 @@ use Rattle.ob_types.specs.declared.types.TypeRef.{TypeRef}
 use Rattle.ob_types.specs.declared.types.TypeRef.TheVariants as ref
 use Rattle.ob_types.specs.declared.typed.Width.{Width}
 use Rattle.ob_types.specs.declared.typed.Width.TheVariants as width
-use Rattle.ob_types.specs.declared.value.Value.{Value as Literal}
 use Rattle.ob_types.specs.declared.value.Value.TheVariants as literal
 use Rattle.ob_types.specs.Tests.{target, basic_number}
 use Rattle.ob_types.specs.TypedKinds.{of_basic, of_width, smallest, constant_type}
@@ -18,8 +17,7 @@ use Rattle.ob_relation.specs.Relation.{FormOk}
 use Rattle.ob_relation.specs.Passed.{IsClosed}
 use Rattle.ob_relation.specs.Typed as typed
 use Rattle.ob_relation.specs.Typed.{Within}
-use Rattle.ob_rules.specs.Shapes.{Map, basic_of, as_basic, is_basic, is_this, same_basic, width_of, wider}
-use Rattle.ob_typed.specs.Known.{ConstantIs}
+use Rattle.ob_rules.specs.Shapes.{Map, basic_of, as_basic, is_basic, is_this, width_of, wider}
 
 form_within_basic : (program : Program) (n : ℕ) (b : Basic) → form_within (description program) n (ref.Basic b) ≡ BasicForm b
 form_within_basic program zero b = refl

@@ -1,9 +1,8 @@
 -- The forms of a program are as a map of descriptions that is formed and grounded says.
-use Rattle.std.proofs.Common.{◌≡◌, ◌⊎◌, refl, sym, ap, ◌∙◌, subst, ℕ, zero, suc, List, [], ◌∷◌, ◌++◌, map as each, Option, Some, None, Bool, true, false}
+use Rattle.std.proofs.Common.{◌≡◌, refl, sym, ◌∙◌, subst, ℕ, zero, suc, List, [], ◌∷◌, ◌++◌, map as each, Option, Some, None}
 use Rattle.std.specs.Prelude.{bytes_eq}
 use Rattle.std.specs.List.{find, flat_map, AllByRecursion}
 use Rattle.ob_tree.specs.declared.names.QName.{QName}
-use Rattle.ob_types.specs.declared.types.Basic.{Basic}
 use Rattle.ob_types.specs.declared.types.Mode.{Mode}
 use Rattle.ob_types.specs.declared.types.TypeRef.{TypeRef}
 use Rattle.ob_types.specs.declared.types.Signature.{Signature}
@@ -12,22 +11,22 @@ use Rattle.ob_types.specs.declared.desc.Desc.TheVariants as desc
 use Rattle.ob_types.specs.declared.desc.RecordDesc.{RecordDesc}
 use Rattle.ob_types.specs.declared.desc.Field.{Field}
 use Rattle.ob_types.specs.declared.desc.Method.{Method}
-use Rattle.ob_types.specs.Maps.{IsHeld, listed, signature_types, stands_on, named_by}
+use Rattle.ob_types.specs.Maps.{IsHeld, listed, signature_types, named_by}
 use Rattle.ob_types.specs.Relations.{Is, is_open, IsPlainResult, IsGrounded}
-use Rattle.ob_types.specs.AssigningTests.{takes_type}
-use Rattle.ob_meaning.specs.Values.{Program, Form, ArrayForm, OpenForm, form_in, record_in, Held}
-use Rattle.ob_relation.specs.Relation.{IsLength, FormOk, Sub, Scalar}
+use Rattle.ob_meaning.specs.Values.{Program, form_in, record_in, Formals, Held}
+use Rattle.ob_relation.specs.Relation.{Sub}
 use Rattle.ob_relation.specs.Passed.{IsClosed}
 use Rattle.ob_relation.specs.Typed as typed
 use Rattle.ob_relation.specs.Typed.{passing_for}
-use Rattle.ob_rules.specs.Shapes.{Map, Member, AField, AMethod, shape, pointed, signature_at, array_of, record_of, own_member, field_or, base_record, or_in_base, member, member_within, passing_of, extends_record, is_held}
-use Rattle.ob_forms.specs.Formed.{Formed, IsMethodOf, introduced}
+use Rattle.ob_rules.specs.Shapes.{Map, Member, AField, AMethod, shape, pointed, signature_at, array_of, record_of, own_member, field_or, base_record, or_in_base, member, member_within}
+use Rattle.ob_forms.specs.Formed.{Formed, IsMethodOf}
 use Rattle.ob_forms.proofs.Finds as finds
 use Rattle.ob_forms.proofs.Shapes as shapes
 use Rattle.ob_forms.proofs.Members as members
 use Rattle.ob_forms.proofs.Members.{found}
 use Rattle.ob_forms.proofs.Extending.{record_above}
 use Rattle.ob_forms.proofs.Sorts.{passing_form, plain_form, form_ok}
+use Rattle.ob_forms.proofs.Alike.{AreDeclared, alike_formals}
 use Rattle.ob_forms.proofs.Taking.{array_length, scalar_takes, takes_sub}
 use Rattle.ob_typed.specs.Forms.{IsDeclared, IsKnown, AreKnown, ResultIs, SignatureIs, ArrayIs, Forms}
 use Rattle.ob_typed.specs.Known.{MethodIs}
@@ -61,6 +60,10 @@ module _ (map : Map) (program : Program) (formed : Formed map program) (grounded
       let a = all_split IsDeclared (each (λ p. p.1) s.params) (listed s.result) h in
       let b = all_split (IsHeld map) (each (λ p. p.1) s.params) (listed s.result) k in
       record { params = known_params s.params (listed s.result) h k; result = result_known s.result a.1 b.1 p; result_held = b.1 }
+
+  declared_params : (ks : List (Mode × TypeRef)) → AreKnown map ks → AreDeclared ks
+  declared_params [] h = tt
+  declared_params (x ∷ ks) h = (h.0.0, declared_params ks h.1)
 
   -- WHAT A DESCRIPTION NAMES
 
@@ -134,7 +137,7 @@ module _ (map : Map) (program : Program) (formed : Formed map program) (grounded
       by None None f e ih = none_some e
       by None (Some b) f e ih = ih b e
 
-  module _ (Has : Signature → QName → Type 0) (unit : List ℕ) (held : List Held) (result : Option TypeRef) where
+  module _ (Has : Formals → QName → Type 0) (unit : List ℕ) (held : List Held) (result : Option TypeRef) where
     field_known : (q o : QName) (x : List ℕ) (f : Field) (t : TypeRef) → record_of map t ≡ Some q → member map q x ≡ Some (AField o f) → typed.FieldOk program Has unit held result (record_in program q) o f.name (form_in program f.of) × IsKnown map f.of × IsClosed (form_in program f.of)
     field_known q o x f t e k =
         let r = shapes.record_form map program formed t q e in
@@ -150,6 +153,7 @@ module _ (map : Map) (program : Program) (formed : Formed map program) (grounded
       pointers = λ t u e. (shapes.pointer_form map program formed t u e, (pointer_known t u e).0);
       bases = λ t u e k. (pointer_known t u e).1;
       procedures = λ t s e. (shapes.procedure_form map program formed t s e, procedure_known t s e);
+      alike = λ s t h k e. alike_formals map program formed s t (declared_params s.params h.params) (declared_params t.params k.params) e;
       arrays = array_known;
       records = λ t q e. let r = shapes.record_form map program formed t q e in (r.form, shapes.record_type map program formed q r.r r.is);
       same = shapes.same_form map program formed;

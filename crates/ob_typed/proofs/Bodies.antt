@@ -1,27 +1,23 @@
 -- Statements in a row, and what stands around them.
-use Rattle.std.proofs.Common.{◌≡◌, refl, sym, ap, ◌∙◌, subst, ℕ, List, [], ◌∷◌, ◌++◌, map, Option, Some, None, Bool, true, false}
+use Rattle.std.proofs.Common.{◌≡◌, refl, sym, ap, ◌∙◌, subst, ℕ, List, [], ◌∷◌, ◌++◌, Option, Some, None, Bool, true, false}
 use Rattle.std.specs.List.{AllByRecursion}
 use Rattle.std.specs.Prelude.{bytes_eq}
-use Rattle.ob_tree.specs.declared.pos.Pos.{Pos}
 use Rattle.ob_tree.specs.declared.names.QName.{QName}
 use Rattle.ob_types.specs.declared.types.TypeRef.{TypeRef}
-use Rattle.ob_types.specs.declared.types.Signature.{Signature}
-use Rattle.ob_types.specs.declared.desc.Desc.{Desc}
 use Rattle.ob_types.specs.declared.typed.Variable.{Variable}
 use Rattle.ob_types.specs.declared.typed.Variable.TheVariants as variable
 use Rattle.ob_types.specs.declared.typed.TypedStmt.{TypedStmt}
 use Rattle.ob_types.specs.TypedView.{stmt_view, stmts_view}
-use Rattle.ob_meaning.specs.Values.{Program, Held}
+use Rattle.ob_meaning.specs.Values.{Program, Formals, Held}
 use Rattle.ob_relation.specs.Typed as typed
-use Rattle.ob_rules.specs.Judged.{Judged, sound, both, made, ◌▷◌}
-use Rattle.ob_rules.specs.Shapes.{Map}
+use Rattle.ob_rules.specs.Judged.{sound, both}
 use Rattle.ob_rules.specs.Names.{Around, map_of, type_desc, out_string}
 use Rattle.ob_rules.specs.Shapes.{same_name, member, base_record}
 use Rattle.ob_rules.specs.Statements.{Judging, in_turn, in_turn_if, one}
 use Rattle.ob_typed.specs.Makes.{IfThere, Makes}
 use Rattle.ob_typed.specs.Forms.{IsKnown, Forms}
 use Rattle.ob_typed.specs.Known.{VariableIs, ProcedureIs, MethodIs, ReceiverIs, SuperIs, IsScoped}
-use Rattle.ob_typed.specs.Bodies.{AreStatements, JudgingIs, AreJudging}
+use Rattle.ob_typed.specs.Bodies.{AreStatements, AreJudging}
 use Rattle.ob_typed.proofs.Makes.{makes_then, makes_made, makes_both}
 
 pub all_split : {A : Type 0} (P : A → Type 0) (xs ys : List A) → AllByRecursion P (xs ++ ys) → AllByRecursion P xs × AllByRecursion P ys
@@ -46,7 +42,7 @@ same_desc u gs l false false q = refl
 pub same_map : (u : Around) (gs : List (Variable × Option TypeRef)) (l : Bool) → map_of (with_others u gs l) ≡ map_of u
 same_map u gs l = λ i q. same_desc u gs l (bytes_eq q.«module» u.unit) (same_name q out_string) q i
 
-module _ (program : Program) (Has : Signature → QName → Type 0) (unit : List ℕ) (held : List Held) (result : Option TypeRef) where
+module _ (program : Program) (Has : Formals → QName → Type 0) (unit : List ℕ) (held : List Held) (result : Option TypeRef) where
   pub scoped_with : (u : Around) (gs : List (Variable × Option TypeRef)) (l : Bool) → IsScoped program Has unit held result u → AllByRecursion (λ (g : Variable × Option TypeRef). IfThere (IsKnown (map_of u)) g.1) gs → IsScoped program Has unit held result (with_others u gs l)
   scoped_with u gs l s h =
       let m = sym (same_map u gs l) in

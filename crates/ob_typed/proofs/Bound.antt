@@ -1,25 +1,22 @@
 -- Calls of bound procedures are well typed.
-use Rattle.std.proofs.Common.{◌≡◌, refl, sym, ap, ◌∙◌, subst, ℕ, List, [], ◌∷◌, length, Option, Some, None, Bool, true, false}
-use Rattle.std.specs.Prelude.{◌&&◌, is_some, is_none}
+use Rattle.std.proofs.Common.{◌≡◌, refl, sym, ap, ◌∙◌, subst, ℕ, List, [], ◌∷◌, Option, Some, None, Bool, true, false}
+use Rattle.std.specs.Prelude.{◌&&◌, is_none}
 use Rattle.ob_tree.specs.declared.pos.Pos.{Pos}
 use Rattle.ob_tree.specs.declared.names.QName.{QName}
 use Rattle.ob_types.specs.declared.types.Mode.{Mode}
 use Rattle.ob_types.specs.declared.types.TypeRef.{TypeRef}
 use Rattle.ob_types.specs.declared.types.TypeRef.TheVariants as ref
-use Rattle.ob_types.specs.declared.types.Signature.{Signature}
 use Rattle.ob_types.specs.declared.desc.Receiver.{Receiver}
 use Rattle.ob_types.specs.declared.desc.Receiver.TheVariants as receiver
 use Rattle.ob_types.specs.declared.typed.Passing.TheVariants as passing
 use Rattle.ob_types.specs.declared.typed.Callee.TheVariants as callee
 use Rattle.ob_types.specs.declared.typed.Actual.{Actual}
 use Rattle.ob_types.specs.declared.typed.TypedParameter.{TypedParameter}
-use Rattle.ob_types.specs.declared.typed.TypedExpr.{TypedExpr}
 use Rattle.ob_types.specs.declared.typed.TypedExpr.TheVariants as e
-use Rattle.ob_types.specs.TypedSyntax.{Desig, Expr, ValueOf}
 use Rattle.ob_types.specs.TypedKinds.{variable_type}
 use Rattle.ob_types.specs.TypedView.{OneActual, designator_view, expr_view, actual_view, actuals_view}
 use Rattle.ob_types.proofs.TypedViews.{view_value_of}
-use Rattle.ob_meaning.specs.Values.{Program, Form, PointerForm, RecordForm, fields_of, form_in, record_in, Held}
+use Rattle.ob_meaning.specs.Values.{Program, Form, PointerForm, RecordForm, fields_of, form_in, record_in, Formals, Held}
 use Rattle.ob_relation.specs.Relation.{LengthFits, Sub, Scalar}
 use Rattle.ob_relation.specs.Typed as typed
 use Rattle.ob_relation.specs.Typed.{IsFormal, IsRecordForm, IsRecordType, ReceiverOk}
@@ -29,18 +26,17 @@ use Rattle.ob_rules.specs.declared.meant.Chosen.{Chosen}
 use Rattle.ob_rules.specs.declared.meant.Where.{Where}
 use Rattle.ob_rules.specs.declared.values.Place.{Place}
 use Rattle.ob_rules.specs.declared.values.Valued.{Valued}
-use Rattle.ob_rules.specs.Judged.{Judged, silent, also, ◌▷◌}
+use Rattle.ob_rules.specs.Judged.{silent}
 use Rattle.ob_rules.specs.Shapes.{Map, pointed, record_of, is_held}
 use Rattle.ob_rules.specs.Names.{Around, map_of}
 use Rattle.ob_rules.specs.Phrases.{Phrase, record_receiver, receiver_place}
-use Rattle.ob_rules.specs.Calls.{actual_of, actuals, called, family_of, bound_callee, receiver_actual, is_record_receiver, nearest_sound, where_from, call_bound_sound, call_bound}
-use Rattle.ob_typed.specs.Makes.{IfThere, Makes}
+use Rattle.ob_rules.specs.Calls.{actuals, called, family_of, bound_callee, receiver_actual, is_record_receiver, nearest_sound, where_from, call_bound_sound, call_bound}
+use Rattle.ob_typed.specs.Makes.{Makes}
 use Rattle.ob_typed.specs.Forms.{SignatureIs, Forms}
-use Rattle.ob_typed.specs.Known.{pointee, AreParameters, behind, MethodIs, SuperIs, IsScoped}
-use Rattle.ob_typed.specs.Kept.{DesignatorIs, PlaceIs}
+use Rattle.ob_typed.specs.Known.{pointee, AreParameters, behind, IsScoped}
+use Rattle.ob_typed.specs.Kept.{PlaceIs}
 use Rattle.ob_typed.specs.Meant.{ChosenIs, CallsAt, CalledIs, ArePhrases}
 use Rattle.ob_typed.proofs.Makes.{makes_then, makes_also}
-use Rattle.ob_typed.proofs.Basics.{none_some, some_is}
 use Rattle.ob_typed.proofs.Values.{Fits, W, place_fits}
 use Rattle.ob_typed.proofs.Designators.{form_is, deref_is}
 use Rattle.ob_typed.proofs.Relations.{some_of}
@@ -48,7 +44,7 @@ use Rattle.ob_typed.proofs.Actuals.{AreFormals, Passes, actual_seen, actuals_are
 use Rattle.ob_typed.proofs.Predeclared.{makes_any}
 use Rattle.ob_typed.proofs.Calls.{CallIs, declared_actuals, called_is, by_callee}
 
-module _ (program : Program) (Has : Signature → QName → Type 0) (unit : List ℕ) (held : List Held) (result : Option TypeRef) where
+module _ (program : Program) (Has : Formals → QName → Type 0) (unit : List ℕ) (held : List Held) (result : Option TypeRef) where
   -- one actual parameter, of one parameter of a procedure
   abbrev OneFits : OneActual → TypedParameter → Type 0
   OneFits x p = (x.passing ≡ p.passing) × IsFormal program x.passing x.formal p.of × Passes program Has unit held result x.passing x.e (form_in program p.of)

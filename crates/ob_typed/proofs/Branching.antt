@@ -1,5 +1,5 @@
 -- IF, CASE and WITH are well typed.
-use Rattle.std.proofs.Common.{◌≡◌, ◌⊎◌, inl, inr, refl, sym, ap, ◌∙◌, subst, ℕ, List, [], ◌∷◌, ◌++◌, map, Option, Some, None, Bool, true, false}
+use Rattle.std.proofs.Common.{◌≡◌, inl, inr, refl, sym, subst, ℕ, List, [], ◌∷◌, ◌++◌, Option, Some, None, Bool, true, false}
 use Rattle.std.specs.Prelude.{◌||◌, is_some}
 use Rattle.std.specs.List.{AllByRecursion}
 use Rattle.ob_tree.specs.declared.pos.Pos.{Pos}
@@ -8,7 +8,6 @@ use Rattle.ob_tree.specs.declared.ident.Ident.{Ident}
 use Rattle.ob_tree.specs.declared.stmt.Guard.{Guard}
 use Rattle.ob_types.specs.declared.types.Basic.TheVariants as basic
 use Rattle.ob_types.specs.declared.types.TypeRef.{TypeRef}
-use Rattle.ob_types.specs.declared.types.Signature.{Signature}
 use Rattle.ob_types.specs.declared.typed.Width.{Width}
 use Rattle.ob_types.specs.declared.typed.Width.TheVariants as width
 use Rattle.ob_types.specs.declared.typed.Guarded.{Guarded}
@@ -20,10 +19,10 @@ use Rattle.ob_types.specs.declared.typed.TypedStmt.TheVariants as stmt
 use Rattle.ob_types.specs.declared.typed.TypedBranch.{TypedBranch, roll-TypedBranch}
 use Rattle.ob_types.specs.declared.typed.TypedCase.{TypedCase, roll-TypedCase}
 use Rattle.ob_types.specs.declared.typed.TypedStmt.TheFolds.{fold-roll-TypedBranch, fold-roll-TypedCase}
-use Rattle.ob_types.specs.TypedSyntax.{Expr, Stmt, Branches, If, Case, With}
+use Rattle.ob_types.specs.TypedSyntax.{Stmt}
 use Rattle.ob_types.specs.TypedView.{OneBranch, LabelledBody, stmt_layer, branch_layer, case_layer, expr_view, stmt_view, stmts_view, branch_view, branches_view, case_view, cases_view}
 use Rattle.ob_types.proofs.TypedViews.{view_if, view_case_none, view_case_some, view_with_none, view_with_some}
-use Rattle.ob_meaning.specs.Values.{Program, Held}
+use Rattle.ob_meaning.specs.Values.{Program, Formals, Held}
 use Rattle.ob_relation.specs.Typed as typed
 use Rattle.ob_relation.specs.Typed.{longint, char, boolean}
 use Rattle.ob_rules.specs.declared.entity.Entity.{Entity}
@@ -35,20 +34,20 @@ use Rattle.ob_rules.specs.declared.meant.Selects.{Selects}
 use Rattle.ob_rules.specs.declared.meant.Where.TheVariants.{InExpression}
 use Rattle.ob_rules.specs.declared.values.Place.{Place}
 use Rattle.ob_rules.specs.declared.values.Valued.{Valued}
-use Rattle.ob_rules.specs.Judged.{Judged, sound, both, made, wants, ◌▷◌}
-use Rattle.ob_rules.specs.Shapes.{Map, is_pointer}
+use Rattle.ob_rules.specs.Judged.{Judged, sound, both, made, ◌▷◌}
+use Rattle.ob_rules.specs.Shapes.{is_pointer}
 use Rattle.ob_rules.specs.Names.{Around, map_of, named, find_name, type_named}
 use Rattle.ob_rules.specs.Values.{is, width as width_in, tree}
 use Rattle.ob_rules.specs.Phrases.{Phrase, Dot}
 use Rattle.ob_rules.specs.Types.{first_of}
-use Rattle.ob_rules.specs.Designators.{guard_of, designates}
-use Rattle.ob_rules.specs.Statements.{Judging, in_turn, in_turn_if, one, branch_of, empty_if_none, condition, selects_by, selects, case_value, Labels, Labelled, labels, case_of, case_behind, cases, selects_if, case_with, case_judged, case, with_module, with_named, with_qualified_by, with_qualified, with_meant, with_place, with_guard, guard_test, variable_meant, guarded_around, type_if, guarded_body, GuardedBody, with_branch_in, tested, with_variable, with_test, with_branch, Conditional, conditional, conditionals, with_branches, if_statement, with_statement}
+use Rattle.ob_rules.specs.Designators.{guard_of}
+use Rattle.ob_rules.specs.Statements.{Judging, in_turn, in_turn_if, one, branch_of, empty_if_none, condition, selects_by, selects, case_value, Labelled, labels, case_of, cases, selects_if, case_judged, case, with_module, with_named, with_qualified_by, with_qualified, with_meant, with_place, with_guard, guard_test, variable_meant, guarded_around, type_if, guarded_body, GuardedBody, tested, with_variable, with_test, with_branch, Conditional, conditional, conditionals, with_branches, if_statement, with_statement}
 use Rattle.ob_typed.specs.Makes.{IfThere, Makes}
 use Rattle.ob_typed.specs.Forms.{IsKnown}
 use Rattle.ob_typed.specs.Known.{IsScoped}
 use Rattle.ob_typed.specs.Kept.{PlaceIs, ValuedIs}
 use Rattle.ob_typed.specs.Meant.{MeantIs, PhraseIs}
-use Rattle.ob_typed.specs.Bodies.{AreStatements, JudgingIs, AreJudging, ConditionalIs}
+use Rattle.ob_typed.specs.Bodies.{AreStatements, AreJudging, ConditionalIs}
 use Rattle.ob_typed.proofs.Makes.{makes_then, makes_made, makes_both, makes_wants}
 use Rattle.ob_typed.proofs.Values.{basic_fits, width_fits}
 use Rattle.ob_typed.proofs.Basics.{not_true, within_long}
@@ -56,9 +55,9 @@ use Rattle.ob_typed.proofs.Types.{type_named_is, guard_test_is}
 use Rattle.ob_typed.proofs.Predeclared.{makes_any}
 use Rattle.ob_typed.proofs.Fronts.{EntityIs, named_is, designates_is}
 use Rattle.ob_typed.proofs.Bodies.{all_joined, scoped_with, stmts_ok, in_turn_is, otherwise_is}
-use Rattle.ob_typed.proofs.Simple.{IsCondition, condition_is}
+use Rattle.ob_typed.proofs.Simple.{condition_is}
 
-module _ (program : Program) (Has : Signature → QName → Type 0) (unit : List ℕ) (held : List Held) (result : Option TypeRef) where
+module _ (program : Program) (Has : Formals → QName → Type 0) (unit : List ℕ) (held : List Held) (result : Option TypeRef) where
   abbrev Ss : Bool → List TypedStmt → Type 0
   Ss l xs = AreStatements program Has unit held result l xs
 

@@ -1,6 +1,6 @@
 -- Calls of declared procedures, of procedure variables and of Out are well typed.
-use Rattle.std.proofs.Common.{◌≡◌, ◌⊎◌, inl, inr, ⊎_elim, refl, sym, ap, ◌∙◌, subst, ℕ, zero, suc, List, [], ◌∷◌, length, Option, Some, None, Bool, true, false, not, arith}
-use Rattle.std.specs.Prelude.{◌&&◌, ◌||◌, is_some, nat_eq, bytes_eq, codes}
+use Rattle.std.proofs.Common.{◌≡◌, ⊎_elim, refl, sym, ap, ◌∙◌, subst, ℕ, zero, suc, List, [], ◌∷◌, length, Option, Some, None, Bool, true, false, arith}
+use Rattle.std.specs.Prelude.{◌&&◌, ◌||◌, is_some, nat_eq}
 use Rattle.ob_tree.specs.declared.pos.Pos.{Pos}
 use Rattle.ob_tree.specs.declared.names.QName.{QName}
 use Rattle.ob_tree.specs.declared.ident.Mark.TheVariants as mark
@@ -11,7 +11,6 @@ use Rattle.ob_types.specs.declared.types.Mode.TheVariants as mode
 use Rattle.ob_types.specs.declared.types.TypeRef.{TypeRef}
 use Rattle.ob_types.specs.declared.types.TypeRef.TheVariants as ref
 use Rattle.ob_types.specs.declared.types.Signature.{Signature}
-use Rattle.ob_types.specs.declared.desc.Desc.{Desc}
 use Rattle.ob_types.specs.declared.desc.Desc.TheVariants as desc
 use Rattle.ob_types.specs.declared.typed.Passing.{Passing}
 use Rattle.ob_types.specs.declared.typed.Passing.TheVariants as passing
@@ -26,12 +25,11 @@ use Rattle.ob_types.specs.declared.typed.TypedExpr.TheVariants as e
 use Rattle.ob_types.specs.declared.typed.ExprType.{ExprType}
 use Rattle.ob_types.specs.declared.typed.ExprType.TheVariants as kind
 use Rattle.ob_types.specs.Tests.{target, follow, target_of, shape_at, same_at}
-use Rattle.ob_types.specs.TypedSyntax.{Desig, Expr, Actuals, NoActual, AnActual, Call, CallVariable}
+use Rattle.ob_types.specs.TypedSyntax.{Desig, Expr, Actuals, NoActual, AnActual, CallVariable}
 use Rattle.ob_types.specs.TypedKinds.{result_type, variable_type}
 use Rattle.ob_types.specs.TypedView.{OneActual, designator_view, expr_view, actual_view, actuals_view}
 use Rattle.ob_types.proofs.TypedViews.{view_call, view_call_variable}
-use Rattle.ob_meaning.specs.Values.{Program, Form, BasicForm, ProcedureForm, form_in, Held}
-use Rattle.ob_relation.specs.Relation.{Scalar}
+use Rattle.ob_meaning.specs.Values.{Program, Form, ProcedureForm, form_in, Formals, formals_in, Held}
 use Rattle.ob_relation.specs.Passed.{AreOfBasics, IsOneText, AreOut, CalleeTakes}
 use Rattle.ob_relation.specs.Typed as typed
 use Rattle.ob_relation.specs.Typed.{passing_for}
@@ -40,22 +38,21 @@ use Rattle.ob_rules.specs.declared.meant.Where.{Where}
 use Rattle.ob_rules.specs.declared.meant.Where.TheVariants.{InExpression, AsStatement, Elsewhere}
 use Rattle.ob_rules.specs.declared.values.Place.{Place}
 use Rattle.ob_rules.specs.declared.values.Valued.{Valued}
-use Rattle.ob_rules.specs.declared.values.Valued.TheVariants as valued
-use Rattle.ob_rules.specs.Judged.{Judged, sound, breaks, both, also, wants, ◌▷◌}
-use Rattle.ob_rules.specs.Shapes.{Map, shape, open_at, open_element, is_open, is_structured, array_at, array_of, is_array, is_char_array, element_is, signature_at, by_value, passing_of}
+use Rattle.ob_rules.specs.Judged.{sound, both, also, wants}
+use Rattle.ob_rules.specs.Shapes.{Map, shape, open_at, open_element, is_structured, array_at, array_of, is_array, is_char_array, signature_at, by_value, passing_of}
 use Rattle.ob_rules.specs.Names.{Around, map_of, type_desc, out_string}
 use Rattle.ob_rules.specs.Values.{computed, type, type_in, type_is, text_of, is_chars}
 use Rattle.ob_rules.specs.Operators.{is_text}
 use Rattle.ob_rules.specs.Values.{text_tree}
-use Rattle.ob_rules.specs.Calls.{actual_of, array_takes, takes_value, tree_for, value_actual, actual, actuals, misplaced, called_with, called, call_procedure, call_variable, out_signature, call_out}
+use Rattle.ob_rules.specs.Calls.{actual_of, array_takes, takes_value, tree_for, value_actual, actual, actuals, misplaced, called_with, called, call_procedure, call_variable, call_out}
 use Rattle.ob_rules.specs.Phrases.{Phrase}
 use Rattle.ob_typed.specs.Makes.{IfThere, Makes}
-use Rattle.ob_typed.specs.Forms.{IsDeclared, AreKnown, ResultIs, SignatureIs, Forms}
+use Rattle.ob_typed.specs.Forms.{AreKnown, ResultIs}
 use Rattle.ob_typed.specs.Known.{AreParameters, ProcedureIs, IsScoped}
-use Rattle.ob_typed.specs.Kept.{DesignatorIs, PlaceIs, NodeIs, ValuedIs}
-use Rattle.ob_typed.specs.Meant.{CalledIs, PhraseIs, ArePhrases}
+use Rattle.ob_typed.specs.Kept.{PlaceIs, NodeIs, ValuedIs}
+use Rattle.ob_typed.specs.Meant.{CalledIs, ArePhrases}
 use Rattle.ob_typed.proofs.Makes.{makes_then, makes_both, makes_wants, makes_also}
-use Rattle.ob_typed.proofs.Basics.{form_basic, none_some, not_true, some_is}
+use Rattle.ob_typed.proofs.Basics.{form_basic, not_true}
 use Rattle.ob_typed.proofs.Values.{Fits}
 use Rattle.ob_typed.proofs.Designators.{form_is}
 use Rattle.ob_typed.proofs.Relations.{or_is, text_fits}
@@ -72,7 +69,7 @@ all_known : (map : Map) (bs : List Basic) → AreKnown map (all_basic bs)
 all_known map [] = tt
 all_known map (b ∷ bs) = ((tt, tt), all_known map bs)
 
-module _ (program : Program) (Has : Signature → QName → Type 0) (unit : List ℕ) (held : List Held) (result : Option TypeRef) where
+module _ (program : Program) (Has : Formals → QName → Type 0) (unit : List ℕ) (held : List Held) (result : Option TypeRef) where
   abbrev Ex : Expr → Form → Type 0
   Ex x t = Fits program Has unit held result x t
 
@@ -130,7 +127,7 @@ module _ (program : Program) (Has : Signature → QName → Type 0) (unit : List
         called_is (λ xs. Signed xs s.params) w at s ps (λ xs. e.Call (callee.Declared name) xs at s.result) h.signature.result (actuals_are program Has unit held result u scoped s.params ps h.signature.params k) λ xs g.
         by_callee (callee.Declared name) xs at s.result (h.p, h.found, h.result_is, declared_actuals (actuals_view xs) h.p.parameters s.params h.parameters g.0) tt
 
-    by_variable : (d : Desig) (s : Signature) (es : Actuals) (at : Pos) → typed.DesigOk program Has unit held result d → form_in program (variable_type d) ≡ ProcedureForm s → typed.SignatureOk program Has unit held result es s.params → CallIs s.result (CallVariable d es at s.result)
+    by_variable : (d : Desig) (s : Signature) (es : Actuals) (at : Pos) → typed.DesigOk program Has unit held result d → form_in program (variable_type d) ≡ ProcedureForm (formals_in program s) → typed.SignatureOk program Has unit held result es s.params → CallIs s.result (CallVariable d es at s.result)
     by_variable d s es at h f g = record { value = λ v k. ((h, (s, f, refl, g)), k); proper = λ e. ((h, (s, f, refl, g)), e) }
 
     pub call_variable_is : (w : Where) (at : Pos) (p : Place) (s : Signature) (ps : List Phrase) → PlaceIs program Has unit held result (map_of u) p → signature_at (map_of u) p.of ≡ Some s → ArePhrases program Has unit held result ps → Makes (Called w) (call_variable u w at p s ps)

@@ -1,13 +1,12 @@
 -- What constants come to is a constant.
-use Rattle.std.proofs.Common.{◌≡◌, refl, sym, ap, ◌∙◌, subst, ℕ, zero, suc, ◌+◌, ◌<◌, ◌≤◌, List, [], ◌∷◌, length, Option, Some, None, Bool, true, false, arith}
-use Rattle.std.specs.Prelude.{◌-◌, ◌^◌, ℤ, pos, negsuc, neg_ℤ, ◌+ℤ◌, ◌-ℤ◌, ◌*ℤ◌, unsigned_abs, not, ◌&&◌, ◌||◌, nat_lt, nat_le, nat_eq, int_lt, bit_and, bit_or, bit_xor, if◌then◌else◌}
+use Rattle.std.proofs.Common.{◌≡◌, refl, ℕ, suc, ◌<◌, List, Option, Some, None, Bool, true, false, arith}
+use Rattle.std.specs.Prelude.{◌-◌, ◌^◌, ℤ, pos, negsuc, neg_ℤ, ◌+ℤ◌, ◌-ℤ◌, ◌*ℤ◌, unsigned_abs, not, ◌&&◌, ◌||◌, nat_lt, nat_le, bit_and, bit_or, bit_xor, if◌then◌else◌}
 use Rattle.std.specs.Ordering.{int_eq}
 use Rattle.std.proofs.lemmas.Bool.Decides.{nat_tests}
 use Rattle.std.proofs.lemmas.Nat.{or_lt, xor_lt, and_le_l, pow_pos}
 use Rattle.std.proofs.Math.Nat.{pow-le-pow_right}
 use Rattle.ob_types.specs.declared.value.Value.{Value}
 use Rattle.ob_types.specs.declared.value.Value.TheVariants as literal
-use Rattle.ob_types.specs.declared.typed.Width.{Width}
 use Rattle.ob_types.specs.declared.typed.Width.TheVariants as width
 use Rattle.ob_types.specs.declared.typed.Comparison.{Comparison}
 use Rattle.ob_types.specs.declared.typed.Unary.{Unary}
@@ -17,8 +16,8 @@ use Rattle.ob_types.specs.declared.typed.Binary.TheVariants as binary
 use Rattle.ob_types.specs.declared.typed.Connective.{Connective}
 use Rattle.ob_types.specs.declared.typed.Connective.TheVariants as connective
 use Rattle.ob_types.specs.Assigning.{characters}
-use Rattle.ob_types.specs.Numbers.{is_in, is_positive, quotient, remainder, shifted, is_odd, capital, has_bit, element_in, holds, text_equal, text_less}
-use Rattle.ob_rules.specs.Constants.{when, integer, long, bounded_shift, shift_down, ash, of_nat, of_nats, all_elements, elements, byte_of, and_so, integer_in, set_in, char_in, truth_in, truth, fold_one, divided, up_to_end, same_truth, related, on_integers, on_sets, fold_two, texts_related, fold_texts, on_truths, fold_logical}
+use Rattle.ob_types.specs.Numbers.{is_in, is_positive, quotient, remainder, shifted, is_odd, capital, has_bit, element_in}
+use Rattle.ob_rules.specs.Constants.{when, integer, long, bounded_shift, shift_down, ash, of_nat, of_nats, all_elements, elements, byte_of, and_so, integer_in, set_in, char_in, truth_in, truth, fold_one, divided, related, on_integers, on_sets, fold_two, texts_related, fold_texts, on_truths, fold_logical}
 use Rattle.ob_typed.specs.Makes.{IfThere}
 use Rattle.ob_typed.specs.Known.{ConstantIs}
 

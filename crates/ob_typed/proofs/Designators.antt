@@ -1,15 +1,11 @@
 -- Designators that keep the rules are well typed: variables with their guards, dereferences, indices and fields.
 use Rattle.std.proofs.Common.{◌≡◌, refl, sym, ap, ◌∙◌, subst, ℕ, List, [], ◌∷◌, Option, Some, None, Bool, true, false}
-use Rattle.std.specs.Prelude.{◌&&◌, ◌||◌, is_some, bytes_eq, codes}
+use Rattle.std.specs.Prelude.{◌||◌, is_some}
 use Rattle.std.specs.List.{AllByRecursion}
 use Rattle.ob_tree.specs.declared.pos.Pos.{Pos}
 use Rattle.ob_tree.specs.declared.names.QName.{QName}
-use Rattle.ob_tree.specs.declared.ident.Ident.{Ident}
 use Rattle.ob_types.specs.declared.types.TypeRef.{TypeRef}
-use Rattle.ob_types.specs.declared.types.TypeRef.TheVariants as ref
-use Rattle.ob_types.specs.declared.types.Signature.{Signature}
 use Rattle.ob_types.specs.declared.desc.Field as described
-use Rattle.ob_types.specs.declared.typed.Passing.{Passing}
 use Rattle.ob_types.specs.declared.typed.Passing.TheVariants as passing
 use Rattle.ob_types.specs.declared.typed.Width.{Width}
 use Rattle.ob_types.specs.declared.typed.Width.TheVariants as width
@@ -17,27 +13,26 @@ use Rattle.ob_types.specs.declared.typed.Variable.{Variable}
 use Rattle.ob_types.specs.declared.typed.Variable.TheVariants as variable
 use Rattle.ob_types.specs.declared.typed.Guarded.{Guarded}
 use Rattle.ob_types.specs.declared.typed.Guarded.TheVariants as guarded
-use Rattle.ob_types.specs.declared.typed.TypedExpr.{TypedExpr}
-use Rattle.ob_types.specs.TypedSyntax.{Desig, OfVariable, Field, Index, Deref, Guard, Expr}
+use Rattle.ob_types.specs.TypedSyntax.{Desig, OfVariable, Index, Deref, Guard, Expr}
 use Rattle.ob_types.specs.TypedKinds.{variable_type}
 use Rattle.ob_types.specs.TypedView.{designator_view, expr_view}
 use Rattle.ob_types.proofs.TypedViews.{view_variable, view_field, view_index, view_deref, view_guard}
-use Rattle.ob_meaning.specs.Values.{Program, Form, PointerForm, ArrayForm, OpenForm, RecordForm, fields_of, form_in, record_in, Held}
+use Rattle.ob_meaning.specs.Values.{Program, Form, PointerForm, RecordForm, fields_of, form_in, record_in, Formals, Held}
 use Rattle.ob_relation.specs.Relation.{Sub}
 use Rattle.ob_relation.specs.Typed as typed
 use Rattle.ob_relation.specs.Typed.{longint, IsVariableRecord, IsRecordType}
 use Rattle.ob_rules.specs.declared.values.Place.{Place}
 use Rattle.ob_rules.specs.declared.values.Valued.{Valued}
-use Rattle.ob_rules.specs.Judged.{Judged, sound, noted, breaks, silent, wants, ◌▷◌}
-use Rattle.ob_rules.specs.Shapes.{Map, Member, AField, pointed, pointed_record, record_if, record_of, array_of, is_array, is_record, is_held, extends_record, member}
-use Rattle.ob_rules.specs.Names.{Around, map_of}
+use Rattle.ob_rules.specs.Judged.{Judged, sound, wants}
+use Rattle.ob_rules.specs.Shapes.{Map, AField, pointed, pointed_record, record_if, record_of, array_of, is_array, is_record, is_held, extends_record, member}
+use Rattle.ob_rules.specs.Names.{Around}
 use Rattle.ob_rules.specs.Values.{is_integer, width as width_at, tree}
 use Rattle.ob_rules.specs.Phrases.{dereferenced}
-use Rattle.ob_rules.specs.Designators.{is_var_record, variable_at, same_variable, if_so, if_extends, on_record, guard_kind, guard_of, guarded_by, with_guard, guard_if, guard_same, with_guards, variable_named, if_so_held, if_held, dereference_of, dereference, through_if, implicitly, indexed, index_into, index_if, index, field_of}
+use Rattle.ob_rules.specs.Designators.{is_var_record, variable_at, same_variable, if_so, if_extends, on_record, guard_kind, guard_of, guarded_by, with_guard, guard_if, guard_same, with_guards, if_so_held, dereference_of, dereference, through_if, implicitly, indexed, index_into, index_if, index, field_of}
 use Rattle.ob_typed.specs.Makes.{IfThere, Makes}
 use Rattle.ob_typed.specs.Forms.{IsKnown, ArrayIs, Forms}
 use Rattle.ob_typed.specs.Known.{VariableIs}
-use Rattle.ob_typed.specs.Kept.{DesignatorIs, PlaceIs, ValuedIs}
+use Rattle.ob_typed.specs.Kept.{DesignatorIs, PlaceIs}
 use Rattle.ob_typed.specs.Known.{pointee}
 use Rattle.ob_typed.specs.Meant.{GuardIs}
 use Rattle.ob_typed.proofs.Makes.{makes_then, makes_wants}
@@ -76,7 +71,7 @@ not_both t q u line e f = different (sym e ∙ f)
     different : PointerForm u ≡ RecordForm line (fields_of t) → ⊥
     different e = absurd cc
 
-module _ (program : Program) (Has : Signature → QName → Type 0) (unit : List ℕ) (held : List Held) (result : Option TypeRef) (map : Map) (forms : Forms program Has unit held result map) where
+module _ (program : Program) (Has : Formals → QName → Type 0) (unit : List ℕ) (held : List Held) (result : Option TypeRef) (map : Map) (forms : Forms program Has unit held result map) where
   abbrev Of : Desig → TypeRef → Bool → Type 0
   Of d t r = DesignatorIs program Has unit held result map d t r
 

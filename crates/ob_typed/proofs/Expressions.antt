@@ -1,26 +1,22 @@
 -- The law of expressions, by induction over the tree of the grammar.
-use Rattle.std.proofs.Common.{◌≡◌, refl, sym, ap, ◌∙◌, subst, ℕ, ◌<◌, List, [], ◌∷◌, map, Option, Some, None, Bool, true, false, arith}
+use Rattle.std.proofs.Common.{◌≡◌, sym, ◌∙◌, subst, ℕ, ◌<◌, List, [], ◌∷◌, map, Option, Some, None, Bool, true, arith}
 use Rattle.std.proofs.lemmas.Bool.Decides.{nat_tests}
-use Rattle.std.specs.Prelude.{◌&&◌, nat_lt}
-use Rattle.std.specs.Option.{option_map}
-use Rattle.ob_tree.specs.declared.pos.Pos.{Pos}
+use Rattle.std.specs.Prelude.{nat_lt}
 use Rattle.ob_tree.specs.declared.names.QName.{QName}
 use Rattle.ob_tree.specs.declared.expr.Expr.{Expr, roll-Expr, map-Expr}
 use Rattle.ob_tree.specs.declared.expr.Designator.{Designator, roll-Designator, map-Designator}
 use Rattle.ob_tree.specs.declared.expr.Element.{Element, roll-Element, map-Element}
 use Rattle.ob_tree.specs.declared.expr.Tail.{Tail, roll-Tail, map-Tail}
 use Rattle.ob_tree.specs.declared.expr.Selector.{Selector, roll-Selector, map-Selector}
-use Rattle.ob_tree.specs.declared.expr.Expr.TheOpen.{Expr-F, Tail-F, Element-F, Designator-F, Selector-F}
+use Rattle.ob_tree.specs.declared.expr.Expr.TheOpen.{Expr-F, Tail-F, Designator-F, Selector-F}
 use Rattle.ob_tree.specs.declared.expr.Expr.TheFolds.{ind-Expr, ind-Designator, ind-Element, fold-roll-Expr, fold-roll-Designator, fold-roll-Element, fold-roll-Tail, fold-roll-Selector}
 use Rattle.ob_types.specs.declared.types.TypeRef.{TypeRef}
-use Rattle.ob_types.specs.declared.types.Signature.{Signature}
-use Rattle.ob_meaning.specs.Values.{Program, Held}
+use Rattle.ob_meaning.specs.Values.{Program, Formals, Held}
 use Rattle.ob_relation.specs.Typed.{AreCharacters}
-use Rattle.ob_rules.specs.Phrases.{Phrase, Behind, Dot, Index, Up, Round}
+use Rattle.ob_rules.specs.Phrases.{Phrase, Behind}
 use Rattle.ob_rules.specs.Expressions.{Named, Ranged, Tailed, integer_text, marked, expr_rule, selector_rule, designator_rule, element_rule, tail_rule, phrase_of, named_of, ranged_of, tailed_of, behind_of}
-use Rattle.ob_typed.specs.Makes.{IfThere}
 use Rattle.ob_typed.specs.Meant.{PhraseIs, ArePhrases, BehindIs, AreBehind, NamedIs, RangedIs, AreRanged, AreTailed}
-use Rattle.ob_typed.specs.Spelled.{all_true, if_there, are_bytes, expr_layer, selector_layer, designator_layer, element_layer, tail_layer, is_spelled, designator_spelled, element_spelled, tail_spelled, selector_spelled}
+use Rattle.ob_typed.specs.Spelled.{all_true, are_bytes, expr_layer, selector_layer, designator_layer, element_layer, tail_layer, is_spelled, designator_spelled, element_spelled, tail_spelled, selector_spelled}
 use Rattle.ob_typed.proofs.Operators.{and_is}
 use Rattle.ob_typed.proofs.Phrases.{integer_is, char_is, string_is, nil_is, designator_is, paren_is, not_is, sign_is, chain_is, relate_is, set_phrase}
 
@@ -31,7 +27,7 @@ characters_are : (text : List ℕ) → are_bytes text ≡ true → AreCharacters
 characters_are [] e = tt
 characters_are (c ∷ cs) e = let p = and_is (nat_lt c 256) (are_bytes cs) e in (byte_small c p.0, characters_are cs p.1)
 
-module _ (program : Program) (Has : Signature → QName → Type 0) (unit : List ℕ) (held : List Held) (result : Option TypeRef) where
+module _ (program : Program) (Has : Formals → QName → Type 0) (unit : List ℕ) (held : List Held) (result : Option TypeRef) where
   abbrev PE : Expr → Type 0
   PE x = is_spelled x ≡ true → PhraseIs program Has unit held result (phrase_of x)
 

@@ -1,41 +1,36 @@
 -- The name at a designator's front, and the designator.
-use Rattle.std.proofs.Common.{◌≡◌, refl, sym, ap, ◌∙◌, subst, ℕ, List, [], ◌∷◌, Option, Some, None, Bool, true, false}
+use Rattle.std.proofs.Common.{◌≡◌, refl, ℕ, List, [], ◌∷◌, Option, Some, None, Bool, true, false}
 use Rattle.std.specs.Prelude.{bytes_eq}
 use Rattle.ob_tree.specs.declared.pos.Pos.{Pos}
 use Rattle.ob_tree.specs.declared.names.QName.{QName}
 use Rattle.ob_tree.specs.declared.ident.Ident.{Ident}
-use Rattle.ob_tree.specs.declared.ident.Mark.{Mark}
-use Rattle.ob_tree.specs.declared.ident.Mark.TheVariants as mark
 use Rattle.ob_types.specs.declared.types.TypeRef.{TypeRef}
-use Rattle.ob_types.specs.declared.types.Signature.{Signature}
 use Rattle.ob_types.specs.declared.desc.Desc.{Desc}
 use Rattle.ob_types.specs.declared.desc.Desc.TheVariants as desc
 use Rattle.ob_types.specs.declared.typed.OutProcedure.{OutProcedure}
 use Rattle.ob_types.specs.declared.typed.Variable.{Variable}
 use Rattle.ob_types.specs.declared.typed.Variable.TheVariants as variable
-use Rattle.ob_meaning.specs.Values.{Program, Held}
+use Rattle.ob_meaning.specs.Values.{Program, Formals, Held}
 use Rattle.ob_rules.specs.declared.entity.Entity.{Entity}
 use Rattle.ob_rules.specs.declared.entity.Entity.TheVariants as entity
 use Rattle.ob_rules.specs.declared.entity.Known.{Known}
 use Rattle.ob_rules.specs.declared.meant.Meant.{Meant}
 use Rattle.ob_rules.specs.declared.meant.Meant.TheVariants as means
 use Rattle.ob_rules.specs.declared.meant.Where.{Where}
-use Rattle.ob_rules.specs.declared.values.Place.{Place}
-use Rattle.ob_rules.specs.Judged.{Judged, sound, noted, breaks, made, ◌▷◌}
-use Rattle.ob_rules.specs.Names.{Around, map_of, find_name, is_enclosing, variable_known, entity_known, name_known, named, is_out, unless_hidden, record_unless_hidden, shown_of, export_known, exported, out_procedure}
-use Rattle.ob_rules.specs.Phrases.{Phrase, Behind, Dot, Index, Up, Round}
-use Rattle.ob_rules.specs.Designators.{variable_named, of_variable, is_read_only, exported_meant, out_meant, in_module, dot_of, module_front, front_of, is_module, behind, front, from_front_with, from_front, designates, through, all_visited}
+use Rattle.ob_rules.specs.Judged.{sound, made, ◌▷◌}
+use Rattle.ob_rules.specs.Names.{Around, map_of, find_name, is_enclosing, variable_known, entity_known, name_known, named, is_out, shown_of, export_known, out_procedure}
+use Rattle.ob_rules.specs.Phrases.{Behind}
+use Rattle.ob_rules.specs.Designators.{variable_named, of_variable, is_read_only, exported_meant, out_meant, in_module, dot_of, module_front, front_of, is_module, behind, front, from_front_with, designates}
 use Rattle.ob_typed.specs.Makes.{IfThere, Makes}
 use Rattle.ob_typed.specs.Known.{VariableIs, IsScoped}
 use Rattle.ob_typed.specs.Kept.{PlaceIs}
 use Rattle.ob_typed.specs.Meant.{GuardIs, RootIs, MeantIs, AreBehind}
 use Rattle.ob_typed.proofs.Makes.{makes_then, makes_made}
-use Rattle.ob_typed.proofs.Basics.{none_some, not_true, some_is}
 use Rattle.ob_typed.proofs.Roots.{rooted_is}
 use Rattle.ob_typed.proofs.Shown.{shown_is}
 use Rattle.ob_typed.proofs.Selectors.{through_is}
 
-module _ (program : Program) (Has : Signature → QName → Type 0) (unit : List ℕ) (held : List Held) (result : Option TypeRef) (u : Around) (scoped : IsScoped program Has unit held result u) where
+module _ (program : Program) (Has : Formals → QName → Type 0) (unit : List ℕ) (held : List Held) (result : Option TypeRef) (u : Around) (scoped : IsScoped program Has unit held result u) where
   abbrev M : Where → Meant → Type 0
   M w m = MeantIs program Has unit held result (map_of u) u.receiver w m
 

@@ -1,5 +1,5 @@
 -- WHILE, REPEAT, LOOP and FOR are well typed.
-use Rattle.std.proofs.Common.{◌≡◌, ◌⊎◌, inl, inr, ⊎_elim, refl, sym, ap, ◌∙◌, subst, ℕ, List, [], ◌∷◌, Option, Some, None, Bool, true, false}
+use Rattle.std.proofs.Common.{◌≡◌, ◌⊎◌, inl, inr, ⊎_elim, refl, sym, ap, ◌∙◌, subst, ℕ, List, ◌∷◌, Option, Some, None, Bool, true, false}
 use Rattle.std.specs.Prelude.{is_some, ℤ, pos}
 use Rattle.std.specs.Ordering.{int_eq}
 use Rattle.std.specs.List.{AllByRecursion}
@@ -9,7 +9,6 @@ use Rattle.ob_tree.specs.declared.ident.Ident.{Ident}
 use Rattle.ob_types.specs.declared.types.Basic.{Basic}
 use Rattle.ob_types.specs.declared.types.Basic.TheVariants as basic
 use Rattle.ob_types.specs.declared.types.TypeRef.{TypeRef}
-use Rattle.ob_types.specs.declared.types.Signature.{Signature}
 use Rattle.ob_types.specs.declared.value.Value.{Value as Literal}
 use Rattle.ob_types.specs.declared.value.Value.TheVariants as literal
 use Rattle.ob_types.specs.declared.typed.Width.{Width}
@@ -25,7 +24,7 @@ use Rattle.ob_types.specs.declared.typed.TypedStmt.TheVariants as stmt
 use Rattle.ob_types.specs.TypedSyntax.{Expr, Stmt}
 use Rattle.ob_types.specs.TypedView.{designator_view, expr_view, stmt_view}
 use Rattle.ob_types.proofs.TypedViews.{view_while, view_repeat, view_loop, view_for}
-use Rattle.ob_meaning.specs.Values.{Program, Form, BasicForm, PointerForm, ProcedureForm, RecordForm, form_in, fields_of, Held}
+use Rattle.ob_meaning.specs.Values.{Program, Form, BasicForm, PointerForm, ProcedureForm, RecordForm, form_in, Formals, Held}
 use Rattle.ob_types.specs.Numbers.{is_in}
 use Rattle.ob_relation.specs.Relation.{Scalar}
 use Rattle.ob_relation.specs.Passed.{IsPassed}
@@ -36,31 +35,31 @@ use Rattle.ob_rules.specs.declared.entity.Entity.TheVariants as entity
 use Rattle.ob_rules.specs.declared.values.Place.{Place}
 use Rattle.ob_rules.specs.declared.values.Valued.{Valued}
 use Rattle.ob_rules.specs.declared.values.Valued.TheVariants as valued
-use Rattle.ob_rules.specs.Judged.{Judged, sound, noted, both, wants, unless, is_quiet, ◌▷◌}
-use Rattle.ob_rules.specs.Shapes.{Map, basic_of, width_of, pointed, pointed_record, record_of}
+use Rattle.ob_rules.specs.Judged.{Judged, sound, both, is_quiet, ◌▷◌}
+use Rattle.ob_rules.specs.Shapes.{Map, basic_of, width_of, pointed_record, record_of}
 use Rattle.ob_rules.specs.Names.{Around, map_of, named}
 use Rattle.ob_rules.specs.Values.{tree, constant_in, fits, takes_value_of}
 use Rattle.ob_rules.specs.Phrases.{Phrase}
-use Rattle.ob_rules.specs.Designators.{variable_at, same_variable, guard_of, guard_kind, on_record, guarded_by, with_guard, guard_if, guard_same, with_guards, variable_named}
-use Rattle.ob_rules.specs.Expressions.{constant_of, constant_if, constant_judged, constant_value}
-use Rattle.ob_rules.specs.Statements.{Judging, in_turn, one, condition, while_statement, repeat_statement, in_loop, loop_statement, integer_place, for_variable, for_bound, step_value, step_of, for_step, width_or_long, for_made, bound_if, for_parts, for_with, for}
+use Rattle.ob_rules.specs.Designators.{variable_at, guard_of, guard_kind, on_record, guarded_by, with_guards, variable_named}
+use Rattle.ob_rules.specs.Expressions.{constant_of, constant_if, constant_value}
+use Rattle.ob_rules.specs.Statements.{Judging, in_turn, one, condition, while_statement, repeat_statement, in_loop, loop_statement, integer_place, for_variable, for_bound, step_value, for_step, width_or_long, for_made, bound_if, for_with, for}
 use Rattle.ob_typed.specs.Makes.{IfThere, Makes}
 use Rattle.ob_typed.specs.Forms.{IsKnown, Forms}
 use Rattle.ob_typed.specs.Known.{ConstantIs, VariableIs, IsScoped}
 use Rattle.ob_typed.specs.Kept.{PlaceIs, NodeIs, ValuedIs}
 use Rattle.ob_typed.specs.Meant.{PhraseIs}
-use Rattle.ob_typed.specs.Bodies.{AreStatements, JudgingIs, AreJudging}
+use Rattle.ob_typed.specs.Bodies.{AreStatements, AreJudging}
 use Rattle.ob_typed.proofs.Makes.{makes_then, makes_both, makes_wants, makes_unless}
-use Rattle.ob_typed.proofs.Basics.{none_some, not_true, some_is, width_back, width_basic, within_long}
+use Rattle.ob_typed.proofs.Basics.{none_some, not_true, width_back, within_long}
 use Rattle.ob_typed.proofs.Values.{Fits, W, place_fits, shown_place, shown_constant, integer_form}
 use Rattle.ob_typed.proofs.Roots.{guards_keep}
 use Rattle.ob_typed.proofs.Designators.{pointed_is, extends_is, variable_is, guarded_is}
 use Rattle.ob_typed.proofs.Assignable.{basic_there, constant_scalar, procedure_taken, scalar_fits}
 use Rattle.ob_typed.proofs.Fronts.{EntityIs, named_is}
 use Rattle.ob_typed.proofs.Bodies.{scoped_with, stmts_ok, in_turn_is}
-use Rattle.ob_typed.proofs.Simple.{IsCondition, condition_is}
+use Rattle.ob_typed.proofs.Simple.{condition_is}
 
-module _ (program : Program) (Has : Signature → QName → Type 0) (unit : List ℕ) (held : List Held) (result : Option TypeRef) where
+module _ (program : Program) (Has : Formals → QName → Type 0) (unit : List ℕ) (held : List Held) (result : Option TypeRef) where
   abbrev Ss : Bool → List TypedStmt → Type 0
   Ss l xs = AreStatements program Has unit held result l xs
 
@@ -131,7 +130,7 @@ module _ (program : Program) (Has : Signature → QName → Type 0) (unit : List
             h.2 longint (subst (λ z. W program Has unit held result z longint) (sym i.1) (typed.integers i.0 width.LongInt (within_long i.0)))
         by (kind.Procedure t) h f = let p = procedure_taken program Has unit held result map forms (expr_view n.tree.inner) v t h f in absurd (not_procedure p.0 (sym e ∙ p.1))
           where
-            not_procedure : (z : Signature) → integer w ≡ ProcedureForm z → ⊥
+            not_procedure : (z : Formals) → integer w ≡ ProcedureForm z → ⊥
             not_procedure z e = absurd cc
         by kind.Str h f = absurd h
         by kind.Nil h f = absurd h

@@ -1,6 +1,6 @@
 -- Operators of operands that are well typed.
-use Rattle.std.proofs.Common.{◌≡◌, refl, sym, ap, ◌∙◌, subst, ℕ, List, [], ◌∷◌, Option, Some, None, Bool, true, false}
-use Rattle.std.specs.Prelude.{◌&&◌, ◌||◌, is_some, ◌^◌, ◌<◌}
+use Rattle.std.proofs.Common.{◌≡◌, refl, sym, subst, ℕ, List, Option, Some, None, Bool, true, false}
+use Rattle.std.specs.Prelude.{◌&&◌}
 use Rattle.ob_tree.specs.declared.pos.Pos.{Pos}
 use Rattle.ob_tree.specs.declared.expr.Operator.{Operator}
 use Rattle.ob_tree.specs.declared.expr.Operator.TheVariants as op
@@ -10,12 +10,8 @@ use Rattle.ob_tree.specs.declared.names.QName.{QName}
 use Rattle.ob_types.specs.declared.types.Basic.{Basic}
 use Rattle.ob_types.specs.declared.types.Basic.TheVariants as basic
 use Rattle.ob_types.specs.declared.types.TypeRef.{TypeRef}
-use Rattle.ob_types.specs.declared.types.TypeRef.TheVariants as ref
-use Rattle.ob_types.specs.declared.types.Signature.{Signature}
 use Rattle.ob_types.specs.declared.typed.Width.{Width}
-use Rattle.ob_types.specs.declared.typed.Width.TheVariants as width
 use Rattle.ob_types.specs.declared.value.Value.{Value as Literal}
-use Rattle.ob_types.specs.declared.value.Value.TheVariants as literal
 use Rattle.ob_types.specs.declared.typed.Unary.{Unary}
 use Rattle.ob_types.specs.declared.typed.Unary.TheVariants as unary
 use Rattle.ob_types.specs.declared.typed.Binary.{Binary}
@@ -25,31 +21,27 @@ use Rattle.ob_types.specs.declared.typed.Connective.TheVariants as connective
 use Rattle.ob_types.specs.declared.typed.TypedExpr.{TypedExpr}
 use Rattle.ob_types.specs.declared.typed.TypedExpr.TheVariants as e
 use Rattle.ob_types.specs.declared.typed.ExprType.{ExprType}
-use Rattle.ob_types.specs.declared.typed.ExprType.TheVariants as kind
-use Rattle.ob_types.specs.TypedSyntax.{Desig, Expr, Monadic, Dyadic, Logical}
+use Rattle.ob_types.specs.TypedSyntax.{Expr, Monadic, Dyadic, Logical}
 use Rattle.ob_types.specs.TypedKinds.{of_basic, unary_type, binary_type}
 use Rattle.ob_types.specs.TypedView.{designator_view, expr_view}
 use Rattle.ob_types.proofs.TypedViews.{view_monadic, view_dyadic, view_logical}
-use Rattle.ob_meaning.specs.Values.{Program, Form, BasicForm, form_in, Held}
+use Rattle.ob_meaning.specs.Values.{Program, Form, BasicForm, Formals, Held}
 use Rattle.ob_relation.specs.Relation.{Scalar}
 use Rattle.ob_relation.specs.Typed as typed
 use Rattle.ob_relation.specs.Typed.{integer, boolean, set}
-use Rattle.ob_rules.specs.declared.values.Place.{Place}
 use Rattle.ob_rules.specs.declared.values.Valued.{Valued}
 use Rattle.ob_rules.specs.declared.values.Valued.TheVariants as valued
-use Rattle.ob_rules.specs.Judged.{Judged}
 use Rattle.ob_rules.specs.Shapes.{Map, wider, width_of}
 use Rattle.ob_rules.specs.Constants.{fold_one, fold_two, fold_logical}
 use Rattle.ob_rules.specs.Values.{is, width as width_at, tree, computed, constant_in}
-use Rattle.ob_rules.specs.Operators.{folded, monadic, two_of, dyadic, logical, if_fit, wider_of, integers, are, if_are, integers_or_sets, of_integers, binary_of, connected, combined, negated, opposite, only_value, signed_as, signed}
+use Rattle.ob_rules.specs.Operators.{folded, monadic, two_of, dyadic, if_fit, wider_of, integers, are, if_are, integers_or_sets, of_integers, binary_of, connected, combined, negated, opposite, only_value, signed_as, signed}
 use Rattle.ob_typed.specs.Makes.{IfThere, Makes}
-use Rattle.ob_typed.specs.Forms.{IsDeclared, Widens, Forms}
+use Rattle.ob_typed.specs.Forms.{Forms}
 use Rattle.ob_typed.specs.Known.{ConstantIs}
-use Rattle.ob_typed.specs.Kept.{PlaceIs, NodeIs, ValuedIs}
-use Rattle.ob_typed.proofs.Makes.{makes_sound, makes_breaks}
+use Rattle.ob_typed.specs.Kept.{NodeIs, ValuedIs}
 use Rattle.ob_typed.proofs.Constants.{fold_one_is, fold_two_is, fold_logical_is}
-use Rattle.ob_typed.proofs.Basics.{form_basic, none_some, not_true, some_is, width_of_width, left_within, right_within}
-use Rattle.ob_typed.proofs.Values.{Fits, W, V, place_fits, shown_place, integer_form, width_fits, basic_fits, basic_node}
+use Rattle.ob_typed.proofs.Basics.{not_true, width_of_width, left_within, right_within}
+use Rattle.ob_typed.proofs.Values.{Fits, W, place_fits, shown_place, integer_form, width_fits, basic_fits, basic_node}
 
 -- the type of what an operation gives
 abbrev pub unary_basic : Unary → Basic
@@ -113,7 +105,7 @@ and_is true true e = (refl, refl)
 and_is true false e = not_true e
 and_is false b e = not_true e
 
-module _ (program : Program) (Has : Signature → QName → Type 0) (unit : List ℕ) (held : List Held) (result : Option TypeRef) where
+module _ (program : Program) (Has : Formals → QName → Type 0) (unit : List ℕ) (held : List Held) (result : Option TypeRef) where
   unary_out_is : (o : Unary) → typed.unary_out program Has unit held result o ≡ BasicForm (unary_basic o)
   unary_out_is (unary.Negate w) = refl
   unary_out_is unary.Not = refl

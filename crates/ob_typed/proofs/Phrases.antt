@@ -1,7 +1,7 @@
 -- Each alternative of an expression, of parts that are well typed.
-use Rattle.std.proofs.Common.{◌≡◌, refl, sym, ap, ◌∙◌, subst, ℕ, zero, suc, ◌<◌, List, [], ◌∷◌, map, length, Option, Some, None, Bool, true, false, not, arith}
+use Rattle.std.proofs.Common.{◌≡◌, refl, sym, subst, ℕ, zero, suc, ◌<◌, List, [], ◌∷◌, map, length, Option, Some, None, Bool, true, false, not, arith}
 use Rattle.std.proofs.lemmas.Bool.Decides.{nat_tests}
-use Rattle.std.specs.Prelude.{◌&&◌, ◌^◌, nat_le, nat_lt, pos}
+use Rattle.std.specs.Prelude.{nat_le, pos}
 use Rattle.ob_tree.specs.declared.pos.Pos.{Pos}
 use Rattle.ob_tree.specs.declared.names.QName.{QName}
 use Rattle.ob_tree.specs.declared.ident.Qualident.{Qualident}
@@ -10,18 +10,14 @@ use Rattle.ob_tree.specs.declared.expr.Relation.{Relation}
 use Rattle.ob_tree.specs.declared.expr.Relation.TheVariants as relates
 use Rattle.ob_types.specs.declared.types.TypeRef.{TypeRef}
 use Rattle.ob_types.specs.declared.types.Signature.{Signature}
-use Rattle.ob_types.specs.declared.value.Value.{Value as Literal}
 use Rattle.ob_types.specs.declared.value.Value.TheVariants as literal
 use Rattle.ob_types.specs.declared.typed.TypedExpr.TheVariants as e
 use Rattle.ob_types.specs.declared.typed.ExprType.TheVariants as kind
-use Rattle.ob_types.specs.AssigningTests.{is_value, alike_to}
-use Rattle.ob_types.specs.TypedSyntax.{ProcedureValue}
+use Rattle.ob_types.specs.AssigningTests.{is_value}
 use Rattle.ob_types.specs.TypedView.{expr_view}
 use Rattle.ob_types.proofs.TypedViews.{view_procedure_value}
-use Rattle.ob_meaning.specs.Values.{Program, ProcedureForm, Held}
-use Rattle.ob_relation.specs.Typed as typed
+use Rattle.ob_meaning.specs.Values.{Program, Formals, formals_in, Held}
 use Rattle.ob_relation.specs.Typed.{AreCharacters}
-use Rattle.ob_rules.specs.declared.meant.ElementOf.{ElementOf}
 use Rattle.ob_rules.specs.declared.meant.Meant.{Meant}
 use Rattle.ob_rules.specs.declared.meant.Meant.TheVariants as means
 use Rattle.ob_rules.specs.declared.meant.Where.TheVariants.{InExpression}
@@ -32,14 +28,13 @@ use Rattle.ob_rules.specs.Names.{Around, map_of, type_named}
 use Rattle.ob_rules.specs.Values.{constant, computed}
 use Rattle.ob_rules.specs.Constants.{text_value}
 use Rattle.ob_rules.specs.Operators.{combined, opposite, signed, related, element, set_of}
-use Rattle.ob_rules.specs.Phrases.{Phrase, Behind}
-use Rattle.ob_rules.specs.Designators.{designates}
-use Rattle.ob_rules.specs.Expressions.{integer_literal, char_literal, procedure_value, value_meant, Named, meant_by, designator_phrase, testable, test, untestable, type_test, other_test, is_test, phrase, Tailed, combine_all, bracketed, Ranged, value_if, element_value, relation_of, relation_value}
+use Rattle.ob_rules.specs.Phrases.{Phrase}
+use Rattle.ob_rules.specs.Expressions.{integer_literal, char_literal, procedure_value, value_meant, Named, meant_by, designator_phrase, testable, test, untestable, is_test, phrase, Tailed, combine_all, bracketed, Ranged, value_if, element_value, relation_of, relation_value}
 use Rattle.ob_typed.specs.Makes.{IfThere, Makes}
 use Rattle.ob_typed.specs.Forms.{IsKnown}
 use Rattle.ob_typed.specs.Known.{ConstantIs, ProcedureIs, IsScoped}
 use Rattle.ob_typed.specs.Kept.{NodeIs, ValuedIs}
-use Rattle.ob_typed.specs.Meant.{MeantIs, MeantBy, PhraseIs, NamedIs, RangedIs, AreRanged, AreTailed}
+use Rattle.ob_typed.specs.Meant.{MeantIs, PhraseIs, NamedIs, RangedIs, AreRanged, AreTailed}
 use Rattle.ob_typed.proofs.Makes.{Each, makes_then, makes_made, makes_both, makes_wants, makes_also, makes_each}
 use Rattle.ob_typed.proofs.Operators.{combined_is, opposite_is, signed_is}
 use Rattle.ob_typed.proofs.Relations.{related_is}
@@ -64,7 +59,7 @@ text_is (c ∷ d ∷ cs) h = (h, λ e. no_one e)
     no_one : suc (suc (length cs)) ≡ 1 → ⊥
     no_one e = omega (arith, e)
 
-module _ (program : Program) (Has : Signature → QName → Type 0) (unit : List ℕ) (held : List Held) (result : Option TypeRef) where
+module _ (program : Program) (Has : Formals → QName → Type 0) (unit : List ℕ) (held : List Held) (result : Option TypeRef) where
   abbrev Ph : Phrase → Type 0
   Ph p = PhraseIs program Has unit held result p
 
@@ -94,7 +89,7 @@ module _ (program : Program) (Has : Signature → QName → Type 0) (unit : List
   -- DESIGNATORS
 
   procedure_node : (map : Map) (q : QName) (s : Signature) → ProcedureIs program Has unit held result map q s → is_value q ≡ true → NodeIs program Has unit held result map (expr_view (e.Procedure q s)) (kind.Procedure s)
-  procedure_node map q s h k = subst (λ y. NodeIs program Has unit held result map y (kind.Procedure s)) (sym (view_procedure_value q s)) ((s, refl, h.own k), λ t d l. (t, refl, h.alike t d k l))
+  procedure_node map q s h k = subst (λ y. NodeIs program Has unit held result map y (kind.Procedure s)) (sym (view_procedure_value q s)) (h.signature, (formals_in program s, refl, h.own k))
 
   procedure_there : (u : Around) (b : Bool) (at : Pos) (q : QName) (s : Signature) → ProcedureIs program Has unit held result (map_of u) q s → is_value q ≡ b → Makes (Is u) (procedure_value b at q (computed (e.Procedure q s) (kind.Procedure s)))
   procedure_there u true at q s h k = record { node = procedure_node (map_of u) q s h k }

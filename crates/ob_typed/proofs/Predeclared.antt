@@ -1,41 +1,31 @@
 -- Calls of predeclared procedures are well typed.
-use Rattle.std.proofs.Common.{◌≡◌, ◌⊎◌, inl, inr, ⊎_elim, refl, sym, ap, ◌∙◌, subst, ℕ, zero, suc, ◌+◌, ◌<◌, List, [], ◌∷◌, length, Option, Some, None, Bool, true, false, not, arith}
+use Rattle.std.proofs.Common.{◌≡◌, refl, sym, ap, ◌∙◌, subst, ℕ, zero, suc, ◌<◌, List, Option, Some, None, Bool, true, false, arith}
 use Rattle.std.proofs.lemmas.Bool.Decides.{nat_tests}
-use Rattle.std.specs.Prelude.{◌&&◌, ◌||◌, ◌^◌, is_some, nat_eq, nat_lt, ℤ, pos, negsuc}
+use Rattle.std.specs.Prelude.{nat_eq, ℤ, pos, negsuc}
 use Rattle.ob_tree.specs.declared.pos.Pos.{Pos}
 use Rattle.ob_tree.specs.declared.names.QName.{QName}
-use Rattle.ob_tree.specs.declared.ident.Qualident.{Qualident}
 use Rattle.ob_types.specs.declared.types.Basic.{Basic}
 use Rattle.ob_types.specs.declared.types.Basic.TheVariants as basic
 use Rattle.ob_types.specs.declared.types.TypeRef.{TypeRef}
-use Rattle.ob_types.specs.declared.types.TypeRef.TheVariants as ref
-use Rattle.ob_types.specs.declared.types.Signature.{Signature}
-use Rattle.ob_types.specs.declared.value.Value.{Value as Literal}
 use Rattle.ob_types.specs.declared.value.Value.TheVariants as literal
 use Rattle.ob_types.specs.declared.typed.Width.{Width}
 use Rattle.ob_types.specs.declared.typed.Width.TheVariants as width
-use Rattle.ob_types.specs.declared.typed.Unary.{Unary}
-use Rattle.ob_types.specs.declared.typed.Unary.TheVariants as unary
-use Rattle.ob_types.specs.declared.typed.Binary.TheVariants as binary
 use Rattle.ob_types.specs.declared.typed.Update.{Update}
 use Rattle.ob_types.specs.declared.typed.Update.TheVariants as update
 use Rattle.ob_types.specs.declared.typed.Made.{Made}
 use Rattle.ob_types.specs.declared.typed.Made.TheVariants as made_of
-use Rattle.ob_types.specs.declared.typed.TypedExpr.{TypedExpr}
 use Rattle.ob_types.specs.declared.typed.TypedExpr.TheVariants as e
 use Rattle.ob_types.specs.declared.typed.TypedStmt.{TypedStmt}
 use Rattle.ob_types.specs.declared.typed.TypedStmt.TheVariants as stmt
-use Rattle.ob_types.specs.TypedSyntax.{Desig, Expr, Length, Stmt, Updated, Copy, New, NewOpenArray, Assert, Halt}
+use Rattle.ob_types.specs.TypedSyntax.{Desig, Expr, Length, Stmt, Updated, New, NewOpenArray, Assert}
 use Rattle.ob_types.specs.TypedKinds.{of_basic, variable_type}
 use Rattle.ob_types.specs.TypedView.{designator_view, expr_view, stmt_view}
-use Rattle.ob_types.proofs.TypedViews.{view_length, view_updated, view_copy, view_new, view_new_open_array, view_assert, view_halt}
-use Rattle.ob_meaning.specs.Values.{Program, Form, BasicForm, PointerForm, OpenForm, form_in, record_in, Held}
+use Rattle.ob_types.proofs.TypedViews.{view_length, view_updated, view_new, view_new_open_array, view_assert}
+use Rattle.ob_meaning.specs.Values.{Program, Form, PointerForm, OpenForm, form_in, Formals, Held}
 use Rattle.ob_types.specs.Numbers.{is_in}
 use Rattle.ob_relation.specs.Relation.{IsLength}
 use Rattle.ob_relation.specs.Typed as typed
 use Rattle.ob_relation.specs.Typed.{Within, integer, longint, boolean, char, set}
-use Rattle.ob_rules.specs.declared.broken.Predeclared.{Predeclared}
-use Rattle.ob_rules.specs.declared.broken.Predeclared.TheVariants as pre
 use Rattle.ob_rules.specs.declared.meant.Asked.{Asked}
 use Rattle.ob_rules.specs.declared.meant.Asked.TheVariants as asked
 use Rattle.ob_rules.specs.declared.entity.Received.{Received}
@@ -46,26 +36,21 @@ use Rattle.ob_rules.specs.declared.meant.Where.TheVariants.{InExpression, AsStat
 use Rattle.ob_rules.specs.declared.values.Place.{Place}
 use Rattle.ob_rules.specs.declared.values.Valued.{Valued}
 use Rattle.ob_rules.specs.declared.values.Valued.TheVariants as valued
-use Rattle.ob_rules.specs.Judged.{Judged, sound, silent, breaks, also, wants, unless, both, each_sound, made, ◌▷◌}
-use Rattle.ob_rules.specs.Shapes.{Map, basic_of, array_of, pointed, is_held, record_of}
-use Rattle.ob_rules.specs.Names.{Around, map_of}
-use Rattle.ob_rules.specs.Values.{constant, computed, value_at, is, width as width_of, is_integer, is_chars, tree, text_tree, constant_in, place_in}
-use Rattle.ob_rules.specs.Operators.{monadic, dyadic, only_value, and_so}
-use Rattle.ob_rules.specs.Operators as operators
+use Rattle.ob_rules.specs.Judged.{Judged, sound, made}
+use Rattle.ob_rules.specs.Shapes.{Map, array_of, pointed, is_held, record_of}
+use Rattle.ob_rules.specs.Values.{constant, computed, is, width as width_of, tree, place_in}
+use Rattle.ob_rules.specs.Operators.{only_value, and_so}
 use Rattle.ob_rules.specs.Calls.{misplaced}
-use Rattle.ob_rules.specs.Phrases.{Phrase}
-use Rattle.ob_rules.specs.Predeclared.{changed_meant, changed_as, changed, must_be_constant, values, asked_first, asked_second, parameter, parameters_behind, parameters, is_function, value, does, if_is, on_width, longer, shorter, dimension, length_of, len_at, len_of, number_in, one, step, element_step, is_text, new_array, new_fixed, new_elements, if_held, new_one, new_many, fit_one, fit_two, fit, if_fit, call_fit, extreme, type_parameter, extreme_of, basic_if, extreme_call, call_predeclared}
+use Rattle.ob_rules.specs.Predeclared.{does, if_is, longer, dimension, length_of, len_at, len_of, one, step, element_step, new_array, new_fixed, new_elements, if_held, new_one, new_many, extreme}
 use Rattle.ob_typed.specs.Makes.{IfThere, Makes}
 use Rattle.ob_typed.specs.Forms.{IsDeclared, ArrayIs, Forms}
-use Rattle.ob_typed.specs.Known.{ConstantIs, IsScoped}
-use Rattle.ob_typed.specs.Kept.{DesignatorIs, PlaceIs, NodeIs, ValuedIs}
-use Rattle.ob_typed.specs.Meant.{CalledIs, MeantIs, MeantBy, PhraseIs, ArePhrases}
-use Rattle.ob_typed.proofs.Makes.{makes_then, makes_made, makes_both, makes_wants, makes_also, makes_unless}
-use Rattle.ob_typed.proofs.Basics.{form_basic, none_some, not_true, some_is, within_long}
-use Rattle.ob_typed.proofs.Values.{Fits, W, basic_node, width_fits, basic_fits, integer_form, basic_form}
-use Rattle.ob_typed.proofs.Operators.{and_is, monadic_is, dyadic_is}
-use Rattle.ob_typed.proofs.Designators.{form_is, long_fits}
-use Rattle.ob_typed.proofs.Relations.{or_is, text_fits, char_array_is}
+use Rattle.ob_typed.specs.Known.{ConstantIs}
+use Rattle.ob_typed.specs.Kept.{PlaceIs, NodeIs, ValuedIs}
+use Rattle.ob_typed.specs.Meant.{CalledIs, MeantIs}
+use Rattle.ob_typed.proofs.Makes.{makes_made}
+use Rattle.ob_typed.proofs.Basics.{none_some, not_true, some_is, within_long}
+use Rattle.ob_typed.proofs.Values.{Fits, basic_node, width_fits, basic_fits, integer_form, basic_form}
+use Rattle.ob_typed.proofs.Designators.{form_is}
 use Rattle.ob_typed.proofs.Assignable.{nat_is}
 
 pub so_is : {A B : Type 0} (P : B → Type 0) (o : Option A) (f : A → Option B) → ((x : A) → o ≡ Some x → IfThere P (f x)) → IfThere P (and_so o f)
@@ -118,7 +103,7 @@ extreme_is false basic.LongInt = refl
 extreme_is true basic.Set = refl
 extreme_is false basic.Set = refl
 
-module _ (program : Program) (Has : Signature → QName → Type 0) (unit : List ℕ) (held : List Held) (result : Option TypeRef) where
+module _ (program : Program) (Has : Formals → QName → Type 0) (unit : List ℕ) (held : List Held) (result : Option TypeRef) where
   abbrev Ex : Expr → Form → Type 0
   Ex x t = Fits program Has unit held result x t
 

@@ -1,6 +1,6 @@
 -- Relations between operands that are well typed.
-use Rattle.std.proofs.Common.{◌≡◌, ◌⊎◌, inl, inr, ⊎_elim, refl, sym, ap, ◌∙◌, subst, ℕ, ◌<◌, List, [], ◌∷◌, Option, Some, None, Bool, true, false}
-use Rattle.std.specs.Prelude.{◌&&◌, ◌||◌, is_some, ◌^◌}
+use Rattle.std.proofs.Common.{◌≡◌, ◌⊎◌, inl, inr, ⊎_elim, refl, sym, ap, ◌∙◌, subst, ℕ, List, [], ◌∷◌, Option, Some, None, Bool, true, false}
+use Rattle.std.specs.Prelude.{◌&&◌, ◌||◌, is_some}
 use Rattle.ob_tree.specs.declared.pos.Pos.{Pos}
 use Rattle.ob_tree.specs.declared.names.QName.{QName}
 use Rattle.ob_tree.specs.declared.expr.Relation.{Relation}
@@ -18,31 +18,27 @@ use Rattle.ob_types.specs.declared.typed.Comparison.{Comparison}
 use Rattle.ob_types.specs.declared.typed.Comparison.TheVariants as comparison
 use Rattle.ob_types.specs.declared.typed.Compared.{Compared}
 use Rattle.ob_types.specs.declared.typed.Compared.TheVariants as compared
-use Rattle.ob_types.specs.declared.typed.TypedExpr.{TypedExpr}
 use Rattle.ob_types.specs.declared.typed.TypedExpr.TheVariants as e
 use Rattle.ob_types.specs.declared.typed.ExprType.{ExprType}
 use Rattle.ob_types.specs.declared.typed.ExprType.TheVariants as kind
-use Rattle.ob_types.specs.Tests.{same_at, shape_at, pointer_of, signature_of}
-use Rattle.ob_types.specs.TypedSyntax.{Desig, Expr, Constant, ValueOf, CompareTexts}
-use Rattle.ob_types.specs.TypedKinds.{of_basic, constant_type, variable_type}
+use Rattle.ob_types.specs.Tests.{shape_at, pointer_of, signature_of}
+use Rattle.ob_types.specs.TypedSyntax.{Expr, CompareTexts}
+use Rattle.ob_types.specs.TypedKinds.{of_basic, constant_type}
 use Rattle.ob_types.specs.TypedView.{designator_view, expr_view}
 use Rattle.ob_types.proofs.TypedViews.{view_constant, view_value_of, view_compare_texts}
-use Rattle.ob_meaning.specs.Values.{Program, Form, BasicForm, PointerForm, ProcedureForm, ArrayForm, OpenForm, form_in, Held}
+use Rattle.ob_meaning.specs.Values.{Program, Form, BasicForm, PointerForm, ProcedureForm, ArrayForm, OpenForm, form_in, Formals, formals_in, Held}
 use Rattle.ob_relation.specs.Relation.{Scalar}
 use Rattle.ob_relation.specs.Typed as typed
 use Rattle.ob_relation.specs.Typed.{longint, boolean, char, set, integer, IsEquality}
-use Rattle.ob_rules.specs.declared.values.Place.{Place}
-use Rattle.ob_rules.specs.declared.values.Computed.{Computed}
 use Rattle.ob_rules.specs.declared.values.Valued.{Valued}
 use Rattle.ob_rules.specs.declared.values.Valued.TheVariants as valued
 use Rattle.ob_rules.specs.Shapes.{Map, pointed, signature_at, array_of, array_at, is_char_array, element_is}
 use Rattle.ob_rules.specs.Constants.{fold_texts}
-use Rattle.ob_rules.specs.Values.{is, width as width_at, is_integer, tree, type, type_in, computed, constant_in, text_of, text_tree, is_chars, is_nil, points, signature}
-use Rattle.ob_rules.specs.Operators.{two_of, dyadic, texts, integers, wider_of, are, comparison_of, is_equality, is_text, extends_either, signatures_match, are_pointers, are_procedures, choose, chosen, compared_as, compare_as, contained, compare, related}
+use Rattle.ob_rules.specs.Values.{is, width as width_at, is_integer, tree, type, type_in, computed, text_tree, is_chars, is_nil, points, signature}
+use Rattle.ob_rules.specs.Operators.{texts, integers, wider_of, are, comparison_of, is_equality, is_text, extends_either, signatures_match, are_pointers, are_procedures, choose, chosen, compared_as, compare_as, contained, compare, related}
 use Rattle.ob_typed.specs.Makes.{IfThere, Makes}
 use Rattle.ob_typed.specs.Forms.{IsDeclared, ArrayIs, Forms}
-use Rattle.ob_typed.specs.Known.{ConstantIs}
-use Rattle.ob_typed.specs.Kept.{DesignatorIs, PlaceIs, NodeIs, ValuedIs}
+use Rattle.ob_typed.specs.Kept.{NodeIs, ValuedIs}
 use Rattle.ob_typed.proofs.Makes.{Each}
 use Rattle.ob_typed.proofs.Constants.{fold_texts_is}
 use Rattle.ob_typed.proofs.Basics.{form_basic, target_basic, none_some, not_true, some_is, number_type, smallest_of, within_long}
@@ -106,7 +102,7 @@ chosen_is : {A : Type 0} (P : A → Type 0) (ps : List (Bool × A)) → Each (λ
 chosen_is P [] h = tt
 chosen_is P (p ∷ ps) h = choose_is P p.0 p.1 (chosen ps) h.0 (chosen_is P ps h.1)
 
-module _ (program : Program) (Has : Signature → QName → Type 0) (unit : List ℕ) (held : List Held) (result : Option TypeRef) (map : Map) (forms : Forms program Has unit held result map) where
+module _ (program : Program) (Has : Formals → QName → Type 0) (unit : List ℕ) (held : List Held) (result : Option TypeRef) (map : Map) (forms : Forms program Has unit held result map) where
   abbrev Ex : Expr → Form → Type 0
   Ex x t = Fits program Has unit held result x t
 
@@ -157,13 +153,13 @@ module _ (program : Program) (Has : Signature → QName → Type 0) (unit : List
       by kind.Nothing h e = absurd h
 
   -- a procedure, of some signature
-  pub some_procedure : (x : Valued) (s : Signature) → Is x → signature map (type x) ≡ Some s → (t : Signature) × Ex (expr_view (tree x)) (ProcedureForm t)
+  pub some_procedure : (x : Valued) (s : Signature) → Is x → signature map (type x) ≡ Some s → (t : Formals) × Ex (expr_view (tree x)) (ProcedureForm t)
   some_procedure (valued.Constant c) s h r = by c r
     where
-      basic_none : (b : Basic) → signature map (of_basic b) ≡ Some s → (t : Signature) × Ex (expr_view (e.Constant c)) (ProcedureForm t)
+      basic_none : (b : Basic) → signature map (of_basic b) ≡ Some s → (t : Formals) × Ex (expr_view (e.Constant c)) (ProcedureForm t)
       basic_none b e = none_some (sym (signature_basic map b) ∙ e)
 
-      by : (d : Literal) → signature map (constant_type d) ≡ Some s → (t : Signature) × Ex (expr_view (e.Constant c)) (ProcedureForm t)
+      by : (d : Literal) → signature map (constant_type d) ≡ Some s → (t : Formals) × Ex (expr_view (e.Constant c)) (ProcedureForm t)
       by (literal.Bool b) e = basic_none basic.Boolean e
       by (literal.Char c) e = basic_none basic.Char e
       by (literal.Int z) e = basic_none (typed.basic_of (smallest_of z)) (sym (ap (signature map) (number_type z)) ∙ e)
@@ -171,12 +167,12 @@ module _ (program : Program) (Has : Signature → QName → Type 0) (unit : List
       by (literal.Str text) e = none_some e
       by literal.Nil e = none_some e
   some_procedure (valued.Place p) s h e =
-      (s, shown_place program Has unit held result map forms p (ProcedureForm s) (place_fits program Has unit held result map forms (designator_view p.designator.inner) p.of p.var_record (ProcedureForm s) (ProcedureForm s) h (forms.procedures p.of s e).0 tt typed.itself))
+      (formals_in program s, shown_place program Has unit held result map forms p (ProcedureForm (formals_in program s)) (place_fits program Has unit held result map forms (designator_view p.designator.inner) p.of p.var_record (ProcedureForm (formals_in program s)) (ProcedureForm (formals_in program s)) h (forms.procedures p.of s e).0 tt typed.itself))
   some_procedure (valued.Node n) s h e = by n.of h e
     where
-      by : (k : ExprType) → NodeIs program Has unit held result map (expr_view n.tree.inner) k → signature map k ≡ Some s → (t : Signature) × Ex (expr_view n.tree.inner) (ProcedureForm t)
-      by (kind.Of t) h e = (s, h.2 (ProcedureForm s) (subst (λ g. W program Has unit held result g (ProcedureForm s)) (sym (forms.procedures t s e).0) typed.itself))
-      by (kind.Procedure t) h e = (t, h.0)
+      by : (k : ExprType) → NodeIs program Has unit held result map (expr_view n.tree.inner) k → signature map k ≡ Some s → (t : Formals) × Ex (expr_view n.tree.inner) (ProcedureForm t)
+      by (kind.Of t) h e = (formals_in program s, h.2 (ProcedureForm (formals_in program s)) (subst (λ g. W program Has unit held result g (ProcedureForm (formals_in program s))) (sym (forms.procedures t s e).0) typed.itself))
+      by (kind.Procedure t) h e = (formals_in program t, h.1)
       by kind.Str h e = none_some e
       by kind.Nil h e = none_some e
       by kind.Nothing h e = none_some e
@@ -216,10 +212,10 @@ module _ (program : Program) (Has : Signature → QName → Type 0) (unit : List
       (λ f. let p = and_is (is_nil (type b)) (is_some (signature map (type a))) f in let s = held_by a h p.1 in pair s (s.0, nil_fits b (ProcedureForm s.0) k p.0 (inr (s.0, refl)))) g)
       (one_is (signatures_match map (signature map (type a)) (signature map (type b))) (is_nil (type a) && is_some (signature map (type b))) (is_nil (type b) && is_some (signature map (type a))) e)
     where
-      held_by : (x : Valued) → Is x → is_some (signature map (type x)) ≡ true → (t : Signature) × Ex (expr_view (tree x)) (ProcedureForm t)
+      held_by : (x : Valued) → Is x → is_some (signature map (type x)) ≡ true → (t : Formals) × Ex (expr_view (tree x)) (ProcedureForm t)
       held_by x h e = let s = some_of (signature map (type x)) e in some_procedure x s.0 h s.1
 
-      pair : (t : Signature) × Ex (expr_view (tree a)) (ProcedureForm t) → (u : Signature) × Ex (expr_view (tree b)) (ProcedureForm u) → Compares r a b compared.Procedure
+      pair : (t : Formals) × Ex (expr_view (tree a)) (ProcedureForm t) → (u : Formals) × Ex (expr_view (tree b)) (ProcedureForm u) → Compares r a b compared.Procedure
       pair x y = record { u = ProcedureForm x.0; v = ProcedureForm y.0; ok = typed.procedures r x.0 y.0 q; left = x.1; right = y.1 }
 
   compared_is : (r : Comparison) (a b : Valued) → Is a → Is b → IfThere (Compares r a b) (compared_as map (is_equality r) a b)

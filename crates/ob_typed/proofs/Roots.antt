@@ -1,25 +1,24 @@
 -- A name with the guards of WITH around it: what the guards keep, and the receiver's variable.
 use Rattle.std.proofs.Common.{◌≡◌, refl, sym, ap, ◌∙◌, subst, ℕ, List, [], ◌∷◌, Option, Some, None, Bool, true, false}
-use Rattle.std.specs.Prelude.{◌||◌, is_some}
+use Rattle.std.specs.Prelude.{◌||◌}
 use Rattle.std.specs.List.{AllByRecursion}
 use Rattle.ob_tree.specs.declared.pos.Pos.{Pos}
 use Rattle.ob_tree.specs.declared.names.QName.{QName}
 use Rattle.ob_types.specs.declared.types.TypeRef.{TypeRef}
-use Rattle.ob_types.specs.declared.types.Signature.{Signature}
 use Rattle.ob_types.specs.declared.typed.Guarded.{Guarded}
 use Rattle.ob_types.specs.declared.typed.Guarded.TheVariants as guarded
 use Rattle.ob_types.specs.declared.typed.Variable.{Variable}
-use Rattle.ob_meaning.specs.Values.{Program, record_in, Held}
+use Rattle.ob_meaning.specs.Values.{Program, record_in, Formals, Held}
 use Rattle.ob_relation.specs.Relation.{Sub}
 use Rattle.ob_relation.proofs.Actuals.{sub_on}
 use Rattle.ob_rules.specs.declared.entity.Received.{Received}
 use Rattle.ob_rules.specs.declared.values.Place.{Place}
 use Rattle.ob_rules.specs.Judged.{Judged, sound}
-use Rattle.ob_rules.specs.Shapes.{Map, pointed, pointed_record, record_of, extends_record}
+use Rattle.ob_rules.specs.Shapes.{Map, pointed, pointed_record, record_of}
 use Rattle.ob_rules.specs.Designators.{variable_at, same_variable, guard_of, guard_kind, on_record, guarded_by, with_guard, guard_if, guard_same, with_guards}
 use Rattle.ob_typed.specs.Makes.{IfThere, Makes}
 use Rattle.ob_typed.specs.Forms.{IsKnown, Forms}
-use Rattle.ob_typed.specs.Known.{pointee, by_scalar, ReceiverIs, VariableIs}
+use Rattle.ob_typed.specs.Known.{pointee, ReceiverIs, VariableIs}
 use Rattle.ob_typed.specs.Kept.{PlaceIs}
 use Rattle.ob_typed.specs.Meant.{GuardIs, RootIs}
 use Rattle.ob_typed.proofs.Unguarded.{variable_unguarded, guard_unguarded}
@@ -49,7 +48,7 @@ unselected : (b : Bool) → b || false ≡ false → b ≡ false
 unselected true e = not_true (sym e)
 unselected false e = refl
 
-module _ (program : Program) (Has : Signature → QName → Type 0) (unit : List ℕ) (held : List Held) (result : Option TypeRef) (map : Map) (forms : Forms program Has unit held result map) where
+module _ (program : Program) (Has : Formals → QName → Type 0) (unit : List ℕ) (held : List Held) (result : Option TypeRef) (map : Map) (forms : Forms program Has unit held result map) where
   abbrev P : Place → Type 0
   P p = PlaceIs program Has unit held result map p
 

@@ -8,15 +8,15 @@ use Rattle.ob_tree.specs.declared.ident.Qualident.{Qualident}
 use Rattle.ob_types.specs.declared.types.TypeRef.{TypeRef}
 use Rattle.ob_types.specs.declared.types.Signature.{Signature}
 use Rattle.ob_types.specs.declared.typed.Guarded.{Guarded}
-use Rattle.ob_meaning.specs.Values.{Program, Held}
+use Rattle.ob_meaning.specs.Values.{Program, Formals, Held}
 use Rattle.ob_rules.specs.declared.meant.Meant.{Meant}
 use Rattle.ob_rules.specs.declared.meant.Meant.TheVariants as means
 use Rattle.ob_rules.specs.declared.meant.Where.{Where}
 use Rattle.ob_rules.specs.declared.meant.Where.TheVariants.{InExpression, AsStatement, Elsewhere}
 use Rattle.ob_rules.specs.declared.values.Place.{Place}
 use Rattle.ob_rules.specs.declared.values.Valued.{Valued}
-use Rattle.ob_rules.specs.Judged.{Judged, sound, noted, breaks, found_or, ◌▷◌}
-use Rattle.ob_rules.specs.Shapes.{Map, Member, AField, AMethod, member, pointed, is_held, base_record, record_of, signature_at}
+use Rattle.ob_rules.specs.Judged.{Judged, sound, breaks, found_or, ◌▷◌}
+use Rattle.ob_rules.specs.Shapes.{Member, AField, AMethod, member, pointed, is_held, base_record, record_of, signature_at}
 use Rattle.ob_rules.specs.Names.{Around, map_of, type_named}
 use Rattle.ob_rules.specs.declared.entity.Received.{Received}
 use Rattle.ob_rules.specs.declared.meant.Chosen.{Chosen}
@@ -24,19 +24,17 @@ use Rattle.ob_types.specs.declared.desc.Receiver.{Receiver}
 use Rattle.ob_types.specs.declared.desc.Receiver.TheVariants as receiver
 use Rattle.ob_rules.specs.Calls.{call_procedure, call_variable, call_out, call_bound}
 use Rattle.ob_rules.specs.Phrases.{Phrase, Behind, Dot, Index, Up, Round}
-use Rattle.ob_rules.specs.Predeclared.{call_predeclared}
-use Rattle.ob_rules.specs.Designators.{chosen, with_receiver, same_variable, super_of, super_in, super_if, super, comes, guard_of, guarded_by, guard, implicitly, dereference, index, not_there, member_found, member_of, select_of, select_through, select, type_in_round, visited, as_call, place_round, call_meant, takes_type, is_callable, is_guardable, other_round, step_dot, step_index, step_up, step_round, step, where_of, nothing_behind, go_on_with, go_on, all_visited, through}
+use Rattle.ob_rules.specs.Designators.{chosen, with_receiver, same_variable, super_of, super_in, super_if, super, comes, guard_of, guarded_by, guard, implicitly, dereference, index, not_there, member_found, member_of, select_of, select, type_in_round, as_call, place_round, call_meant, takes_type, is_callable, is_guardable, other_round, step_dot, step_index, step_up, step_round, step, where_of, nothing_behind, go_on_with, through}
 use Rattle.ob_typed.specs.Makes.{IfThere, Makes}
 use Rattle.ob_typed.specs.Forms.{IsKnown}
 use Rattle.ob_typed.specs.Known.{pointee, IsScoped}
 use Rattle.ob_typed.specs.Kept.{PlaceIs, ValuedIs}
-use Rattle.ob_typed.specs.Meant.{GuardIs, RootIs, ChosenIs, CalledIs, MeantIs, PhraseIs, ArePhrases, BehindIs, AreBehind}
+use Rattle.ob_typed.specs.Meant.{GuardIs, RootIs, ChosenIs, CalledIs, MeantIs, ArePhrases, BehindIs, AreBehind}
 use Rattle.ob_relation.proofs.Actuals.{sub_on}
 use Rattle.ob_typed.proofs.Unguarded.{field_unguarded, guard_unguarded}
 use Rattle.ob_typed.proofs.Basics.{not_true}
 use Rattle.ob_typed.proofs.Operators.{and_is}
-use Rattle.ob_typed.proofs.Actuals.{not_false}
-use Rattle.ob_typed.proofs.Makes.{makes_then, makes_found}
+use Rattle.ob_typed.proofs.Makes.{makes_then}
 use Rattle.ob_typed.proofs.Designators.{or_true, through_pointer, dereference_is, index_is, field_is, guarded_is}
 use Rattle.ob_typed.proofs.Types.{type_named_is}
 use Rattle.ob_typed.proofs.Calls.{call_procedure_is, call_variable_is, call_out_is}
@@ -47,7 +45,7 @@ go_on_there : (P Q : Meant → Type 0) (u : Around) (bs : List Behind) (f : Mean
 go_on_there P Q u bs f None h k = tt
 go_on_there P Q u bs f (Some m) h k = (k m h).node
 
-module _ (program : Program) (Has : Signature → QName → Type 0) (unit : List ℕ) (held : List Held) (result : Option TypeRef) (u : Around) (scoped : IsScoped program Has unit held result u) where
+module _ (program : Program) (Has : Formals → QName → Type 0) (unit : List ℕ) (held : List Held) (result : Option TypeRef) (u : Around) (scoped : IsScoped program Has unit held result u) where
   abbrev M : Where → Meant → Type 0
   M w m = MeantIs program Has unit held result (map_of u) u.receiver w m
 

@@ -1,25 +1,22 @@
 -- Sets of elements that are well typed.
-use Rattle.std.proofs.Common.{◌≡◌, refl, sym, ap, ◌∙◌, subst, ℕ, ◌<◌, List, [], ◌∷◌, Option, Some, None, Bool, true, false, arith}
-use Rattle.std.specs.Prelude.{◌&&◌, ◌^◌}
+use Rattle.std.proofs.Common.{◌≡◌, refl, sym, ap, ◌∙◌, subst, ℕ, List, [], ◌∷◌, Option, Some, None, Bool, true, false, arith}
+use Rattle.std.specs.Prelude.{◌&&◌}
 use Rattle.ob_tree.specs.declared.pos.Pos.{Pos}
 use Rattle.ob_tree.specs.declared.names.QName.{QName}
 use Rattle.ob_types.specs.declared.types.Basic.{Basic}
 use Rattle.ob_types.specs.declared.types.Basic.TheVariants as basic
 use Rattle.ob_types.specs.declared.types.TypeRef.{TypeRef}
-use Rattle.ob_types.specs.declared.types.Signature.{Signature}
-use Rattle.ob_types.specs.declared.typed.Width.{Width}
-use Rattle.ob_types.specs.declared.typed.Width.TheVariants as width
 use Rattle.ob_types.specs.declared.value.Value.{Value as Literal}
 use Rattle.ob_types.specs.declared.value.Value.TheVariants as literal
 use Rattle.ob_types.specs.declared.typed.Unary.TheVariants as unary
 use Rattle.ob_types.specs.declared.typed.Binary.TheVariants as binary
 use Rattle.ob_types.specs.declared.typed.TypedExpr.{TypedExpr}
 use Rattle.ob_types.specs.declared.typed.TypedExpr.TheVariants as e
-use Rattle.ob_types.specs.TypedSyntax.{Expr, Monadic, Dyadic, Constant}
+use Rattle.ob_types.specs.TypedSyntax.{Expr}
 use Rattle.ob_types.specs.TypedKinds.{of_basic}
 use Rattle.ob_types.specs.TypedView.{expr_view}
 use Rattle.ob_types.proofs.TypedViews.{view_monadic, view_dyadic, view_constant}
-use Rattle.ob_meaning.specs.Values.{Program, Form, BasicForm, PointerForm, ProcedureForm, Held}
+use Rattle.ob_meaning.specs.Values.{Program, Form, BasicForm, Formals, Held}
 use Rattle.ob_relation.specs.Typed as typed
 use Rattle.ob_relation.specs.Typed.{longint, set, integer}
 use Rattle.ob_rules.specs.declared.meant.ElementOf.{ElementOf}
@@ -28,14 +25,14 @@ use Rattle.ob_rules.specs.declared.values.Valued.TheVariants as valued
 use Rattle.ob_rules.specs.Shapes.{Map, width_of}
 use Rattle.ob_rules.specs.Constants.{fold_one, fold_two}
 use Rattle.ob_rules.specs.Values.{is_integer, tree, constant_in}
-use Rattle.ob_rules.specs.Operators.{element_as, element_folded, single, ranged, if_integer, if_integers, element, union_of, and_so, all_constant, set_from, set_of}
+use Rattle.ob_rules.specs.Operators.{element_folded, single, ranged, if_integer, if_integers, element, union_of, and_so, all_constant, set_from, set_of}
 use Rattle.ob_typed.specs.Makes.{IfThere, Makes}
 use Rattle.ob_typed.specs.Forms.{Forms}
 use Rattle.ob_typed.specs.Known.{ConstantIs}
 use Rattle.ob_typed.specs.Kept.{NodeIs, ValuedIs}
 use Rattle.ob_typed.proofs.Makes.{Each}
 use Rattle.ob_typed.proofs.Constants.{fold_one_is, fold_two_is}
-use Rattle.ob_typed.proofs.Basics.{none_some, some_is, width_back}
+use Rattle.ob_typed.proofs.Basics.{none_some, width_back}
 use Rattle.ob_typed.proofs.Values.{Fits, W, basic_node}
 use Rattle.ob_typed.proofs.Operators.{and_is}
 use Rattle.ob_typed.proofs.Designators.{long_fits}
@@ -44,7 +41,7 @@ form_basic_of : Form → Option Basic
 form_basic_of (BasicForm b) = Some b
 form_basic_of t = None
 
-module _ (program : Program) (Has : Signature → QName → Type 0) (unit : List ℕ) (held : List Held) (result : Option TypeRef) where
+module _ (program : Program) (Has : Formals → QName → Type 0) (unit : List ℕ) (held : List Held) (result : Option TypeRef) where
   abbrev Ex : Expr → Form → Type 0
   Ex x t = Fits program Has unit held result x t
 

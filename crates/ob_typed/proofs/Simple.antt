@@ -1,5 +1,5 @@
 -- Assignments, calls, EXIT and RETURN are well typed.
-use Rattle.std.proofs.Common.{◌≡◌, refl, sym, ap, ◌∙◌, subst, ℕ, List, [], ◌∷◌, Option, Some, None, Bool, true, false}
+use Rattle.std.proofs.Common.{◌≡◌, refl, sym, subst, ℕ, List, [], ◌∷◌, Option, Some, None, Bool}
 use Rattle.std.specs.Option.{option_map}
 use Rattle.ob_tree.specs.declared.pos.Pos.{Pos}
 use Rattle.ob_tree.specs.declared.names.QName.{QName}
@@ -9,20 +9,18 @@ use Rattle.ob_types.specs.declared.types.Signature.{Signature}
 use Rattle.ob_types.specs.declared.typed.TypedExpr.{TypedExpr}
 use Rattle.ob_types.specs.declared.typed.TypedStmt.{TypedStmt}
 use Rattle.ob_types.specs.declared.typed.TypedStmt.TheVariants as stmt
-use Rattle.ob_types.specs.TypedSyntax.{Expr}
 use Rattle.ob_types.specs.TypedView.{expr_view, stmt_view}
 use Rattle.ob_types.proofs.TypedViews.{view_call_proper, view_exit, view_return}
-use Rattle.ob_meaning.specs.Values.{Program, form_in, Held}
-use Rattle.ob_relation.specs.Relation.{Scalar}
+use Rattle.ob_meaning.specs.Values.{Program, Formals, Held}
 use Rattle.ob_relation.specs.Typed as typed
 use Rattle.ob_relation.specs.Typed.{boolean}
 use Rattle.ob_rules.specs.declared.meant.Meant.{Meant}
 use Rattle.ob_rules.specs.declared.meant.Meant.TheVariants as means
 use Rattle.ob_rules.specs.declared.meant.Where.{Where}
-use Rattle.ob_rules.specs.declared.meant.Where.TheVariants.{InExpression, AsStatement, Elsewhere}
+use Rattle.ob_rules.specs.declared.meant.Where.TheVariants.{AsStatement, Elsewhere}
 use Rattle.ob_rules.specs.declared.values.Place.{Place}
 use Rattle.ob_rules.specs.declared.values.Valued.{Valued}
-use Rattle.ob_rules.specs.Judged.{Judged, sound, breaks, both, wants, unless, ◌▷◌}
+use Rattle.ob_rules.specs.Judged.{both, wants, ◌▷◌}
 use Rattle.ob_rules.specs.Shapes.{signature_at}
 use Rattle.ob_rules.specs.Names.{Around, map_of}
 use Rattle.ob_rules.specs.Values.{is, tree, fits}
@@ -30,13 +28,13 @@ use Rattle.ob_rules.specs.Calls.{call_variable}
 use Rattle.ob_rules.specs.Phrases.{Phrase}
 use Rattle.ob_rules.specs.Designators.{call_meant}
 use Rattle.ob_rules.specs.Expressions.{Named, meant_by}
-use Rattle.ob_rules.specs.Statements.{Judging, one, target, assigns, assignment, call_value, done, place_called, called, call_statement, condition, exit, returned, return_none, return_of, return}
+use Rattle.ob_rules.specs.Statements.{target, assigns, assignment, call_value, done, place_called, called, call_statement, condition, exit, returned, return_none, return}
 use Rattle.ob_typed.specs.Makes.{IfThere, Makes}
 use Rattle.ob_typed.specs.Forms.{ResultIs}
 use Rattle.ob_typed.specs.Known.{IsScoped}
 use Rattle.ob_typed.specs.Kept.{PlaceIs, ValuedIs}
 use Rattle.ob_typed.specs.Meant.{CalledIs, MeantIs, PhraseIs, NamedIs}
-use Rattle.ob_typed.specs.Bodies.{AreStatements, JudgingIs}
+use Rattle.ob_typed.specs.Bodies.{AreStatements}
 use Rattle.ob_typed.proofs.Makes.{makes_then, makes_both, makes_wants, makes_unless}
 use Rattle.ob_typed.proofs.Values.{basic_fits}
 use Rattle.ob_typed.proofs.Assignable.{scalar_fits}
@@ -45,7 +43,7 @@ use Rattle.ob_typed.proofs.Selectors.{call_meant_is}
 use Rattle.ob_typed.proofs.Fronts.{designates_is}
 use Rattle.ob_typed.proofs.Assigning.{assigns_is}
 
-module _ (program : Program) (Has : Signature → QName → Type 0) (unit : List ℕ) (held : List Held) (result : Option TypeRef) where
+module _ (program : Program) (Has : Formals → QName → Type 0) (unit : List ℕ) (held : List Held) (result : Option TypeRef) where
   abbrev Ss : Bool → List TypedStmt → Type 0
   Ss l xs = AreStatements program Has unit held result l xs
 

@@ -1,7 +1,6 @@
 -- The law of statements, by induction over the tree of the grammar.
-use Rattle.std.proofs.Common.{◌≡◌, refl, sym, ap, ◌∙◌, subst, ℕ, List, [], ◌∷◌, ◌++◌, map, Option, Some, None, Bool, true, false}
+use Rattle.std.proofs.Common.{◌≡◌, sym, ◌∙◌, subst, ℕ, List, [], ◌∷◌, ◌++◌, map, Option, Some, None, Bool, true}
 use Rattle.std.specs.Prelude.{◌&&◌}
-use Rattle.std.specs.Option.{option_map}
 use Rattle.std.specs.List.{AllByRecursion}
 use Rattle.ob_tree.specs.declared.pos.Pos.{Pos}
 use Rattle.ob_tree.specs.declared.names.QName.{QName}
@@ -13,15 +12,13 @@ use Rattle.ob_tree.specs.declared.stmt.GuardedBranch.{GuardedBranch, roll-Guarde
 use Rattle.ob_tree.specs.declared.stmt.Stmt.TheOpen.{Stmt-F, Branch-F, Case-F, GuardedBranch-F}
 use Rattle.ob_tree.specs.declared.stmt.Stmt.TheFolds.{ind-Stmt, fold-roll-Stmt, fold-roll-Branch, fold-roll-Case, fold-roll-GuardedBranch}
 use Rattle.ob_types.specs.declared.types.TypeRef.{TypeRef}
-use Rattle.ob_types.specs.declared.types.Signature.{Signature}
-use Rattle.ob_meaning.specs.Values.{Program, Held}
-use Rattle.ob_rules.specs.Phrases.{Phrase}
+use Rattle.ob_meaning.specs.Values.{Program, Formals, Held}
 use Rattle.ob_rules.specs.Expressions.{phrase_of, named_of}
 use Rattle.ob_rules.specs.Statements.{Judging, Conditional, Labelled, GuardedBody, stmt_rule, branch_rule, case_rule, guarded_rule, judging, conditional_of, labelled_of, guarded_of, phrase_if}
 use Rattle.ob_typed.specs.Makes.{IfThere}
 use Rattle.ob_typed.specs.Meant.{PhraseIs}
 use Rattle.ob_typed.specs.Spelled.{all_true, is_spelled, designator_spelled}
-use Rattle.ob_typed.specs.Bodies.{all_if, spelled_if, stmt_layer, branch_layer, case_layer, guarded_layer, stmt_spelled, branch_spelled, case_spelled, guarded_spelled, in_all, in_if, place_layer, branch_places_layer, case_places_layer, guarded_places_layer, hidden_places, branch_places, case_places, guarded_places, AreHidden, JudgingIs, AreJudging, ConditionalIs}
+use Rattle.ob_typed.specs.Bodies.{spelled_if, stmt_layer, branch_layer, case_layer, guarded_layer, stmt_spelled, branch_spelled, case_spelled, guarded_spelled, in_all, place_layer, branch_places_layer, case_places_layer, guarded_places_layer, hidden_places, branch_places, case_places, guarded_places, AreHidden, JudgingIs, AreJudging, ConditionalIs}
 use Rattle.ob_typed.proofs.Operators.{and_is}
 use Rattle.ob_typed.proofs.Expressions.{expr_is, designator_of_is}
 use Rattle.ob_typed.proofs.Bodies.{all_split}
@@ -29,7 +26,7 @@ use Rattle.ob_typed.proofs.Simple.{assignment_is, call_statement_is, exit_is, re
 use Rattle.ob_typed.proofs.Branching.{if_is, case_is, with_is}
 use Rattle.ob_typed.proofs.Looping.{while_is, repeat_is, loop_is, for_is}
 
-module _ (program : Program) (Has : Signature → QName → Type 0) (unit : List ℕ) (held : List Held) (result : Option TypeRef) where
+module _ (program : Program) (Has : Formals → QName → Type 0) (unit : List ℕ) (held : List Held) (result : Option TypeRef) where
   abbrev Hid : List Pos → Type 0
   Hid ps = AreHidden program Has unit held result ps
 

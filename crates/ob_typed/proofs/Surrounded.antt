@@ -1,5 +1,5 @@
 -- Where the map of types is formed and grounded, what is known around is so in the program.
-use Rattle.std.proofs.Common.{◌≡◌, refl, sym, ap, ◌∙◌, subst, ℕ, List, Option, Some, Bool, true, false}
+use Rattle.std.proofs.Common.{◌≡◌, ap, ◌∙◌, ℕ, List, Option, Some, false}
 use Rattle.std.specs.Prelude.{◌&&◌, bytes_eq, codes}
 use Rattle.ob_tree.specs.declared.names.QName.{QName}
 use Rattle.ob_tree.specs.declared.ident.Mark.{Mark}
@@ -8,7 +8,7 @@ use Rattle.ob_types.specs.declared.types.Signature.{Signature}
 use Rattle.ob_types.specs.declared.desc.Desc.{Desc}
 use Rattle.ob_types.specs.declared.desc.Desc.TheVariants as desc
 use Rattle.ob_types.specs.declared.typed.Variable.TheVariants as variable
-use Rattle.ob_meaning.specs.Values.{Program, form_in, Held}
+use Rattle.ob_meaning.specs.Values.{Program, form_in, Formals, Held}
 use Rattle.ob_rules.specs.Shapes.{same_name}
 use Rattle.ob_rules.specs.Names.{Around, map_of, type_desc, out_string, is_out}
 use Rattle.ob_typed.specs.Known.{VariableIs, ProcedureIs, IsScoped}
@@ -18,7 +18,7 @@ use Rattle.ob_forms.proofs.Sorts.{form_ok}
 use Rattle.ob_typed.proofs.Basics.{not_true, closed_form}
 use Rattle.ob_typed.proofs.Basis.{forms_are, method_is, signature_is}
 
-module _ (program : Program) (Has : Signature → QName → Type 0) (unit : List ℕ) (held : List Held) (result : Option TypeRef) (u : Around) (s : IsSurrounded program Has unit held result u) where
+module _ (program : Program) (Has : Formals → QName → Type 0) (unit : List ℕ) (held : List Held) (result : Option TypeRef) (u : Around) (s : IsSurrounded program Has unit held result u) where
   -- the map has what an imported module shows
   shown_in : (q : QName) (d : Desc) → is_out q.«module» ≡ false → bytes_eq q.«module» u.unit ≡ false → u.shown q ≡ Some d → map_of u q ≡ Some d
   shown_in q d a b e =
@@ -43,7 +43,6 @@ module _ (program : Program) (Has : Signature → QName → Type 0) (unit : List
         parameters = p.parameters;
         signature = d;
         own = λ k. s.values q g p d k;
-        alike = λ t e k l. s.alike q g t p d e k l;
       }
 
   pub scoped_is : IsScoped program Has unit held result u

@@ -1,6 +1,6 @@
 -- The name of a type names one of the program; tests for types.
-use Rattle.std.proofs.Common.{◌≡◌, refl, sym, ap, ◌∙◌, subst, ℕ, List, [], ◌∷◌, Option, Some, None, Bool, true, false}
-use Rattle.std.specs.Prelude.{◌&&◌, is_some, not, bytes_eq, codes, IsTrue, MatchOption}
+use Rattle.std.proofs.Common.{◌≡◌, refl, sym, ap, ◌∙◌, subst, ℕ, List, Option, Some, None, Bool, true, false}
+use Rattle.std.specs.Prelude.{◌&&◌, bytes_eq, codes, IsTrue, MatchOption}
 use Rattle.ob_tree.specs.declared.pos.Pos.{Pos}
 use Rattle.ob_tree.specs.declared.names.QName.{QName}
 use Rattle.ob_tree.specs.declared.ident.Ident.{Ident}
@@ -9,20 +9,18 @@ use Rattle.ob_types.specs.declared.types.Basic.{Basic}
 use Rattle.ob_types.specs.declared.types.Basic.TheVariants as basic
 use Rattle.ob_types.specs.declared.types.TypeRef.{TypeRef}
 use Rattle.ob_types.specs.declared.types.TypeRef.TheVariants as ref
-use Rattle.ob_types.specs.declared.types.Signature.{Signature}
 use Rattle.ob_types.specs.declared.desc.Desc.{Desc}
 use Rattle.ob_types.specs.declared.desc.Desc.TheVariants as desc
 use Rattle.ob_types.specs.declared.typed.Guarded.{Guarded}
 use Rattle.ob_types.specs.declared.typed.Guarded.TheVariants as guarded
 use Rattle.ob_types.specs.declared.typed.OutProcedure.{OutProcedure}
 use Rattle.ob_types.specs.declared.typed.TypedExpr.TheVariants as e
-use Rattle.ob_types.specs.declared.typed.ExprType.{ExprType}
 use Rattle.ob_types.specs.Maps.{is_type}
 use Rattle.ob_types.specs.TypedSyntax.{Desig, Expr, IsPointer, IsRecord}
-use Rattle.ob_types.specs.TypedKinds.{of_basic, variable_type}
+use Rattle.ob_types.specs.TypedKinds.{of_basic}
 use Rattle.ob_types.specs.TypedView.{designator_view, expr_view}
 use Rattle.ob_types.proofs.TypedViews.{view_is_pointer, view_is_record}
-use Rattle.ob_meaning.specs.Values.{Program, Form, BasicForm, PointerForm, form_in, record_in, Held}
+use Rattle.ob_meaning.specs.Values.{Program, Form, BasicForm, form_in, record_in, Formals, Held}
 use Rattle.ob_relation.specs.Relation.{Sub}
 use Rattle.ob_relation.specs.Typed as typed
 use Rattle.ob_relation.specs.Typed.{TestOk}
@@ -32,26 +30,26 @@ use Rattle.ob_rules.specs.declared.entity.Known.{Known}
 use Rattle.ob_rules.specs.declared.values.Place.{Place}
 use Rattle.ob_rules.specs.declared.values.Valued.{Valued}
 use Rattle.ob_rules.specs.declared.values.Valued.TheVariants as valued
-use Rattle.ob_rules.specs.Judged.{Judged, both, wants, also, breaks, ◌▷◌}
+use Rattle.ob_rules.specs.Judged.{◌▷◌}
 use Rattle.ob_rules.specs.Shapes.{Map, same_name, pointed, pointed_record, record_of, extends_record}
-use Rattle.ob_rules.specs.Names.{Around, map_of, type_desc, out_string, find_name, is_out, shown_of, export_known, exported, out_procedure, type_of_desc, out_type, type_in, type_of_entity, type_behind, unless_variable_is, unless_variable, type_by, type_named}
+use Rattle.ob_rules.specs.Names.{Around, map_of, type_desc, out_string, find_name, is_out, shown_of, export_known, out_procedure, type_of_desc, out_type, type_in, type_of_entity, type_behind, unless_variable_is, unless_variable, type_by, type_named}
 use Rattle.ob_rules.specs.Values as values
 use Rattle.ob_rules.specs.Values.{tree, type, place_in}
 use Rattle.ob_rules.specs.Designators.{if_extends, on_record, guard_kind, guard_of}
 use Rattle.ob_rules.specs.Statements.{guard_test}
-use Rattle.ob_rules.specs.Expressions.{record_if, record_test, pointer_test, test_record, test_of, test, untestable, testable, type_test, other_test, bracketed}
+use Rattle.ob_rules.specs.Expressions.{record_if, record_test, pointer_test, test_record, test_of, test, bracketed}
 use Rattle.ob_typed.specs.Makes.{IfThere, Makes}
 use Rattle.ob_typed.specs.Forms.{IsKnown, Forms}
 use Rattle.ob_typed.specs.Known.{IsScoped}
 use Rattle.ob_typed.specs.Kept.{DesignatorIs, PlaceIs, NodeIs, ValuedIs}
-use Rattle.ob_typed.proofs.Makes.{makes_then, makes_both, makes_wants, makes_found}
+use Rattle.ob_typed.proofs.Makes.{makes_found}
 use Rattle.ob_typed.proofs.Basics.{form_basic, none_some, not_true, some_is}
 use Rattle.ob_typed.proofs.Values.{Fits, W, basic_node}
 use Rattle.ob_typed.proofs.Designators.{pointed_is, extends_is, form_is}
 use Rattle.ob_typed.proofs.Relations.{pointer_fits}
 use Rattle.ob_typed.proofs.Shown.{shown_is}
 
-module _ (program : Program) (Has : Signature → QName → Type 0) (unit : List ℕ) (held : List Held) (result : Option TypeRef) where
+module _ (program : Program) (Has : Formals → QName → Type 0) (unit : List ℕ) (held : List Held) (result : Option TypeRef) where
   -- NAMES OF TYPES
 
   module _ (u : Around) (scoped : IsScoped program Has unit held result u) where

@@ -1,24 +1,21 @@
 -- Expressions that keep the rules fit the types that the rules ask for.
-use Rattle.std.proofs.Common.{◌≡◌, refl, sym, ap, ◌∙◌, subst, ℕ, zero, suc, ◌<◌, List, [], ◌∷◌, Option, Some, None, Bool, true, false, arith}
-use Rattle.std.specs.Prelude.{◌^◌, ℤ, pos, negsuc, nat_lt, nat_eq, is_some, if◌then◌else◌}
+use Rattle.std.proofs.Common.{◌≡◌, refl, sym, ap, ◌∙◌, subst, ℕ, List, Option, Some, None, Bool, true, false}
 use Rattle.ob_tree.specs.declared.names.QName.{QName}
 use Rattle.ob_types.specs.declared.types.Basic.{Basic}
 use Rattle.ob_types.specs.declared.types.Basic.TheVariants as basic
 use Rattle.ob_types.specs.declared.types.TypeRef.{TypeRef}
 use Rattle.ob_types.specs.declared.types.TypeRef.TheVariants as ref
-use Rattle.ob_types.specs.declared.types.Signature.{Signature}
 use Rattle.ob_types.specs.declared.typed.Width.{Width}
-use Rattle.ob_types.specs.declared.typed.Width.TheVariants as width
 use Rattle.ob_types.specs.declared.value.Value.{Value as Literal}
 use Rattle.ob_types.specs.declared.value.Value.TheVariants as literal
 use Rattle.ob_types.specs.declared.typed.TypedExpr.TheVariants as e
 use Rattle.ob_types.specs.declared.typed.ExprType.{ExprType}
 use Rattle.ob_types.specs.declared.typed.ExprType.TheVariants as kind
-use Rattle.ob_types.specs.TypedSyntax.{Desig, Expr, Constant, ValueOf}
+use Rattle.ob_types.specs.TypedSyntax.{Desig, Expr, ValueOf}
 use Rattle.ob_types.specs.TypedKinds.{of_basic, constant_type, variable_type}
 use Rattle.ob_types.specs.TypedView.{designator_view, expr_view}
 use Rattle.ob_types.proofs.TypedViews.{view_constant, view_value_of}
-use Rattle.ob_meaning.specs.Values.{Program, Form, BasicForm, PointerForm, ProcedureForm, form_in, Held}
+use Rattle.ob_meaning.specs.Values.{Program, Form, BasicForm, form_in, Formals, Held}
 use Rattle.ob_relation.specs.Relation.{Scalar}
 use Rattle.ob_relation.specs.Typed as typed
 use Rattle.ob_relation.specs.Typed.{Within, integer}
@@ -27,13 +24,13 @@ use Rattle.ob_rules.specs.declared.values.Computed.{Computed}
 use Rattle.ob_rules.specs.declared.values.Valued.{Valued}
 use Rattle.ob_rules.specs.declared.values.Valued.TheVariants as valued
 use Rattle.ob_rules.specs.Shapes.{Map, basic_of, is_basic, width_of}
-use Rattle.ob_rules.specs.Values.{is, width_in, width as width_at, tree, type}
-use Rattle.ob_typed.specs.Forms.{IsDeclared, Widens, Forms}
+use Rattle.ob_rules.specs.Values.{is, width_in, width as width_at, tree}
+use Rattle.ob_typed.specs.Forms.{Widens, Forms}
 use Rattle.ob_typed.specs.Known.{ConstantIs}
-use Rattle.ob_typed.specs.Kept.{DesignatorIs, PlaceIs, NodeIs, ValuedIs}
+use Rattle.ob_typed.specs.Kept.{DesignatorIs, NodeIs, ValuedIs}
 use Rattle.ob_typed.proofs.Basics.{form_basic, basic_is, none_some, not_true, some_is, is_basic_is, width_basic, width_back, smallest_of, number_fits, number_type}
 
-module _ (program : Program) (Has : Signature → QName → Type 0) (unit : List ℕ) (held : List Held) (result : Option TypeRef) where
+module _ (program : Program) (Has : Formals → QName → Type 0) (unit : List ℕ) (held : List Held) (result : Option TypeRef) where
   abbrev pub Fits : Expr → Form → Type 0
   Fits x t = typed.ExprOk program Has unit held result x t
 

@@ -1,10 +1,7 @@
 -- The laws, whole.
-use Rattle.std.proofs.Common.{◌≡◌, subst, ℕ, List, map, Option, Some, Bool, true}
-use Rattle.ob_tree.specs.declared.names.QName.{QName}
-use Rattle.ob_types.specs.declared.types.TypeRef.{TypeRef}
-use Rattle.ob_types.specs.declared.types.Signature.{Signature}
+use Rattle.std.proofs.Common.{subst, map}
 use Rattle.ob_rules.specs.Names.{map_of}
-use Rattle.ob_rules.specs.Expressions.{phrase_of, named_of}
+use Rattle.ob_rules.specs.Expressions.{named_of}
 use Rattle.ob_rules.specs.Statements.{judging}
 use Rattle.ob_typed.specs.Makes.{IfThere}
 use Rattle.ob_typed.specs.Kept.{ValuedIs}

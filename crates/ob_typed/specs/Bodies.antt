@@ -1,5 +1,5 @@
 -- Statements that keep the rules, and what is asked of their texts and of the variables that FOR and CASE keep.
-use Rattle.std.specs.Prelude.{◌≡◌, ℕ, List, [], ◌∷◌, ◌++◌, Option, Some, None, Bool, true, ◌&&◌}
+use Rattle.std.specs.Prelude.{ℕ, List, [], ◌∷◌, ◌++◌, Option, Some, None, Bool, true, ◌&&◌}
 use Rattle.std.specs.List.{AllByRecursion}
 use Rattle.ob_tree.specs.declared.pos.Pos.{Pos}
 use Rattle.ob_tree.specs.declared.names.QName.{QName}
@@ -11,14 +11,13 @@ use Rattle.ob_tree.specs.declared.stmt.GuardedBranch.{GuardedBranch}
 use Rattle.ob_tree.specs.declared.stmt.Stmt.TheOpen.{Stmt-F, Branch-F, Case-F, GuardedBranch-F}
 use Rattle.ob_tree.specs.declared.stmt.Stmt.TheFolds.{fold-Stmt, fold-Branch, fold-Case, fold-GuardedBranch}
 use Rattle.ob_types.specs.declared.types.TypeRef.{TypeRef}
-use Rattle.ob_types.specs.declared.types.Signature.{Signature}
 use Rattle.ob_types.specs.declared.typed.TypedStmt.{TypedStmt}
 use Rattle.ob_types.specs.TypedView.{stmt_view}
-use Rattle.ob_meaning.specs.Values.{Program, Held}
+use Rattle.ob_meaning.specs.Values.{Program, Formals, Held}
 use Rattle.ob_relation.specs.Typed as typed
 use Rattle.ob_rules.specs.Names.{Around}
-use Rattle.ob_rules.specs.Statements.{Judging, Conditional, Labelled, GuardedBody}
-use Rattle.ob_typed.specs.Makes.{IfThere, Makes}
+use Rattle.ob_rules.specs.Statements.{Judging, Conditional}
+use Rattle.ob_typed.specs.Makes.{Makes}
 use Rattle.ob_typed.specs.Known.{IsScoped}
 use Rattle.ob_typed.specs.Meant.{PhraseIs}
 use Rattle.ob_typed.specs.Spelled.{all_true, is_spelled, designator_spelled}
@@ -116,7 +115,7 @@ guarded_places = fold-GuardedBranch (List Pos) (List Pos) (List Pos) (List Pos) 
 
 -- WELL TYPED
 
-module _ (program : Program) (Has : Signature → QName → Type 0) (unit : List ℕ) (held : List Held) (result : Option TypeRef) where
+module _ (program : Program) (Has : Formals → QName → Type 0) (unit : List ℕ) (held : List Held) (result : Option TypeRef) where
   -- the procedure has the variables that FOR and CASE keep there
   abbrev pub AreHidden : List Pos → Type 0
   AreHidden ps = AllByRecursion (λ at. typed.HiddenOk program Has unit held result at) ps

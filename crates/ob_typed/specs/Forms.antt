@@ -1,22 +1,21 @@
 -- What a type is in a program, by what a map of descriptions says of it.
-use Rattle.std.specs.Prelude.{◌≡◌, ◌⊎◌, ℕ, ◌<◌, List, [], ◌∷◌, Option, Some, None, Bool, true, false}
+use Rattle.std.specs.Prelude.{◌≡◌, ◌⊎◌, ℕ, List, [], ◌∷◌, Option, Some, None, true}
 use Rattle.std.specs.List.{AllByRecursion}
 use Rattle.ob_tree.specs.declared.names.QName.{QName}
 use Rattle.ob_types.specs.declared.types.Basic.{Basic}
 use Rattle.ob_types.specs.declared.types.Mode.{Mode}
 use Rattle.ob_types.specs.declared.types.TypeRef.{TypeRef}
-use Rattle.ob_types.specs.declared.types.TypeRef.TheVariants as ref
 use Rattle.ob_types.specs.declared.types.Signature.{Signature}
 use Rattle.ob_types.specs.declared.desc.Field.{Field}
 use Rattle.ob_types.specs.Maps.{IsHeld, listed}
-use Rattle.ob_types.specs.AssigningTests.{takes_type}
+use Rattle.ob_types.specs.AssigningTests.{takes_type, alike_to}
 use Rattle.ob_types.specs.Tests.{same_at}
-use Rattle.ob_meaning.specs.Values.{Program, Form, BasicForm, PointerForm, ProcedureForm, ArrayForm, OpenForm, form_in, record_in, Held}
+use Rattle.ob_meaning.specs.Values.{Program, Form, BasicForm, PointerForm, ProcedureForm, ArrayForm, OpenForm, Formals, form_in, record_in, formals_in, Held}
 use Rattle.ob_relation.specs.Relation.{IsLength, FormOk, Sub, Scalar}
 use Rattle.ob_relation.specs.Passed.{IsClosed}
 use Rattle.ob_relation.specs.Typed as typed
 use Rattle.ob_relation.specs.Typed.{IsRecordType, passing_for}
-use Rattle.ob_rules.specs.Shapes.{Map, Member, AField, same_name, basic_of, pointed, signature_at, array_of, record_of, member, passing_of, extends_record, is_held}
+use Rattle.ob_rules.specs.Shapes.{Map, AField, basic_of, pointed, signature_at, array_of, record_of, member, passing_of, extends_record, is_held}
 pub use Rattle.ob_forms.specs.Formed.{IsDeclared}
 
 -- a type of the program that the map holds
@@ -44,7 +43,7 @@ module _ (program : Program) where
   ArrayIs map t None u = (t ≡ OpenForm (form_in program u)) × (IsKnown map u × FormOk program (form_in program u))
   ArrayIs map t (Some n) u = (t ≡ ArrayForm n (form_in program u)) × (IsLength n × (IsKnown map u × FormOk program (form_in program u)))
 
-  module _ (Has : Signature → QName → Type 0) (unit : List ℕ) (held : List Held) (result : Option TypeRef) where
+  module _ (Has : Formals → QName → Type 0) (unit : List ℕ) (held : List Held) (result : Option TypeRef) where
     -- a value of the type t is one of the scalar type v
     abbrev pub Widens : Form → Form → Type 0
     Widens t v = typed.Widens program Has unit held result t v
@@ -54,7 +53,9 @@ module _ (program : Program) where
       pub basics : (t : TypeRef) (b : Basic) → basic_of map t ≡ Some b → form_in program t ≡ BasicForm b
       pub pointers : (t u : TypeRef) → pointed map t ≡ Some u → (form_in program t ≡ PointerForm u) × IsDeclared u
       pub bases : (t u : TypeRef) → pointed map t ≡ Some u → is_held map u ≡ true → IsHeld map u
-      pub procedures : (t : TypeRef) (s : Signature) → signature_at map t ≡ Some s → (form_in program t ≡ ProcedureForm s) × SignatureIs map s
+      pub procedures : (t : TypeRef) (s : Signature) → signature_at map t ≡ Some s → (form_in program t ≡ ProcedureForm (formals_in program s)) × SignatureIs map s
+      -- signatures that match are of one form
+      pub alike : (s t : Signature) → SignatureIs map s → SignatureIs map t → alike_to map s (Some t) ≡ true → formals_in program s ≡ formals_in program t
       pub arrays : (t u : TypeRef) (n : Option ℕ) → IsDeclared t → array_of map t ≡ Some (n, u) → ArrayIs map (form_in program t) n u
       pub records : (t : TypeRef) (q : QName) → record_of map t ≡ Some q → (form_in program t ≡ record_in program q) × IsRecordType program q
       pub same : (t u : TypeRef) → same_at map t u ≡ true → form_in program t ≡ form_in program u

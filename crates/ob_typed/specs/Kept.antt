@@ -1,15 +1,13 @@
 -- What the rules find where they are kept: constants, variables, expressions and what designators come to, well typed.
-use Rattle.std.specs.Prelude.{◌≡◌, ℕ, List, [], ◌∷◌, Option, Some, None, Bool, true, false}
+use Rattle.std.specs.Prelude.{◌≡◌, ℕ, List, Option, Bool, true}
 use Rattle.ob_tree.specs.declared.names.QName.{QName}
 use Rattle.ob_types.specs.declared.types.TypeRef.{TypeRef}
-use Rattle.ob_types.specs.declared.types.Signature.{Signature}
 use Rattle.ob_types.specs.declared.typed.ExprType.{ExprType}
 use Rattle.ob_types.specs.declared.typed.ExprType.TheVariants as kind
-use Rattle.ob_types.specs.AssigningTests.{alike_to}
 use Rattle.ob_types.specs.TypedSyntax.{Desig, Expr}
 use Rattle.ob_types.specs.TypedKinds.{variable_type}
 use Rattle.ob_types.specs.TypedView.{designator_view, expr_view}
-use Rattle.ob_meaning.specs.Values.{Program, Form, ProcedureForm, form_in, Held}
+use Rattle.ob_meaning.specs.Values.{Program, Form, ProcedureForm, Formals, form_in, formals_in, Held}
 use Rattle.ob_relation.specs.Relation.{Scalar}
 use Rattle.ob_relation.specs.Typed as typed
 use Rattle.ob_relation.specs.Typed.{IsVariableRecord}
@@ -20,7 +18,7 @@ use Rattle.ob_rules.specs.Shapes.{Map, is_record}
 use Rattle.ob_typed.specs.Forms.{IsDeclared, IsKnown, SignatureIs, Widens}
 use Rattle.ob_typed.specs.Known.{ConstantIs}
 
-module _ (program : Program) (Has : Signature → QName → Type 0) (unit : List ℕ) (held : List Held) (result : Option TypeRef) where
+module _ (program : Program) (Has : Formals → QName → Type 0) (unit : List ℕ) (held : List Held) (result : Option TypeRef) where
   -- a designator is well typed, and of that type; perhaps a VAR parameter of a record type
   pub record DesignatorIs (map : Map) (d : Desig) (t : TypeRef) (var_record : Bool) : Type 0 where
     pub fits : typed.DesigOk program Has unit held result d
@@ -31,10 +29,10 @@ module _ (program : Program) (Has : Signature → QName → Type 0) (unit : List
   abbrev pub PlaceIs : Map → Place → Type 0
   PlaceIs map p = DesignatorIs map (designator_view p.designator.inner) p.of p.var_record
 
-  -- a node fits its type and each one that its type widens to; a procedure fits each signature that matches its own
+  -- a node fits its type and each one that its type widens to; a procedure fits the procedure type of its signature
   abbrev pub NodeIs : Map → Expr → ExprType → Type 0
   NodeIs map x (kind.Of t) = IsDeclared t × Scalar (form_in program t) × ((v : Form) → Widens program Has unit held result (form_in program t) v → typed.ExprOk program Has unit held result x v)
-  NodeIs map x (kind.Procedure s) = typed.ExprOk program Has unit held result x (ProcedureForm s) × ((t : Signature) → SignatureIs program map t → alike_to map s (Some t) ≡ true → typed.ExprOk program Has unit held result x (ProcedureForm t))
+  NodeIs map x (kind.Procedure s) = SignatureIs program map s × typed.ExprOk program Has unit held result x (ProcedureForm (formals_in program s))
   NodeIs map x k = ⊥
 
   abbrev pub ValuedIs : Map → Valued → Type 0

@@ -1,8 +1,7 @@
 -- What the rules know around a part of a text, as it is in a program.
-use Rattle.std.specs.Prelude.{◌≡◌, ℕ, ◌<◌, ◌^◌, List, [], ◌∷◌, length, Option, Some, None, Bool, true, false, is_some, bytes_eq, codes}
+use Rattle.std.specs.Prelude.{◌≡◌, ℕ, ◌<◌, ◌^◌, List, length, Option, Some, None, Bool, true, false, is_some, bytes_eq, codes}
 use Rattle.std.specs.List.{AllByRecursion}
 use Rattle.ob_tree.specs.declared.names.QName.{QName}
-use Rattle.ob_types.specs.declared.types.Mode.{Mode}
 use Rattle.ob_types.specs.declared.types.TypeRef.{TypeRef}
 use Rattle.ob_types.specs.declared.types.Signature.{Signature}
 use Rattle.ob_types.specs.declared.value.Value.{Value as Literal}
@@ -15,10 +14,9 @@ use Rattle.ob_tree.specs.declared.ident.Mark.{Mark}
 use Rattle.ob_types.specs.declared.typed.Width.TheVariants as width
 use Rattle.ob_types.specs.declared.typed.Variable.{Variable}
 use Rattle.ob_types.specs.declared.typed.Variable.TheVariants as variable
-use Rattle.ob_types.specs.declared.typed.TypedParameter.{TypedParameter}
-use Rattle.ob_types.specs.AssigningTests.{is_value, alike_to}
+use Rattle.ob_types.specs.AssigningTests.{is_value}
 use Rattle.ob_types.specs.TypedSyntax.{Procedure}
-use Rattle.ob_meaning.specs.Values.{Program, procedure_of, form_in, record_in, bases_in, Held}
+use Rattle.ob_meaning.specs.Values.{Program, procedure_of, Formals, form_in, record_in, formals_in, bases_in, Held}
 use Rattle.ob_meaning.specs.Meaning.{nearest}
 use Rattle.ob_relation.specs.Relation.{Sub}
 use Rattle.ob_types.specs.Numbers.{is_in}
@@ -59,7 +57,7 @@ pub record ReceiverIs (program : Program) (map : Map) (r : Received) (t : TypeRe
   pub below : (q : QName) → record_of map (pointee t (pointed map t)) ≡ Some q → Sub (record_in program q) (record_in program r.owner)
   pub pointer : by_scalar r.variable ≡ true → is_some (pointed map t) ≡ true
 
-module _ (program : Program) (Has : Signature → QName → Type 0) (unit : List ℕ) (held : List Held) (result : Option TypeRef) where
+module _ (program : Program) (Has : Formals → QName → Type 0) (unit : List ℕ) (held : List Held) (result : Option TypeRef) where
   -- a variable by its name, of that type
   pub record VariableIs (map : Map) (v : Variable) (t : TypeRef) : Type 0 where
     pub fits : typed.VariableOk program Has unit held result v (form_in program t)
@@ -67,15 +65,14 @@ module _ (program : Program) (Has : Signature → QName → Type 0) (unit : List
     pub passed : IsPassed v (form_in program t)
     pub var_record : is_var_record v ≡ true → is_record map t ≡ true
 
-  -- a procedure by its name, of that signature; where it may be a value, it is one of each signature that matches its own
+  -- a procedure by its name, of that signature; where it may be a value, it is one of a procedure type of that signature
   pub record ProcedureIs (map : Map) (name : QName) (s : Signature) : Type 0 where
     pub p : Procedure
     pub found : procedure_of program name ≡ Some p
     pub result_is : result_form program p.result ≡ result_form program s.result
     pub parameters : AreParameters program p.parameters s.params
     pub signature : SignatureIs program map s
-    pub own : is_value name ≡ true → Has s name
-    pub alike : (t : Signature) → SignatureIs program map t → is_value name ≡ true → alike_to map s (Some t) ≡ true → Has t name
+    pub own : is_value name ≡ true → Has (formals_in program s) name
 
   -- a bound procedure where it is introduced, with its receiver and then the parameters of its signature
   pub record MethodIs (map : Map) (o : QName) (m : Method) : Type 0 where

@@ -2,9 +2,8 @@
 use Rattle.std.specs.Prelude.{◌≡◌, ℕ, List, [], ◌∷◌, Option, Some, None, Bool, true, false, is_some}
 use Rattle.ob_tree.specs.declared.names.QName.{QName}
 use Rattle.ob_types.specs.declared.types.TypeRef.{TypeRef}
-use Rattle.ob_types.specs.declared.types.Signature.{Signature}
 use Rattle.ob_types.specs.TypedView.{designator_view, expr_view, stmt_view}
-use Rattle.ob_meaning.specs.Values.{Program, record_in, Held}
+use Rattle.ob_meaning.specs.Values.{Program, record_in, Formals, Held}
 use Rattle.ob_relation.specs.Relation.{Sub}
 use Rattle.ob_relation.specs.Passed.{IsUnguarded}
 use Rattle.ob_relation.specs.Typed as typed
@@ -33,7 +32,7 @@ use Rattle.ob_typed.specs.Kept.{PlaceIs, ValuedIs}
 abbrev pub GuardIs : Place → Type 0
 GuardIs p = p.guarded ≡ false → IsUnguarded (designator_view p.designator.inner)
 
-module _ (program : Program) (Has : Signature → QName → Type 0) (unit : List ℕ) (held : List Held) (result : Option TypeRef) where
+module _ (program : Program) (Has : Formals → QName → Type 0) (unit : List ℕ) (held : List Held) (result : Option TypeRef) where
   -- a call: a value in an expression, a proper call as a statement
   abbrev pub CalledIs : Map → Where → Valued → Type 0
   CalledIs map InExpression x = ValuedIs program Has unit held result map x

@@ -1,5 +1,5 @@
 -- What is left to ask of what stands around a part of a text, where the map of types is formed and grounded.
-use Rattle.std.specs.Prelude.{◌≡◌, ℕ, List, Option, Some, Bool, true, false, bytes_eq, codes}
+use Rattle.std.specs.Prelude.{◌≡◌, ℕ, List, Option, Some, true, false, bytes_eq, codes}
 use Rattle.std.specs.List.{AllByRecursion}
 use Rattle.ob_tree.specs.declared.names.QName.{QName}
 use Rattle.ob_types.specs.declared.types.TypeRef.{TypeRef}
@@ -8,9 +8,9 @@ use Rattle.ob_types.specs.declared.value.Value.{Value as Literal}
 use Rattle.ob_types.specs.declared.desc.Desc.TheVariants as desc
 use Rattle.ob_types.specs.declared.desc.Method.{Method}
 use Rattle.ob_types.specs.declared.typed.Variable.{Variable}
-use Rattle.ob_types.specs.AssigningTests.{is_value, alike_to}
+use Rattle.ob_types.specs.AssigningTests.{is_value}
 use Rattle.ob_types.specs.Relations.{IsGrounded}
-use Rattle.ob_meaning.specs.Values.{Program, record_in, Held}
+use Rattle.ob_meaning.specs.Values.{Program, Formals, record_in, formals_in, Held}
 use Rattle.ob_relation.specs.Relation.{Sub}
 use Rattle.ob_rules.specs.declared.entity.Entity.TheVariants as entity
 use Rattle.ob_rules.specs.declared.entity.Known.{Known}
@@ -24,7 +24,7 @@ use Rattle.ob_typed.specs.Forms.{IsKnown, ResultIs, SignatureIs}
 use Rattle.ob_typed.specs.Known.{ConstantIs, VariableIs, ProcedureIs, ReceiverIs, SuperIs}
 
 -- What is known around is so in the program: the map of types by `Formed`, and the names that are declared one by one.
-pub record IsSurrounded (program : Program) (Has : Signature → QName → Type 0) (unit : List ℕ) (held : List Held) (result : Option TypeRef) (u : Around) : Type 0 where
+pub record IsSurrounded (program : Program) (Has : Formals → QName → Type 0) (unit : List ℕ) (held : List Held) (result : Option TypeRef) (u : Around) : Type 0 where
   pub formed : Formed (map_of u) program
   pub grounded : IsGrounded (map_of u)
   -- declared names
@@ -37,9 +37,8 @@ pub record IsSurrounded (program : Program) (Has : Signature → QName → Type 
   pub guards : AllByRecursion (λ (g : Variable × Option TypeRef). IfThere (IsKnown (map_of u)) g.1) u.guards
   -- constants of other modules
   pub shown_constants : (q : QName) (v : Literal) → u.shown q ≡ Some (desc.Const v) → ConstantIs v
-  -- the procedures that may be values of a signature: those that have it, or one that matches
-  pub values : (q : QName) (s : Signature) → IsProcedureOf program q s → SignatureIs program (map_of u) s → is_value q ≡ true → Has s q
-  pub alike : (q : QName) (s t : Signature) → IsProcedureOf program q s → SignatureIs program (map_of u) s → SignatureIs program (map_of u) t → is_value q ≡ true → alike_to (map_of u) s (Some t) ≡ true → Has t q
+  -- the procedures that may be values of a procedure type: those of its signature
+  pub values : (q : QName) (s : Signature) → IsProcedureOf program q s → SignatureIs program (map_of u) s → is_value q ≡ true → Has (formals_in program s) q
   -- the procedure at hand
   pub result_is : u.result ≡ result
   pub result_plain : ResultIs program result

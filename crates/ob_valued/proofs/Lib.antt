@@ -2,4 +2,5 @@ pub mod Same
 pub mod Values
 pub mod Stays
 pub mod Equal
+pub mod Matching
 pub mod Around

@@ -1,5 +1,5 @@
 -- Forms and passings that are told the same are so, and each is told the same as itself.
-use Rattle.std.proofs.Common.{◌≡◌, true, List, [], ◌∷◌, Option, Some, None, refl, ap, ◌∙◌}
+use Rattle.std.proofs.Common.{◌≡◌, true, List, [], ◌∷◌, refl, ap, ◌∙◌}
 use Rattle.std.specs.Prelude.{◌&&◌, nat_eq, bytes_eq}
 use Rattle.std.proofs.lemmas.Bool.{false≢true, and_from, eqb-true}
 use Rattle.ob_tree.specs.declared.names.QName.{QName}
@@ -8,16 +8,15 @@ use Rattle.ob_types.specs.declared.types.Mode.{Mode}
 use Rattle.ob_types.specs.declared.types.Mode.TheVariants as mode
 use Rattle.ob_types.specs.declared.types.TypeRef.{TypeRef}
 use Rattle.ob_types.specs.declared.types.TypeRef.TheVariants as ref
-use Rattle.ob_types.specs.declared.types.Signature.{Signature}
 use Rattle.ob_types.specs.declared.typed.Passing.{Passing}
 use Rattle.ob_types.specs.declared.typed.Passing.TheVariants as passing
-use Rattle.ob_types.specs.Tests.{basic_number, type_eq, modes_alike, params_alike, results_alike, signatures_alike}
+use Rattle.ob_types.specs.Tests.{basic_number, type_eq, modes_alike}
 use Rattle.ob_types.proofs.Sameness.{type_eq_decides}
-use Rattle.ob_meaning.specs.Values.{Form, BasicForm, PointerForm, ProcedureForm, ArrayForm, OpenForm, RecordForm, Fields, NoField, AField, same_name}
+use Rattle.ob_meaning.specs.Values.{Form, BasicForm, PointerForm, ProcedureForm, ArrayForm, OpenForm, RecordForm, Fields, NoField, AField, Formals, NoResult, AResult, AFormal, same_name}
 use Rattle.ob_relation.proofs.Names.{nat_same, and_both, bytes_true, bytes_same, name_true, name_same}
-use Rattle.ob_valued.specs.Same.{same_line, same_form, same_fields, same_passing}
+use Rattle.ob_valued.specs.Same.{same_line, same_form, same_fields, same_formals, same_passing}
 
--- ---- types and signatures
+-- ---- types and modes
 
 type_is : (t u : TypeRef) → type_eq t u ≡ true → t ≡ u
 type_is t u e = (type_eq_decides t u).0 e
@@ -33,7 +32,7 @@ basic_is : (a b : Basic) → nat_eq (basic_number a) (basic_number b) ≡ true �
 unfolding basic_of
 basic_is a b e = ap (λ t. basic_of t a) (type_is (ref.Basic a) (ref.Basic b) e)
 
-pub mode_is : (a b : Mode) → modes_alike a b ≡ true → a ≡ b
+mode_is : (a b : Mode) → modes_alike a b ≡ true → a ≡ b
 mode_is mode.Value mode.Value e = refl
 mode_is mode.Value mode.Var e = absurd (false≢true e)
 mode_is mode.Var mode.Value e = absurd (false≢true e)
@@ -42,40 +41,6 @@ mode_is mode.Var mode.Var e = refl
 mode_same : (a : Mode) → modes_alike a a ≡ true
 mode_same mode.Value = refl
 mode_same mode.Var = refl
-
-params_are : (ps qs : List (Mode × TypeRef)) → params_alike type_eq ps qs ≡ true → ps ≡ qs
-params_are [] [] e = refl
-params_are [] (q ∷ qs) e = absurd (false≢true e)
-params_are (p ∷ ps) [] e = absurd (false≢true e)
-params_are (p ∷ ps) (q ∷ qs) e =
-    let h = and_both (modes_alike p.0 q.0) (type_eq p.1 q.1 && params_alike type_eq ps qs) e in
-    let k = and_both (type_eq p.1 q.1) (params_alike type_eq ps qs) h.1 in
-    let one : p ≡ q = ap (λ m. (m, p.1)) (mode_is p.0 q.0 h.0) ∙ ap (λ t. (q.0, t)) (type_is p.1 q.1 k.0) in
-    ap (λ x. x ∷ ps) one ∙ ap (λ xs. q ∷ xs) (params_are ps qs k.1)
-
-params_same : (ps : List (Mode × TypeRef)) → params_alike type_eq ps ps ≡ true
-params_same [] = refl
-params_same (p ∷ ps) = and_from (modes_alike p.0 p.0) (type_eq p.1 p.1 && params_alike type_eq ps ps) (mode_same p.0) (and_from (type_eq p.1 p.1) (params_alike type_eq ps ps) (type_same p.1) (params_same ps))
-
-result_is : (r s : Option TypeRef) → results_alike type_eq r s ≡ true → r ≡ s
-result_is None None e = refl
-result_is None (Some u) e = absurd (false≢true e)
-result_is (Some t) None e = absurd (false≢true e)
-result_is (Some t) (Some u) e = ap (λ x. Some x) (type_is t u e)
-
-result_same : (r : Option TypeRef) → results_alike type_eq r r ≡ true
-result_same None = refl
-result_same (Some t) = type_same t
-
-signature_is : (s t : Signature) → signatures_alike type_eq type_eq s t ≡ true → s ≡ t
-signature_is s t e =
-    let h = and_both (params_alike type_eq s.params t.params) (results_alike type_eq s.result t.result) e in
-    let first : s ≡ record s { params = t.params } = ap (λ (ps : List (Mode × TypeRef)). record s { params = ps }) (params_are s.params t.params h.0) in
-    let second : record s { params = t.params } ≡ t = ap (λ (r : Option TypeRef). record t { result = r }) (result_is s.result t.result h.1) in
-    first ∙ second
-
-signature_same : (s : Signature) → signatures_alike type_eq type_eq s s ≡ true
-signature_same s = and_from (params_alike type_eq s.params s.params) (results_alike type_eq s.result s.result) (params_same s.params) (result_same s.result)
 
 -- ---- forms
 
@@ -95,7 +60,7 @@ mutual
   pub form_is : (a b : Form) → same_form a b ≡ true → a ≡ b
   form_is (BasicForm a) (BasicForm b) e = ap (λ x. BasicForm x) (basic_is a b e)
   form_is (PointerForm t) (PointerForm u) e = ap (λ x. PointerForm x) (type_is t u e)
-  form_is (ProcedureForm s) (ProcedureForm t) e = ap (λ x. ProcedureForm x) (signature_is s t e)
+  form_is (ProcedureForm fs) (ProcedureForm gs) e = ap (λ x. ProcedureForm x) (formals_are fs gs e)
   form_is (ArrayForm n a) (ArrayForm k b) e =
       let h = and_both (nat_eq n k) (same_form a b) e in
       ap (λ x. ArrayForm x a) (eqb-true n k h.0) ∙ ap (λ x. ArrayForm k x) (form_is a b h.1)
@@ -118,11 +83,20 @@ mutual
       ∙ ap (λ z. AField p y z fs) (form_is t u l.0)
       ∙ ap (λ z. AField p y u z) (fields_are fs gs l.1)
 
+  pub formals_are : (fs gs : Formals) → same_formals fs gs ≡ true → fs ≡ gs
+  formals_are NoResult NoResult e = refl
+  formals_are (AResult t) (AResult u) e = ap (λ x. AResult x) (form_is t u e)
+  formals_are (AFormal m t fs) (AFormal k u gs) e =
+      let h = and_both (modes_alike m k) (same_form t u && same_formals fs gs) e in
+      let l = and_both (same_form t u) (same_formals fs gs) h.1 in
+      ap (λ z. AFormal z t fs) (mode_is m k h.0) ∙ ap (λ z. AFormal k z fs) (form_is t u l.0) ∙ ap (λ z. AFormal k u z) (formals_are fs gs l.1)
+  formals_are fs gs e = absurd (false≢true e)
+
 mutual
   pub form_same : (a : Form) → same_form a a ≡ true
   form_same (BasicForm b) = nat_same (basic_number b)
   form_same (PointerForm t) = type_same t
-  form_same (ProcedureForm s) = signature_same s
+  form_same (ProcedureForm fs) = formals_same fs
   form_same (ArrayForm n a) = and_from (nat_eq n n) (same_form a a) (nat_same n) (form_same a)
   form_same (OpenForm a) = form_same a
   form_same (RecordForm line fs) = and_from (same_line line line) (same_fields fs fs) (line_same line) (fields_same fs)
@@ -133,6 +107,11 @@ mutual
       and_from (same_name o o) (bytes_eq x x && (same_form t t && same_fields fs fs)) (name_same o)
       (and_from (bytes_eq x x) (same_form t t && same_fields fs fs) (bytes_same x)
       (and_from (same_form t t) (same_fields fs fs) (form_same t) (fields_same fs)))
+
+  pub formals_same : (fs : Formals) → same_formals fs fs ≡ true
+  formals_same NoResult = refl
+  formals_same (AResult t) = form_same t
+  formals_same (AFormal m t fs) = and_from (modes_alike m m) (same_form t t && same_formals fs fs) (mode_same m) (and_from (same_form t t) (same_formals fs fs) (form_same t) (formals_same fs))
 
 -- ---- passings
 

@@ -1,24 +1,21 @@
 -- Values stay values where one more module is behind.
 use Rattle.std.proofs.Common.{◌≡◌, ℕ, zero, suc, Bool, true, false, List, [], ◌∷◌, ◌++◌, Option, Some, None, refl, sym, ap, subst, ◌∙◌}
-use Rattle.std.specs.Prelude.{◌&&◌, bytes_eq, if◌then◌else◌}
+use Rattle.std.specs.Prelude.{bytes_eq, if◌then◌else◌}
 use Rattle.std.proofs.lemmas.Bool.{false≢true, and_from}
 use Rattle.ob_tree.specs.declared.names.QName.{QName}
 use Rattle.ob_types.specs.declared.types.Basic.{Basic}
-use Rattle.ob_types.specs.declared.types.Mode.{Mode}
 use Rattle.ob_types.specs.declared.types.TypeRef.{TypeRef}
 use Rattle.ob_types.specs.declared.types.TypeRef.TheVariants as ref
-use Rattle.ob_types.specs.declared.types.Signature.{Signature}
 use Rattle.ob_types.specs.declared.desc.Desc.{Desc}
 use Rattle.ob_types.specs.declared.typed.TypedParameter.{TypedParameter}
-use Rattle.ob_types.specs.Tests.{results_alike}
 use Rattle.ob_types.specs.AssigningTests.{is_value}
 use Rattle.ob_types.specs.TypedSyntax.{Procedure, Module}
-use Rattle.ob_meaning.specs.Values.{Program, BasicForm, description, number_of_types, type_named, procedure_named, procedure_of, form_within, form_in}
+use Rattle.ob_meaning.specs.Values.{Program, Form, BasicForm, Formals, NoResult, AResult, AFormal, description, number_of_types, type_named, procedure_named, procedure_of, form_within, form_in}
 use Rattle.ob_relation.specs.Typed.{passing_for}
 use Rattle.ob_relation.proofs.Names.{and_both}
 use Rattle.ob_rules.specs.Shapes.{is_held}
 use Rattle.ob_valued.specs.Same.{same_form, same_passing}
-use Rattle.ob_valued.specs.Valued.{alike, takes, parameters_take, has_signature}
+use Rattle.ob_valued.specs.Valued.{is_of, takes, gives, takes_all, fits}
 use Rattle.ob_valued.specs.Laws.{TypesStay, ValuesStay}
 
 -- ---- what is found stays
@@ -56,45 +53,35 @@ module _ (program : Program) (m : Module) (stay : TypesStay program m) where
       go None e k = absurd (false≢true k)
       go (Some d) e k = (subst (λ o. is_held (λ x. o) (ref.Named q) ≡ true) (sym (described_more program m q d e)) refl, stay q d e)
 
-  alike_more : (t u : TypeRef) → alike program t u ≡ true → alike more t u ≡ true
-  alike_more t u e =
-      let h = and_both (is_held (description program) t) (is_held (description program) u && same_form (form_in program t) (form_in program u)) e in
-      let k = and_both (is_held (description program) u) (same_form (form_in program t) (form_in program u)) h.1 in
+  of_more : (t : TypeRef) (f : Form) → is_of program t f ≡ true → is_of more t f ≡ true
+  of_more t f e =
+      let h = and_both (is_held (description program) t) (same_form (form_in program t) f) e in
       let a = held_more t h.0 in
-      let b = held_more u k.0 in
-      let same : same_form (form_in more t) (form_in more u) ≡ true = ap (λ f. same_form f (form_in more u)) a.1 ∙ ap (same_form (form_in program t)) b.1 ∙ k.1 in
-      and_from (is_held (description more) t) (is_held (description more) u && same_form (form_in more t) (form_in more u)) a.0 (and_from (is_held (description more) u) (same_form (form_in more t) (form_in more u)) b.0 same)
+      and_from (is_held (description more) t) (same_form (form_in more t) f) a.0 (ap (λ g. same_form g f) a.1 ∙ h.1)
 
-  result_more : (r s : Option TypeRef) → results_alike (alike program) r s ≡ true → results_alike (alike more) r s ≡ true
-  result_more None None e = refl
-  result_more None (Some u) e = absurd (false≢true e)
-  result_more (Some t) None e = absurd (false≢true e)
-  result_more (Some t) (Some u) e = alike_more t u e
+  gives_more : (r : Option TypeRef) (fs : Formals) → gives program r fs ≡ true → gives more r fs ≡ true
+  gives_more None NoResult e = refl
+  gives_more None (AResult f) e = absurd (false≢true e)
+  gives_more None (AFormal m f fs) e = absurd (false≢true e)
+  gives_more (Some t) NoResult e = absurd (false≢true e)
+  gives_more (Some t) (AResult f) e = of_more t f e
+  gives_more (Some t) (AFormal m f fs) e = absurd (false≢true e)
 
-  takes_more : (p : TypedParameter) (k : Mode × TypeRef) → takes program p k ≡ true → takes more p k ≡ true
-  takes_more p k e =
-      let h = and_both (alike program p.of k.1) (same_passing p.passing (passing_for k.0 (form_in program k.1))) e in
-      let l = and_both (is_held (description program) p.of) (is_held (description program) k.1 && same_form (form_in program p.of) (form_in program k.1)) h.0 in
-      let known = (and_both (is_held (description program) k.1) (same_form (form_in program p.of) (form_in program k.1)) l.1).0 in
-      and_from (alike more p.of k.1) (same_passing p.passing (passing_for k.0 (form_in more k.1))) (alike_more p.of k.1 h.0) (ap (λ f. same_passing p.passing (passing_for k.0 f)) (held_more k.1 known).1 ∙ h.1)
+  all_more : (ps : List TypedParameter) (r : Option TypeRef) (fs : Formals) → takes_all program ps r fs ≡ true → takes_all more ps r fs ≡ true
+  all_more [] r fs e = gives_more r fs e
+  all_more (p ∷ ps) r NoResult e = absurd (false≢true e)
+  all_more (p ∷ ps) r (AResult f) e = absurd (false≢true e)
+  all_more (p ∷ ps) r (AFormal m f fs) e =
+      let h = and_both (takes program p m f) (takes_all program ps r fs) e in
+      let l = and_both (is_of program p.of f) (same_passing p.passing (passing_for m f)) h.0 in
+      and_from (takes more p m f) (takes_all more ps r fs) (and_from (is_of more p.of f) (same_passing p.passing (passing_for m f)) (of_more p.of f l.0) l.1) (all_more ps r fs h.1)
 
-  parameters_more : (ps : List TypedParameter) (ks : List (Mode × TypeRef)) → parameters_take program ps ks ≡ true → parameters_take more ps ks ≡ true
-  parameters_more [] [] e = refl
-  parameters_more [] (k ∷ ks) e = absurd (false≢true e)
-  parameters_more (p ∷ ps) [] e = absurd (false≢true e)
-  parameters_more (p ∷ ps) (k ∷ ks) e =
-      let h = and_both (takes program p k) (parameters_take program ps ks) e in
-      and_from (takes more p k) (parameters_take more ps ks) (takes_more p k h.0) (parameters_more ps ks h.1)
-
-  signature_more : (s : Signature) (q : QName) (o : Option Procedure) → procedure_of program q ≡ o → has_signature program s o ≡ true → has_signature more s (procedure_of more q) ≡ true
-  signature_more s q None i e = absurd (false≢true e)
-  signature_more s q (Some p) i e =
-      let h = and_both (results_alike (alike program) p.result s.result) (parameters_take program p.parameters s.params) e in
-      subst (λ o. has_signature more s o ≡ true) (sym (found_more program m q p i))
-      (and_from (results_alike (alike more) p.result s.result) (parameters_take more p.parameters s.params) (result_more p.result s.result h.0) (parameters_more p.parameters s.params h.1))
+  fits_more : (fs : Formals) (q : QName) (o : Option Procedure) → procedure_of program q ≡ o → fits program fs o ≡ true → fits more fs (procedure_of more q) ≡ true
+  fits_more fs q None i e = absurd (false≢true e)
+  fits_more fs q (Some p) i e = subst (λ o. fits more fs o ≡ true) (sym (found_more program m q p i)) (all_more p.parameters p.result fs e)
 
 -- THE LAW
 pub values_stay : ValuesStay
-values_stay program m stay s q e =
-    let h = and_both (is_value q) (has_signature program s (procedure_of program q)) e in
-    and_from (is_value q) (has_signature (program ++ m ∷ []) s (procedure_of (program ++ m ∷ []) q)) h.0 (signature_more program m stay s q (procedure_of program q) refl h.1)
+values_stay program m stay fs q e =
+    let h = and_both (is_value q) (fits program fs (procedure_of program q)) e in
+    and_from (is_value q) (fits (program ++ m ∷ []) fs (procedure_of (program ++ m ∷ []) q)) h.0 (fits_more program m stay fs q (procedure_of program q) refl h.1)

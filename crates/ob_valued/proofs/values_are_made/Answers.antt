@@ -1,6 +1,7 @@
 -- What is a value.
-use Rattle.ob_valued.proofs.Equal.{equal_are_forms}
-use Rattle.ob_valued.proofs.Values.{values_are_made, matching_is_having}
+use Rattle.ob_valued.proofs.Equal.{equal_are_forms, matching_are_alike}
+use Rattle.ob_valued.proofs.Matching.{matching_is_having, redefinitions_are_alike}
+use Rattle.ob_valued.proofs.Values.{values_are_made}
 use Rattle.ob_valued.proofs.values_are_made.Goals as goal
 
 pub returns-clause-made : goal.returns-clause-made
@@ -11,3 +12,9 @@ returns-clause-matching c = matching_is_having
 
 pub returns-clause-equal : goal.returns-clause-equal
 returns-clause-equal c = equal_are_forms
+
+pub returns-clause-alike : goal.returns-clause-alike
+returns-clause-alike c = matching_are_alike
+
+pub returns-clause-redefining : goal.returns-clause-redefining
+returns-clause-redefining c = redefinitions_are_alike
