@@ -7,10 +7,9 @@ use Rattle.ob_types.specs.declared.types.Basic.{Basic}
 use Rattle.ob_types.specs.declared.types.Basic.TheVariants as basic
 use Rattle.ob_types.specs.declared.types.TypeRef.{TypeRef}
 use Rattle.ob_types.specs.declared.types.TypeRef.TheVariants as ref
-use Rattle.ob_types.specs.declared.types.Signature.{Signature}
 use Rattle.ob_types.specs.declared.desc.Desc.{Desc}
 use Rattle.ob_instr.specs.Rows.{tag, proc_value}
-use Rattle.ob_meaning.specs.Values.{description, Form, BasicForm, PointerForm, ProcedureForm, ArrayForm, OpenForm, RecordForm, Fields, NoField, AField, described, form_within, form_in, record_in, number_of_types, Value, field_of, element_of, AnObject, Whole, Opened}
+use Rattle.ob_meaning.specs.Values.{description, Form, BasicForm, PointerForm, ProcedureForm, ArrayForm, OpenForm, RecordForm, Fields, NoField, AField, described, form_within, form_in, record_in, number_of_types, Value, field_of, element_of, AnObject, Whole, Opened, Formals}
 use Rattle.ob_relation.specs.Layout.{object_form, object_at, has_length_at, object_offset, heap_start, type_number}
 use Rattle.ob_relation.specs.Relation.{LengthFits, Sub, Scalar, IsStructure, FormOk, FieldsOk, IsBasic, IsPointer, IsProcedure, Fine, FieldsFine, ObjectsFine, word_of, flat, flat_fields, flat_elements, flat_objects, extra, number_of}
 use Rattle.ob_relation.proofs.Values.{sub_scalar}
@@ -19,8 +18,8 @@ use Rattle.ob_relation.specs.Setting.{Setting, has_of}
 -- the types that the first describes, the procedures that variables may have, and the numbers of both are the same in the second
 pub record Carries (c d : Setting) : Type 0 where
   pub types : (q : QName) (t : Desc) → description c.program q ≡ Some t → record_in d.program q ≡ record_in c.program q
-  pub has : (s : Signature) (q : QName) → has_of c s q → has_of d s q
-  pub numbers : (s : Signature) (q : QName) → has_of c s q → number_of d.program (has_of d) d.img q ≡ number_of c.program (has_of c) c.img q
+  pub has : (fs : Formals) (q : QName) → has_of c fs q → has_of d fs q
+  pub numbers : (fs : Formals) (q : QName) → has_of c fs q → number_of d.program (has_of d) d.img q ≡ number_of c.program (has_of c) c.img q
   pub tags : (q : QName) (line : List QName) (fs : Fields) → record_in c.program q ≡ RecordForm (q ∷ line) fs → type_number d.img.types q ≡ type_number c.img.types q
 
 basic_form : (types : QName → Option Desc) (n : ℕ) (b : Basic) → form_within types n (ref.Basic b) ≡ BasicForm b
@@ -94,7 +93,7 @@ module _ (c d : Setting) (k : Carries c d) where
             ⊎_elim (λ n. inl n) (λ x. inr (x.0, x.1, x.2, subst (λ u. Sub (object_at os x.0) u) (sym e) x.3, subst (λ u. LengthFits u (has_length_at os x.0)) (sym e) x.4)) h
         go None f = ⊎_elim (λ n. inl n) (λ x. absurd (not_basic (object_at os x.0) (form_in c.program (ref.Named q)) basic.Boolean (no_form (description c.program) (number_of_types c.program) q f) x.3 (built x.0 x.2))) h
 
-    procedure_stays : (s : Signature) (v : Value) → IsProcedure c.program (has_of c) s v → IsProcedure d.program (has_of d) s v
+    procedure_stays : (fs : Formals) (v : Value) → IsProcedure c.program (has_of c) fs v → IsProcedure d.program (has_of d) fs v
     procedure_stays s v h = ⊎_elim (λ n. inl n) (λ x. inr (x.0, x.1, k.has s x.0 x.2)) h
 
     mutual
@@ -123,7 +122,7 @@ module _ (c d : Setting) (k : Carries c d) where
     pointer_word : (t : TypeRef) (v : Value) → IsPointer c.program os t v → Wd os v ≡ Wc os v
     pointer_word t v h = ⊎_elim (λ e. ap (Wd os) e ∙ sym (ap (Wc os) e)) (λ x. ap (Wd os) x.1 ∙ ap (λ a. pos (a + object_offset os x.0)) heap_same ∙ sym (ap (Wc os) x.1)) h
 
-    procedure_word : (s : Signature) (v : Value) → IsProcedure c.program (has_of c) s v → Wd os v ≡ Wc os v
+    procedure_word : (fs : Formals) (v : Value) → IsProcedure c.program (has_of c) fs v → Wd os v ≡ Wc os v
     procedure_word s v h = ⊎_elim (λ e. ap (Wd os) e ∙ sym (ap (Wc os) e)) (λ x. ap (Wd os) x.1 ∙ ap proc_value (k.numbers s x.0 x.2) ∙ sym (ap (Wc os) x.1)) h
 
     abbrev Ed : ℕ → (ℕ → List ℤ) → List ℤ

@@ -4,10 +4,9 @@ use Rattle.std.proofs.lemmas.List.{append-nil}
 use Rattle.std.specs.Prelude.{map, true, false, Bool, Contains, bytes_eq, if◌then◌else◌}
 use Rattle.std.specs.List.{AllByRecursion}
 use Rattle.ob_tree.specs.declared.names.QName.{QName}
-use Rattle.ob_types.specs.declared.types.Signature.{Signature}
 use Rattle.ob_types.specs.TypedSyntax.{Procedure, Module}
 use Rattle.ob_instr.specs.Image.{World}
-use Rattle.ob_meaning.specs.Values.{changed, Program, procedure_of, procedure_named, Value, AnObject, State}
+use Rattle.ob_meaning.specs.Values.{changed, Program, procedure_of, procedure_named, Value, AnObject, State, Formals}
 use Rattle.ob_meaning.specs.Commands.{first_globals, with_module}
 use Rattle.ob_relation.specs.Layout.{module_number, procedure_index, procedures_in, module_held}
 use Rattle.ob_relation.specs.Relation.{AreDifferent, number_of, no_places}
@@ -73,7 +72,7 @@ module _ (S : BuildsStand) (heap : ℕ) (few : heap ≤ 4194304) (all : List Bui
   stay : FormsStay P m
   stay = subst (λ x. FormsStay x m) (sym p) (S.forms_stay bs b loaded)
 
-  numbers : (s : Signature) (q : QName) → has_of before s q → number_of next (has_of behind) behind.img q ≡ number_of P (has_of before) before.img q
+  numbers : (fs : Formals) (q : QName) → has_of before fs q → number_of next (has_of behind) behind.img q ≡ number_of P (has_of before) before.img q
   numbers s q h =
       let n = (all_stand S heap few all l bs (b ∷ more) P e p (own_words (file_of b) ++ rest)).image.numbered s q h in
       ap (λ k. record { «module» = k; proc = procedure_index (procedures_in next q.«module») q.object }) (module_stays P (m ∷ []) q n.p n.is)

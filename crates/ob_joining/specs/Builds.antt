@@ -2,11 +2,10 @@
 use Rattle.std.specs.Prelude.{◌≡◌, ℕ, ◌≤◌, List, [], ◌∷◌, ◌++◌, true, Bool, length, map, Some, Contains}
 use Rattle.std.specs.List.{AllByRecursion}
 use Rattle.ob_tree.specs.declared.names.QName.{QName}
-use Rattle.ob_types.specs.declared.types.Signature.{Signature}
 use Rattle.ob_types.specs.declared.desc.Desc.{Desc}
 use Rattle.ob_types.specs.TypedSyntax.{Procedure, Module}
 use Rattle.ob_obj.specs.Images.{string_words, global_words}
-use Rattle.ob_meaning.specs.Values.{Program, description, record_in}
+use Rattle.ob_meaning.specs.Values.{Program, description, record_in, Formals}
 use Rattle.ob_meaning.specs.Commands.{body_name, body_procedure, command_named}
 use Rattle.ob_relation.specs.Layout.{procedure_index, slots_words, module_held}
 use Rattle.ob_relation.specs.Relation.{ModulesOk}
@@ -54,9 +53,9 @@ pub record FormsStay (program : Program) (m : Module) : Type 0 where
 
 -- ALL OF THEM, IN THE IMAGE OF THEIR FILES
 
--- which procedures may be values of variables with a signature
+-- which procedures may be values of variables that take and give these
 abbrev pub Values : Type 0
-Values = Program → Signature → QName → Bool
+Values = Program → Formals → QName → Bool
 
 -- The program is that of builds. The image is that of their files, with the files of more builds behind them: all files of a command are
 -- entered before the first body is run.
@@ -85,4 +84,4 @@ pub record BuildsStand : Type 0 where
   pub stand : (bs more : List Build) → AreLoaded (bs ++ more) → (c : Setting) → IsOf c values bs more → AllStand c bs
   -- what is so of some is so of them with one more behind
   pub forms_stay : (bs : List Build) (b : Build) → AreLoaded (bs ++ b ∷ []) → FormsStay (program_of bs) (tree_of b)
-  pub values_stay : (bs : List Build) (b : Build) → AreLoaded (bs ++ b ∷ []) → (s : Signature) (q : QName) → values (program_of bs) s q ≡ true → values (program_of bs ++ tree_of b ∷ []) s q ≡ true
+  pub values_stay : (bs : List Build) (b : Build) → AreLoaded (bs ++ b ∷ []) → (fs : Formals) (q : QName) → values (program_of bs) fs q ≡ true → values (program_of bs ++ tree_of b ∷ []) fs q ≡ true

@@ -1,10 +1,9 @@
 -- What is owed of builds that are loaded together, each in one sentence.
 use Rattle.std.specs.Prelude.{◌≡◌, ℕ, List, [], ◌∷◌, ◌++◌, true, map, Some, Contains}
 use Rattle.ob_tree.specs.declared.names.QName.{QName}
-use Rattle.ob_types.specs.declared.types.Signature.{Signature}
 use Rattle.ob_types.specs.TypedSyntax.{Procedure}
 use Rattle.ob_obj.specs.Images.{global_words, AreEnterable}
-use Rattle.ob_meaning.specs.Values.{Program, description}
+use Rattle.ob_meaning.specs.Values.{Program, description, Formals}
 use Rattle.ob_meaning.specs.Commands.{command_named}
 use Rattle.ob_layout.specs.LaidOut.{viewed}
 use Rattle.ob_env.specs.Faces.{described}
@@ -27,7 +26,7 @@ abbrev pub in_program : Program → Build → linking.Build
 in_program program b = record { types = description program; unit = tree_of b; exports = exports_of (interface_by texts (of b)); uses = (interface_by texts (of b)).uses }
 
 pub record Owed : Type 0 where
-  -- which procedures may be values of variables with a signature
+  -- which procedures may be values of variables that take and give these
   pub values : Values
   -- modules have different names, and the variables of each have
   pub different : (bs : List Build) → AreLoaded bs → ModulesOk (program_of bs) (program_of bs)
@@ -49,7 +48,7 @@ pub record Owed : Type 0 where
   pub variables : (bs : List Build) → AreLoaded bs → (b : Build) → Contains bs b → OwnFormsOk (program_of bs) (module_held (program_of bs) (tree_of b))
   -- what is so of some is so of them with one more behind
   pub forms_stay : (bs : List Build) (b : Build) → AreLoaded (bs ++ b ∷ []) → FormsStay (program_of bs) (tree_of b)
-  pub values_stay : (bs : List Build) (b : Build) → AreLoaded (bs ++ b ∷ []) → (s : Signature) (q : QName) → values (program_of bs) s q ≡ true → values (program_of bs ++ tree_of b ∷ []) s q ≡ true
+  pub values_stay : (bs : List Build) (b : Build) → AreLoaded (bs ++ b ∷ []) → (fs : Formals) (q : QName) → values (program_of bs) fs q ≡ true → values (program_of bs ++ tree_of b ∷ []) fs q ≡ true
 
 -- THE LAW
 abbrev pub OwedGives : Type 0
