@@ -1,5 +1,5 @@
 -- What is bound leaves the names of types, and each is described.
-use Rattle.std.proofs.Common.{◌≡◌, ℕ, Bool, true, false, List, [], ◌∷◌, Option, Some, None, refl, ap, ◌∙◌, inl, inr}
+use Rattle.std.proofs.Common.{◌≡◌, ℕ, Bool, true, false, List, [], ◌∷◌, Option, Some, None, refl, ap, ◌∙◌, inl, inr, sym}
 use Rattle.std.specs.Prelude.{bytes_eq}
 use Rattle.std.specs.List.{AllByRecursion, filter}
 use Rattle.ob_tree.specs.declared.names.QName.{QName}
@@ -22,12 +22,13 @@ module _ (IsConstant : Value → Type 0) where
   pub record Changes (own more : List TypedType) : Type 0 where
     pub described : AllByRecursion (IsDescribed IsConstant) own → AllByRecursion (IsDescribed IsConstant) more
     pub grows : Grows own more
+    pub back : Grows more own
 
   pub changes_none : (own : List TypedType) → Changes own own
-  changes_none own = record { described = λ h. h; grows = grows_same own }
+  changes_none own = record { described = λ h. h; grows = grows_same own; back = grows_same own }
 
   changes_then : (a b c : List TypedType) → Changes a b → Changes b c → Changes a c
-  changes_then a b c f g = record { described = λ h. g.described (f.described h); grows = grows_then a b c f.grows g.grows }
+  changes_then a b c f g = record { described = λ h. g.described (f.described h); grows = grows_then a b c f.grows g.grows; back = grows_then c b a g.back f.back }
 
   desc_changed : (f : RecordDesc → RecordDesc) (d : Desc) → (is_type d ≡ true) × LengthIs IsConstant d → (is_type (change_desc f d) ≡ true) × LengthIs IsConstant (change_desc f d)
   desc_changed f (desc.Const v) h = h
@@ -49,7 +50,7 @@ module _ (IsConstant : Value → Type 0) where
   if_name false f t = refl
 
   type_changed : (x : List ℕ) (f : RecordDesc → RecordDesc) (ts : List TypedType) → Changes ts (change_type x f ts)
-  type_changed x f ts = record { described = all_changed ts; grows = all_grow ts }
+  type_changed x f ts = record { described = all_changed ts; grows = all_grow ts; back = all_back ts }
     where
       all_changed : (ts : List TypedType) → AllByRecursion (IsDescribed IsConstant) ts → AllByRecursion (IsDescribed IsConstant) (change_type x f ts)
       all_changed [] h = tt
@@ -59,6 +60,11 @@ module _ (IsConstant : Value → Type 0) where
       all_grow [] y h = absurd h.1.0
       all_grow (t ∷ ts) y (s, (inl e, g)) = (changed_if (bytes_eq t.name x) f t, (inl refl, if_name (bytes_eq t.name x) f t ∙ ap (λ (r : TypedType). r.name) e ∙ g))
       all_grow (t ∷ ts) y (s, (inr i, g)) = let r = all_grow ts y (s, (i, g)) in (r.0, (inr r.1.0, r.1.1))
+
+      all_back : (ts : List TypedType) → Grows (change_type x f ts) ts
+      all_back [] y h = absurd h.1.0
+      all_back (t ∷ ts) y (s, (inl e, g)) = (t, (inl refl, sym (if_name (bytes_eq t.name x) f t) ∙ ap (λ (r : TypedType). r.name) e ∙ g))
+      all_back (t ∷ ts) y (s, (inr i, g)) = let r = all_back ts y (s, (i, g)) in (r.0, (inr r.1.0, r.1.1))
 
   redefined_changes : (b : Bool) (s : Binding) (h : Head) (a : BoundAs) → Changes s.own (redefined b s h a).own
   redefined_changes true s h a = changes_none s.own

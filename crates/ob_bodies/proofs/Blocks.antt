@@ -3,12 +3,14 @@ use Rattle.std.proofs.Common.{◌≡◌, refl, sym, ap, ◌∙◌, subst, ℕ, s
 use Rattle.std.specs.Prelude.{nat_lt}
 use Rattle.std.specs.List.{AllByRecursion}
 use Rattle.ob_tree.specs.declared.names.QName.{QName}
+use Rattle.ob_types.specs.declared.types.Mode.{Mode}
 use Rattle.ob_types.specs.declared.types.TypeRef.{TypeRef}
 use Rattle.ob_types.specs.declared.value.Value.{Value}
 use Rattle.ob_types.specs.declared.desc.Desc.{Desc}
 use Rattle.ob_types.specs.declared.typed.Variable.{Variable}
 use Rattle.ob_types.specs.declared.typed.TypedType.{TypedType}
 use Rattle.ob_types.specs.declared.typed.TypedVariable.{TypedVariable}
+use Rattle.ob_types.specs.declared.typed.TypedParameter.{TypedParameter}
 use Rattle.ob_types.specs.declared.typed.TypedProcedure.{TypedProcedure}
 use Rattle.ob_types.specs.declared.typed.TypedModule.{TypedModule}
 use Rattle.ob_rules.specs.declared.entity.Entity.{Entity}
@@ -17,15 +19,16 @@ use Rattle.ob_rules.specs.declared.entity.Known.{Known}
 use Rattle.ob_rules.specs.Shapes.{Map}
 use Rattle.ob_rules.specs.Names.{Around, map_of, is_out}
 use Rattle.ob_rules.specs.Types.{Parameters, nothing}
-use Rattle.ob_rules.specs.Headings.{Head, reversed}
-use Rattle.ob_rules.specs.Declarations.{Contents, Part, Written_procedure, around_body, result_in, bound_to, typed_procedure, types_of_head, procedure_judged, procedures_judged}
+use Rattle.ob_rules.specs.Headings.{Head, reversed, types_of}
+use Rattle.ob_rules.specs.Declarations.{Contents, Part, Written_procedure, closing_judged, self_parameters, around_body, result_in, bound_to, typed_procedure, types_of_head, procedure_judged, procedures_judged}
 use Rattle.ob_forms.specs.Said.{IsOneOf}
 use Rattle.ob_typed.specs.Makes.{IfThere}
-use Rattle.ob_bodies.specs.Knows.{Stands, IsDescribed, EntityStands}
-use Rattle.ob_bodies.specs.Judged.{IsParameter, IsInside, result_of, NameIs, StandsAround, IsJudged, ProcedureIsJudged}
-use Rattle.ob_bodies.proofs.Lists.{one_left, one_right, all_of, all_both}
+use Rattle.ob_bodies.specs.Knows.{Grows, Stands, IsDescribed, EntityStands}
+use Rattle.ob_bodies.specs.Judged.{AreOf, IsParameter, IsInside, result_of, NameIs, StandsAround, IsJudged, ProcedureIsJudged}
+use Rattle.ob_bodies.proofs.Lists.{one_left, one_right, all_of, all_both, there_of, first_empty, second_empty}
+use Rattle.ob_bodies.proofs.Standing.{grows_same, grows_front, grows_behind, grows_then, stands_grown}
 use Rattle.ob_bodies.proofs.Heads.{InsideEntity, SignatureStands, HeadStands, all_parameters}
-use Rattle.ob_bodies.proofs.Headings.{Aligned, AreGoodHeadings}
+use Rattle.ob_bodies.proofs.Headings.{Aligned, IsUnbroken, AreGoodHeadings}
 use Rattle.ob_bodies.proofs.Levels.{Level, AtModule, Within, frame, IsPlaced, IsVariableAt, Included, IsFull, none_full, both_full, first_included, second_included, BlockAt, not_module, outer_name}
 
 -- ---- lists
@@ -115,7 +118,7 @@ module _ (IsConstant : Value → Type 0) (shown : QName → Option Desc) (m : Ty
     pub full : IsFull IsConstant shown m c
 
   abbrev pub IsBlock : (Around → Part) → Type 0
-  IsBlock f = (l : Level) (u : Around) → B l u → I l (f u).contents → PartIs l (f u).contents
+  IsBlock f = (l : Level) (u : Around) → B l u → (f u).notes.broken ≡ [] → I l (f u).contents → PartIs l (f u).contents
 
   pub record IsProcedure (p : Written_procedure) : Type 0 where
     pub heading : AreGoodHeadings IsConstant m.name shown out (p ∷ [])
@@ -206,6 +209,7 @@ module _ (IsConstant : Value → Type 0) (shown : QName → Option Desc) (m : Ty
         guards = refl;
         result = framed_result types h h.parameters c;
         in_loop = refl;
+        grown = b.grown;
       }
 
   -- ONE PROCEDURE AND THOSE INSIDE IT
@@ -223,32 +227,83 @@ module _ (IsConstant : Value → Type 0) (shown : QName → Option Desc) (m : Ty
   framed_variables types h None c x i = tt
   framed_variables types h (Some q) c x i = i
 
-  framed_judged : (own : List TypedType) (types : Map) (h : Head) (o : Option Parameters) (c : Contents) → IfThere (SignatureStands IsConstant m.name shown out own) o → IsJudged IsConstant shown m (framed types h o c) c.body → AreJudged (typed_procedure types h o c)
-  framed_judged own types h None c s j = tt
-  framed_judged own types h (Some q) c s j = (record { body = j; result = s.plain }, tt)
+  -- the types of parameters, by those of the signature
+  parameters_stand : (own : List TypedType) (ps : List TypedParameter) (ks : List (Mode × TypeRef)) → AreOf ps ks → AllByRecursion (λ (k : Mode × TypeRef). S own k.1) ks → AllByRecursion (λ (x : TypedParameter). S own x.of) ps
+  parameters_stand own [] ks a h = tt
+  parameters_stand own (p ∷ ps) [] a h = absurd a
+  parameters_stand own (p ∷ ps) (k ∷ ks) a h = (subst (S own) (sym a.0.0) h.0, parameters_stand own ps ks a.1 h.1)
 
-  procedure_is : (l : Level) (u : Around) → B l u → (p : Written_procedure) → IsProcedure p → (h : Head) → HS u.own u.scope h → AllByRecursion (KnownBehind l u) h.known → (forward : Bool) → I l (procedure_judged u p h forward).contents → Adds (procedure_judged u p h forward).contents
-  procedure_is l u b p g h s k true i = record { procedures = tt; full = record { constants = tt; types = head_made h.parameters s.made; bound = tt } }
-  procedure_is l u b p g h s k false i =
+  framed_judged : (own : List TypedType) → Grows own m.types → (types : Map) (h : Head) → AllByRecursion (λ (x : TypedParameter). S own x.of) (self_parameters h h.self h.bound) → (o : Option Parameters) (c : Contents) → IfThere (SignatureStands IsConstant m.name shown out own) o → IsJudged IsConstant shown m (framed types h o c) c.body → AreJudged (typed_procedure types h o c)
+  framed_judged own g types h self None c s j = tt
+  framed_judged own g types h self (Some q) c s j =
+      let all = all_both (λ (x : TypedParameter). S own x.of) (self_parameters h h.self h.bound) q.parameters self (parameters_stand own q.parameters q.signature.params s.answer s.params) in (
+        record {
+          body = j;
+          result = s.plain;
+          parameters = all_of (λ (x : TypedParameter). S own x.of) (λ (x : TypedParameter). S m.types x.of) (all_parameters h q) (λ x. stands_grown m.name shown own m.types g x.of) all;
+          answer = there_of (S own) (S m.types) q.signature.result (λ t. stands_grown m.name shown own m.types g t) s.result;
+        },
+        tt,
+      )
+
+  procedure_is : (l : Level) (u : Around) → B l u → (p : Written_procedure) → IsProcedure p → (h : Head) → HS u.own u.scope h → AllByRecursion (KnownBehind l u) h.known → (forward : Bool) → (procedure_judged u p h forward).notes.broken ≡ [] → I l (procedure_judged u p h forward).contents → Adds (procedure_judged u p h forward).contents
+  procedure_is l u b p g h s k true n i = record { procedures = tt; full = record { constants = tt; types = head_made h.parameters s.made; bound = tt } }
+  procedure_is l u b p g h s k false n i =
       let c = (p.inside (around_body u h)).contents in
       let types = map_of u in
       let f = framed types h h.parameters c in
       let own = typed_procedure types h h.parameters c in
-      let r = g.inside (Within f) (around_body u h) (inside_block l u b h s k types c) (record { variables = λ x j. framed_variables types h h.parameters c x j; procedures = λ q j. i.procedures q (one_right own c.procedures q j) }) in
+      let quiet = second_empty (closing_judged h.name p.closing).broken _ (second_empty h.notes.broken _ n) in
+      let r = g.inside (Within f) (around_body u h) (inside_block l u b h s k types c) quiet (record { variables = λ x j. framed_variables types h h.parameters c x j; procedures = λ q j. i.procedures q (one_right own c.procedures q j); types = grows_then c.types (types_of_head h.parameters ++ c.types) m.types (grows_front (types_of_head h.parameters) c.types) i.types }) in
       record {
-        procedures = all_both (ProcedureIsJudged IsConstant shown m) own c.procedures (framed_judged u.own types h h.parameters c s.signature r.body) r.procedures;
+        procedures = all_both (ProcedureIsJudged IsConstant shown m) own c.procedures (framed_judged u.own b.grown types h s.self h.parameters c s.signature r.body) r.procedures;
         full = record { constants = tt; types = all_both (IsDescribed IsConstant) (types_of_head h.parameters) c.types (head_made h.parameters s.made) r.full.types; bound = tt };
       }
 
-  pub procedures_are : (l : Level) (u : Around) → B l u → (ps : List Written_procedure) → AreProcedures ps → (hs : List Head) → AllByRecursion (HS u.own u.scope) hs → AllByRecursion (λ (h : Head). AllByRecursion (KnownBehind l u) h.known) hs → I l (procedures_judged u ps hs).contents → Adds (procedures_judged u ps hs).contents
-  procedures_are l u b [] g hs s k i = record { procedures = tt; full = none_full IsConstant shown m }
-  procedures_are l u b (p ∷ ps) g [] s k i = record { procedures = tt; full = none_full IsConstant shown m }
-  procedures_are l u b (p ∷ ps) g (h ∷ hs) s k i =
+  pub procedures_are : (l : Level) (u : Around) → B l u → (ps : List Written_procedure) → AreProcedures ps → (hs : List Head) → AllByRecursion (HS u.own u.scope) hs → AllByRecursion (λ (h : Head). AllByRecursion (KnownBehind l u) h.known) hs → (procedures_judged u ps hs).notes.broken ≡ [] → I l (procedures_judged u ps hs).contents → Adds (procedures_judged u ps hs).contents
+  procedures_are l u b [] g hs s k n i = record { procedures = tt; full = none_full IsConstant shown m }
+  procedures_are l u b (p ∷ ps) g [] s k n i = record { procedures = tt; full = none_full IsConstant shown m }
+  procedures_are l u b (p ∷ ps) g (h ∷ hs) s k n i =
       let a = (procedure_judged u p h p.forward).contents in
       let c = (procedures_judged u ps hs).contents in
-      let x = procedure_is l u b p g.0 h s.0 k.0 p.forward (first_included IsConstant shown m l a c i) in
-      let y = procedures_are l u b ps g.1 hs s.1 k.1 (second_included IsConstant shown m l a c i) in
+      let one = (procedure_judged u p h p.forward).notes.broken in
+      let x = procedure_is l u b p g.0 h s.0 k.0 p.forward (first_empty one _ n) (first_included IsConstant shown m l a c i) in
+      let y = procedures_are l u b ps g.1 hs s.1 k.1 (second_empty one _ n) (second_included IsConstant shown m l a c i) in
       record { procedures = all_both (ProcedureIsJudged IsConstant shown m) a.procedures c.procedures x.procedures y.procedures; full = both_full IsConstant shown m a c x.full y.full }
+
+  -- headings against which nothing is said, and the types that they make
+  head_unbroken : (u : Around) (p : Written_procedure) (h : Head) (forward : Bool) → (procedure_judged u p h forward).notes.broken ≡ [] → IsUnbroken h
+  head_unbroken u p h true n = n
+  head_unbroken u p h false n = first_empty h.notes.broken _ n
+
+  pub heads_unbroken : (u : Around) (ps : List Written_procedure) (hs : List Head) → Aligned ps hs → (procedures_judged u ps hs).notes.broken ≡ [] → (h : Head) → IsOneOf hs h → IsUnbroken h
+  heads_unbroken u [] [] a n h i = absurd i
+  heads_unbroken u [] (g ∷ hs) a n h i = absurd a
+  heads_unbroken u (p ∷ ps) [] a n h i = absurd i
+  heads_unbroken u (p ∷ ps) (g ∷ hs) a n h (inl e) = subst IsUnbroken e (head_unbroken u p g p.forward (first_empty (procedure_judged u p g p.forward).notes.broken _ n))
+  heads_unbroken u (p ∷ ps) (g ∷ hs) a n h (inr i) = heads_unbroken u ps hs a.1 (second_empty (procedure_judged u p g p.forward).notes.broken _ n) h i
+
+  same_types : (o : Option Parameters) → types_of o ≡ types_of_head o
+  same_types None = refl
+  same_types (Some p) = refl
+
+  types_judged : (u : Around) (p : Written_procedure) (h : Head) (forward : Bool) → Grows (types_of_head h.parameters) (procedure_judged u p h forward).contents.types
+  types_judged u p h true = grows_same (types_of_head h.parameters)
+  types_judged u p h false = grows_behind (types_of_head h.parameters) (p.inside (around_body u h)).contents.types
+
+  pub types_there : (u : Around) (ps : List Written_procedure) (hs : List Head) → Aligned ps hs → (h : Head) → IsOneOf hs h → Grows (types_of h.parameters) (procedures_judged u ps hs).contents.types
+  types_there u [] [] a h i = absurd i
+  types_there u [] (g ∷ hs) a h i = absurd a
+  types_there u (p ∷ ps) [] a h i = absurd i
+  types_there u (p ∷ ps) (g ∷ hs) a h (inl e) =
+      let one = (procedure_judged u p g p.forward).contents.types in
+      let rest = (procedures_judged u ps hs).contents.types in
+      subst (λ (x : Head). Grows (types_of x.parameters) (one ++ rest)) e
+      (subst (λ ts. Grows ts (one ++ rest)) (sym (same_types g.parameters)) (grows_then (types_of_head g.parameters) one (one ++ rest) (types_judged u p g p.forward) (grows_behind one rest)))
+  types_there u (p ∷ ps) (g ∷ hs) a h (inr i) =
+      let one = (procedure_judged u p g p.forward).contents.types in
+      let rest = (procedures_judged u ps hs).contents.types in
+      grows_then (types_of h.parameters) rest (one ++ rest) (types_there u ps hs a.1 h i) (grows_front one rest)
 
   -- THE PROCEDURES ARE THOSE OF THE HEADINGS
 

@@ -14,8 +14,8 @@ use Rattle.ob_rules.specs.Declarations.{Written_procedure, headings_in_order}
 use Rattle.ob_forms.specs.Said.{IsOneOf}
 use Rattle.ob_typed.specs.Makes.{IfThere}
 use Rattle.ob_bodies.specs.Knows.{Grows, IsDescribed, EntityStands, Knows}
-use Rattle.ob_bodies.proofs.Lists.{all_of}
-use Rattle.ob_bodies.proofs.Standing.{grows_front, grows_then, with_types_known}
+use Rattle.ob_bodies.proofs.Lists.{all_of, second_empty}
+use Rattle.ob_bodies.proofs.Standing.{grows_front, grows_behind, grows_then, grows_both, with_types_known}
 use Rattle.ob_bodies.proofs.Sections.{AreGoodSections}
 use Rattle.ob_bodies.proofs.Heads.{InsideEntity, inside_none, inside_again, HeadStands, head_grown, head_stands}
 
@@ -65,6 +65,47 @@ stays_before (p ∷ ps) hs h i = stays_before ps (add_heading hs p.heading p.for
 
 behind_behind : (base u : Around) → IsBehind base u → (ks : List Known) (own : List TypedType) → IsBehind base (record u { known = ks; own = own })
 behind_behind base u e ks own = ap (λ (x : Around). record x { known = ks; own = own }) e
+
+-- the types that headings make, where nothing is said against these
+abbrev pub types_of_all : List Head → List TypedType
+types_of_all [] = []
+types_of_all (h ∷ hs) = types_of h.parameters ++ types_of_all hs
+
+abbrev pub IsUnbroken : Head → Type 0
+IsUnbroken h = h.notes.broken ≡ []
+
+declared_types : (twice : Bool) (h : Head) (u : Around) → IsUnbroken (declared_head twice h u) → types_of (declared_head twice h u).parameters ≡ types_of h.parameters
+declared_types true h u e = let bad = second_empty h.notes.broken _ e in absurd cc
+declared_types false h u e = refl
+
+named_own : (u : Around) (h : Head) (b : Bool) → (knows_procedure u h b).own ≡ u.own
+named_own u h true = refl
+named_own u h false = refl
+
+known_own : (u : Around) (twice : Bool) (h : Head) → (known_behind u twice h).own ≡ u.own
+known_own u true h = refl
+known_own u false h = named_own u h h.is_bound
+
+-- behind headings those types are known that they make, and those before
+pub grown_in_order : (base : List TypedType) (ps : List Written_procedure) (hs : Heads) → ((h : Head) → IsOneOf (headings_in_order ps hs).before h → IsUnbroken h) → Grows hs.around.own (types_of_all hs.before ++ base) → Grows (headings_in_order ps hs).around.own (types_of_all (headings_in_order ps hs).before ++ base)
+grown_in_order base [] hs f g = g
+grown_in_order base (p ∷ ps) hs f g =
+    let d = head_of hs.around p.heading p.forward in
+    let u = with_types hs.around (types_of d.parameters) in
+    let t = name_twice u hs.before d in
+    let v = known_behind u t d in
+    let h = declared_head t d v in
+    let more = types_of_all hs.before ++ base in
+    let mine : types_of h.parameters ≡ types_of d.parameters = declared_types t d v (f h (stays_before ps (add_heading hs p.heading p.forward) h (inl refl))) in
+    let all : Grows (types_of d.parameters ++ hs.around.own) (types_of d.parameters ++ more) = grows_both (types_of d.parameters) hs.around.own (types_of d.parameters ++ more) (grows_behind (types_of d.parameters) more) (grows_then hs.around.own more (types_of d.parameters ++ more) g (grows_front (types_of d.parameters) more)) in
+    let as_made : Grows (types_of d.parameters ++ hs.around.own) (types_of h.parameters ++ more) = subst (λ ts. Grows (types_of d.parameters ++ hs.around.own) (ts ++ more)) (sym mine) all in
+    let as_joined : Grows (types_of d.parameters ++ hs.around.own) ((types_of h.parameters ++ types_of_all hs.before) ++ base) = subst (λ ts. Grows (types_of d.parameters ++ hs.around.own) ts) (sym (append_assoc (types_of h.parameters) (types_of_all hs.before) base)) as_made in
+    grown_in_order base ps (add_heading hs p.heading p.forward) f (subst (λ ts. Grows ts ((types_of h.parameters ++ types_of_all hs.before) ++ base)) (sym (known_own u t d)) as_joined)
+
+-- where each of these makes types of some others, so do all
+pub types_grow : (hs : List Head) (more : List TypedType) → ((h : Head) → IsOneOf hs h → Grows (types_of h.parameters) more) → Grows (types_of_all hs) more
+types_grow [] more f = λ x h. absurd h.1.0
+types_grow (h ∷ hs) more f = grows_both (types_of h.parameters) (types_of_all hs) more (f h (inl refl)) (types_grow hs more (λ g i. f g (inr i)))
 
 procedure_behind : (base u : Around) → IsBehind base u → (h : Head) (b : Bool) → IsBehind base (knows_procedure u h b)
 procedure_behind base u e h true = e
@@ -138,12 +179,14 @@ module _ (IsConstant : Value → Type 0) (unit : List ℕ) (shown : QName → Op
     signature = tt;
     inside = all_of (λ (k : Known). (k.scope ≡ suc scope) × InsideEntity IsConstant unit shown out own h k.what) (λ (k : Known). (k.scope ≡ suc scope) × InsideEntity IsConstant unit shown out own (declared_head true h u) k.what) h.inside (λ k i. (i.0, inside_none IsConstant unit shown out own h (declared_head true h u) refl k.what i.1)) s.inside;
     free = s.free;
+    self = s.self;
   }
   twice_stands own scope false h u s = record {
     made = s.made;
     signature = s.signature;
     inside = all_of (λ (k : Known). (k.scope ≡ suc scope) × InsideEntity IsConstant unit shown out own h k.what) (λ (k : Known). (k.scope ≡ suc scope) × InsideEntity IsConstant unit shown out own (declared_head false h u) k.what) h.inside (λ k i. (i.0, inside_again IsConstant unit shown out own h u.known k.what i.1)) s.inside;
     free = s.free;
+    self = s.self;
   }
 
   procedure_own : (u : Around) (h : Head) (b : Bool) → (knows_procedure u h b).own ≡ u.own

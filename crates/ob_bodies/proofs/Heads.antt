@@ -82,6 +82,7 @@ module _ (IsConstant : Value → Type 0) (unit : List ℕ) (shown : QName → Op
     pub signature : IfThere (SignatureStands own) h.parameters
     pub inside : AllByRecursion (λ (k : Known). (k.scope ≡ suc scope) × InsideEntity own h k.what) h.inside
     pub free : h.is_bound ≡ false → self_parameters h h.self h.bound ≡ []
+    pub self : AllByRecursion (λ (x : TypedParameter). S own x.of) (self_parameters h h.self h.bound)
 
   inside_grown : (own more : List TypedType) → Grows own more → (h : Head) (e : Entity) → InsideEntity own h e → InsideEntity more h e
   inside_grown own more g h (entity.Variable v t) i = there_of (λ p. IsParameter (all_parameters h p) v t × S own t) (λ p. IsParameter (all_parameters h p) v t × S more t) h.parameters (λ p k. (k.0, stands_grown unit shown own more g t k.1)) i
@@ -132,6 +133,7 @@ module _ (IsConstant : Value → Type 0) (unit : List ℕ) (shown : QName → Op
     signature = there_of (SignatureStands own) (SignatureStands more) h.parameters (λ p. signature_grown own more g p) s.signature;
     inside = all_of (λ (k : Known). (k.scope ≡ suc scope) × InsideEntity own h k.what) (λ (k : Known). (k.scope ≡ suc scope) × InsideEntity more h k.what) h.inside (λ k i. (i.0, inside_grown own more g h k.what i.1)) s.inside;
     free = s.free;
+    self = all_of (λ (x : TypedParameter). S own x.of) (λ (x : TypedParameter). S more x.of) (self_parameters h h.self h.bound) (λ x. stands_grown unit shown own more g x.of) s.self;
   }
 
   -- THE RECEIVER
@@ -228,6 +230,12 @@ module _ (IsConstant : Value → Type 0) (unit : List ℕ) (shown : QName → Op
         always (λ p. IsParameter (all_parameters hd p) (self_of x.ident c.receiver) c.of × S more c.of) hd.parameters
         (λ p. ((self_parameter x.ident c, (subst (λ l. IsOneOf (l ++ p.parameters) (self_parameter x.ident c)) (sym own) (inl refl), self_is x.ident c c.receiver refl)), stands_grown unit shown u.own more (grows_front (types_of hd.parameters) u.own) c.of stands))
 
+    self_stands : (g : Head) (r : Option RawReceiver) (o : Option (Option BoundAs)) → IfThere (IfThere (λ (b : BoundAs). S u.own b.of)) o → AllByRecursion (λ (x : TypedParameter). S more x.of) (self_parameters g (option_map (λ r. r.ident) r) (bound_in o))
+    self_stands g None o s = tt
+    self_stands g (Some r) None s = tt
+    self_stands g (Some r) (Some None) s = tt
+    self_stands g (Some r) (Some (Some c)) s = (subst (S more) (self_is r.ident c c.receiver refl).1 (stands_grown unit shown u.own more (grows_front (types_of hd.parameters) u.own) c.of s), tt)
+
     from_stands : HeadStands more u.scope hd
     from_stands = record {
       made = three_have (λ p. AllByRecursion (IsDescribed IsConstant) p.made) m.node b.node s.found.node (there_of (ParametersAre IsConstant unit shown out u.own) (λ p. AllByRecursion (IsDescribed IsConstant) p.made) s.found.node (λ p i. i.made) are.found);
@@ -237,6 +245,7 @@ module _ (IsConstant : Value → Type 0) (unit : List ℕ) (shown : QName → Op
           (with_receiver Inside (inner u) h.receiver b.node (all_of (λ (k : Known). k.scope ≤ u.scope) Inside u.known (λ k i e. absurd (not_above u.scope k.scope i e)) below) (λ x e f. (refl, tt)) (λ x c e f g. (refl, receiver_inside x c e f)))
           (λ k e i f. (e, parameter_inside u.own more hd s.found.node (λ v t. three_entity u.own (self_parameters hd hd.self hd.bound) m.node b.node s.found.node v t) k.what i)));
       free = λ e. free_of hd h.receiver (bound_in b.node) e;
+      self = self_stands hd h.receiver b.node owner;
     }
 
   -- a heading stands among the types that it makes and those before

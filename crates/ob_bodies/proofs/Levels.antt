@@ -25,7 +25,7 @@ use Rattle.ob_forms.specs.Said.{IsOneOf}
 use Rattle.ob_bodies.specs.Knows.{Grows, Stands, IsDescribed, EntityStands, Knows}
 use Rattle.ob_bodies.specs.Judged.{IsInside, result_of, NameIs}
 use Rattle.ob_bodies.proofs.Lists.{one_left, one_right, all_of, all_both, there_of}
-use Rattle.ob_bodies.proofs.Standing.{grows_front, stands_grown, with_types_known}
+use Rattle.ob_bodies.proofs.Standing.{grows_front, grows_behind, grows_then, grows_both, stands_grown, with_types_known}
 
 -- in the module, or in a procedure, whose heading may break a rule
 pub data Level : Type 0 where
@@ -57,6 +57,8 @@ module _ (IsConstant : Value → Type 0) (shown : QName → Option Desc) (m : Ty
   pub record Included (l : Level) (c : Contents) : Type 0 where
     pub variables : (x : TypedVariable) → IsOneOf c.variables x → IsVariableAt l x
     pub procedures : (p : TypedProcedure) → IsOneOf c.procedures p → IsOneOf m.procedures p
+    -- by their names
+    pub types : Grows c.types m.types
 
   -- the constants of a part are constants, and its types are described
   pub record IsFull (c : Contents) : Type 0 where
@@ -75,10 +77,10 @@ module _ (IsConstant : Value → Type 0) (shown : QName → Option Desc) (m : Ty
   }
 
   pub first_included : (l : Level) (a b : Contents) → Included l (together a b) → Included l a
-  first_included l a b i = record { variables = λ x h. i.variables x (one_left a.variables b.variables x h); procedures = λ p h. i.procedures p (one_left a.procedures b.procedures p h) }
+  first_included l a b i = record { variables = λ x h. i.variables x (one_left a.variables b.variables x h); procedures = λ p h. i.procedures p (one_left a.procedures b.procedures p h); types = grows_then a.types (a.types ++ b.types) m.types (grows_behind a.types b.types) i.types }
 
   pub second_included : (l : Level) (a b : Contents) → Included l (together a b) → Included l b
-  second_included l a b i = record { variables = λ x h. i.variables x (one_right a.variables b.variables x h); procedures = λ p h. i.procedures p (one_right a.procedures b.procedures p h) }
+  second_included l a b i = record { variables = λ x h. i.variables x (one_right a.variables b.variables x h); procedures = λ p h. i.procedures p (one_right a.procedures b.procedures p h); types = grows_then b.types (a.types ++ b.types) m.types (grows_front a.types b.types) i.types }
 
   pub record BlockAt (l : Level) (u : Around) : Type 0 where
     pub knows : Knows IsConstant m.name shown u
@@ -88,6 +90,8 @@ module _ (IsConstant : Value → Type 0) (shown : QName → Option Desc) (m : Ty
     pub guards : u.guards ≡ []
     pub result : u.result ≡ result_of (frame l)
     pub in_loop : u.in_loop ≡ false
+    -- the types known are the module's, by their names
+    pub grown : Grows u.own m.types
 
   -- MORE TYPES
 
@@ -118,8 +122,8 @@ module _ (IsConstant : Value → Type 0) (shown : QName → Option Desc) (m : Ty
   types_placed AtModule u ts h = h
   types_placed (Within p) u ts h = h
 
-  pub block_typed : (l : Level) (u : Around) → BlockAt l u → (ts : List TypedType) → AllByRecursion (IsDescribed IsConstant) ts → BlockAt l (with_types u ts)
-  block_typed l u b ts h = record {
+  pub block_typed : (l : Level) (u : Around) → BlockAt l u → (ts : List TypedType) → AllByRecursion (IsDescribed IsConstant) ts → Grows ts m.types → BlockAt l (with_types u ts)
+  block_typed l u b ts h g = record {
     knows = with_types_known m.name shown IsConstant u b.knows ts h;
     below = b.below;
     names = all_of (λ (k : Known). NameIs IsConstant shown m u.own (frame l) u.level k.scope k.what) (λ (k : Known). NameIs IsConstant shown m (ts ++ u.own) (frame l) u.level k.scope k.what) u.known (λ k. name_grown u.own (ts ++ u.own) (grows_front ts u.own) (frame l) u.level k.scope k.what) b.names;
@@ -127,6 +131,7 @@ module _ (IsConstant : Value → Type 0) (shown : QName → Option Desc) (m : Ty
     guards = b.guards;
     result = b.result;
     in_loop = b.in_loop;
+    grown = grows_both ts u.own m.types g b.grown;
   }
 
   -- A NAME THAT IS DECLARED
@@ -148,6 +153,7 @@ module _ (IsConstant : Value → Type 0) (shown : QName → Option Desc) (m : Ty
     guards = b.guards;
     result = b.result;
     in_loop = b.in_loop;
+    grown = b.grown;
   }
 
   pub block_declared : (l : Level) (u : Around) → BlockAt l u → (x : Ident) (e : Entity) → EntityStands IsConstant m.name shown u.own e → NameIs IsConstant shown m u.own (frame l) u.level u.scope e → BlockAt l (declare u x e)

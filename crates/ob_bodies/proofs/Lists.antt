@@ -64,3 +64,11 @@ find_has P test (x ∷ xs) h = first_if P (test x) x (find test xs) h.0 (find_ha
 pub there_of : {A : Type 0} (P Q : A → Type 0) (o : Option A) → ((x : A) → P x → Q x) → IfThere P o → IfThere Q o
 there_of P Q None f h = tt
 there_of P Q (Some x) f h = f x h
+
+pub first_empty : {A : Type 0} (xs ys : List A) → xs ++ ys ≡ [] → xs ≡ []
+first_empty [] ys e = refl
+first_empty (x ∷ xs) ys e = absurd cc
+
+pub second_empty : {A : Type 0} (xs ys : List A) → xs ++ ys ≡ [] → ys ≡ []
+second_empty [] ys e = e
+second_empty (x ∷ xs) ys e = absurd cc

@@ -1,5 +1,5 @@
 -- Modules: the bodies of a checked module are judged where what is known is as the module has it.
-use Rattle.std.proofs.Common.{◌≡◌, refl, sym, ap, ◌∙◌, subst, ℕ, ◌≤◌, Bool, true, false, List, [], ◌∷◌, ◌++◌, map, Option, Some, None, arith}
+use Rattle.std.proofs.Common.{◌≡◌, refl, sym, ap, ◌∙◌, subst, ℕ, ◌≤◌, Bool, true, false, List, [], ◌∷◌, ◌++◌, map, Option, Some, None, arith, inl, inr}
 use Rattle.std.specs.Prelude.{bytes_eq, ◌&&◌, ◌||◌}
 use Rattle.std.specs.List.{AllByRecursion, cons_option, filter_map, find}
 use Rattle.ob_tree.specs.declared.pos.Pos.{Pos}
@@ -31,9 +31,9 @@ use Rattle.ob_typed.specs.Spelled.{all_true, is_spelled}
 use Rattle.ob_typed.specs.Bodies.{stmt_spelled}
 use Rattle.ob_relation.proofs.Names.{and_both}
 use Rattle.ob_bodies.specs.Spelled.{parameters_spelled, decl_layer, decl_spelled, tree_spelled}
-use Rattle.ob_bodies.specs.Knows.{IsDescribed, EntityStands}
+use Rattle.ob_bodies.specs.Knows.{Grows, IsDescribed, EntityStands}
 use Rattle.ob_bodies.specs.Judged.{NameIs, BodiesAreJudged, ProcedureIsJudged}
-use Rattle.ob_bodies.proofs.Lists.{all_both, find_has}
+use Rattle.ob_bodies.proofs.Lists.{all_both, find_has, first_empty, second_empty}
 use Rattle.ob_bodies.proofs.Typings.{ConstantPhrase}
 use Rattle.ob_bodies.proofs.Written.{written_good, written_parameters_good}
 use Rattle.ob_bodies.proofs.Levels.{Level, AtModule, Within, frame, IsPlaced, Included, none_full, both_full, first_included, second_included, BlockAt, block_declared as name_declared}
@@ -54,10 +54,6 @@ kept_all P Q f k (x ∷ xs) h = one_kept Q (f x) (filter_map f xs) (k x h.0) (ke
 pub unbroken_is : {A : Type 0} (bs : List Broken) (x m : A) → if_unbroken bs x ≡ Some m → (bs ≡ []) × (x ≡ m)
 unbroken_is [] x m e = (refl, cc)
 unbroken_is (b ∷ bs) x m e = absurd cc
-
-first_empty : {A : Type 0} (xs ys : List A) → xs ++ ys ≡ [] → xs ≡ []
-first_empty [] ys e = refl
-first_empty (x ∷ xs) ys e = absurd cc
 
 not_noted : (b : Bool) (n : ℕ) (at : Pos) → (notes_if b n at).broken ≡ [] → b ≡ false
 not_noted true n at e = absurd cc
@@ -88,7 +84,7 @@ module _ (IsConstant : Value → Type 0) (truths : (b : Bool) → IsConstant (li
   later_placed (Within p) u xs h = h
 
   block_good : (ds : List Declaration) → AreGood ds → (xs : List Stmt) → all_true (map stmt_spelled xs) ≡ true → IsBlock IsConstant shown m out (block ds (map judging xs))
-  block_good ds g xs e l u b i =
+  block_good ds g xs e l u b n i =
       let names = filter_map type_name_of ds in
       let v : Around = record u { later_types = names } in
       let ps = filter_map procedure_of ds in
@@ -101,9 +97,10 @@ module _ (IsConstant : Value → Type 0) (truths : (b : Bool) → IsConstant (li
         guards = b.guards;
         result = b.result;
         in_loop = b.in_loop;
+        grown = b.grown;
       } in
       let r = order_plain IsConstant shown m out (filter_map plain_of ds) (kept_all GoodDeclaration (IsPlain IsConstant shown m out) plain_of plain_good ds g) l v c (first_included IsConstant shown m l d.part.contents _ i) in
-      block_is IsConstant shown m out l ps (kept_all GoodDeclaration (IsProcedure IsConstant shown m out) procedure_of procedure_good ds g) xs e u d r i
+      block_is IsConstant shown m out l ps (kept_all GoodDeclaration (IsProcedure IsConstant shown m out) procedure_of procedure_good ds g) xs e u d r n i
 
   -- BY INDUCTION OVER DECLARATIONS
 
@@ -124,7 +121,7 @@ module _ (IsConstant : Value → Type 0) (truths : (b : Bool) → IsConstant (li
   layer x h e = subst GoodDeclaration (sym (fold-roll-Decl Declaration decl_rule x)) (h (sym (fold-roll-Decl Bool decl_layer x) ∙ e))
 
   no_block : IsBlock IsConstant shown m out (λ u. record { notes = Rattle.ob_rules.specs.Judged.no_notes; contents = no_contents })
-  no_block l u b i = record { procedures = tt; body = record { u = u; xs = []; is = refl; spelled = refl; stands = stands_at IsConstant shown m out l u b }; placed = b.placed; full = none_full IsConstant shown m }
+  no_block l u b n i = record { procedures = tt; body = record { u = u; xs = []; is = refl; spelled = refl; stands = stands_at IsConstant shown m out l u b }; placed = b.placed; full = none_full IsConstant shown m }
 
   decl_cases : (y : Decl-F SD) → PD (roll-Decl (map-Decl SD Decl (λ x. x.0) y))
   decl_cases (Decl-F.Constant d x) = layer (Decl-F.Constant d x) (λ e. constant_plain IsConstant shown m out d (phrase_of x) (constants x e))
@@ -185,16 +182,19 @@ module _ (IsConstant : Value → Type 0) (truths : (b : Bool) → IsConstant (li
     guards = refl;
     result = refl;
     in_loop = refl;
+    grown = λ x h. absurd h.1.0;
   }
 
-  module_is : (name : Ident) → name.name ≡ m.name → (imports : List Import) → AllByRecursion (λ (i : Import). bytes_eq (target_of i).name m.name ≡ false) imports → (ds : List Declaration) → AreGood ds → (xs : List Stmt) → all_true (map stmt_spelled xs) ≡ true → (closing : Ident) → Included IsConstant shown m AtModule (module_of shown name imports ds (map judging xs) closing).contents → PartIs IsConstant shown m out AtModule (module_of shown name imports ds (map judging xs) closing).contents
-  module_is name e imports o ds g xs s closing i =
+  module_is : (name : Ident) → name.name ≡ m.name → (imports : List Import) → AllByRecursion (λ (i : Import). bytes_eq (target_of i).name m.name ≡ false) imports → (ds : List Declaration) → AreGood ds → (xs : List Stmt) → all_true (map stmt_spelled xs) ≡ true → (closing : Ident) → (module_of shown name imports ds (map judging xs) closing).notes.broken ≡ [] → Included IsConstant shown m AtModule (module_of shown name imports ds (map judging xs) closing).contents → PartIs IsConstant shown m out AtModule (module_of shown name imports ds (map judging xs) closing).contents
+  module_is name e imports o ds g xs s closing n i =
       let u = around_module shown name.name ds in
       let d = imports_declared imports u in
       let c = (block ds (map judging xs) d.around).contents in
       let j = second_included IsConstant shown m AtModule no_contents (together d.part.contents c) i in
       let r = order_plain IsConstant shown m out (map (λ i. import_declared i (target_of i)) imports) (imports_plain imports o) AtModule u (module_around name.name ds e) (first_included IsConstant shown m AtModule d.part.contents c j) in
-      let p = block_good ds g xs s AtModule d.around r.around (second_included IsConstant shown m AtModule d.part.contents c j) in
+      let inner = (block ds (map judging xs) d.around).notes.broken in
+      let quiet : inner ≡ [] = second_empty d.part.notes.broken inner (second_empty _ (d.part.notes.broken ++ inner) n) in
+      let p = block_good ds g xs s AtModule d.around r.around quiet (second_included IsConstant shown m AtModule d.part.contents c j) in
       record {
         procedures = all_both (ProcedureIsJudged IsConstant shown m) d.part.contents.procedures c.procedures (all_empty (ProcedureIsJudged IsConstant shown m) d.part.contents.procedures r.procedures) p.procedures;
         body = record { u = p.body.u; xs = p.body.xs; is = ◌∙◌ {c = stmts_in (in_turn (map judging p.body.xs) p.body.u).node} (ap (λ l. l ++ c.body) r.body) p.body.is; spelled = p.body.spelled; stands = p.body.stands };
@@ -203,6 +203,10 @@ module _ (IsConstant : Value → Type 0) (truths : (b : Bool) → IsConstant (li
       }
 
 -- ---- the checked module
+
+same_named : (o : Option TypedType) (t : TypedType) → (described o t).name ≡ t.name
+same_named None t = refl
+same_named (Some b) t = refl
 
 module _ (IsConstant : Value → Type 0) where
   described_is : (o : Option TypedType) (t : TypedType) → IfThere (IsDescribed IsConstant) o → IsDescribed IsConstant t → IsDescribed IsConstant (described o t)
@@ -227,14 +231,19 @@ module _ (IsConstant : Value → Type 0) (truths : (b : Bool) → IsConstant (li
       let f = first_empty n.broken _ (first_empty (n.broken ++ (Rattle.ob_rules.specs.Declarations.closing_judged tree.name.name (Some tree.closing)).broken) _ e) in
       first_false (is_out tree.name.name) (is_system tree.name.name) (not_noted b 5 tree.name.pos f)
 
-  whole_is : (out : is_out whole.name ≡ false) → ((x : Expr) → is_spelled x ≡ true → ConstantPhrase IsConstant whole.name shown out (phrase_of x)) → tree_spelled tree ≡ true → AllByRecursion (λ (i : Import). bytes_eq (target_of i).name tree.name.name ≡ false) tree.imports → BodiesAreJudged IsConstant shown whole
-  whole_is out constants s o =
+  names_kept : (bound : List TypedType) (ts : List TypedType) → Grows ts (all_described bound ts)
+  names_kept bound [] x h = absurd h.1.0
+  names_kept bound (t ∷ ts) x (s, (inl e, f)) = let d = described (find (λ b. bytes_eq b.name t.name) bound) t in (d, (inl refl, same_named (find (λ b. bytes_eq b.name t.name) bound) t ∙ ap (λ (r : TypedType). r.name) e ∙ f))
+  names_kept bound (t ∷ ts) x (s, (inr i, f)) = let r = names_kept bound ts x (s, (i, f)) in (r.0, (inr r.1.0, r.1.1))
+
+  whole_is : parts.notes.broken ≡ [] → (out : is_out whole.name ≡ false) → ((x : Expr) → is_spelled x ≡ true → ConstantPhrase IsConstant whole.name shown out (phrase_of x)) → tree_spelled tree ≡ true → AllByRecursion (λ (i : Import). bytes_eq (target_of i).name tree.name.name ≡ false) tree.imports → BodiesAreJudged IsConstant shown whole
+  whole_is quiet out constants s o =
       let e = and_both (all_true (map decl_spelled tree.decls)) (all_true (map stmt_spelled tree.body)) s in
-      let p = module_is IsConstant truths shown whole out constants tree.name refl tree.imports o (map declaration tree.decls) (decls_good IsConstant truths shown whole out constants tree.decls e.0) tree.body e.1 tree.closing (record { variables = λ x i. i; procedures = λ p i. i }) in
+      let p = module_is IsConstant truths shown whole out constants tree.name refl tree.imports o (map declaration tree.decls) (decls_good IsConstant truths shown whole out constants tree.decls e.0) tree.body e.1 tree.closing quiet (record { variables = λ x i. i; procedures = λ p i. i; types = names_kept parts.contents.bound parts.contents.types }) in
       record { procedures = p.procedures; body = p.body; scope = p.placed.1.0; name = out; constants = p.full.constants; types = all_described_are IsConstant parts.contents.bound p.full.bound parts.contents.types p.full.types }
 
   pub bodies_judged : (m : TypedModule) → checked shown tree ≡ Some m → ((out : is_out tree.name.name ≡ false) (x : Expr) → is_spelled x ≡ true → ConstantPhrase IsConstant tree.name.name shown out (phrase_of x)) → tree_spelled tree ≡ true → AllByRecursion (λ (i : Import). bytes_eq (target_of i).name tree.name.name ≡ false) tree.imports → BodiesAreJudged IsConstant shown m
   bodies_judged m e constants s o =
       let r = unbroken_is parts.notes.broken whole m e in
       let out = not_out r.0 in
-      subst (BodiesAreJudged IsConstant shown) r.1 (whole_is out (constants out) s o)
+      subst (BodiesAreJudged IsConstant shown) r.1 (whole_is r.0 out (constants out) s o)

@@ -122,7 +122,7 @@ module _ (IsConstant : Value → Type 0) (shown : QName → Option Desc) (m : Ty
       let h = second_has (T u.own) k t (as_good u b.knows (u.path ++ d.ident.name) (mark_or_hidden k.node) w g w.name) in
       let v = with_types u (types_made o) in
       record {
-        around = block_declared IsConstant shown m l v (block_typed IsConstant shown m l u b (types_made o) (type_made u.own o h)) d.ident (type_entity o) (type_stands u.own o h) (type_name v.own (frame l) u.level u.scope o);
+        around = block_declared IsConstant shown m l v (block_typed IsConstant shown m l u b (types_made o) (type_made u.own o h) i.types) d.ident (type_entity o) (type_stands u.own o h) (type_name v.own (frame l) u.level u.scope o);
         procedures = refl;
         body = refl;
         full = record { constants = tt; types = type_made u.own o h; bound = tt };
@@ -196,7 +196,7 @@ module _ (IsConstant : Value → Type 0) (shown : QName → Option Desc) (m : Ty
       let h : Has (T u.own) t = g u b.knows (u.path ++ first_name ds ++ codes ":") mark.Hidden false in
       let v = with_types u (made_in t.node) in
       let mine : Contents = record no_contents { types = made_in t.node } in
-      let r = variables_plain ds t.node l v (block_typed IsConstant shown m l u b (made_in t.node) (in_made u.own t.node h)) (in_stands u.own t.node h) (second_included IsConstant shown m l mine (variables_with ds t.node v).part.contents i) in
+      let r = variables_plain ds t.node l v (block_typed IsConstant shown m l u b (made_in t.node) (in_made u.own t.node h) (first_included IsConstant shown m l mine (variables_with ds t.node v).part.contents i).types) (in_stands u.own t.node h) (second_included IsConstant shown m l mine (variables_with ds t.node v).part.contents i) in
       record { around = r.around; procedures = r.procedures; body = r.body; full = both_full IsConstant shown m mine (variables_with ds t.node v).part.contents (record { constants = tt; types = in_made u.own t.node h; bound = tt }) r.full }
 
   -- IN ORDER

@@ -12,7 +12,7 @@ use Rattle.ob_rules.specs.declared.entity.Bound.{Bound}
 use Rattle.ob_rules.specs.Names.{Around, in_unit, is_out}
 use Rattle.ob_rules.specs.Types.{Parameters, is_module_level}
 use Rattle.ob_rules.specs.Statements.{judging, in_turn}
-use Rattle.ob_rules.specs.Headings.{Head, Heads, head_entity, entity_as, reversed}
+use Rattle.ob_rules.specs.Headings.{Head, Heads, head_entity, entity_as, types_of, reversed}
 use Rattle.ob_rules.specs.Declarations.{Contents, no_contents, together, Part, Declared, Written_procedure, headings_in_order, procedures_judged, stmts_in, body_part, block_inside, with_bound, binding_at, block_declared}
 use Rattle.ob_forms.specs.Said.{IsOneOf}
 use Rattle.ob_typed.specs.Makes.{IfThere}
@@ -20,14 +20,14 @@ use Rattle.ob_typed.specs.Spelled.{all_true}
 use Rattle.ob_typed.specs.Bodies.{stmt_spelled}
 use Rattle.ob_bodies.specs.Knows.{Grows, IsDescribed, EntityStands}
 use Rattle.ob_bodies.specs.Judged.{AreOf, NameIs, ProcedureIsJudged}
-use Rattle.ob_bodies.proofs.Lists.{one_all, all_of, all_both, all_pairs}
-use Rattle.ob_bodies.proofs.Standing.{grows_same, grows_then, entity_grown}
+use Rattle.ob_bodies.proofs.Lists.{one_all, all_of, all_both, all_pairs, first_empty, second_empty}
+use Rattle.ob_bodies.proofs.Standing.{grows_same, grows_then, grows_both, entity_grown}
 use Rattle.ob_bodies.proofs.Heads.{SignatureStands, HeadStands, head_grown}
-use Rattle.ob_bodies.proofs.Headings.{Aligned, named_at, aligned_in_order, names_in_order, HeadsStand, named_fine, stand_in_order}
+use Rattle.ob_bodies.proofs.Headings.{Aligned, IsUnbroken, types_of_all, grown_in_order, types_grow, named_at, aligned_in_order, names_in_order, HeadsStand, named_fine, stand_in_order}
 use Rattle.ob_bodies.proofs.Binding.{binding_changes}
 use Rattle.ob_bodies.proofs.Levels.{Level, AtModule, Within, frame, IsPlaced, Included, none_full, both_full, first_included, second_included, BlockAt, name_grown}
 use Rattle.ob_bodies.proofs.Plain.{DeclaredIs}
-use Rattle.ob_bodies.proofs.Blocks.{one_reversed, all_reversed, all_empty, at_most, procedures_body, PartIs, AreProcedures, headings_good, stands_at, KnownBehind, procedures_are, HasProcedure, heading_there}
+use Rattle.ob_bodies.proofs.Blocks.{one_reversed, all_reversed, all_empty, at_most, procedures_body, PartIs, AreProcedures, headings_good, stands_at, KnownBehind, procedures_are, heads_unbroken, types_there, HasProcedure, heading_there}
 
 module _ (IsConstant : Value → Type 0) (shown : QName → Option Desc) (m : TypedModule) (out : is_out m.name ≡ false) where
   abbrev B : Level → Around → Type 0
@@ -85,7 +85,7 @@ module _ (IsConstant : Value → Type 0) (shown : QName → Option Desc) (m : Ty
     aligned : Aligned ps heads
     aligned = let a = aligned_in_order ps start in subst (Aligned ps) (sym a.is) a.aligned
 
-    module _ (own : List TypedType) (grows : Grows hs.around.own own) (described : AllByRecursion (IsDescribed IsConstant) own) (bound : List Bound) where
+    module _ (own : List TypedType) (grows : Grows hs.around.own own) (described : AllByRecursion (IsDescribed IsConstant) own) (grown : Grows own m.types) (bound : List Bound) where
       -- what stands around the procedures and statements
       abbrev w : Around
       w = record base { known = hs.around.known; own = own; bound = bound; coming = [] }
@@ -99,7 +99,7 @@ module _ (IsConstant : Value → Type 0) (shown : QName → Option Desc) (m : Ty
       heads_stand : AllByRecursion (HS own base.scope) hs.before
       heads_stand = all_of (HS hs.around.own base.scope) (HS own base.scope) hs.before (λ h i. head_grown IsConstant m.name shown out hs.around.own own grows base.scope h i) stand.before
 
-      module _ (i : I l inside.contents) where
+      module _ (n : inside.notes.broken ≡ []) (i : I l inside.contents) where
         there : (h : Head) → IsOneOf hs.before h → (q : Parameters) → h.parameters ≡ Some q → h.forward ≡ false → HasProcedure IsConstant shown m out m.procedures h q
         there h j q e f =
             let r = heading_there IsConstant shown m out w ps heads aligned h (one_reversed hs.before h j) q e f in
@@ -131,13 +131,14 @@ module _ (IsConstant : Value → Type 0) (shown : QName → Option Desc) (m : Ty
           guards = b.guards;
           result = b.result;
           in_loop = b.in_loop;
+          grown = grown;
         }
 
         inside_is : PartIs IsConstant shown m out l inside.contents
         inside_is =
             let c = (procedures_judged w ps heads).contents in
             let s = (body_part (in_turn (map judging xs) w)).contents in
-            let a = procedures_are IsConstant shown m out l w around ps good heads (all_reversed (HS own base.scope) hs.before heads_stand) (all_reversed (λ (h : Head). AllByRecursion (KnownBehind IsConstant shown m out l w) h.known) hs.before known.1) (first_included IsConstant shown m l c s i) in
+            let a = procedures_are IsConstant shown m out l w around ps good heads (all_reversed (HS own base.scope) hs.before heads_stand) (all_reversed (λ (h : Head). AllByRecursion (KnownBehind IsConstant shown m out l w) h.known) hs.before known.1) (first_empty (procedures_judged w ps heads).notes.broken _ n) (first_included IsConstant shown m l c s i) in
             record {
               procedures = all_both (ProcedureIsJudged IsConstant shown m) c.procedures [] a.procedures tt;
               body = record { u = w; xs = xs; is = ap (λ l. l ++ s.body) (procedures_body w ps heads); spelled = spelled; stands = stands_at IsConstant shown m out l w around };
@@ -146,8 +147,8 @@ module _ (IsConstant : Value → Type 0) (shown : QName → Option Desc) (m : Ty
             }
 
   -- with what is bound, and the declarations before
-  pub block_is : (l : Level) (ps : List Written_procedure) → AreProcedures IsConstant shown m out ps → (xs : List Stmt) → all_true (map stmt_spelled xs) ≡ true → (outer : Around) (d : Declared) → DeclaredIs IsConstant shown m out l d → I l (block_declared outer ps (map judging xs) d).contents → PartIs IsConstant shown m out l (block_declared outer ps (map judging xs) d).contents
-  block_is l ps good xs spelled outer d g i =
+  pub block_is : (l : Level) (ps : List Written_procedure) → AreProcedures IsConstant shown m out ps → (xs : List Stmt) → all_true (map stmt_spelled xs) ≡ true → (outer : Around) (d : Declared) → DeclaredIs IsConstant shown m out l d → (block_declared outer ps (map judging xs) d).notes.broken ≡ [] → I l (block_declared outer ps (map judging xs) d).contents → PartIs IsConstant shown m out l (block_declared outer ps (map judging xs) d).contents
+  block_is l ps good xs spelled outer d g n i =
       let base = d.around in
       let h = hs l base g.around ps good xs spelled in
       let all = reversed h.before in
@@ -159,9 +160,17 @@ module _ (IsConstant : Value → Type 0) (shown : QName → Option Desc) (m : Ty
       let c = (block_inside u ps all (map judging xs)).contents in
       let bound : Contents = record no_contents { bound = bind.own } in
       let j : I l c = second_included IsConstant shown m l bound c (second_included IsConstant shown m l no_contents (together bound c) (second_included IsConstant shown m l d.part.contents (together no_contents (together bound c)) i)) in
+      let inner = (block_inside u ps all (map judging xs)).notes.broken in
+      let quiet : inner ≡ [] = second_empty _ inner (second_empty _ (_ ++ inner) n) in
+      let judged = procedures_judged u ps all in
+      let align = aligned l base g.around ps good xs spelled in
+      let unbroken : (x : Head) → IsOneOf h.before x → IsUnbroken x = λ x k. heads_unbroken IsConstant shown m out u ps all align (first_empty judged.notes.broken _ quiet) x (one_reversed h.before x k) in
+      let made : Grows (types_of_all h.before) m.types = types_grow h.before m.types (λ x k. grows_then (types_of x.parameters) judged.contents.types m.types (types_there IsConstant shown m out u ps all align x (one_reversed h.before x k)) (first_included IsConstant shown m l judged.contents (body_part (in_turn (map judging xs) u)).contents j).types) in
+      let behind : Grows h.around.own (types_of_all h.before ++ base.own) = grown_in_order base.own ps (record { around = base; before = [] }) unbroken (grows_same base.own) in
+      let grown : Grows bind.own m.types = grows_then bind.own h.around.own m.types ch.back (grows_then h.around.own (types_of_all h.before ++ base.own) m.types behind (grows_both (types_of_all h.before) base.own m.types made g.around.grown)) in
       let p : PartIs IsConstant shown m out l c =
-      subst (λ (x : Around). I l (block_inside x ps all (map judging xs)).contents → PartIs IsConstant shown m out l (block_inside x ps all (map judging xs)).contents) (sym e)
-      (λ k. inside_is l base g.around ps good xs spelled bind.own ch.grows (ch.described s.knows.own) bind.bound k) j in
+      subst (λ (x : Around). (block_inside x ps all (map judging xs)).notes.broken ≡ [] → I l (block_inside x ps all (map judging xs)).contents → PartIs IsConstant shown m out l (block_inside x ps all (map judging xs)).contents) (sym e)
+      (λ k o. inside_is l base g.around ps good xs spelled bind.own ch.grows (ch.described s.knows.own) grown bind.bound k o) quiet j in
       record {
         procedures = all_both (ProcedureIsJudged IsConstant shown m) d.part.contents.procedures c.procedures (all_empty (ProcedureIsJudged IsConstant shown m) d.part.contents.procedures g.procedures) p.procedures;
         body = record { u = p.body.u; xs = p.body.xs; is = ◌∙◌ {c = stmts_in (in_turn (map judging p.body.xs) p.body.u).node} (ap (λ l. l ++ c.body) g.body) p.body.is; spelled = p.body.spelled; stands = p.body.stands };

@@ -1,5 +1,5 @@
 -- A type that stands still stands where more types of the module are known.
-use Rattle.std.proofs.Common.{◌≡◌, sym, ap, subst, ℕ, Bool, true, false, List, ◌++◌, Option}
+use Rattle.std.proofs.Common.{◌≡◌, ⊎_elim, sym, ap, subst, ℕ, Bool, true, false, List, ◌++◌, Option}
 use Rattle.std.specs.Prelude.{bytes_eq, codes, ◌&&◌}
 use Rattle.std.specs.List.{AllByRecursion}
 use Rattle.ob_tree.specs.declared.names.QName.{QName}
@@ -15,7 +15,7 @@ use Rattle.ob_rules.specs.Names.{Around}
 use Rattle.ob_rules.specs.Types.{with_types}
 use Rattle.ob_relation.proofs.Names.{bytes_same}
 use Rattle.ob_bodies.specs.Knows.{HasName, Grows, StandsBy, Stands, IsDescribed, EntityStands, Knows}
-use Rattle.ob_bodies.proofs.Lists.{one_left, one_right, all_of, all_both}
+use Rattle.ob_bodies.proofs.Lists.{one_left, one_right, one_joined, all_of, all_both}
 
 pub grows_same : (own : List TypedType) → Grows own own
 grows_same own x h = h
@@ -28,6 +28,9 @@ grows_behind ts own x h = (h.0, (one_left ts own h.0 h.1.0, h.1.1))
 
 pub grows_then : (a b c : List TypedType) → Grows a b → Grows b c → Grows a c
 grows_then a b c f g x h = g x (f x h)
+
+pub grows_both : (a b c : List TypedType) → Grows a c → Grows b c → Grows (a ++ b) c
+grows_both a b c f g x h = ⊎_elim (λ i. f x (h.0, (i, h.1.1))) (λ i. g x (h.0, (i, h.1.1))) (one_joined a b h.0 h.1.0)
 
 module _ (unit : List ℕ) (shown : QName → Option Desc) where
   abbrev S : List TypedType → TypeRef → Type 0

@@ -111,10 +111,12 @@ module _ (IsConstant : Value → Type 0) (shown : QName → Option Desc) (m : Ty
     pub spelled : all_true (map stmt_spelled xs) ≡ true
     pub stands : StandsAround p u
 
-  -- a procedure's body, and its result
+  -- a procedure's body, and its result; the types of its parameters and of its result stand in the module
   pub record ProcedureIsJudged (p : TypedProcedure) : Type 0 where
     pub body : IsJudged (Some p) p.body
     pub result : IfThere (IsPlain IsConstant m.name shown) p.result
+    pub parameters : AllByRecursion (λ (x : TypedParameter). StandsIn m.types x.of) p.parameters
+    pub answer : IfThere (StandsIn m.types) p.result
 
   -- the bodies of the procedures, and the body of the module
   pub record BodiesAreJudged : Type 0 where

@@ -1,13 +1,11 @@
 -- What the interfaces of full modules show of constants and lengths is in range.
-use Rattle.std.proofs.Common.{◌≡◌, ◌⊎◌, ⊎_elim, inl, inr, refl, sym, ap, ◌∙◌, subst, ℕ, List, [], ◌∷◌, ◌++◌, map as each, Option, Some, None, Bool, true, false}
+use Rattle.std.proofs.Common.{◌≡◌, ⊎_elim, refl, subst, ℕ, List, [], ◌∷◌, ◌++◌, map as each, Option, Some, None, true}
 use Rattle.std.specs.Prelude.{pos}
 use Rattle.std.specs.Option.{option_map}
 use Rattle.std.specs.List.{AllByRecursion, filter}
 use Rattle.ob_tree.specs.declared.names.QName.{QName}
-use Rattle.ob_tree.specs.declared.ident.Mark.{Mark}
 use Rattle.ob_tree.specs.declared.print.Print.{Print}
 use Rattle.ob_types.specs.declared.types.TypeRef.{TypeRef}
-use Rattle.ob_types.specs.declared.value.Value.{Value}
 use Rattle.ob_types.specs.declared.value.Value.TheVariants as literal
 use Rattle.ob_types.specs.declared.desc.Desc.{Desc}
 use Rattle.ob_types.specs.declared.desc.Desc.TheVariants as desc
@@ -17,19 +15,18 @@ use Rattle.ob_types.specs.Maps.{is_type}
 use Rattle.ob_types.specs.TypedSyntax.{Module}
 use Rattle.ob_meaning.specs.Values.{Program}
 use Rattle.ob_desc.specs.Grammar.{is_shown, seen}
-use Rattle.ob_layout.specs.LaidOut.{laid_desc, laid_type, laid_out, words_in, procedures_in}
+use Rattle.ob_layout.specs.LaidOut.{laid_desc, laid_type, words_in, procedures_in}
 use Rattle.ob_env.specs.Faces.{Face, described}
 use Rattle.ob_env.specs.Shown.{blank, shown}
 use Rattle.ob_uses.specs.Closed.{is_among}
 use Rattle.ob_counts.specs.Counts.{own_name}
-use Rattle.ob_uses.specs.Objects.{is_exported, constant_object, variable_object, procedure_object, type_object, types_among, reached_types, by_name, objects_of}
+use Rattle.ob_uses.specs.Objects.{is_exported, constant_object, variable_object, procedure_object, in_places, type_object, types_among, reached_types, by_name, objects_of}
 use Rattle.ob_forms.specs.Said.{IsOneOf}
 use Rattle.ob_declares.specs.Ages as ages
 use Rattle.ob_declares.proofs.Shown.{one_joined, one_filtered, one_mapped, one_ordered, object_found, face_found}
 use Rattle.ob_typed.specs.Known.{ConstantIs}
 use Rattle.ob_bodies.specs.Knows.{LengthIs, IsDescribed}
 use Rattle.ob_bodies.proofs.Lists.{one_all}
-use Rattle.ob_constants.specs.Laws.{AreShown}
 use Rattle.ob_showing.specs.Laws.{IsFull, FullAreShown, LaidAreFull}
 
 -- what a description says of constants and lengths
@@ -38,7 +35,7 @@ DescFits (desc.Const v) = ConstantIs v
 DescFits (desc.Array m n t) = ConstantIs (literal.Int (pos n))
 DescFits d = Unit {0}
 
-type_fits : (d : Desc) → is_type d ≡ true → LengthIs ConstantIs d → DescFits (seen d)
+type_fits : (d : Desc) → is_type d ≡ true → LengthIs ConstantIs d → DescFits (seen (in_places d))
 type_fits (desc.Const v) t h = absurd cc
 type_fits (desc.Var m u) t h = tt
 type_fits (desc.Proc s) t h = tt

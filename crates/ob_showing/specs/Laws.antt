@@ -1,5 +1,5 @@
 -- The laws: what the interfaces of a program show of constants and lengths is in range.
-use Rattle.std.specs.Prelude.{◌≡◌, List, Option}
+use Rattle.std.specs.Prelude.{List, Option}
 use Rattle.std.specs.List.{AllByRecursion}
 use Rattle.ob_tree.specs.declared.names.QName.{QName}
 use Rattle.ob_tree.specs.declared.print.Print.{Print}

@@ -40,7 +40,7 @@ use Rattle.ob_bodies.specs.Knows.{EntityStands}
 use Rattle.ob_bodies.specs.Judged.{mode_of, AreOf, IsGlobal, IsInside, StandsIn, IsProcedureIn, VariableStands, NameIs, StandsAround}
 use Rattle.ob_bodies.proofs.Lists.{one_all, find_has}
 use Rattle.ob_bodies.proofs.Held.{one_mapped}
-use Rattle.ob_surrounded.specs.Left.{IsModuleOf, IsLeft}
+use Rattle.ob_surrounded.specs.Left.{IsModuleOf, AreConstantsShown, HasProcedures, IsLeft}
 use Rattle.ob_surrounded.specs.Laws.{ProceduresSurrounded, ModulesSurrounded}
 use Rattle.ob_surrounded.proofs.Standing.{known_is}
 use Rattle.ob_surrounded.proofs.Variables.{global_is, local_is, parameter_is}
@@ -78,7 +78,7 @@ module _ (program : Program) where
 at_name : (P : Known → Type 0) (ks : List Known) (x : List ℕ) (k : Known) → AllByRecursion P ks → find_name ks x ≡ Some k → P k
 at_name P ks x k h e = subst (IfThere P) e (find_has P (λ k. bytes_eq k.name x) ks h)
 
-module _ (program : Program) (has : Formals → QName → Bool) (shown : QName → Option Desc) (checked : TypedModule) (m : Module) (whole : IsWhole program) (is : IsModuleOf program checked m) (out : is_out checked.name ≡ false) where
+module _ (program : Program) (has : Formals → QName → Bool) (shown : QName → Option Desc) (checked : TypedModule) (m : Module) (whole : IsWhole program) (is : IsModuleOf program checked m) (out : is_out checked.name ≡ false) (constants : AreConstantsShown shown) (values : HasProcedures program (Having has)) where
   abbrev Has : Formals → QName → Type 0
   Has = Having has
 
@@ -142,7 +142,7 @@ module _ (program : Program) (has : Formals → QName → Bool) (shown : QName �
           result_is = result_is;
           parameters = parameters;
           signature = signature;
-          own = λ e. left.values q s of signature e;
+          own = λ e. values q s of e;
         }
 
     procedures : (x : List ℕ) (k : Known) (q : QName) (s : Signature) → find_name u.known x ≡ Some k → k.what ≡ entity.Procedure q s → ProcedureIs program Has checked.name held result (map_of u) q s
@@ -165,8 +165,8 @@ module _ (program : Program) (has : Formals → QName → Bool) (shown : QName �
       types = λ x k t e f. known t (entity_at x k (entity.TypeName t) e f);
       imports = λ x k n e f. ap (bytes_eq n) around.knows.unit_is ∙ entity_at x k (entity.Module n) e f;
       guards = subst (AllByRecursion (λ (g : Variable × Option TypeRef). IfThere (IsKnown (map_of u)) g.1)) (sym around.guards) tt;
-      shown_constants = left.shown_constants;
-      values = left.values;
+      shown_constants = λ q v e. constants q v (ap (λ (f : QName → Option Desc). f q) (sym around.knows.shown_is) ∙ e);
+      values = λ q s i k e. values q s i e;
       result_is = same;
       result_plain = plain;
       receivers = left.receivers;
@@ -175,11 +175,11 @@ module _ (program : Program) (has : Formals → QName → Bool) (shown : QName �
     }
 
 pub procedures_surrounded : ProceduresSurrounded
-procedures_surrounded program has shown checked m whole is out p i different forms u around left =
+procedures_surrounded program has shown checked m whole is out constants values p i different forms u around left =
     let v = procedure_view p in
     let held = static_held program v in
-    let h = heading program has shown checked m whole is out p i in
-    surrounded program has shown checked m whole is out held p.result (Some p) u around left
+    let h = heading program has shown checked m whole is out constants values p i in
+    surrounded program has shown checked m whole is out constants values held p.result (Some p) u around left
     (λ scope w t b e g.
     let k = known_is ConstantIs checked.name shown u around.knows t g.1 in
     ⊎_elim
@@ -193,4 +193,4 @@ no_scope : (k n : ℕ) → k ≤ n → n ≡ 1 → nat_lt 1 k ≡ true → ⊥
 no_scope k n h e f = grind (arith, nat_tests)
 
 pub modules_surrounded : ModulesSurrounded
-modules_surrounded program has shown checked m whole is out held u around one left = surrounded program has shown checked m whole is out held None None u around left (λ scope v t b e g. absurd (no_scope scope u.scope b one e)) tt around.result
+modules_surrounded program has shown checked m whole is out constants values held u around one left = surrounded program has shown checked m whole is out constants values held None None u around left (λ scope v t b e g. absurd (no_scope scope u.scope b one e)) tt around.result

@@ -5,6 +5,7 @@ use Rattle.ob_tree.specs.declared.names.QName.{QName}
 use Rattle.ob_types.specs.declared.types.TypeRef.{TypeRef}
 use Rattle.ob_types.specs.declared.types.Signature.{Signature}
 use Rattle.ob_types.specs.declared.value.Value.{Value as Literal}
+use Rattle.ob_types.specs.declared.desc.Desc.{Desc}
 use Rattle.ob_types.specs.declared.desc.Desc.TheVariants as desc
 use Rattle.ob_types.specs.declared.desc.Method.{Method}
 use Rattle.ob_types.specs.declared.typed.Variable.{Variable}
@@ -23,7 +24,7 @@ use Rattle.ob_rules.specs.Names.{Around, map_of, find_name}
 use Rattle.ob_rules.specs.Designators.{same_variable}
 use Rattle.ob_forms.specs.Formed.{Formed, IsProcedureOf}
 use Rattle.ob_forms.specs.Said.{IsOneOf}
-use Rattle.ob_typed.specs.Forms.{ResultIs, SignatureIs}
+use Rattle.ob_typed.specs.Forms.{ResultIs}
 use Rattle.ob_typed.specs.Known.{ConstantIs, VariableIs, ProcedureIs, ReceiverIs, SuperIs}
 
 -- The checked module is one of the program, perhaps with its records laid out. Its variables can be built, and results are no arrays and no records.
@@ -35,13 +36,18 @@ pub record IsModuleOf (program : Program) (checked : TypedModule) (m : Module) :
   pub forms : AllByRecursion (λ v. FormOk program (form_in program v.of)) checked.variables
   pub results : AllByRecursion (λ p. ResultIs program p.result) checked.procedures
 
--- What is left to ask around a body: of the map of types; of procedures that are known by forward declarations alone; of constants of
--- other modules; of procedures as values; and of receivers.
+-- the constants that other modules show are constants
+abbrev pub AreConstantsShown : (QName → Option Desc) → Type 0
+AreConstantsShown shown = (q : QName) (v : Literal) → shown q ≡ Some (desc.Const v) → ConstantIs v
+
+-- a procedure that may be a value is one of the procedure type of its signature
+abbrev pub HasProcedures : Program → (Formals → QName → Type 0) → Type 0
+HasProcedures program Has = (q : QName) (s : Signature) → IsProcedureOf program q s → is_value q ≡ true → Has (formals_in program s) q
+
+-- What is left to ask around a body: of the map of types; of procedures that are known by forward declarations alone; and of receivers.
 pub record IsLeft (program : Program) (Has : Formals → QName → Type 0) (unit : List ℕ) (held : List Held) (result : Option TypeRef) (u : Around) : Type 0 where
   pub formed : Formed (map_of u) program
   pub grounded : IsGrounded (map_of u)
   pub forwards : (x : List ℕ) (k : Known) (q : QName) (s : Signature) → find_name u.known x ≡ Some k → k.what ≡ entity.Forward q s → ProcedureIs program Has unit held result (map_of u) q s
-  pub shown_constants : (q : QName) (v : Literal) → u.shown q ≡ Some (desc.Const v) → ConstantIs v
-  pub values : (q : QName) (s : Signature) → IsProcedureOf program q s → SignatureIs program (map_of u) s → is_value q ≡ true → Has (formals_in program s) q
   pub receivers : (r : Received) (v : Variable) (t : TypeRef) → u.receiver ≡ Some r → same_variable v r.variable ≡ true → VariableIs program Has unit held result (map_of u) v t → ReceiverIs program (map_of u) r t
   pub supers : (r : Received) (b o : QName) (x : List ℕ) (m : Method) → u.receiver ≡ Some r → base_record (map_of u) r.owner ≡ Some b → member (map_of u) b x ≡ Some (AMethod o m) → SuperIs program Has unit held result (map_of u) r.variable b o m × Sub (record_in program r.owner) (record_in program b)
