@@ -22,7 +22,7 @@ use Rattle.ob_env.specs.Faces.{Face, described}
 use Rattle.ob_env.specs.Shown.{blank, shown}
 use Rattle.ob_uses.specs.Closed.{is_among}
 use Rattle.ob_counts.specs.Counts.{own_name}
-use Rattle.ob_uses.specs.Objects.{is_exported, constant_object, variable_object, procedure_object, type_object, types_among, reached_types, by_name, objects_of}
+use Rattle.ob_uses.specs.Objects.{is_exported, constant_object, variable_object, procedure_object, in_places, type_object, types_among, reached_types, by_name, objects_of}
 use Rattle.ob_forms.specs.Said.{IsOneOf}
 use Rattle.ob_declares.specs.Ages as ages
 use Rattle.ob_declares.proofs.Shown.{one_joined, one_filtered, one_mapped, one_ordered, object_found, face_found}
@@ -38,7 +38,7 @@ DescFits (desc.Const v) = ConstantIs v
 DescFits (desc.Array m n t) = ConstantIs (literal.Int (pos n))
 DescFits d = Unit {0}
 
-type_fits : (d : Desc) → is_type d ≡ true → LengthIs ConstantIs d → DescFits (seen d)
+type_fits : (d : Desc) → is_type d ≡ true → LengthIs ConstantIs d → DescFits (seen (in_places d))
 type_fits (desc.Const v) t h = absurd cc
 type_fits (desc.Var m u) t h = tt
 type_fits (desc.Proc s) t h = tt
