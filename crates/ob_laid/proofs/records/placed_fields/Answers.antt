@@ -13,4 +13,4 @@ pub fields-preserved : goal.fields-preserved
 fields-preserved c =
     placed_step (words_in (described (faces_of c.args.view.now.env.now)) (module_view c.args.view.now.«module».now)) c.fields.all c.in_ok-one.one c.fields.at c.next_place-at.result c.args.fields.now c.fields.field-index c.field-item.result c.push.new.self
     (placed_behind (words_in (described (faces_of c.args.view.now.env.now)) (module_view c.args.view.now.«module».now)) c.args.from c.args.fields.now)
-    c.fields-test.true c.field-item.is c.fields.invariant c.in_ok-one.ensures c.in_ok-push.ensures c.next_place-at.ensures
+    c.fields-test.true c.field-item.is c.fields.invariant c.in_ok-one.ensures c.in_ok-push.ensures.ok c.next_place-at.ensures
