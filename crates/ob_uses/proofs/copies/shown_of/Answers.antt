@@ -1,4 +1,4 @@
-use Rattle.std.proofs.Common.{[], ◌∷◌, map, ap}
+use Rattle.std.proofs.Common.{map, ap}
 use Rattle.ob_types.specs.declared.desc.Field.{Field}
 use Rattle.ob_desc.specs.Grammar.{is_shown}
 use Rattle.ob_uses.specs.Placed.{to_field}
