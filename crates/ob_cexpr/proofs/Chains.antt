@@ -1,5 +1,5 @@
 -- What is said of a part goes before what is said behind it.
-use Rattle.std.proofs.Common.{◌≡◌, refl, sym, ap, ◌∙◌, ℕ, ◌+◌, ◌<◌, List, [], ◌∷◌, Option, Some, None, map, drop, length, get_or, ◌≤◌, not}
+use Rattle.std.proofs.Common.{◌≡◌, refl, sym, ap, ◌∙◌, ℕ, ◌+◌, ◌<◌, List, [], ◌∷◌, Option, Some, None, map, drop, length, get_or, ◌≤◌, not, subst, Result, IfOk, OnOk}
 use Rattle.std.proofs.lemmas.List.{drop_more, drop_all}
 use Rattle.ob_tree.specs.declared.pos.Pos.{Pos}
 use Rattle.ob_tree.specs.declared.ident.Qualident.{Qualident}
@@ -126,3 +126,14 @@ map_over f xs i h = ap (map f) (drop_all i xs h)
 
 pub tails_over : (u : Around) (ts : List Tail) (i : ℕ) (x : Option Valued) (k end : Notebook) → length ts ≤ i → end ≡ book_after k (combine_all u (map tailed_of (drop i ts)) (plain x)).notes → k ≡ end
 tails_over u ts i x k end h e = sym (e ∙ ap (λ l. book_after k (combine_all u l (plain x)).notes) (map_over tailed_of ts i h) ∙ after_none k)
+
+-- what an expression comes to, by another name of the same
+pub made_as : {E : Type 0} (r : Result (Option Valued) E) (y x : Judged Valued) → y ≡ x → IfOk r (λ o. o ≡ x.node) → IfOk r (λ o. o ≡ y.node)
+made_as r y x e h = subst (λ z. IfOk r (λ o. o ≡ z.node)) (sym e) h
+
+pub noted_as : {T E : Type 0} (r : Result T E) (n k : Notebook) (y x : Judged Valued) → y ≡ x → OnOk r (n ≡ book_after k x.notes) → OnOk r (n ≡ book_after k y.notes)
+noted_as r n k y x e h = subst (λ z. OnOk r (n ≡ book_after k z.notes)) (sym e) h
+
+-- a part, and what is made of it
+pub then_made : {A E : Type 0} (r : Result (Option Valued) E) (j : Judged A) (f : A → Judged Valued) (x : Option A) → x ≡ j.node → IfOk r (λ o. o ≡ (if_sound x f).node) → IfOk r (λ o. o ≡ (j ▷ f).node)
+then_made r j f x e h = subst (λ z. IfOk r (λ o. o ≡ (if_sound z f).node)) e h

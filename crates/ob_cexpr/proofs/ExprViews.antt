@@ -22,7 +22,7 @@ use Rattle.ob_rules.specs.Phrases.{Phrase, Behind, Dot, Index, Up, Round}
 use Rattle.ob_rules.specs.Values.{constant}
 use Rattle.ob_rules.specs.Constants.{text_value}
 use Rattle.ob_rules.specs.Operators.{opposite, signed, set_of}
-use Rattle.ob_rules.specs.Expressions.{Named, Ranged, Tailed, expr_rule, selector_rule, designator_rule, element_rule, tail_rule, phrase_of, named_of, ranged_of, tailed_of, behind_of, combine_all, relation_of, element_value, meant_by, value_meant}
+use Rattle.ob_rules.specs.Expressions.{Named, Ranged, Tailed, expr_rule, selector_rule, designator_rule, element_rule, tail_rule, phrase_of, named_of, ranged_of, tailed_of, behind_of, combine_all, relation_of, element_value, meant_by, value_meant, bracketed}
 use Rattle.ob_cexpr.specs.Plain.{set_judged}
 
 pub value_designator : (d : Designator) (u : Around) → (phrase_of (e.Designator d)).value u ≡ (meant_by InExpression (named_of d) u ▷ λ m. value_meant (named_of d).ident.pos m)
@@ -37,6 +37,9 @@ value_nil at u = ap (λ p. p.value u) (ap phrase_of (sym (e.rolls-Nil at)) ∙ f
 pub value_set : (at : Pos) (xs : List Element) (u : Around) → (phrase_of (e.Set at xs)).value u ≡ set_judged u xs
 unfolding set_judged
 value_set at xs u = ap (λ p. p.value u) (ap phrase_of (sym (e.rolls-Set at xs)) ∙ fold-roll-Expr Phrase Behind Named Ranged Tailed expr_rule selector_rule designator_rule element_rule tail_rule (Expr-F.Set at xs))
+
+pub value_paren : (at : Pos) (x : Expr) (u : Around) → (phrase_of (e.Paren at x)).value u ≡ ((phrase_of x).value u ▷ λ v. sound (bracketed v))
+value_paren at x u = ap (λ p. p.value u) (ap phrase_of (sym (e.rolls-Paren at x)) ∙ fold-roll-Expr Phrase Behind Named Ranged Tailed expr_rule selector_rule designator_rule element_rule tail_rule (Expr-F.Paren at x))
 
 pub value_not : (at : Pos) (x : Expr) (u : Around) → (phrase_of (e.Not at x)).value u ≡ ((phrase_of x).value u ▷ λ v. opposite (map_of u) at v)
 value_not at x u = ap (λ p. p.value u) (ap phrase_of (sym (e.rolls-Not at x)) ∙ fold-roll-Expr Phrase Behind Named Ranged Tailed expr_rule selector_rule designator_rule element_rule tail_rule (Expr-F.Not at x))

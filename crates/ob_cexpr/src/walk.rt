@@ -5,6 +5,10 @@ ghost use Rattle.std.specs.Prelude.{◌≡◌, IfOk, OnOk, map};
 ghost use Rattle.std.specs.Option.{option_map};
 ghost use Rattle.ob_rules.specs.Books.{book_after};
 ghost use Rattle.ob_rules.specs.Expressions as spec;
+ghost use Rattle.ob_rules.specs.Judged.{sound, ◌▷◌};
+ghost use Rattle.ob_rules.specs.Names.{map_of};
+ghost use Rattle.ob_rules.specs.Operators.{opposite, signed};
+ghost use Rattle.ob_rules.specs.declared.meant.Where.TheVariants.{InExpression};
 ghost use Rattle.ob_coperand.specs.Plain.{plain};
 ghost use Rattle.ob_cexpr.specs.Plain.{elements_judged, set_judged};
 
@@ -15,7 +19,7 @@ use ob_coperand::{
     value_if,
 };
 use ob_rules::{ElementOf, Notebook, Surroundings, Valued, Where};
-use ob_tree::{Element, Expr, Pos, Relation, Tail};
+use ob_tree::{Designator, Element, Expr, Pos, Relation, Sign, Tail};
 use ob_types::Value;
 use std::alloc::{AllocError, Global};
 
@@ -32,26 +36,16 @@ pub fn check_expr<S: Surroundings>(
     ensures noted { OnOk result (book.new ≡ book_after book.old ((spec.phrase_of e.now).value (S.around here.now)).notes) }
 {
     match e {
-        Expr::Designator(d) => {
-            let m = check_designator(alloc, here, book, Where::InExpression, d)?;
-            value_if(alloc, book, d.ident.pos, m)
-        }
+        Expr::Designator(d) => check_value(alloc, here, book, d),
         Expr::Int { pos, text } => Ok(integer(book, *pos, text.as_slice())),
         Expr::Char { pos, text } => Ok(character(book, *pos, text.as_slice())),
         Expr::Str { text, .. } => string(alloc, text.as_slice()),
         Expr::Nil(_) => Ok(Some(Valued::Constant(Value::Nil))),
         Expr::Set { elements, .. } => check_set(alloc, here, book, elements.as_slice()),
-        Expr::Paren { inner, .. } => {
-            let x = check_expr(alloc, here, book, inner.get())?;
-            Ok(bracketed(x))
-        }
-        Expr::Not { pos, operand } => {
-            let x = check_expr(alloc, here, book, operand.get())?;
-            opposite_if(alloc, here, book, *pos, x)
-        }
+        Expr::Paren { inner, .. } => check_bracketed(alloc, here, book, inner.get()),
+        Expr::Not { pos, operand } => check_opposite(alloc, here, book, operand.get(), *pos),
         Expr::Signed { sign, pos, operand } => {
-            let x = check_expr(alloc, here, book, operand.get())?;
-            signed_if(alloc, here, book, *sign, *pos, x)
+            check_signed(alloc, here, book, operand.get(), *sign, *pos)
         }
         Expr::Chain { operand, tails } => {
             let x = check_expr(alloc, here, book, operand.get())?;
@@ -67,6 +61,69 @@ pub fn check_expr<S: Surroundings>(
             check_relation(alloc, here, book, right.get(), *relation, *pos, x)
         }
     }
+}
+
+// A designator as a value.
+#[cycle(walk)]
+fn check_value<S: Surroundings>(
+    alloc: Global,
+    here: &S,
+    book: &mut Notebook,
+    d: &Designator,
+) -> Result<Option<Valued>, AllocError>
+    ensures made { IfOk result (λ r. r ≡ (spec.meant_by InExpression (spec.named_of d.now) (S.around here.now) ▷ λ m. spec.value_meant (spec.named_of d.now).ident.pos m).node) }
+    ensures noted { OnOk result (book.new ≡ book_after book.old (spec.meant_by InExpression (spec.named_of d.now) (S.around here.now) ▷ λ m. spec.value_meant (spec.named_of d.now).ident.pos m).notes) }
+{
+    let m = check_designator(alloc, here, book, Where::InExpression, d)?;
+    value_if(alloc, book, d.ident.pos, m)
+}
+
+// A value in round brackets.
+#[cycle(walk)]
+fn check_bracketed<S: Surroundings>(
+    alloc: Global,
+    here: &S,
+    book: &mut Notebook,
+    inner: &Expr,
+) -> Result<Option<Valued>, AllocError>
+    ensures made { IfOk result (λ r. r ≡ ((spec.phrase_of inner.now).value (S.around here.now) ▷ λ x. sound (spec.bracketed x)).node) }
+    ensures noted { OnOk result (book.new ≡ book_after book.old ((spec.phrase_of inner.now).value (S.around here.now) ▷ λ x. sound (spec.bracketed x)).notes) }
+{
+    let x = check_expr(alloc, here, book, inner)?;
+    Ok(bracketed(x))
+}
+
+// `~` before a value.
+#[cycle(walk)]
+fn check_opposite<S: Surroundings>(
+    alloc: Global,
+    here: &S,
+    book: &mut Notebook,
+    operand: &Expr,
+    at: Pos,
+) -> Result<Option<Valued>, AllocError>
+    ensures made { IfOk result (λ r. r ≡ ((spec.phrase_of operand.now).value (S.around here.now) ▷ λ x. opposite (map_of (S.around here.now)) at x).node) }
+    ensures noted { OnOk result (book.new ≡ book_after book.old ((spec.phrase_of operand.now).value (S.around here.now) ▷ λ x. opposite (map_of (S.around here.now)) at x).notes) }
+{
+    let x = check_expr(alloc, here, book, operand)?;
+    opposite_if(alloc, here, book, at, x)
+}
+
+// A sign before a value.
+#[cycle(walk)]
+fn check_signed<S: Surroundings>(
+    alloc: Global,
+    here: &S,
+    book: &mut Notebook,
+    operand: &Expr,
+    sign: Sign,
+    at: Pos,
+) -> Result<Option<Valued>, AllocError>
+    ensures made { IfOk result (λ r. r ≡ ((spec.phrase_of operand.now).value (S.around here.now) ▷ λ x. signed (map_of (S.around here.now)) sign at x).node) }
+    ensures noted { OnOk result (book.new ≡ book_after book.old ((spec.phrase_of operand.now).value (S.around here.now) ▷ λ x. signed (map_of (S.around here.now)) sign at x).notes) }
+{
+    let x = check_expr(alloc, here, book, operand)?;
+    signed_if(alloc, here, book, sign, at, x)
 }
 
 #[cycle(walk)]

@@ -22,8 +22,8 @@ use Rattle.ob_cexpr.proofs.Rounds.{actuals_step, actuals_end_noted, parameters_s
 use Rattle.ob_cexpr.proofs.Rows.{on_ok_from}
 use Rattle.ob_cexpr.proofs.Sets.{set_node, set_noted, elements_step, elements_end, elements_end_noted, element_noted, as_set_node, as_set_noted}
 use Rattle.ob_cexpr.proofs.Selectors.{selectors_end, selectors_end_noted, meant_node, meant_noted, index_step_node, index_step_noted, visit_step, argument_step, selector_step, not_taken, last_by}
-use Rattle.ob_cexpr.proofs.Chains.{map_from, map_over, then_noted, then_chain, then_chain_noted, relation_noted, chain_step, tails_from, tailed_as, tails_over}
-use Rattle.ob_cexpr.proofs.ExprViews.{named_is, behind_field, behind_index, behind_up, value_str, value_designator, value_nil, value_not, value_signed, value_chain, value_relate}
+use Rattle.ob_cexpr.proofs.Chains.{map_from, map_over, made_as, noted_as, then_made, then_noted, then_chain, then_chain_noted, relation_noted, chain_step, tails_from, tailed_as, tails_over}
+use Rattle.ob_cexpr.proofs.ExprViews.{named_is, behind_field, behind_index, behind_up, value_str, value_designator, value_nil, value_paren, value_not, value_signed, value_chain, value_relate}
 use Rattle.ob_cexpr.proofs.+walk.Goals as goal
 
 pub walk::check_expr-returns-in-Nil-clause-noted : goal.walk::check_expr-returns-in-Nil-clause-noted
@@ -31,21 +31,77 @@ walk::check_expr-returns-in-Nil-clause-noted g t c =
     let u = g.S.Surroundings.around c.args.here.now in
     sym (after_none c.args.book.now) ∙ ap (λ j. book_after c.args.book.now j.notes) (sym (ap (λ y. (spec.phrase_of y).value u) c.in-Nil.is ∙ value_nil c.in-Nil.field-0 u))
 
-pub walk::check_expr-returns-in_ok-x-in-Not-clause-noted : goal.walk::check_expr-returns-in_ok-x-in-Not-clause-noted
-walk::check_expr-returns-in_ok-x-in-Not-clause-noted g t c =
+pub walk::check_expr-returns-in-Paren-clause-made : goal.walk::check_expr-returns-in-Paren-clause-made
+walk::check_expr-returns-in-Paren-clause-made g t c =
+    let u = g.S.Surroundings.around c.args.here.now in
+    let v = (spec.phrase_of c.get.result.now).value u in
+    let whole : (spec.phrase_of c.args.e.now).value u ≡ (v ▷ λ x. sound (spec.bracketed x)) =
+    ap (λ y. (spec.phrase_of y).value u) (c.in-Paren.is ∙ ap (λ o. expr.Paren c.in-Paren.pos o) (sym c.get.ensures)) ∙ value_paren c.in-Paren.pos c.get.result.now u in
+    made_as c.check_bracketed.result ((spec.phrase_of c.args.e.now).value u) _ whole c.check_bracketed.ensures.made
+
+pub walk::check_expr-returns-in-Paren-clause-noted : goal.walk::check_expr-returns-in-Paren-clause-noted
+walk::check_expr-returns-in-Paren-clause-noted g t c =
+    let u = g.S.Surroundings.around c.args.here.now in
+    let v = (spec.phrase_of c.get.result.now).value u in
+    let whole : (spec.phrase_of c.args.e.now).value u ≡ (v ▷ λ x. sound (spec.bracketed x)) =
+    ap (λ y. (spec.phrase_of y).value u) (c.in-Paren.is ∙ ap (λ o. expr.Paren c.in-Paren.pos o) (sym c.get.ensures)) ∙ value_paren c.in-Paren.pos c.get.result.now u in
+    noted_as c.check_bracketed.result c.check_bracketed.new.book c.args.book.now ((spec.phrase_of c.args.e.now).value u) _ whole c.check_bracketed.ensures.noted
+
+pub walk::check_expr-returns-in-Not-clause-made : goal.walk::check_expr-returns-in-Not-clause-made
+walk::check_expr-returns-in-Not-clause-made g t c =
     let u = g.S.Surroundings.around c.args.here.now in
     let v = (spec.phrase_of c.get-in-Not.result.now).value u in
     let whole : (spec.phrase_of c.args.e.now).value u ≡ (v ▷ λ x. opposite (map_of u) c.in-Not.pos x) =
     ap (λ y. (spec.phrase_of y).value u) (c.in-Not.is ∙ ap (λ o. expr.Not c.in-Not.pos o) (sym c.get-in-Not.ensures)) ∙ value_not c.in-Not.pos c.get-in-Not.result.now u in
-    on_ok_weaker c.opposite_if.result (λ h. then_noted v (λ x. opposite (map_of u) c.in-Not.pos x) c.in_ok-x-in-Not.x c.args.book.now c.check_expr-in-Not.new.book c.opposite_if.new.book c.in_ok-x-in-Not.ensures.made c.in_ok-x-in-Not.ensures.noted h ∙ ap (λ j. book_after c.args.book.now j.notes) (sym whole)) c.opposite_if.ensures.noted
+    made_as c.check_opposite.result ((spec.phrase_of c.args.e.now).value u) _ whole c.check_opposite.ensures.made
 
-pub walk::check_expr-returns-in_ok-x-in-Signed-clause-noted : goal.walk::check_expr-returns-in_ok-x-in-Signed-clause-noted
-walk::check_expr-returns-in_ok-x-in-Signed-clause-noted g t c =
+pub walk::check_expr-returns-in-Not-clause-noted : goal.walk::check_expr-returns-in-Not-clause-noted
+walk::check_expr-returns-in-Not-clause-noted g t c =
+    let u = g.S.Surroundings.around c.args.here.now in
+    let v = (spec.phrase_of c.get-in-Not.result.now).value u in
+    let whole : (spec.phrase_of c.args.e.now).value u ≡ (v ▷ λ x. opposite (map_of u) c.in-Not.pos x) =
+    ap (λ y. (spec.phrase_of y).value u) (c.in-Not.is ∙ ap (λ o. expr.Not c.in-Not.pos o) (sym c.get-in-Not.ensures)) ∙ value_not c.in-Not.pos c.get-in-Not.result.now u in
+    noted_as c.check_opposite.result c.check_opposite.new.book c.args.book.now ((spec.phrase_of c.args.e.now).value u) _ whole c.check_opposite.ensures.noted
+
+pub walk::check_opposite-returns-clause-made : goal.walk::check_opposite-returns-clause-made
+walk::check_opposite-returns-clause-made g t c =
+    let u = g.S.Surroundings.around c.args.here.now in
+    let v = (spec.phrase_of c.args.operand.now).value u in
+    then_made c.opposite_if.result v (λ x. opposite (map_of u) c.args.at x) c.in_ok-x.x c.in_ok-x.ensures.made c.opposite_if.ensures.made
+
+pub walk::check_opposite-returns-clause-noted : goal.walk::check_opposite-returns-clause-noted
+walk::check_opposite-returns-clause-noted g t c =
+    let u = g.S.Surroundings.around c.args.here.now in
+    let v = (spec.phrase_of c.args.operand.now).value u in
+    on_ok_weaker c.opposite_if.result (λ h. then_noted v (λ x. opposite (map_of u) c.args.at x) c.in_ok-x.x c.args.book.now c.check_expr.new.book c.opposite_if.new.book c.in_ok-x.ensures.made c.in_ok-x.ensures.noted h) c.opposite_if.ensures.noted
+
+pub walk::check_expr-returns-in-Signed-clause-made : goal.walk::check_expr-returns-in-Signed-clause-made
+walk::check_expr-returns-in-Signed-clause-made g t c =
     let u = g.S.Surroundings.around c.args.here.now in
     let v = (spec.phrase_of c.get-in-Signed.result.now).value u in
     let whole : (spec.phrase_of c.args.e.now).value u ≡ (v ▷ λ x. signed (map_of u) c.in-Signed.sign c.in-Signed.pos x) =
     ap (λ y. (spec.phrase_of y).value u) (c.in-Signed.is ∙ ap (λ o. expr.Signed c.in-Signed.sign c.in-Signed.pos o) (sym c.get-in-Signed.ensures)) ∙ value_signed c.in-Signed.sign c.in-Signed.pos c.get-in-Signed.result.now u in
-    on_ok_weaker c.signed_if.result (λ h. then_noted v (λ x. signed (map_of u) c.in-Signed.sign c.in-Signed.pos x) c.in_ok-x-in-Signed.x c.args.book.now c.check_expr-in-Signed.new.book c.signed_if.new.book c.in_ok-x-in-Signed.ensures.made c.in_ok-x-in-Signed.ensures.noted h ∙ ap (λ j. book_after c.args.book.now j.notes) (sym whole)) c.signed_if.ensures.noted
+    made_as c.check_signed.result ((spec.phrase_of c.args.e.now).value u) _ whole c.check_signed.ensures.made
+
+pub walk::check_expr-returns-in-Signed-clause-noted : goal.walk::check_expr-returns-in-Signed-clause-noted
+walk::check_expr-returns-in-Signed-clause-noted g t c =
+    let u = g.S.Surroundings.around c.args.here.now in
+    let v = (spec.phrase_of c.get-in-Signed.result.now).value u in
+    let whole : (spec.phrase_of c.args.e.now).value u ≡ (v ▷ λ x. signed (map_of u) c.in-Signed.sign c.in-Signed.pos x) =
+    ap (λ y. (spec.phrase_of y).value u) (c.in-Signed.is ∙ ap (λ o. expr.Signed c.in-Signed.sign c.in-Signed.pos o) (sym c.get-in-Signed.ensures)) ∙ value_signed c.in-Signed.sign c.in-Signed.pos c.get-in-Signed.result.now u in
+    noted_as c.check_signed.result c.check_signed.new.book c.args.book.now ((spec.phrase_of c.args.e.now).value u) _ whole c.check_signed.ensures.noted
+
+pub walk::check_signed-returns-clause-made : goal.walk::check_signed-returns-clause-made
+walk::check_signed-returns-clause-made g t c =
+    let u = g.S.Surroundings.around c.args.here.now in
+    let v = (spec.phrase_of c.args.operand.now).value u in
+    then_made c.signed_if.result v (λ x. signed (map_of u) c.args.sign c.args.at x) c.in_ok-x.x c.in_ok-x.ensures.made c.signed_if.ensures.made
+
+pub walk::check_signed-returns-clause-noted : goal.walk::check_signed-returns-clause-noted
+walk::check_signed-returns-clause-noted g t c =
+    let u = g.S.Surroundings.around c.args.here.now in
+    let v = (spec.phrase_of c.args.operand.now).value u in
+    on_ok_weaker c.signed_if.result (λ h. then_noted v (λ x. signed (map_of u) c.args.sign c.args.at x) c.in_ok-x.x c.args.book.now c.check_expr.new.book c.signed_if.new.book c.in_ok-x.ensures.made c.in_ok-x.ensures.noted h) c.signed_if.ensures.noted
 
 pub walk::check_expr-returns-in_ok-x-in-Chain-clause-made : goal.walk::check_expr-returns-in_ok-x-in-Chain-clause-made
 walk::check_expr-returns-in_ok-x-in-Chain-clause-made g t c =
@@ -63,7 +119,7 @@ walk::check_expr-returns-in_ok-x-in-Chain-clause-noted g t c =
     let ts = map spec.tailed_of c.as_slice-in-Chain.result.now in
     let whole : (spec.phrase_of c.args.e.now).value u ≡ spec.combine_all u ts v =
     ap (λ y. (spec.phrase_of y).value u) (c.in-Chain.is ∙ ap (λ o. expr.Chain o c.in-Chain.tails) (sym c.get-in-Chain.ensures) ∙ ap (λ o. expr.Chain c.get-in-Chain.result.now o) (sym c.as_slice-in-Chain.ensures)) ∙ value_chain c.get-in-Chain.result.now c.as_slice-in-Chain.result.now u in
-    on_ok_weaker c.check_tails.result (λ h. then_chain_noted u ts v c.in_ok-x-in-Chain.x c.args.book.now c.check_expr-in-Chain.new.book c.check_tails.new.book c.in_ok-x-in-Chain.ensures.made c.in_ok-x-in-Chain.ensures.noted h ∙ ap (λ j. book_after c.args.book.now j.notes) (sym whole)) c.check_tails.ensures.noted
+    on_ok_weaker c.check_tails.result (λ h. then_chain_noted u ts v c.in_ok-x-in-Chain.x c.args.book.now c.check_expr.new.book c.check_tails.new.book c.in_ok-x-in-Chain.ensures.made c.in_ok-x-in-Chain.ensures.noted h ∙ ap (λ j. book_after c.args.book.now j.notes) (sym whole)) c.check_tails.ensures.noted
 
 pub walk::check_expr-returns-in_ok-x-in-Relate-clause-noted : goal.walk::check_expr-returns-in_ok-x-in-Relate-clause-noted
 walk::check_expr-returns-in_ok-x-in-Relate-clause-noted g t c =
@@ -89,13 +145,35 @@ pub walk::check_tails-returns-clause-noted : goal.walk::check_tails-returns-clau
 walk::check_tails-returns-clause-noted g t c =
     tails_over (g.S.Surroundings.around c.args.here.now) c.args.tails.now c.tails.tail-index c.tails.all c.tails.book _ c.tails-test.false c.tails.invariant.1
 
-pub walk::check_expr-returns-in_ok-m-in-Designator-clause-noted : goal.walk::check_expr-returns-in_ok-m-in-Designator-clause-noted
-walk::check_expr-returns-in_ok-m-in-Designator-clause-noted g t c =
+pub walk::check_expr-returns-in-Designator-clause-made : goal.walk::check_expr-returns-in-Designator-clause-made
+walk::check_expr-returns-in-Designator-clause-made g t c =
     let u = g.S.Surroundings.around c.args.here.now in
     let d = c.in-Designator.d in
     let v = spec.meant_by InExpression (spec.named_of d) u in
-    let whole : (spec.phrase_of c.args.e.now).value u ≡ (v ▷ λ m. spec.value_meant d.ident.pos m) = ap (λ y. (spec.phrase_of y).value u) c.in-Designator.is ∙ value_designator d u ∙ ap (λ n. v ▷ λ m. spec.value_meant n.ident.pos m) (named_is d) in
-    on_ok_weaker c.value_if.result (λ h. then_noted v (λ m. spec.value_meant d.ident.pos m) c.in_ok-m-in-Designator.m c.args.book.now c.check_designator.new.book c.value_if.new.book c.in_ok-m-in-Designator.ensures.made c.in_ok-m-in-Designator.ensures.noted h ∙ ap (λ j. book_after c.args.book.now j.notes) (sym whole)) c.value_if.ensures.noted
+    let whole : (spec.phrase_of c.args.e.now).value u ≡ (v ▷ λ m. spec.value_meant (spec.named_of d).ident.pos m) = ap (λ y. (spec.phrase_of y).value u) c.in-Designator.is ∙ value_designator d u in
+    made_as c.check_value.result ((spec.phrase_of c.args.e.now).value u) _ whole c.check_value.ensures.made
+
+pub walk::check_expr-returns-in-Designator-clause-noted : goal.walk::check_expr-returns-in-Designator-clause-noted
+walk::check_expr-returns-in-Designator-clause-noted g t c =
+    let u = g.S.Surroundings.around c.args.here.now in
+    let d = c.in-Designator.d in
+    let v = spec.meant_by InExpression (spec.named_of d) u in
+    let whole : (spec.phrase_of c.args.e.now).value u ≡ (v ▷ λ m. spec.value_meant (spec.named_of d).ident.pos m) = ap (λ y. (spec.phrase_of y).value u) c.in-Designator.is ∙ value_designator d u in
+    noted_as c.check_value.result c.check_value.new.book c.args.book.now ((spec.phrase_of c.args.e.now).value u) _ whole c.check_value.ensures.noted
+
+pub walk::check_value-returns-clause-made : goal.walk::check_value-returns-clause-made
+walk::check_value-returns-clause-made g t c =
+    let u = g.S.Surroundings.around c.args.here.now in
+    let d = c.args.d.now in
+    let v = spec.meant_by InExpression (spec.named_of d) u in
+    made_as c.value_if.result (v ▷ λ m. spec.value_meant (spec.named_of d).ident.pos m) (v ▷ λ m. spec.value_meant d.ident.pos m) (ap (λ n. v ▷ λ m. spec.value_meant n.ident.pos m) (named_is d)) (then_made c.value_if.result v (λ m. spec.value_meant d.ident.pos m) c.in_ok-m.m c.in_ok-m.ensures.made c.value_if.ensures.made)
+
+pub walk::check_value-returns-clause-noted : goal.walk::check_value-returns-clause-noted
+walk::check_value-returns-clause-noted g t c =
+    let u = g.S.Surroundings.around c.args.here.now in
+    let d = c.args.d.now in
+    let v = spec.meant_by InExpression (spec.named_of d) u in
+    on_ok_weaker c.value_if.result (λ h. then_noted v (λ m. spec.value_meant d.ident.pos m) c.in_ok-m.m c.args.book.now c.check_designator.new.book c.value_if.new.book c.in_ok-m.ensures.made c.in_ok-m.ensures.noted h ∙ ap (λ n. book_after c.args.book.now (v ▷ λ m. spec.value_meant n.ident.pos m).notes) (sym (named_is d))) c.value_if.ensures.noted
 
 pub designators::check_designator-returns-clause-made : goal.designators::check_designator-returns-clause-made
 designators::check_designator-returns-clause-made g t c =
