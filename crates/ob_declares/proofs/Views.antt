@@ -2,13 +2,16 @@
 use Rattle.std.proofs.Common.{◌≡◌, inl, inr, ℕ, List, [], ◌∷◌, map as each, Option, Some, None, refl, sym, ap, subst, ◌∙◌}
 use Rattle.std.specs.Prelude.{Bool, true, false, cond, bytes_eq}
 use Rattle.std.specs.Option.{option_map}
-use Rattle.std.specs.List.{find}
+use Rattle.std.specs.List.{find, AllByRecursion}
 use Rattle.ob_tree.specs.declared.names.QName.{QName}
 use Rattle.ob_tree.specs.declared.ident.Mark.TheVariants as mark
 use Rattle.ob_types.specs.declared.types.Basic.TheVariants as basic
 use Rattle.ob_types.specs.declared.types.TypeRef.TheVariants as ref
 use Rattle.ob_types.specs.declared.desc.Desc.{Desc}
 use Rattle.ob_types.specs.declared.desc.Desc.TheVariants as desc
+use Rattle.ob_types.specs.declared.desc.RecordDesc.{RecordDesc}
+use Rattle.ob_types.specs.declared.desc.Field.{Field}
+use Rattle.ob_types.specs.declared.desc.Method.{Method}
 use Rattle.ob_types.specs.declared.typed.TypedType.{TypedType}
 use Rattle.ob_types.specs.Maps.{is_type}
 use Rattle.ob_types.specs.TypedSyntax.{Module}
@@ -21,12 +24,12 @@ use Rattle.ob_rules.specs.Shapes.{same_name}
 use Rattle.ob_rules.specs.Names.{Around, map_of, type_desc, own_desc, out_string}
 use Rattle.ob_forms.specs.Formed.{Formed}
 use Rattle.ob_forms.proofs.Chains.{chains}
-use Rattle.ob_forms.specs.Said.{IsOneOf, IsSaid, IsSound}
+use Rattle.ob_forms.specs.Said.{IsOneOf, IsSaid, IsSound, IsAmong, IsBoundAmong, IsPartOf}
 use Rattle.ob_forms.specs.Whole.{IsWhole}
 use Rattle.ob_forms.proofs.Modules.{of_all, type_there}
 use Rattle.ob_forms.proofs.Saying.{formed}
 use Rattle.ob_declares.specs.Ages.{AreShown}
-use Rattle.ob_declares.specs.Views.{IsAround}
+use Rattle.ob_declares.specs.Views.{IsAround, SaysNoMore, IsEarly}
 use Rattle.ob_declares.proofs.Shown.{within_type, part_itself, described_said}
 use Rattle.ob_declares.proofs.Laid.{part_laid, part_blank}
 
@@ -56,6 +59,34 @@ own_found (t ∷ ts) x d e = by (bytes_eq t.name x) refl e (λ e. own_found ts x
     by : (b : Bool) → bytes_eq t.name x ≡ b → own_desc (cond b (Some t) (find (λ t. bytes_eq t.name x) ts)) ≡ Some d → (own_desc (find (λ t. bytes_eq t.name x) ts) ≡ Some d → TypeFound ts x d) → TypeFound (t ∷ ts) x d
     by true n e r = let k : t.desc ≡ d = cc in record { t = t; there = inl refl; name = bytes_true t.name x n; desc = k }
     by false n e r = let k = r e in record { t = k.t; there = inr k.there; name = k.name; desc = k.desc }
+
+-- ---- what says no more is said too
+
+fields_among : (r s : List Field) → AllByRecursion (λ f. IsAmong s f) r → (x : List Field) → AllByRecursion (λ f. IsAmong x f) s → AllByRecursion (λ f. IsAmong x f) r
+fields_among [] s h x k = tt
+fields_among (f ∷ fs) s h x k =
+    let a : IsAmong x h.0.g = of_all (λ f. IsAmong x f) s h.0.g k h.0.there in
+    (record { g = a.g; there = a.there; name = a.name ∙ h.0.name; of = a.of ∙ h.0.of }, fields_among fs s h.1 x k)
+
+methods_among : (r s : List Method) → AllByRecursion (λ m. IsBoundAmong s m) r → (x : List Method) → AllByRecursion (λ m. IsBoundAmong x m) s → AllByRecursion (λ m. IsBoundAmong x m) r
+methods_among [] s h x k = tt
+methods_among (m ∷ ms) s h x k =
+    let a : IsBoundAmong x h.0.k = of_all (λ m. IsBoundAmong x m) s h.0.k k h.0.there in
+    (record { k = a.k; there = a.there; name = a.name ∙ h.0.name; receiver = a.receiver ∙ h.0.receiver; signature = a.signature ∙ h.0.signature }, methods_among ms s h.1 x k)
+
+part_part : (r s x : RecordDesc) → IsPartOf r s → IsPartOf s x → IsPartOf r x
+part_part r s x h k = record { base = h.base ∙ k.base; fields = fields_among r.fields s.fields h.fields x.fields k.fields; methods = methods_among r.methods s.methods h.methods x.methods k.methods }
+
+no_more_said : (program : Program) (q : QName) (e d : Desc) → SaysNoMore e d → IsSaid program q d → IsSaid program q e
+no_more_said program q (desc.Record r) d h k = let l : IsSaid program q (desc.Record h.0) = subst (λ d. IsSaid program q d) h.1.0 k in (l.0, (l.1.0, part_part r h.0 l.0 h.1.1 l.1.1))
+no_more_said program q (desc.Const v) d h k = subst (λ d. IsSaid program q d) (sym h) k
+no_more_said program q (desc.Var m t) d h k = subst (λ d. IsSaid program q d) (sym h) k
+no_more_said program q (desc.Proc s) d h k = subst (λ d. IsSaid program q d) (sym h) k
+no_more_said program q (desc.Alias m t) d h k = subst (λ d. IsSaid program q d) (sym h) k
+no_more_said program q (desc.Array m n t) d h k = subst (λ d. IsSaid program q d) (sym h) k
+no_more_said program q (desc.OpenArray m t) d h k = subst (λ d. IsSaid program q d) (sym h) k
+no_more_said program q (desc.Pointer m t) d h k = subst (λ d. IsSaid program q d) (sym h) k
+no_more_said program q (desc.ProcType m s) d h k = subst (λ d. IsSaid program q d) (sym h) k
 
 module _ (program : Program) (sound : IsSound program) where
   a_type : (q : QName) (d : Desc) → description program q ≡ Some d → is_type d ≡ true
@@ -130,13 +161,14 @@ module _ (program : Program) (sound : IsSound program) where
             let k = own_found u.own q.object d e in
             let types = around.types in
             let c = around.checked in
-            let in_checked : IsOneOf c.types k.t = of_all (λ t. IsOneOf c.types t) u.own k.t around.own k.there in
-            let laid = laid_type types c k.t in
-            let in_m : IsOneOf around.m.types laid = subst (λ ts. IsOneOf ts laid) (sym around.laid.types_are) (one_each (laid_type types c) c.types k.t in_checked) in
-            let there : description program (record { «module» = around.m.name; object = k.t.name }) ≡ Some laid.desc = type_there program whole around.m laid around.there in_m in
+            let p : IsEarly c.types k.t = of_all (IsEarly c.types) u.own k.t around.own k.there in
+            let laid = laid_type types c p.s in
+            let in_m : IsOneOf around.m.types laid = subst (λ ts. IsOneOf ts laid) (sym around.laid.types_are) (one_each (laid_type types c) c.types p.s p.there) in
+            let there : description program (record { «module» = around.m.name; object = p.s.name }) ≡ Some laid.desc = type_there program whole around.m laid around.there in_m in
             let unit : q.«module» ≡ around.m.name = bytes_true q.«module» u.unit n ∙ around.unit in
-            let at_q : description program q ≡ Some laid.desc = ap (λ (x : List ℕ). description program (let p : QName = record { «module» = x; object = q.object } in p)) unit ∙ ap (λ (x : List ℕ). description program (let p : QName = record { «module» = around.m.name; object = x } in p)) (sym k.name) ∙ there in
-            let said : IsSaid program q k.t.desc = checked_said types c q (record { «module» = c.name; object = k.t.name }) k.t.desc at_q in
+            let at_q : description program q ≡ Some laid.desc = ap (λ (x : List ℕ). description program (let p : QName = record { «module» = x; object = q.object } in p)) unit ∙ ap (λ (x : List ℕ). description program (let p : QName = record { «module» = around.m.name; object = x } in p)) (sym (p.name ∙ k.name)) ∙ there in
+            let whole_said : IsSaid program q p.s.desc = checked_said types c q (record { «module» = c.name; object = p.s.name }) p.s.desc at_q in
+            let said : IsSaid program q k.t.desc = no_more_said program q k.t.desc p.s.desc p.says whole_said in
             subst (λ d. IsSaid program q d) k.desc said
         by false true n s e = let k : desc.OpenArray mark.Hidden (ref.Basic basic.Char) ≡ d = cc in subst (λ d. IsSaid program q d) k (inl (s, refl))
         by false false n s e = shown_said (described faces q) refl (ap (λ f. f q) (sym around.interfaces) ∙ e)

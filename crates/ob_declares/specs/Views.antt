@@ -4,13 +4,15 @@ use Rattle.std.specs.List.{AllByRecursion}
 use Rattle.ob_tree.specs.declared.names.QName.{QName}
 use Rattle.ob_types.specs.declared.desc.Desc.{Desc}
 use Rattle.ob_types.specs.declared.desc.Desc.TheVariants as desc
+use Rattle.ob_types.specs.declared.desc.RecordDesc.{RecordDesc}
+use Rattle.ob_types.specs.declared.typed.TypedType.{TypedType}
 use Rattle.ob_types.specs.TypedSyntax.{Module}
 use Rattle.ob_meaning.specs.Values.{Program}
 use Rattle.ob_layout.specs.LaidOut.{laid_type}
 use Rattle.ob_env.specs.Faces.{Face}
 use Rattle.ob_env.specs.Shown.{shown}
 use Rattle.ob_rules.specs.Names.{Around}
-use Rattle.ob_forms.specs.Said.{IsOneOf, HaveNames}
+use Rattle.ob_forms.specs.Said.{IsOneOf, IsPartOf, HaveNames}
 use Rattle.ob_declares.specs.Ages.{AreShown}
 
 -- the fields of a record differ
@@ -24,7 +26,20 @@ pub record IsLaid (types : QName → Option Desc) (checked m : Module) : Type 0 
   pub types_are : m.types ≡ each (laid_type types checked) checked.types
   pub fields : AllByRecursion (λ t. FieldsDiffer t.desc) checked.types
 
--- What stands around a part of a module of the program: the interfaces of one age, and types of the module as it was checked.
+-- of a record type no more than another description says, of another type the same
+abbrev pub SaysNoMore : Desc → Desc → Type 0
+SaysNoMore (desc.Record r) d = (s : RecordDesc) × ((d ≡ desc.Record s) × IsPartOf r s)
+SaysNoMore e d = e ≡ d
+
+-- one of these types, perhaps before procedures are bound to it
+pub record IsEarly (ts : List TypedType) (t : TypedType) : Type 0 where
+  pub s : TypedType
+  pub there : IsOneOf ts s
+  pub name : s.name ≡ t.name
+  pub says : SaysNoMore t.desc s.desc
+
+-- What stands around a part of a module of the program: the interfaces of one age, and types of the module as it was checked, or before
+-- procedures are bound to them.
 pub record IsAround {K : Type 0} (program : Program) (faces : List (Face K)) (u : Around) : Type 0 where
   pub m : Module
   pub checked : Module
@@ -32,6 +47,6 @@ pub record IsAround {K : Type 0} (program : Program) (faces : List (Face K)) (u 
   pub there : IsOneOf program m
   pub laid : IsLaid types checked m
   pub unit : u.unit ≡ m.name
-  pub own : AllByRecursion (λ t. IsOneOf checked.types t) u.own
+  pub own : AllByRecursion (IsEarly checked.types) u.own
   pub interfaces : u.shown ≡ shown faces
   pub age : AreShown program faces

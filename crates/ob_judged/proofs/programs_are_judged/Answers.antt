@@ -1,0 +1,13 @@
+-- What a program of judged modules has.
+use Rattle.ob_judged.proofs.Full.{constants_shown}
+use Rattle.ob_judged.proofs.Typed.{procedures_typed, values_had}
+use Rattle.ob_judged.proofs.programs_are_judged.Goals as goal
+
+pub returns-clause-typed : goal.returns-clause-typed
+returns-clause-typed c = procedures_typed
+
+pub returns-clause-constants : goal.returns-clause-constants
+returns-clause-constants c = constants_shown
+
+pub returns-clause-values : goal.returns-clause-values
+returns-clause-values c = values_had

@@ -1,0 +1,28 @@
+-- A module of a program as it was judged.
+use Rattle.std.specs.Prelude.{◌≡◌, List, Option}
+use Rattle.std.specs.List.{AllByRecursion}
+use Rattle.ob_tree.specs.declared.names.QName.{QName}
+use Rattle.ob_tree.specs.declared.print.Print.{Print}
+use Rattle.ob_types.specs.declared.desc.Desc.{Desc}
+use Rattle.ob_types.specs.declared.typed.TypedModule.{TypedModule}
+use Rattle.ob_types.specs.TypedSyntax.{Module}
+use Rattle.ob_types.specs.TypedView.{module_view}
+use Rattle.ob_meaning.specs.Values.{Program}
+use Rattle.ob_layout.specs.LaidOut.{laid_out}
+use Rattle.ob_env.specs.Faces.{Face}
+use Rattle.ob_env.specs.Shown.{shown}
+use Rattle.ob_declares.specs.Ages.{AreShown}
+use Rattle.ob_typed.specs.Known.{ConstantIs}
+use Rattle.ob_bodies.specs.Judged.{BodiesAreJudged}
+
+-- the checked module with its records laid out, whose bodies were judged over interfaces that show the program's modules
+pub record IsJudgedModule (program : Program) (m : Module) : Type 0 where
+  pub checked : TypedModule
+  pub types : QName → Option Desc
+  pub faces : List (Face Print)
+  pub is : m ≡ laid_out types (module_view checked)
+  pub age : AreShown program faces
+  pub bodies : BodiesAreJudged ConstantIs (shown faces) checked
+
+abbrev pub AreJudgedModules : Program → Type 0
+AreJudgedModules program = AllByRecursion (IsJudgedModule program) program
