@@ -4,6 +4,7 @@ pub mod Indexing
 pub mod Search
 pub mod Fits
 pub mod Places
+pub mod Near
 pub mod Resume
 pub mod Bridges
 pub mod Steps

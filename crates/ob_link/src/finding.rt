@@ -1,6 +1,8 @@
-ghost use Rattle.std.specs.Prelude.{◌≡◌};
+ghost use Rattle.std.specs.Prelude.{◌≡◌, ◌<◌, true, length};
+ghost use Rattle.std.specs.List.{HoldsAt};
 ghost use Rattle.std.specs.List.Sorted.{IsStrictlySortedBy};
-ghost use Rattle.std.specs.Option.{option_copied};
+ghost use Rattle.std.specs.Option.{option_copied, option_map};
+ghost use Rattle.std.specs.declared.cmp.Ordering.TheVariants.{Equal};
 ghost use Rattle.ob_obj.specs.Grammar.{by_name, by_export, by_variable};
 ghost use Rattle.ob_types.specs.Spelled.{aspect_number as aspect_number_of};
 ghost use Rattle.ob_link.specs.Files.{exported as exported_of, has_variable as has_variable_of};
@@ -39,13 +41,32 @@ fn compare_export(export: &Export, name: &ObjName, aspect: Aspect) -> Ordering
     aspect_number(export.aspect).cmp(&aspect_number(aspect))
 }
 
-/// The print of the export of a name and aspect.
-pub fn exported(exports: &[Export], name: &ObjName, aspect: Aspect) -> Option<Print>
-    requires { IsStrictlySortedBy by_export exports.now }
-    ensures { result ≡ exported_of name.now aspect exports.now }
+// Whether the export of a name and aspect stands at a place.
+fn is_at(exports: &[Export], place: usize, name: &ObjName, aspect: Aspect) -> bool
+    ensures there { result ≡ true → place < length exports.now }
+    ensures same { result ≡ true → HoldsAt (λ e. by_export_name (e.name, aspect_number_of e.aspect) (name.now, aspect_number_of aspect) ≡ Equal) exports.now place }
 {
+    match exports.get(place) {
+        Some(export) => compare_export(export, name, aspect) == Ordering::Equal,
+        None => false,
+    }
+}
+
+/// The export of a name and aspect: its print and its place. Where it stands at the place `near`, it is found at once.
+pub fn exported(
+    exports: &[Export],
+    near: usize,
+    name: &ObjName,
+    aspect: Aspect,
+) -> Option<(Print, usize)>
+    requires { IsStrictlySortedBy by_export exports.now }
+    ensures { option_map (λ f. f.0) result ≡ exported_of name.now aspect exports.now }
+{
+    if is_at(exports, near, name, aspect) {
+        return Some((exports[near].print, near));
+    }
     match exports.binary_search_by(|export| { compare_export(export, name, aspect) }) {
-        Ok(place) => Some(exports[place].print),
+        Ok(place) => Some((exports[place].print, place)),
         Err(_) => None,
     }
 }

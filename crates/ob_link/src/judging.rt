@@ -1,8 +1,10 @@
-ghost use Rattle.std.specs.Prelude.{◌≡◌, ◌≤◌, ◌+◌, ◌*◌, ◌++◌, map, length, IfOk};
+ghost use Rattle.std.specs.Prelude.{◌≡◌, ◌≤◌, ◌+◌, ◌*◌, ◌++◌, map, length, IfOk, IfSome, Some};
 ghost use Rattle.std.specs.Option.{option_copied, option_map};
 ghost use Rattle.ob_link.specs.Walk.{first_of};
 ghost use Rattle.ob_link.specs.Index.{place_from};
-ghost use Rattle.ob_link.specs.Files.{answered, linked as linked_as};
+ghost use Rattle.ob_env.specs.Faces.{wanted_of};
+ghost use Rattle.ob_link.specs.Plan.{use_against};
+ghost use Rattle.ob_link.specs.Files.{answered, agrees, linked as linked_as};
 ghost use Rattle.ob_link.specs.Members.{member_named};
 ghost use Rattle.ob_link.specs.Judging.{kept_of, use_break as use_break_of, variable_in, procedure_in, type_in, missing_variable, missing_procedure, missing_type, missing as missing_of, breaks, is_passed as is_passed_of, words_of as words_of_all, command_in as command_in_of, command_ref as command_ref_of};
 
@@ -47,25 +49,48 @@ pub fn is_passed(loaded: &Loaded, new: &Loaded, name: &Name) -> bool
     name.as_bytes() == b"Out".as_slice() || find(loaded, new, name).is_some()
 }
 
-fn kept_print(loaded: &Loaded, new: &Loaded, wanted: &Use) -> Option<Print>
-    ensures { result ≡ kept_of (member_named wanted.now.object.«module» (loaded.now ++ new.now)) wanted.now.object.object wanted.now.aspect }
+// The loaded or planned module of a name, looked for in one that was found before.
+fn find_near<'a>(
+    loaded: &'a Loaded,
+    new: &'a Loaded,
+    near: Option<&'a Member>,
+    name: &Name,
+) -> Option<&'a Member>
+    requires { IfSome (option_copied near) (λ k. member_named k.name (loaded.now ++ new.now) ≡ Some k) }
+    ensures found { option_copied result ≡ member_named name.now (loaded.now ++ new.now) }
+    ensures near { IfSome (option_copied result) (λ k. member_named k.name (loaded.now ++ new.now) ≡ Some k) }
 {
-    match find(loaded, new, &wanted.object.module) {
-        Some(member) => member.print_of(&wanted.object.object, wanted.aspect),
+    match near {
+        Some(member) => {
+            if member.name().as_bytes() == name.as_bytes() {
+                near
+            } else {
+                find(loaded, new, name)
+            }
+        }
+        None => find(loaded, new, name),
+    }
+}
+
+// The print that a module exports, and its place, looked for at a place first.
+fn kept_print(member: Option<&Member>, near: usize, wanted: &Use) -> Option<(Print, usize)>
+    ensures { option_map (λ f. f.0) result ≡ kept_of (option_copied member.entry) wanted.now.object.object wanted.now.aspect }
+{
+    match member {
+        Some(member) => member.print_of(near, &wanted.object.object, wanted.aspect),
         None => None,
     }
 }
 
-// What is wrong with a use.
+// What is wrong with a use, where its module exports this print.
 fn use_break(
-    loaded: &Loaded,
-    new: &Loaded,
     client: &Name,
     wanted: &Use,
+    found: Option<Print>,
 ) -> Result<Option<LoadRefusal>, AllocError>
-    ensures { IfOk result (λ o. o ≡ option_map answered (use_break_of (loaded.now ++ new.now) client.now wanted.now)) }
+    ensures { IfOk result (λ o. o ≡ option_map answered (use_against agrees client.now (wanted_of wanted.now) found)) }
 {
-    match kept_print(loaded, new, wanted) {
+    match found {
         None => {
             let object = wanted.object.clone()?;
             Ok(Some(LoadRefusal::Absent {
@@ -89,7 +114,26 @@ fn use_break(
     }
 }
 
-// What is wrong with the first use with which something is.
+// The print alone.
+fn print_alone(found: Option<(Print, usize)>) -> Option<Print>
+    ensures { result ≡ option_map (λ f. f.0) found }
+{
+    match found {
+        Some((print, _)) => Some(print),
+        None => None,
+    }
+}
+
+// The place behind that of a print.
+fn place_behind(found: Option<(Print, usize)>) -> usize {
+    match found {
+        Some((_, place)) => place.wrapping_add(1),
+        None => 0,
+    }
+}
+
+// What is wrong with the first use with which something is. Uses and exports rise in the same order, so each is looked
+// for in the module of the one before first, and behind its place.
 fn first_break(
     loaded: &Loaded,
     new: &Loaded,
@@ -98,12 +142,18 @@ fn first_break(
 ) -> Result<Option<LoadRefusal>, AllocError>
     ensures { IfOk result (λ o. o ≡ option_map answered (first_of (use_break_of (loaded.now ++ new.now) client.now) uses.now)) }
 {
+    let mut near = None;
+    let mut place = 0;
     let mut rest = uses;
     while let [first, more @ ..] = rest {
-        match use_break(loaded, new, client, first)? {
-            Some(refusal) => return Ok(Some(refusal)),
-            None => rest = more,
+        let member = find_near(loaded, new, near, &first.object.module);
+        let found = kept_print(member, place, first);
+        if let Some(refusal) = use_break(client, first, print_alone(found))? {
+            return Ok(Some(refusal));
         }
+        near = member;
+        place = place_behind(found);
+        rest = more;
     }
     Ok(None)
 }

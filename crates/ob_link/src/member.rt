@@ -1,5 +1,5 @@
 ghost use Rattle.std.specs.Prelude.{◌≡◌, ◌+◌, ◌<◌, ◌≤◌, ◌^◌, map, slice_get, length, IfOk};
-ghost use Rattle.std.specs.Option.{option_copied};
+ghost use Rattle.std.specs.Option.{option_copied, option_map};
 ghost use Rattle.ob_obj.specs.Grammar.{file as file_form, words_of};
 ghost use Rattle.ob_obj.specs.Images.{global_words as words_of_file};
 ghost use Rattle.ob_link.specs.Files.{is_plain as is_plain_of, exported as exported_of, has_variable as has_variable_of};
@@ -172,11 +172,12 @@ impl Member {
         self.words
     }
 
-    /// The print that it exports under a name, with an aspect. Takes no memory.
-    pub fn print_of(&self, name: &ObjName, aspect: Aspect) -> Option<Print>
-        ensures { result ≡ exported_of name.now aspect self.now.exports }
+    /// The print that it exports under a name, with an aspect, and its place among the exports; found at once where it
+    /// stands at the place `near`. Takes no memory.
+    pub fn print_of(&self, near: usize, name: &ObjName, aspect: Aspect) -> Option<(Print, usize)>
+        ensures { option_map (λ f. f.0) result ≡ exported_of name.now aspect self.now.exports }
     {
-        exported(self.exports.as_slice(), name, aspect)
+        exported(self.exports.as_slice(), near, name, aspect)
     }
 
     /// Whether it exports a variable of the name. Takes no memory.
