@@ -2,6 +2,7 @@
 use Rattle.ob_written.proofs.Compiled.{compiled_written}
 use Rattle.ob_ranges.specs.Left.{LeftAreWritten}
 use Rattle.ob_ranges.proofs.Compiled.{compiled_in_range}
+use Rattle.ob_ranges.proofs.Outward.{compiled_named}
 
 pub left_written : LeftAreWritten
 left_written entry entries source c is spelled left =
@@ -11,7 +12,7 @@ left_written entry entries source c is spelled left =
       differ = left.differ;
       lengths = r.lengths;
       constants = r.constants;
-      procedures = left.procedures;
+      procedures = compiled_named entry entries source c is left.differ;
       grounded = left.grounded;
       bodies = left.bodies;
       body = left.body;
