@@ -1,5 +1,5 @@
 -- Each procedure with a receiver is bound: its name is a bound procedure of its record.
-use Rattle.std.proofs.Common.{◌≡◌, ◌⊎◌, inl, inr, ℕ, Bool, true, false, List, [], ◌∷◌, ◌++◌, Option, Some, None, refl, sym, ap, subst, ◌∙◌}
+use Rattle.std.proofs.Common.{⊎_elim, ◌≡◌, ◌⊎◌, inl, inr, ℕ, Bool, true, false, List, [], ◌∷◌, ◌++◌, Option, Some, None, refl, sym, ap, subst, ◌∙◌}
 use Rattle.std.specs.Prelude.{bytes_eq, cond, not, ◌&&◌, is_some, is_none}
 use Rattle.std.specs.List.{find, filter}
 use Rattle.std.proofs.lemmas.Slice.Eq.{bytes_eq-Decides}
@@ -13,9 +13,9 @@ use Rattle.ob_types.specs.declared.typed.TypedType.{TypedType}
 use Rattle.ob_rules.specs.Judged.{notes_if, no_notes}
 use Rattle.ob_rules.specs.Shapes.{Map, Member, AField, AMethod, member, same_name}
 use Rattle.ob_rules.specs.Names.{Around, map_of, own_desc, type_desc, out_string}
-use Rattle.ob_rules.specs.Headings.{Head, BoundAs, Binding, with_method, change_desc, changed_if, change_type, new_method, introduce, clashes, redefined, bind_method, bind_by, bind_one, bind_all, owner_is, of_record, bind_records, reversed, bindings, counts, counts_if, counted}
+use Rattle.ob_rules.specs.Headings.{Head, BoundAs, Binding, with_method, change_desc, changed_if, change_type, new_method, introduce, redefined, bind_method, bind_by, bind_one, bind_all, owner_is, of_record, bind_records, reversed, bindings, counts, counts_if, counted}
 use Rattle.ob_rules.specs.Declarations.{with_bound, bound_to, binding_of}
-use Rattle.ob_outward.proofs.Grown.{Grows, DescGrows, MapGrows, IsMethod, member_grows, member_gained}
+use Rattle.ob_outward.proofs.Grown.{DescGrows, MapGrows, IsMethod, member_grows, member_gained}
 
 pub front_empty : {A : Type 0} (xs ys : List A) → xs ++ ys ≡ [] → xs ≡ []
 front_empty [] ys e = refl
@@ -73,7 +73,7 @@ filter_if false x y ys f (inl e) = absurd (no (f e))
     no e = absurd cc
 filter_if false x y ys f (inr h) = h
 
-either : {A B C : Type 0} → (B → C) → A ⊎ B → A ⊎ C
+pub either : {A B C : Type 0} → (B → C) → A ⊎ B → A ⊎ C
 either f (inl a) = inl a
 either f (inr b) = inr (f b)
 
@@ -86,10 +86,10 @@ abbrev pub Named : List ℕ → List TypedType → Type 0
 Named x [] = ⊥
 Named x (t ∷ ts) = (bytes_eq x t.name ≡ true) ⊎ Named x ts
 
-turned : (a b : List ℕ) → bytes_eq a b ≡ true → bytes_eq b a ≡ true
+pub turned : (a b : List ℕ) → bytes_eq a b ≡ true → bytes_eq b a ≡ true
 turned a b e = (bytes_eq-Decides b a).1 (sym ((bytes_eq-Decides a b).0 e))
 
-found_named : (x : List ℕ) (ts : List TypedType) (d : Desc) → desc_in ts x ≡ Some d → Named x ts
+pub found_named : (x : List ℕ) (ts : List TypedType) (d : Desc) → desc_in ts x ≡ Some d → Named x ts
 found_named x [] d e = absurd cc
 found_named x (t ∷ ts) d e = go (bytes_eq t.name x) refl e (found_named x ts d)
   where
@@ -97,13 +97,18 @@ found_named x (t ∷ ts) d e = go (bytes_eq t.name x) refl e (found_named x ts d
     go true i e k = inl (turned t.name x i)
     go false i e k = inr (k e)
 
-named_front : (x : List ℕ) (ts us : List TypedType) → Named x ts → Named x (ts ++ us)
+pub named_front : (x : List ℕ) (ts us : List TypedType) → Named x ts → Named x (ts ++ us)
 named_front x [] us h = absurd h
 named_front x (t ∷ ts) us h = either (named_front x ts us) h
 
-named_back : (x : List ℕ) (ts us : List TypedType) → Named x us → Named x (ts ++ us)
+pub named_back : (x : List ℕ) (ts us : List TypedType) → Named x us → Named x (ts ++ us)
 named_back x [] us h = h
 named_back x (t ∷ ts) us h = inr (named_back x ts us h)
+
+pub named_parts : (x : List ℕ) (ts us : List TypedType) → Named x (ts ++ us) → Named x ts ⊎ Named x us
+named_parts x [] us h = inr h
+named_parts x (t ∷ ts) us (inl e) = inl (inl e)
+named_parts x (t ∷ ts) us (inr h) = ⊎_elim (λ k. inl (inr k)) (λ k. inr k) (named_parts x ts us h)
 
 named_reversed : (x : List ℕ) (ts : List TypedType) → Named x ts → Named x (reversed ts)
 named_reversed x [] h = h

@@ -1,5 +1,5 @@
 -- Descriptions that gain bound procedures: what a member was, it stays.
-use Rattle.std.proofs.Common.{◌≡◌, ◌⊎◌, inl, inr, ℕ, zero, suc, Bool, true, false, List, [], ◌∷◌, ◌++◌, Option, Some, None, refl, sym, ap, subst, ◌∙◌, append_assoc}
+use Rattle.std.proofs.Common.{◌≡◌, ◌⊎◌, inl, inr, ℕ, zero, suc, Bool, true, false, List, [], ◌∷◌, ◌++◌, Option, Some, None, refl, sym, ap, subst, ◌∙◌}
 use Rattle.std.specs.Prelude.{bytes_eq, cond}
 use Rattle.std.specs.List.{find}
 use Rattle.ob_tree.specs.declared.names.QName.{QName}
@@ -10,7 +10,7 @@ use Rattle.ob_types.specs.declared.desc.Desc.TheVariants as desc
 use Rattle.ob_types.specs.declared.desc.RecordDesc.{RecordDesc}
 use Rattle.ob_types.specs.declared.desc.Field.{Field}
 use Rattle.ob_types.specs.declared.desc.Method.{Method}
-use Rattle.ob_types.specs.Tests.{target_of, alias_of, follow, target, shape_at}
+use Rattle.ob_types.specs.Tests.{target_of, follow, target, shape_at}
 use Rattle.ob_rules.specs.Shapes.{Map, Member, AField, AMethod, field_or, own_member, or_in_base, base_type, record_at, record_of, record_if, base_record, member_within, member}
 
 -- the same record type, with more bound procedures

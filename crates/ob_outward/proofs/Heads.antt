@@ -1,5 +1,5 @@
 -- Headings: each that is not bound has a name of the text, and each that is, is bound to a record of the module.
-use Rattle.std.proofs.Common.{◌≡◌, ◌≢◌, ◌⊎◌, inl, inr, ℕ, Bool, true, false, List, [], ◌∷◌, ◌++◌, Option, Some, None, refl, sym, ap, subst, ◌∙◌, append_assoc}
+use Rattle.std.proofs.Common.{◌≡◌, ◌≢◌, ◌⊎◌, inl, inr, ℕ, Bool, true, false, List, [], ◌∷◌, ◌++◌, Option, Some, None, refl, sym, ap, subst, ◌∙◌}
 use Rattle.std.specs.Prelude.{bytes_eq, cond, ◌&&◌, ◌==◌, not, is_some}
 use Rattle.std.specs.List.{AllByRecursion, find, list_any}
 use Rattle.std.proofs.lemmas.Bool.{and_parts}
@@ -17,10 +17,10 @@ use Rattle.ob_types.specs.declared.desc.RecordDesc.{RecordDesc}
 use Rattle.ob_types.specs.declared.typed.TypedType.{TypedType}
 use Rattle.ob_types.specs.Tests.{target, shape_at}
 use Rattle.ob_format.specs.Names.{is_identifier}
-use Rattle.ob_rules.specs.Judged.{Judged, sound, made, ◌▷◌}
-use Rattle.ob_rules.specs.Shapes.{Map, record_at, record_of, record_if, pointed, pointed_record, same_name}
+use Rattle.ob_rules.specs.Judged.{sound}
+use Rattle.ob_rules.specs.Shapes.{Map, record_at, record_if, pointed, same_name}
 use Rattle.ob_rules.specs.Names.{Around, map_of, own_desc, type_desc, out_string, type_named}
-use Rattle.ob_rules.specs.Types.{with_types, is_module_level, marked, mark_of}
+use Rattle.ob_rules.specs.Types.{is_module_level, mark_of}
 use Rattle.ob_rules.specs.Headings.{is_own, if_own, own_record, received_record, silent_base, BoundAs, bound_to, owner_of, owner_if, path_by, bound_in, mark_or_hidden, WrittenHeading, Head, head_of}
 use Rattle.ob_distinct.specs.Distinct.{AreDistinct}
 use Rattle.ob_described.proofs.Nodes.{IfThere, Has, any_then, then_has}
@@ -149,3 +149,36 @@ marks_hidden at mark.Hidden = refl
 
 pub head_hidden : (u : Around) → is_module_level u ≡ false → (w : WrittenHeading) (forward : Bool) → (head_of u w forward).mark ≡ mark.Hidden
 head_hidden u level w forward = ap (λ b. mark_or_hidden (mark_of b false w.name.mark_pos w.name.mark).node) level ∙ marks_hidden w.name.mark_pos w.name.mark
+
+-- nor is anything bound
+no_owner : (u : Around) (q : QName) (b : Bool) → b ≡ false → is_own u q && b ≡ false
+no_owner u q b e = ap (λ c. is_own u q && c) e ∙ and_false (is_own u q)
+  where
+    and_false : (a : Bool) → a && false ≡ false
+    and_false true = refl
+    and_false false = refl
+
+own_none : (u : Around) → is_module_level u ≡ false → (o : Option QName) → own_record u o ≡ None
+own_none u level None = refl
+own_none u level (Some q) = ap (λ b. if_own b q) (no_owner u q (is_module_level u) level)
+
+unbound : (at : Pos) (var : Bool) (t : TypeRef) (quiet : Bool) (o : Option QName) → o ≡ None → Has (λ (b : BoundAs). ⊥) (bound_to at var t quiet o)
+unbound at var t quiet (Some q) e = absurd cc
+unbound at var t true None e = tt
+unbound at var t false None e = tt
+
+owner_none : (u : Around) → is_module_level u ≡ false → (r : RawReceiver) → Has (λ (b : BoundAs). ⊥) (owner_of u r)
+owner_none u level r =
+    any_then (λ (b : BoundAs). ⊥) (type_named u (record { qualifier = None; ident = r.owner })) (λ t. bound_to r.owner.pos r.is_var t (is_module_level u && silent_base (map_of u) r.is_var (pointed (map_of u) t)) (own_record u (received_record (map_of u) r.is_var t)))
+    (λ t. unbound r.owner.pos r.is_var t _ (own_record u (received_record (map_of u) r.is_var t)) (own_none u level (received_record (map_of u) r.is_var t)))
+
+free_if : (u : Around) → is_module_level u ≡ false → (r : Option RawReceiver) → bound_in (owner_if u r).node ≡ None
+free_if u level None = refl
+free_if u level (Some r) = go (owner_if u (Some r)).node (then_has (λ (b : BoundAs). ⊥) (λ (o : Option BoundAs). ⊥) (owner_of u r) (λ b. sound (Some b)) (owner_none u level r) (λ b h. absurd h))
+  where
+    go : (o : Option (Option BoundAs)) → IfThere (λ (o : Option BoundAs). ⊥) o → bound_in o ≡ None
+    go None h = refl
+    go (Some b) h = absurd h
+
+pub head_free : (u : Around) → is_module_level u ≡ false → (w : WrittenHeading) (forward : Bool) → (head_of u w forward).bound ≡ None
+head_free u level w forward = free_if u level w.receiver

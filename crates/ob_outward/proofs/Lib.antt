@@ -4,3 +4,6 @@ pub mod Heads
 pub mod Lists
 pub mod Order
 pub mod Blocks
+pub mod Exported
+pub mod Chains
+pub mod Families

@@ -1,5 +1,5 @@
 -- The procedures of a checked module that others see.
-use Rattle.std.specs.Prelude.{◌≡◌, true, Bool, not, ◌&&◌, List, Option, Some, is_none}
+use Rattle.std.specs.Prelude.{◌≡◌, true, Bool, not, ◌&&◌, Option, Some, is_none}
 use Rattle.std.specs.List.{AllByRecursion}
 use Rattle.ob_tree.specs.declared.names.QName.{QName}
 use Rattle.ob_tree.specs.declared.decl.Module.{Module as Tree}

@@ -22,7 +22,7 @@ use Rattle.ob_walk.specs.Walk.{Entry}
 use Rattle.ob_compile.specs.Compiling.{Compiled, texts, compiled}
 use Rattle.ob_distinct.specs.Distinct.{AreDistinct}
 use Rattle.ob_outward.specs.Laws.{is_outward}
-use Rattle.ob_outward.proofs.Blocks.{outward_named}
+use Rattle.ob_outward.proofs.Exported.{outward_named}
 use Rattle.ob_written.specs.Trees.{IsNamed}
 use Rattle.ob_written.specs.Laws.{Text}
 use Rattle.ob_written.specs.Seen.{AreNamedEntries}
