@@ -35,6 +35,7 @@ use Rattle.ob_bodies.specs.Laws.{AreOthers}
 use Rattle.ob_written.specs.Laws.{Text, IsSpelled, compiled_from}
 use Rattle.ob_written.specs.Seen.{AreNamedEntries, LengthFits}
 use Rattle.ob_written.proofs.Imports.{nothing_both}
+use Rattle.ob_written.proofs.Walked.{LeavesApart, walk_apart}
 use Rattle.ob_ranges.specs.Laws.{AreInRange, IsInRange, CompiledAreInRange}
 use Rattle.ob_ranges.proofs.Checked.{modules_in_range}
 use Rattle.ob_ranges.proofs.Others.{is_built_in, IsOther, walk_other}
@@ -68,6 +69,16 @@ quiet_if false rule at e = refl
 quiet_is : (bs : List BrokenRule) (x m : TypedModule) → if_unbroken bs x ≡ Some m → bs ≡ []
 quiet_is [] x m e = refl
 quiet_is (b ∷ bs) x m e = absurd cc
+
+unbroken_is : (bs : List BrokenRule) (x m : TypedModule) → if_unbroken bs x ≡ Some m → x ≡ m
+unbroken_is [] x m e = cc
+unbroken_is (b ∷ bs) x m e = absurd cc
+
+-- a checked module has the name of its text
+pub name_is : (shown : QName → Option Desc) (tree : Tree) (m : TypedModule) → checked shown tree ≡ Some m → m.name ≡ tree.name.name
+name_is shown tree m e =
+    let parts : Part = module_of shown tree.name tree.imports (map declaration tree.decls) (map judging tree.body) tree.closing in
+    ap (λ (x : TypedModule). x.name) (sym (unbroken_is parts.notes.broken (typed_module shown tree.name tree.imports (map declaration tree.decls) parts) m e))
 
 -- no checked module is named Out or SYSTEM
 name_plain : (shown : QName → Option Desc) (tree : Tree) (m : TypedModule) → checked shown tree ≡ Some m → is_built_in tree.name.name ≡ false
@@ -109,13 +120,16 @@ pub record IsFrom (c : Compiled Text) : Type 0 where
   pub read : reading text ≡ Ok tree
   pub others : AllByRecursion (IsOther tree.name.name) (map imported_name tree.imports)
   pub faces : List (Face Text)
+  pub apart : AllByRecursion (λ f. bytes_eq f.«module» tree.name.name ≡ false) faces
+  pub fit : first_unfit faces ≡ None
   pub m : TypedModule
   pub is : checked (shown faces) tree ≡ Some m
   pub same : compiled_from faces (module_view m) ≡ c
 
 module _ (entry : List ℕ → Entry Text) (entries : AreNamedEntries entry) (c : Compiled Text) where
   -- what is known where the rules are asked
-  record IsAsked (tree : Tree) : Type 0 where
+  record IsAsked (tree : Tree) (faces : List (Face Text)) : Type 0 where
+    pub apart : AllByRecursion (λ f. bytes_eq f.«module» tree.name.name ≡ false) faces
     pub text : List ℕ
     pub read : reading text ≡ Ok tree
     pub others : AllByRecursion (IsOther tree.name.name) (map imported_name tree.imports)
@@ -124,30 +138,30 @@ module _ (entry : List ℕ → Entry Text) (entries : AreNamedEntries entry) (c 
   within_is d (Some w) e = absurd cc
   within_is d None e = cc
 
-  of_found : (faces : List (Face Text)) (tree : Tree) → IsAsked tree → (found : Option TypedModule) → checked (shown faces) tree ≡ found → and_limits texts (of_checked texts faces found) ≡ Ok c → IsFrom c
-  of_found faces tree a None is e = absurd cc
-  of_found faces tree a (Some m) is e =
+  of_found : (faces : List (Face Text)) (tree : Tree) → IsAsked tree faces → first_unfit faces ≡ None → (found : Option TypedModule) → checked (shown faces) tree ≡ found → and_limits texts (of_checked texts faces found) ≡ Ok c → IsFrom c
+  of_found faces tree a u None is e = absurd cc
+  of_found faces tree a u (Some m) is e =
       let d : Compiled Text = compiled_from faces (module_view m) in
-      record { text = a.text; tree = tree; read = a.read; others = a.others; faces = faces; m = m; is = is; same = within_is d (exceeds texts d) e }
+      record { text = a.text; tree = tree; read = a.read; others = a.others; faces = faces; apart = a.apart; fit = u; m = m; is = is; same = within_is d (exceeds texts d) e }
 
-  broken : (faces : List (Face Text)) (tree : Tree) → IsAsked tree → (b : Option BrokenRule) → and_limits texts (of_break texts faces (checked (shown faces) tree) b) ≡ Ok c → IsFrom c
-  broken faces tree a (Some b) e = absurd cc
-  broken faces tree a None e = of_found faces tree a (checked (shown faces) tree) refl e
+  broken : (faces : List (Face Text)) (tree : Tree) → IsAsked tree faces → first_unfit faces ≡ None → (b : Option BrokenRule) → and_limits texts (of_break texts faces (checked (shown faces) tree) b) ≡ Ok c → IsFrom c
+  broken faces tree a u (Some b) e = absurd cc
+  broken faces tree a u None e = of_found faces tree a u (checked (shown faces) tree) refl e
 
-  deep : (b : Bool) (faces : List (Face Text)) (tree : Tree) → IsAsked tree → unless_deep b (and_limits texts (by_rules texts faces tree)) ≡ Ok c → IsFrom c
-  deep true faces tree a e = absurd cc
-  deep false faces tree a e = broken faces tree a (first_break (shown faces) tree) e
+  deep : (b : Bool) (faces : List (Face Text)) (tree : Tree) → IsAsked tree faces → first_unfit faces ≡ None → unless_deep b (and_limits texts (by_rules texts faces tree)) ≡ Ok c → IsFrom c
+  deep true faces tree a u e = absurd cc
+  deep false faces tree a u e = broken faces tree a u (first_break (shown faces) tree) e
 
-  fitting : (o : Option QName) (faces : List (Face Text)) (tree : Tree) → IsAsked tree → of_standing texts tree (if_fit o faces) ≡ Ok c → IsFrom c
-  fitting (Some q) faces tree a e = absurd cc
-  fitting None faces tree a e = deep (is_deep faces tree) faces tree a e
+  fitting : (o : Option QName) (faces : List (Face Text)) (tree : Tree) → IsAsked tree faces → first_unfit faces ≡ o → of_standing texts tree (if_fit o faces) ≡ Ok c → IsFrom c
+  fitting (Some q) faces tree a u e = absurd cc
+  fitting None faces tree a u e = deep (is_deep faces tree) faces tree a u e
 
-  coherent : (o : Option (StaleUse Text)) (faces : List (Face Text)) (tree : Tree) → IsAsked tree → of_standing texts tree (if_coherent o faces) ≡ Ok c → IsFrom c
+  coherent : (o : Option (StaleUse Text)) (faces : List (Face Text)) (tree : Tree) → IsAsked tree faces → of_standing texts tree (if_coherent o faces) ≡ Ok c → IsFrom c
   coherent (Some u) faces tree a e = absurd cc
-  coherent None faces tree a e = fitting (first_unfit faces) faces tree a e
+  coherent None faces tree a e = fitting (first_unfit faces) faces tree a refl e
 
   walked : (w : Walked Text) (tree : Tree) (text : List ℕ) → reading text ≡ Ok tree → walk entry tree.name.name (map imported_name tree.imports) ≡ w → of_reached texts tree (after_walk (standing texts.same texts.keeps) w) ≡ Ok c → IsFrom c
-  walked (Left faces) tree text r i e = coherent (first_stale texts.same (texts.keeps faces) faces) faces tree (record { text = text; read = r; others = walk_other tree.name.name entry entries (map imported_name tree.imports) faces i }) e
+  walked (Left faces) tree text r i e = coherent (first_stale texts.same (texts.keeps faces) faces) faces tree (record { apart = subst (LeavesApart tree.name.name entry entries) i (walk_apart tree.name.name entry entries (map imported_name tree.imports)); text = text; read = r; others = walk_other tree.name.name entry entries (map imported_name tree.imports) faces i }) e
   walked (NoInterface m) tree text r i e = absurd cc
   walked (Damaged m) tree text r i e = absurd cc
   walked (Cycle m) tree text r i e = absurd cc

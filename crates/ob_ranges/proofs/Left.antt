@@ -3,6 +3,7 @@ use Rattle.ob_written.proofs.Compiled.{compiled_written}
 use Rattle.ob_ranges.specs.Left.{LeftAreWritten}
 use Rattle.ob_ranges.proofs.Compiled.{compiled_in_range}
 use Rattle.ob_ranges.proofs.Outward.{compiled_named}
+use Rattle.ob_ranges.proofs.Numbered.{compiled_numbered}
 
 pub left_written : LeftAreWritten
 left_written entry entries source c is spelled left =
@@ -17,5 +18,5 @@ left_written entry entries source c is spelled left =
       bodies = left.bodies;
       body = left.body;
       bases = left.bases;
-      numbers = left.numbers;
+      numbers = compiled_numbered entry entries source c is left.differ left.grounded;
     })

@@ -3,4 +3,5 @@ pub mod Checked
 pub mod Others
 pub mod Compiled
 pub mod Outward
+pub mod Numbered
 pub mod Left

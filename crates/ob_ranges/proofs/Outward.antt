@@ -35,7 +35,7 @@ fresh : (types : QName → Option Desc) (m : Module) (x : List ℕ) (ts : List T
 fresh types m x [] h = tt
 fresh types m x (t ∷ ts) h = ((λ e. false≢true (sym h.0 ∙ (bytes_eq-Decides x t.name).1 (sym e))), fresh types m x ts h.1)
 
-laid_differ : (types : QName → Option Desc) (m : Module) (ts : List TypedType) → IsDistinct bytes_eq (map (λ t. t.name) (map (laid_type types m) ts)) → AreDistinct (λ t. t.name) ts
+pub laid_differ : (types : QName → Option Desc) (m : Module) (ts : List TypedType) → IsDistinct bytes_eq (map (λ t. t.name) (map (laid_type types m) ts)) → AreDistinct (λ t. t.name) ts
 unfolding IsDistinct
 laid_differ types m [] h = tt
 laid_differ types m (t ∷ ts) h = (fresh types m t.name ts h.0, laid_differ types m ts h.1)

@@ -12,7 +12,7 @@ use Rattle.ob_walk.specs.Walk.{Entry}
 use Rattle.ob_code.specs.Procedures.{body_of, within}
 use Rattle.ob_compile.specs.Compiling.{Compiled, texts, compiled}
 use Rattle.ob_written.specs.Coded.{BodyIsCoded, StmtsAreCoded}
-use Rattle.ob_written.specs.Files.{BasesFit, NumbersFit}
+use Rattle.ob_written.specs.Files.{BasesFit}
 use Rattle.ob_written.specs.Laws.{Text, IsSpelled, IsWritten}
 use Rattle.ob_written.specs.Seen.{AreNamedEntries}
 
@@ -27,9 +27,8 @@ module _ (types : QName → Option Desc) (m : Module) where
     -- statements
     pub bodies : AllByRecursion (BodyIsCoded types m) m.procedures
     pub body : StmtsAreCoded (within types m (body_of m)) false m.body
-    -- bases, and numbers of bound procedures
+    -- bases
     pub bases : BasesFit types m 0 m.types
-    pub numbers : AllByRecursion (λ t. NumbersFit types m t t.desc) m.types
 
 -- What compiles against interfaces that have a spelling is written, where that is seen of its module.
 abbrev pub LeftAreWritten : Type 0
