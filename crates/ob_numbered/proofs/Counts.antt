@@ -347,9 +347,9 @@ module _ (faces : List (Face (List ℕ))) (tm : TypedModule) (fit : first_unfit 
       record { covers = i.0; numbers = (and_parts (has_own_numbers D steps r) _ j.1).0 }
 
   other_below : (q : QName) (r : RecordDesc) → D q ≡ Some (desc.Record r) → AllByRecursion (λ m. m.number < r.procedures) r.methods
-  other_below q r e = go r.methods (all_bool (is_numbered D steps (procedures_before (base_in D steps r)) r.procedures) r.methods (sound_other q r e).numbers)
+  other_below q r e = go r.methods (all_bool (is_numbered (procedures_before (base_in D steps r)) r.procedures) r.methods (sound_other q r e).numbers)
     where
-      go : (ms : List Method) → AllByRecursion (λ m. is_numbered D steps (procedures_before (base_in D steps r)) r.procedures m ≡ true) ms → AllByRecursion (λ m. m.number < r.procedures) ms
+      go : (ms : List Method) → AllByRecursion (λ m. is_numbered (procedures_before (base_in D steps r)) r.procedures m ≡ true) ms → AllByRecursion (λ m. m.number < r.procedures) ms
       go [] h = tt
       go (m ∷ ms) h = (ltb-true m.number r.procedures (and_parts (nat_le (procedures_before (base_in D steps r)) m.number) (nat_lt m.number r.procedures) h.0).1, go ms h.1)
 
@@ -374,20 +374,20 @@ module _ (faces : List (Face (List ℕ))) (tm : TypedModule) (fit : first_unfit 
   alias_named (desc.Record r) t e f h = absurd cc
 
   -- a type that is held leads to the same record by what is described
-  target_other : (k n : ℕ) (t : TypeRef) (b : QName) (s : RecordDesc) → is_held D steps t ≡ true → target types n t ≡ ref.Named b → types b ≡ Some (desc.Record s) → target D (n + k) t ≡ ref.Named b × (D b ≡ Some (desc.Record s))
+  target_other : (n k : ℕ) → n ≤ k → (t : TypeRef) (b : QName) (s : RecordDesc) → is_held D steps t ≡ true → target types n t ≡ ref.Named b → types b ≡ Some (desc.Record s) → target D k t ≡ ref.Named b × (D b ≡ Some (desc.Record s))
   unfolding target
-  target_other k n (ref.Basic x) b s h e is = absurd (never n e)
+  target_other n k l (ref.Basic x) b s h e is = absurd (never n e)
     where
       never : (n : ℕ) → target types n (ref.Basic x) ≡ ref.Named b → ⊥
-      unfolding target
       never zero e = absurd cc
       never (suc n) e = absurd cc
-  target_other k zero (ref.Named p) b s h e is =
+  target_other zero k l (ref.Named p) b s h e is =
       let same : p ≡ b = cc in
       let d = held_some (D p) h in
       let db : D b ≡ Some (desc.Record s) = ap D (sym same) ∙ sym (other_types p (described_other p d.0 d.1)) ∙ ap types same ∙ is in
       (ap (λ z. target D k (ref.Named z)) same ∙ stops_at k b s db, db)
-  target_other k (suc n) (ref.Named p) b s h e is = go (target_of (D p)) refl (λ t i j. target_other k n t b s i j is)
+  target_other (suc n) zero l (ref.Named p) b s h e is = absurd (omega (arith, l))
+  target_other (suc n) (suc k) l (ref.Named p) b s h e is = go (target_of (D p)) refl (λ t i j. target_other n k (omega (arith, l)) t b s i j is)
     where
       d : (d : Desc) × (D p ≡ Some d)
       d = held_some (D p) h
@@ -395,22 +395,22 @@ module _ (faces : List (Face (List ℕ))) (tm : TypedModule) (fit : first_unfit 
       same_map : types p ≡ D p
       same_map = other_types p (described_other p d.0 d.1)
 
-      go : (o : Option TypeRef) → target_of (D p) ≡ o → ((t : TypeRef) → is_held D steps t ≡ true → target types n t ≡ ref.Named b → target D (n + k) t ≡ ref.Named b × (D b ≡ Some (desc.Record s))) → target D (suc (n + k)) (ref.Named p) ≡ ref.Named b × (D b ≡ Some (desc.Record s))
+      go : (o : Option TypeRef) → target_of (D p) ≡ o → ((t : TypeRef) → is_held D steps t ≡ true → target types n t ≡ ref.Named b → target D k t ≡ ref.Named b × (D b ≡ Some (desc.Record s))) → target D (suc k) (ref.Named p) ≡ ref.Named b × (D b ≡ Some (desc.Record s))
       go None i up =
           let f : ref.Named p ≡ ref.Named b = ap (λ o. follow o (ref.Named p) (λ u. target types n u)) (sym (ap target_of same_map ∙ i)) ∙ e in
           let same : p ≡ b = cc in
           let db : D b ≡ Some (desc.Record s) = ap D (sym same) ∙ sym same_map ∙ ap types same ∙ is in
-          (ap (λ o. follow o (ref.Named p) (λ u. target D (n + k) u)) i ∙ f, db)
+          (ap (λ o. follow o (ref.Named p) (λ u. target D k u)) i ∙ f, db)
       go (Some t) i up =
           let f : target types n t ≡ ref.Named b = ap (λ o. follow o (ref.Named p) (λ u. target types n u)) (sym (ap target_of same_map ∙ i)) ∙ e in
           let l = alias_named d.0 t (ap target_of (sym d.1) ∙ i) (is_held D steps) (names_other p d.0 d.1) in
           let m = up t l f in
-          (ap (λ o. follow o (ref.Named p) (λ u. target D (n + k) u)) i ∙ m.0, m.1)
+          (ap (λ o. follow o (ref.Named p) (λ u. target D k u)) i ∙ m.0, m.1)
 
   other_base : (q b : QName) (r s : RecordDesc) (t : TypeRef) → D q ≡ Some (desc.Record r) → r.base ≡ Some t → target types 201 t ≡ ref.Named b → types b ≡ Some (desc.Record s) → s.procedures ≤ r.procedures
   other_base q b r s t e on end is =
       let named : list_all (is_held D steps) (t ∷ []) ≡ true = subst (λ o. list_all (is_held D steps) (listed o) ≡ true) on (front_all (is_held D steps) (listed r.base) _ (front_all (is_held D steps) (listed r.base ++ _) _ (names_other q (desc.Record r) e))) in
-      let k = target_other (count_of faces) 201 t b s (and_parts (is_held D steps t) true named).0 end is in
+      let k = target_other 201 steps (omega arith) t b s (and_parts (is_held D steps t) true named).0 end is in
       let at_base : base_in D steps r ≡ Some s = ap (λ o. o >>= λ t. record_in (shape_at D (target D steps t))) on ∙ ap (λ z. record_in (shape_at D z)) k.0 ∙ ap record_in k.1 in
       let c = (and_parts _ (nat_le (procedures_before (base_in D steps r)) r.procedures) (sound_other q r e).covers).1 in
       leb-true s.procedures r.procedures (subst (λ o. nat_le (procedures_before o) r.procedures ≡ true) at_base c)

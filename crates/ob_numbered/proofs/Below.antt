@@ -102,7 +102,7 @@ none_says b = ((λ t e. absurd (no t e)), (λ r e. absurd (nor r e)))
     nor r e = absurd cc
 
 plain_says : (d : Desc) → ((r : RecordDesc) → d ≡ desc.Record r → ⊥) → SaysOf (Some d) (Some d)
-plain_says d no = ((λ t e. e), (λ r e. absurd (no r cc)))
+plain_says d never = ((λ t e. e), (λ r e. absurd (never r cc)))
 
 laid_says : (w p : TypeRef → ℕ) (q : QName) (d : Desc) → SaysOf (Some d) (Some (laid_desc w p q d))
 laid_says w p q (desc.Const v) = plain_says (desc.Const v) (λ r e. cc)
