@@ -54,14 +54,14 @@ then_moves u a f g h =
     let ts = a.part.contents.types in
     let us = (f a.around).part.contents.types in
     record {
-  path = h.path ∙ g.path;
-  unit = h.unit ∙ g.unit;
-  shown = h.shown ∙ g.shown;
-  own = λ rest d. h.own rest (g.own ((f a.around).part.contents.types ++ rest) (joined_right u.own a.part.contents.types (f a.around).part.contents.types rest d));
-  procedures = none_both a.part.contents.procedures (f a.around).part.contents.procedures g.procedures h.procedures;
-  bound = none_both a.part.contents.bound (f a.around).part.contents.bound g.bound h.bound;
-  names = λ x k. ⊎_elim (λ i. ⊎_elim (λ j. named_front x u.own (ts ++ us) j) (λ j. named_back x u.own (ts ++ us) (named_front x ts us j)) (named_parts x u.own ts (g.names x i))) (λ i. named_back x u.own (ts ++ us) (named_back x ts us i)) (named_parts x a.around.own us (h.names x k));
-}
+      path = h.path ∙ g.path;
+      unit = h.unit ∙ g.unit;
+      shown = h.shown ∙ g.shown;
+      own = λ rest d. h.own rest (g.own ((f a.around).part.contents.types ++ rest) (joined_right u.own a.part.contents.types (f a.around).part.contents.types rest d));
+      procedures = none_both a.part.contents.procedures (f a.around).part.contents.procedures g.procedures h.procedures;
+      bound = none_both a.part.contents.bound (f a.around).part.contents.bound g.bound h.bound;
+      names = λ x k. ⊎_elim (λ i. ⊎_elim (λ j. named_front x u.own (ts ++ us) j) (λ j. named_back x u.own (ts ++ us) (named_front x ts us j)) (named_parts x u.own ts (g.names x i))) (λ i. named_back x u.own (ts ++ us) (named_back x ts us i)) (named_parts x a.around.own us (h.names x k));
+    }
 
 -- without types
 plain_moves : (u : Around) (p : Part) (v : Around) → IsLike u v → p.contents.types ≡ [] → p.contents.procedures ≡ [] → p.contents.bound ≡ [] → Moves u (record { part = p; around = v })
