@@ -1,10 +1,9 @@
 -- The numbers of bound procedures are below the number of their record's.
-use Rattle.std.proofs.Common.{◌≡◌, ◌⊎◌, inl, inr, ℕ, zero, suc, ◌≤◌, ◌<◌, Bool, true, false, cond, List, [], ◌∷◌, map, Option, Some, None, refl, sym, ap, subst, ◌∙◌, arith}
+use Rattle.std.proofs.Common.{◌≡◌, inl, inr, ℕ, zero, suc, ◌≤◌, ◌<◌, Bool, true, false, cond, List, [], ◌∷◌, map, Option, Some, None, refl, sym, ap, subst, ◌∙◌, arith}
 use Rattle.std.specs.Prelude.{bytes_eq, unwrap_or, if◌then◌else◌}
 use Rattle.std.specs.List.{AllByRecursion, find}
 use Rattle.std.specs.Option.{option_map}
 use Rattle.std.proofs.lemmas.Slice.Eq.{bytes_eq-Decides}
-use Rattle.std.proofs.lemmas.Bool.{false≢true}
 use Rattle.ob_tree.specs.declared.names.QName.{QName}
 use Rattle.ob_types.specs.declared.types.TypeRef.{TypeRef}
 use Rattle.ob_types.specs.declared.types.TypeRef.TheVariants as ref
@@ -16,7 +15,6 @@ use Rattle.ob_types.specs.declared.typed.Binding.{Binding}
 use Rattle.ob_types.specs.declared.typed.TypedType.{TypedType}
 use Rattle.ob_types.specs.declared.typed.TypedProcedure.{TypedProcedure}
 use Rattle.ob_types.specs.declared.typed.TypedModule.{TypedModule}
-use Rattle.ob_types.specs.TypedSyntax.{Procedure}
 use Rattle.ob_types.specs.TypedView.{procedure_view}
 use Rattle.ob_types.specs.Tests.{target_of}
 use Rattle.ob_layout.specs.Lists.{or_else}
@@ -28,14 +26,14 @@ use Rattle.ob_env.specs.Shown.{unnumbered, blank, shown}
 use Rattle.ob_obj.specs.declared.parts.Definition.{Definition}
 use Rattle.ob_obj.specs.Grammar.{by_number}
 use Rattle.ob_code.specs.Descriptions.{method_number}
-use Rattle.ob_code.specs.Object.{is_bound_to, bound_number, definitions_among, definitions}
+use Rattle.ob_code.specs.Object.{is_bound_to, bound_number, definitions_among}
 use Rattle.ob_rules.specs.Names.{own_desc}
-use Rattle.ob_outward.specs.Families.{view, IsBase, Extends, Introduces, IsFamily}
-use Rattle.ob_outward.proofs.Chains.{Says, finds, line_says, introduces_says}
+use Rattle.ob_outward.specs.Families.{view, Extends, IsFamily}
+use Rattle.ob_outward.proofs.Chains.{Says, line_says, introduces_says}
 use Rattle.ob_written.specs.Files.{NumbersFit}
 use Rattle.ob_written.proofs.Lists.{all_in_order}
 use Rattle.ob_numbered.specs.Laws.{laid_in, seen_in, NumbersAreBelow}
-use Rattle.ob_numbered.proofs.Counts.{D, M, types, F, laid_named, counts_are, base_fewer, found_below}
+use Rattle.ob_numbered.proofs.Counts.{M, types, F, laid_named, counts_are, base_fewer, found_below}
 
 turned : (a b : List ℕ) → bytes_eq a b ≡ bytes_eq b a
 turned a b = go (bytes_eq a b) (bytes_eq b a) refl refl

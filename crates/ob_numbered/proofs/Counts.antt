@@ -1,6 +1,6 @@
 -- How many bound procedures records have: those of a base are not more, and each number is below.
 use Rattle.std.proofs.Common.{◌≡◌, ℕ, zero, suc, ◌+◌, ◌≤◌, ◌<◌, Bool, true, false, cond, List, [], ◌∷◌, ◌++◌, map, length, Option, Some, None, refl, sym, ap, subst, ◌∙◌, arith}
-use Rattle.std.specs.Prelude.{bytes_eq, not, ◌&&◌, nat_le, nat_lt}
+use Rattle.std.specs.Prelude.{bytes_eq, ◌&&◌, nat_le, nat_lt}
 use Rattle.std.specs.List.{AllByRecursion, list_all, find}
 use Rattle.std.proofs.lemmas.Bool.{false≢true, and_parts, leb-true, ltb-true}
 use Rattle.std.proofs.lemmas.Slice.Eq.{bytes_eq-Decides}
@@ -21,7 +21,7 @@ use Rattle.ob_types.specs.AssigningTests.{described as is_described}
 use Rattle.ob_format.specs.Format.{◌>>=◌}
 use Rattle.ob_layout.specs.LaidOut.{type_named, is_own, viewed, base_of, declared_procedures, counted, words_in, procedures_in, numbered, laid_record, laid_desc, laid_type}
 use Rattle.ob_env.specs.Faces.{Face, face_named, object_named, described}
-use Rattle.ob_env.specs.Fit.{chain_described, is_within, record_of as record_in, procedures_before, is_held, names_types, stands, has_bases, keeps_places, has_few_words, base_of as base_in, has_few_procedures, covers_base, has_fields_inside, has_own_numbers, has_distinct_names, is_sound_record, is_numbered, fits, steps_of, count_of, first_unfit}
+use Rattle.ob_env.specs.Fit.{chain_described, is_within, record_of as record_in, procedures_before, is_held, names_types, stands, has_bases, keeps_places, has_few_words, base_of as base_in, has_few_procedures, covers_base, has_fields_inside, has_own_numbers, is_numbered, fits, steps_of, first_unfit}
 use Rattle.ob_outward.specs.Families.{IsBase}
 use Rattle.ob_outward.proofs.Chains.{Finds, finds}
 use Rattle.ob_written.proofs.Fit.{described_fit}

@@ -1,8 +1,8 @@
 -- Blocks and modules: the procedures that others see are named as the text names them.
 use Rattle.std.proofs.Common.{◌≡◌, ◌≢◌, inl, inr, ℕ, Bool, true, false, List, [], ◌∷◌, ◌++◌, map, Option, Some, None, refl, sym, ap, subst, ◌∙◌, append_assoc}
-use Rattle.std.specs.Prelude.{◌&&◌, not, is_none, codes, bytes_eq}
+use Rattle.std.specs.Prelude.{codes, bytes_eq}
 use Rattle.std.specs.List.{AllByRecursion, filter_map, find}
-use Rattle.std.proofs.lemmas.Bool.{and_parts, false≢true}
+use Rattle.std.proofs.lemmas.Bool.{and_parts}
 use Rattle.std.proofs.lemmas.List.{append-nil}
 use Rattle.ob_tree.specs.declared.names.QName.{QName}
 use Rattle.ob_tree.specs.declared.ident.Mark.TheVariants as mark
@@ -18,15 +18,14 @@ use Rattle.ob_format.specs.Names.{is_identifier}
 use Rattle.ob_rules.specs.declared.broken.Broken.{Broken}
 use Rattle.ob_rules.specs.Judged.{broken_at}
 use Rattle.ob_rules.specs.Shapes.{Map}
-use Rattle.ob_rules.specs.Names.{Around, map_of, is_hidden}
+use Rattle.ob_rules.specs.Names.{Around, map_of}
 use Rattle.ob_rules.specs.Expressions.{phrase_of}
 use Rattle.ob_rules.specs.Types.{Parameters, written, is_module_level, with_types, nothing}
 use Rattle.ob_rules.specs.Statements.{Judging, judging, in_turn}
 use Rattle.ob_rules.specs.Headings.{Head, Heads, Binding, head_of, name_twice, declared_head, known_behind, knows_procedure, types_of, add_heading, reversed, bindings}
 use Rattle.ob_rules.specs.Declarations.{checked, Contents, Part, Declared, Written_procedure, Declaration, Plain, Procedure, plain_of, procedure_of, type_name_of, in_order, headings_in_order, around_body, bound_to, typed_procedure, types_of_head, procedure_judged, procedures_judged, block_inside, body_part, with_bound, binding_at, block_bound, heads_later, block_headed, block, decl_rule, declaration, target_of, imports_declared, import_declared, around_module, module_of, described, all_described, typed_module, if_unbroken}
 use Rattle.ob_written.specs.Raw.{all_true, is_named, parameters_named, heading_named, decl_layer, decl_named}
-use Rattle.ob_outward.specs.Laws.{is_outward, OutwardAreNamed}
-use Rattle.ob_outward.proofs.Binding.{front_empty, back_empty, Among, is_bound}
+use Rattle.ob_outward.proofs.Binding.{front_empty, back_empty, Among}
 use Rattle.ob_outward.proofs.Heads.{IsHeaded, headed, headed_more, head_hidden, head_free}
 use Rattle.ob_outward.proofs.Lists.{Differ, all_both, swap, drop, joined_right}
 use Rattle.ob_outward.proofs.Order.{Moves, GoodPlain, constant_moves, type_moves, variables_declared_move, order_moves, imports_move}

@@ -1,5 +1,5 @@
 -- The member that a procedure is bound to, and the records up to the one that introduces it.
-use Rattle.std.proofs.Common.{◌≡◌, ◌⊎◌, inl, inr, ℕ, zero, suc, Bool, true, false, List, [], ◌∷◌, Option, Some, None, refl, sym, ap, subst, ◌∙◌}
+use Rattle.std.proofs.Common.{◌≡◌, inl, inr, ℕ, zero, suc, Bool, true, false, List, [], ◌∷◌, Option, Some, None, refl, sym, ap, subst, ◌∙◌}
 use Rattle.std.specs.Prelude.{bytes_eq, cond}
 use Rattle.std.specs.List.{find}
 use Rattle.std.proofs.lemmas.Slice.Eq.{bytes_eq-Decides}
@@ -12,7 +12,7 @@ use Rattle.ob_types.specs.declared.desc.RecordDesc.{RecordDesc}
 use Rattle.ob_types.specs.declared.desc.Field.{Field}
 use Rattle.ob_types.specs.declared.desc.Method.{Method}
 use Rattle.ob_types.specs.Tests.{target_of, follow, target, shape_at}
-use Rattle.ob_rules.specs.Shapes.{Map, Member, AField, AMethod, field_or, own_member, or_in_base, base_type, record_at, record_of, record_if, base_record, member_within, member}
+use Rattle.ob_rules.specs.Shapes.{Map, Member, AMethod, field_or, own_member, or_in_base, base_type, record_at, record_of, record_if, base_record, member_within, member}
 use Rattle.ob_outward.specs.Families.{IsBase, Extends, Introduces}
 
 -- ---- records by their descriptions

@@ -1,17 +1,14 @@
 -- Exported procedures that are not bound are named by identifiers.
-use Rattle.std.proofs.Common.{◌≡◌, Bool, true, false, List, [], Option, inl, inr, sym, ap, ◌∙◌}
+use Rattle.std.proofs.Common.{◌≡◌, true, List, [], inl, inr, sym, ap, ◌∙◌}
 use Rattle.std.specs.Prelude.{◌&&◌, not, is_none}
-use Rattle.std.specs.List.{AllByRecursion}
 use Rattle.std.proofs.lemmas.Bool.{and_parts, false≢true}
 use Rattle.ob_types.specs.declared.typed.TypedProcedure.{TypedProcedure}
 use Rattle.ob_format.specs.Names.{is_identifier}
 use Rattle.ob_rules.specs.Names.{Around, map_of, is_hidden}
-use Rattle.ob_rules.specs.Types.{Parameters}
 use Rattle.ob_rules.specs.Headings.{Head, bindings}
-use Rattle.ob_rules.specs.Declarations.{Contents, with_bound, bound_to, typed_procedure}
+use Rattle.ob_rules.specs.Declarations.{with_bound, bound_to}
 use Rattle.ob_outward.specs.Laws.{is_outward, OutwardAreNamed}
-use Rattle.ob_outward.proofs.Binding.{Among, is_bound}
-use Rattle.ob_outward.proofs.Heads.{IsHeaded}
+use Rattle.ob_outward.proofs.Binding.{is_bound}
 use Rattle.ob_outward.proofs.Blocks.{IsHidden, TypedSo, procedures_good}
 
 abbrev Good : TypedProcedure → Type 0

@@ -5,7 +5,6 @@ use Rattle.std.specs.List.{AllByRecursion, find, filter}
 use Rattle.std.proofs.lemmas.Bool.{false≢true}
 use Rattle.std.proofs.lemmas.Slice.Eq.{bytes_eq-Decides}
 use Rattle.ob_tree.specs.declared.names.QName.{QName}
-use Rattle.ob_tree.specs.declared.decl.Decl.{Decl}
 use Rattle.ob_tree.specs.declared.decl.Module.{Module as Tree}
 use Rattle.ob_tree.specs.declared.ident.Mark.TheVariants as mark
 use Rattle.ob_types.specs.declared.types.Basic.TheVariants as basic
@@ -23,17 +22,15 @@ use Rattle.ob_types.specs.Tests.{target_of}
 use Rattle.ob_rules.specs.Judged.{no_notes}
 use Rattle.ob_rules.specs.Shapes.{Map, Member, AField, AMethod, member, same_name}
 use Rattle.ob_rules.specs.Names.{Around, map_of, own_desc, type_desc, out_string}
-use Rattle.ob_rules.specs.Types.{Parameters, with_types}
-use Rattle.ob_rules.specs.Headings.{counted, of_record, reversed, Head, Heads, BoundAs, Binding, head_of, types_of, change_type, changed_if, bind_one, bind_all, bind_records, bindings, bind_by, bind_method, redefined, with_method, add_heading}
+use Rattle.ob_rules.specs.Headings.{counted, of_record, reversed, Head, Heads, BoundAs, Binding, head_of, change_type, changed_if, bind_one, bind_all, bind_records, bindings, bind_by, bind_method, redefined, add_heading}
 use Rattle.ob_rules.specs.Statements.{in_turn}
-use Rattle.ob_rules.specs.Declarations.{body_part, declaration, procedure_judged, checked, Contents, Part, Written_procedure, with_bound, bound_to, binding_of, typed_procedure, typed_module, described, all_described, headings_in_order, procedures_judged, types_of_head}
+use Rattle.ob_rules.specs.Declarations.{body_part, declaration, procedure_judged, Part, Written_procedure, with_bound, bound_to, binding_of, typed_module, described, all_described, headings_in_order, procedures_judged, types_of_head}
 use Rattle.ob_distinct.specs.Distinct.{AreDistinct}
 use Rattle.ob_written.specs.Raw.{decl_named}
 use Rattle.ob_outward.specs.Families.{view, Introduces, IsFamily, FamiliesAreThere}
-use Rattle.ob_outward.proofs.Binding.{front_empty, back_empty, Among, Named, named_front, named_back, named_parts, turned, found_named, desc_in}
-use Rattle.ob_outward.proofs.Heads.{IsHeaded}
+use Rattle.ob_outward.proofs.Binding.{front_empty, back_empty, Named, named_front, named_back, named_parts, turned, found_named, desc_in}
 use Rattle.ob_outward.proofs.Chains.{Says, member_comes, found_name, line_says, introduces_says}
-use Rattle.ob_outward.proofs.Blocks.{imports, plain, whole, body, imports_are, plain_is, heads_are, heads_gain, next_head, next_twice, next_like, quiet_types, judged_quiet, IsHidden, TypedSo, So, procedures_good, parts, behind, final, final_is, unbroken_is, heads_of, start, ps, judged}
+use Rattle.ob_outward.proofs.Blocks.{imports, plain, whole, body, imports_are, plain_is, heads_are, heads_gain, next_head, next_twice, next_like, quiet_types, judged_quiet, IsHidden, TypedSo, procedures_good, parts, behind, final, final_is, unbroken_is, heads_of, start, ps, judged}
 
 -- ---- names of types
 

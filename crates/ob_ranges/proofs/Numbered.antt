@@ -1,11 +1,11 @@
 -- The bound procedures of a module that compiles have numbers below the number of their record's.
-use Rattle.std.proofs.Common.{◌≡◌, ℕ, Bool, true, false, List, map, Option, Ok, sym, ap, subst, ◌∙◌}
+use Rattle.std.proofs.Common.{◌≡◌, ℕ, true, false, List, map, Option, Ok, sym, subst}
 use Rattle.std.specs.Prelude.{bytes_eq}
 use Rattle.std.specs.List.{AllByRecursion, IsDistinct}
 use Rattle.ob_types.specs.declared.types.TypeRef.TheVariants as ref
 use Rattle.ob_types.specs.TypedView.{module_view}
 use Rattle.ob_layout.specs.LaidOut.{viewed}
-use Rattle.ob_env.specs.Faces.{Face, described}
+use Rattle.ob_env.specs.Faces.{described}
 use Rattle.ob_env.specs.Fit.{is_within}
 use Rattle.ob_env.specs.Shown.{shown}
 use Rattle.ob_walk.specs.Walk.{Entry}

@@ -1,5 +1,5 @@
 -- The procedures of a module that compiles that others see are named by identifiers.
-use Rattle.std.proofs.Common.{◌≡◌, ◌≢◌, ℕ, Bool, true, false, List, [], ◌∷◌, map, Option, Ok, refl, sym, ap, subst, ◌∙◌}
+use Rattle.std.proofs.Common.{◌≡◌, ◌≢◌, ℕ, true, false, List, [], ◌∷◌, map, Option, Ok, refl, sym, ap, subst, ◌∙◌}
 use Rattle.std.specs.Prelude.{bytes_eq, ◌&&◌, not, is_none}
 use Rattle.std.specs.List.{AllByRecursion, IsDistinct}
 use Rattle.std.proofs.lemmas.Bool.{false≢true}
