@@ -35,6 +35,7 @@ use Rattle.ob_bodies.specs.Laws.{AreOthers}
 use Rattle.ob_written.specs.Laws.{Text, IsSpelled, compiled_from}
 use Rattle.ob_written.specs.Seen.{AreNamedEntries, LengthFits}
 use Rattle.ob_written.proofs.Imports.{nothing_both}
+use Rattle.ob_written.proofs.Walked.{LeavesApart, walk_apart}
 use Rattle.ob_ranges.specs.Laws.{AreInRange, IsInRange, CompiledAreInRange}
 use Rattle.ob_ranges.proofs.Checked.{modules_in_range}
 use Rattle.ob_ranges.proofs.Others.{is_built_in, IsOther, walk_other}
@@ -69,6 +70,16 @@ quiet_is : (bs : List BrokenRule) (x m : TypedModule) → if_unbroken bs x ≡ S
 quiet_is [] x m e = refl
 quiet_is (b ∷ bs) x m e = absurd cc
 
+unbroken_is : (bs : List BrokenRule) (x m : TypedModule) → if_unbroken bs x ≡ Some m → x ≡ m
+unbroken_is [] x m e = cc
+unbroken_is (b ∷ bs) x m e = absurd cc
+
+-- a checked module has the name of its text
+pub name_is : (shown : QName → Option Desc) (tree : Tree) (m : TypedModule) → checked shown tree ≡ Some m → m.name ≡ tree.name.name
+name_is shown tree m e =
+    let parts : Part = module_of shown tree.name tree.imports (map declaration tree.decls) (map judging tree.body) tree.closing in
+    ap (λ (x : TypedModule). x.name) (sym (unbroken_is parts.notes.broken (typed_module shown tree.name tree.imports (map declaration tree.decls) parts) m e))
+
 -- no checked module is named Out or SYSTEM
 name_plain : (shown : QName → Option Desc) (tree : Tree) (m : TypedModule) → checked shown tree ≡ Some m → is_built_in tree.name.name ≡ false
 name_plain shown tree m e =
@@ -102,12 +113,23 @@ others_are root plain (i ∷ is) h = (subst (λ (x : List ℕ). bytes_eq x root 
 
 -- ---- one compile
 
-module _ (entry : List ℕ → Entry Text) (entries : AreNamedEntries entry) (c : Compiled Text) where
-  abbrev Goal : Compiled Text → Type 0
-  Goal d = AllByRecursion IsSpelled d.against → AreInRange d.tree
+-- what compiles is a text that is read, and its checked module against the interfaces of its walk
+pub record IsFrom (c : Compiled Text) : Type 0 where
+  pub text : List ℕ
+  pub tree : Tree
+  pub read : reading text ≡ Ok tree
+  pub others : AllByRecursion (IsOther tree.name.name) (map imported_name tree.imports)
+  pub faces : List (Face Text)
+  pub apart : AllByRecursion (λ f. bytes_eq f.«module» tree.name.name ≡ false) faces
+  pub fit : first_unfit faces ≡ None
+  pub m : TypedModule
+  pub is : checked (shown faces) tree ≡ Some m
+  pub same : compiled_from faces (module_view m) ≡ c
 
+module _ (entry : List ℕ → Entry Text) (entries : AreNamedEntries entry) (c : Compiled Text) where
   -- what is known where the rules are asked
-  record IsAsked (tree : Tree) : Type 0 where
+  record IsAsked (tree : Tree) (faces : List (Face Text)) : Type 0 where
+    pub apart : AllByRecursion (λ f. bytes_eq f.«module» tree.name.name ≡ false) faces
     pub text : List ℕ
     pub read : reading text ≡ Ok tree
     pub others : AllByRecursion (IsOther tree.name.name) (map imported_name tree.imports)
@@ -116,50 +138,60 @@ module _ (entry : List ℕ → Entry Text) (entries : AreNamedEntries entry) (c 
   within_is d (Some w) e = absurd cc
   within_is d None e = cc
 
-  of_found : (faces : List (Face Text)) (tree : Tree) → IsAsked tree → (found : Option TypedModule) → checked (shown faces) tree ≡ found → and_limits texts (of_checked texts faces found) ≡ Ok c → Goal c
-  of_found faces tree a None is e = absurd cc
-  of_found faces tree a (Some m) is e =
+  of_found : (faces : List (Face Text)) (tree : Tree) → IsAsked tree faces → first_unfit faces ≡ None → (found : Option TypedModule) → checked (shown faces) tree ≡ found → and_limits texts (of_checked texts faces found) ≡ Ok c → IsFrom c
+  of_found faces tree a u None is e = absurd cc
+  of_found faces tree a u (Some m) is e =
       let d : Compiled Text = compiled_from faces (module_view m) in
-      subst Goal (within_is d (exceeds texts d) e)
-      (λ s. let r : IsInRange m = modules_in_range faces s a.text tree a.read (others_are tree.name.name (name_plain (shown faces) tree m is) tree.imports a.others) m is in
-      record { constants = r.constants; lengths = lengths_laid (described faces) (module_view m) m.types r.lengths })
+      record { text = a.text; tree = tree; read = a.read; others = a.others; faces = faces; apart = a.apart; fit = u; m = m; is = is; same = within_is d (exceeds texts d) e }
 
-  broken : (faces : List (Face Text)) (tree : Tree) → IsAsked tree → (b : Option BrokenRule) → and_limits texts (of_break texts faces (checked (shown faces) tree) b) ≡ Ok c → Goal c
-  broken faces tree a (Some b) e = absurd cc
-  broken faces tree a None e = of_found faces tree a (checked (shown faces) tree) refl e
+  broken : (faces : List (Face Text)) (tree : Tree) → IsAsked tree faces → first_unfit faces ≡ None → (b : Option BrokenRule) → and_limits texts (of_break texts faces (checked (shown faces) tree) b) ≡ Ok c → IsFrom c
+  broken faces tree a u (Some b) e = absurd cc
+  broken faces tree a u None e = of_found faces tree a u (checked (shown faces) tree) refl e
 
-  deep : (b : Bool) (faces : List (Face Text)) (tree : Tree) → IsAsked tree → unless_deep b (and_limits texts (by_rules texts faces tree)) ≡ Ok c → Goal c
-  deep true faces tree a e = absurd cc
-  deep false faces tree a e = broken faces tree a (first_break (shown faces) tree) e
+  deep : (b : Bool) (faces : List (Face Text)) (tree : Tree) → IsAsked tree faces → first_unfit faces ≡ None → unless_deep b (and_limits texts (by_rules texts faces tree)) ≡ Ok c → IsFrom c
+  deep true faces tree a u e = absurd cc
+  deep false faces tree a u e = broken faces tree a u (first_break (shown faces) tree) e
 
-  fitting : (o : Option QName) (faces : List (Face Text)) (tree : Tree) → IsAsked tree → of_standing texts tree (if_fit o faces) ≡ Ok c → Goal c
-  fitting (Some q) faces tree a e = absurd cc
-  fitting None faces tree a e = deep (is_deep faces tree) faces tree a e
+  fitting : (o : Option QName) (faces : List (Face Text)) (tree : Tree) → IsAsked tree faces → first_unfit faces ≡ o → of_standing texts tree (if_fit o faces) ≡ Ok c → IsFrom c
+  fitting (Some q) faces tree a u e = absurd cc
+  fitting None faces tree a u e = deep (is_deep faces tree) faces tree a u e
 
-  coherent : (o : Option (StaleUse Text)) (faces : List (Face Text)) (tree : Tree) → IsAsked tree → of_standing texts tree (if_coherent o faces) ≡ Ok c → Goal c
+  coherent : (o : Option (StaleUse Text)) (faces : List (Face Text)) (tree : Tree) → IsAsked tree faces → of_standing texts tree (if_coherent o faces) ≡ Ok c → IsFrom c
   coherent (Some u) faces tree a e = absurd cc
-  coherent None faces tree a e = fitting (first_unfit faces) faces tree a e
+  coherent None faces tree a e = fitting (first_unfit faces) faces tree a refl e
 
-  walked : (w : Walked Text) (tree : Tree) (text : List ℕ) → reading text ≡ Ok tree → walk entry tree.name.name (map imported_name tree.imports) ≡ w → of_reached texts tree (after_walk (standing texts.same texts.keeps) w) ≡ Ok c → Goal c
-  walked (Left faces) tree text r i e = coherent (first_stale texts.same (texts.keeps faces) faces) faces tree (record { text = text; read = r; others = walk_other tree.name.name entry entries (map imported_name tree.imports) faces i }) e
+  walked : (w : Walked Text) (tree : Tree) (text : List ℕ) → reading text ≡ Ok tree → walk entry tree.name.name (map imported_name tree.imports) ≡ w → of_reached texts tree (after_walk (standing texts.same texts.keeps) w) ≡ Ok c → IsFrom c
+  walked (Left faces) tree text r i e = coherent (first_stale texts.same (texts.keeps faces) faces) faces tree (record { apart = subst (LeavesApart tree.name.name entry entries) i (walk_apart tree.name.name entry entries (map imported_name tree.imports)); text = text; read = r; others = walk_other tree.name.name entry entries (map imported_name tree.imports) faces i }) e
   walked (NoInterface m) tree text r i e = absurd cc
   walked (Damaged m) tree text r i e = absurd cc
   walked (Cycle m) tree text r i e = absurd cc
   walked TooMany tree text r i e = absurd cc
 
-  few : (b : Bool) (tree : Tree) (text : List ℕ) → reading text ≡ Ok tree → of_few b (of_reached texts tree (env_answer texts.same texts.keeps entry tree.name.name (map imported_name tree.imports))) ≡ Ok c → Goal c
+  few : (b : Bool) (tree : Tree) (text : List ℕ) → reading text ≡ Ok tree → of_few b (of_reached texts tree (env_answer texts.same texts.keeps entry tree.name.name (map imported_name tree.imports))) ≡ Ok c → IsFrom c
   few true tree text r e = walked (walk entry tree.name.name (map imported_name tree.imports)) tree text r refl e
   few false tree text r e = absurd cc
 
-  read : (text : List ℕ) (r : Result Tree NoModule) → reading text ≡ r → of_reading texts entry r ≡ Ok c → Goal c
+  read : (text : List ℕ) (r : Result Tree NoModule) → reading text ≡ r → of_reading texts entry r ≡ Ok c → IsFrom c
   read text (Ok tree) i e = few (nat_le (length tree.imports) most_imports) tree text i e
   read text (Err f) i e = absurd cc
 
-  short : (b : Bool) (text : List ℕ) → of_short b (of_reading texts entry (reading text)) ≡ Ok c → Goal c
+  short : (b : Bool) (text : List ℕ) → of_short b (of_reading texts entry (reading text)) ≡ Ok c → IsFrom c
   short true text e = read text (reading text) refl e
   short false text e = absurd cc
 
-pub compiled_in_range : CompiledAreInRange
+pub compiled_is : (entry : List ℕ → Entry Text) → AreNamedEntries entry → (source : Option (List ℕ)) (c : Compiled Text) → compiled texts entry source ≡ Ok c → IsFrom c
 unfolding compiled
-compiled_in_range entry entries None c e = absurd cc
-compiled_in_range entry entries (Some source) c e = short entry entries c (nat_le (length source) most_source) source e
+compiled_is entry entries None c e = absurd cc
+compiled_is entry entries (Some source) c e = short entry entries c (nat_le (length source) most_source) source e
+
+-- ---- what it is
+
+abbrev InRange : Compiled Text → Type 0
+InRange d = AllByRecursion IsSpelled d.against → AreInRange d.tree
+
+pub compiled_in_range : CompiledAreInRange
+compiled_in_range entry entries source c e =
+    let k = compiled_is entry entries source c e in
+    subst InRange k.same (λ s.
+    let r : IsInRange k.m = modules_in_range k.faces s k.text k.tree k.read (others_are k.tree.name.name (name_plain (shown k.faces) k.tree k.m k.is) k.tree.imports k.others) k.m k.is in
+    record { constants = r.constants; lengths = lengths_laid (described k.faces) (module_view k.m) k.m.types r.lengths })

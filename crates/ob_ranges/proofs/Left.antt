@@ -2,6 +2,8 @@
 use Rattle.ob_written.proofs.Compiled.{compiled_written}
 use Rattle.ob_ranges.specs.Left.{LeftAreWritten}
 use Rattle.ob_ranges.proofs.Compiled.{compiled_in_range}
+use Rattle.ob_ranges.proofs.Outward.{compiled_named}
+use Rattle.ob_ranges.proofs.Numbered.{compiled_numbered}
 
 pub left_written : LeftAreWritten
 left_written entry entries source c is spelled left =
@@ -11,10 +13,10 @@ left_written entry entries source c is spelled left =
       differ = left.differ;
       lengths = r.lengths;
       constants = r.constants;
-      procedures = left.procedures;
+      procedures = compiled_named entry entries source c is left.differ;
       grounded = left.grounded;
       bodies = left.bodies;
       body = left.body;
       bases = left.bases;
-      numbers = left.numbers;
+      numbers = compiled_numbered entry entries source c is left.differ left.grounded;
     })

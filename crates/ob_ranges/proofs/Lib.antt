@@ -2,4 +2,6 @@ pub mod Shown
 pub mod Checked
 pub mod Others
 pub mod Compiled
+pub mod Outward
+pub mod Numbered
 pub mod Left

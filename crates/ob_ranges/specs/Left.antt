@@ -9,12 +9,10 @@ use Rattle.ob_layout.specs.LaidOut.{viewed}
 use Rattle.ob_env.specs.Faces.{described}
 use Rattle.ob_env.specs.Fit.{is_within}
 use Rattle.ob_walk.specs.Walk.{Entry}
-use Rattle.ob_uses.specs.Objects.{is_exported}
 use Rattle.ob_code.specs.Procedures.{body_of, within}
 use Rattle.ob_compile.specs.Compiling.{Compiled, texts, compiled}
-use Rattle.ob_written.specs.Trees.{IsNamed}
 use Rattle.ob_written.specs.Coded.{BodyIsCoded, StmtsAreCoded}
-use Rattle.ob_written.specs.Files.{BasesFit, NumbersFit}
+use Rattle.ob_written.specs.Files.{BasesFit}
 use Rattle.ob_written.specs.Laws.{Text, IsSpelled, IsWritten}
 use Rattle.ob_written.specs.Seen.{AreNamedEntries}
 
@@ -24,16 +22,13 @@ module _ (types : QName → Option Desc) (m : Module) where
     -- names of types are short, and different
     pub short : AllByRecursion (λ t. length t.name < 2 ^ 16) m.types
     pub differ : IsDistinct bytes_eq (map (λ t. t.name) m.types)
-    -- procedures that others see are named by identifiers
-    pub procedures : AllByRecursion (λ p. is_exported p ≡ true → IsNamed p.name) m.procedures
     -- the chains of own types end
     pub grounded : AllByRecursion (λ t. is_within types 200 (ref.Named (record { «module» = m.name; object = t.name })) ≡ true) m.types
     -- statements
     pub bodies : AllByRecursion (BodyIsCoded types m) m.procedures
     pub body : StmtsAreCoded (within types m (body_of m)) false m.body
-    -- bases, and numbers of bound procedures
+    -- bases
     pub bases : BasesFit types m 0 m.types
-    pub numbers : AllByRecursion (λ t. NumbersFit types m t t.desc) m.types
 
 -- What compiles against interfaces that have a spelling is written, where that is seen of its module.
 abbrev pub LeftAreWritten : Type 0

@@ -1,0 +1,9 @@
+pub mod Grown
+pub mod Binding
+pub mod Heads
+pub mod Lists
+pub mod Order
+pub mod Blocks
+pub mod Exported
+pub mod Chains
+pub mod Families
