@@ -1,0 +1,4 @@
+pub mod Behind
+pub mod Typings
+pub mod Written
+pub mod Sequences
