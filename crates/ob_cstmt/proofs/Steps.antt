@@ -243,3 +243,7 @@ always (Err e) p = tt
 -- a statement alone
 pub alone_made : {E : Type 0} (r : Result (Option StmtTrees) E) (a b : Option (List TypedStmt)) → IfOk r (λ x. stmts_in x ≡ a) → a ≡ b → IfOk r (λ x. stmts_in x ≡ b)
 alone_made r a b h e = subst (λ z. IfOk r (λ x. stmts_in x ≡ z)) e h
+
+-- what is said of it, which is said of the statement by that name
+pub noted_as : {T E : Type 0} (r : Result T E) (n k : Notebook) (y x : Judged (List TypedStmt)) → y ≡ x → OnOk r (n ≡ book_after k x.notes) → OnOk r (n ≡ book_after k y.notes)
+noted_as r n k y x e h = subst (λ z. OnOk r (n ≡ book_after k z.notes)) (sym e) h

@@ -7,14 +7,14 @@ ghost use Rattle.ob_rules.specs.Statements as spec;
 
 use ob_cexpr::{check_constant, check_expr, start_of};
 use ob_cname::types;
-use ob_cparts::{add_label, case_value_if, label_if, with_label};
+use ob_cparts::{add_label, case_value_if, label_if, selects_if, with_label};
 use ob_rules::{Notebook, Selects, Surroundings, Valued};
-use ob_tree::{Element, Expr, List};
-use ob_types::{Label, Value};
+use ob_tree::{Boxed, Element, Expr, List};
+use ob_types::{Label, Types, Value};
 use std::alloc::{AllocError, Global};
 
-/// The value of CASE. Rule 33, and those of the expression.
-pub fn case_value<S: Surroundings>(
+// The value of CASE. Rule 33, and those of the expression.
+fn case_value<S: Surroundings>(
     alloc: Global,
     here: &S,
     book: &mut Notebook,
@@ -25,6 +25,52 @@ pub fn case_value<S: Surroundings>(
 {
     let value = check_expr(alloc, here, book, x)?;
     Ok(case_value_if(types(here), book, start_of(x), value))
+}
+
+fn boxed(alloc: Global, value: Option<Valued>) -> Result<Option<Boxed<Valued>>, AllocError>
+    ensures { IfOk result (λ r. r ≡ value) }
+{
+    match value {
+        None => Ok(None),
+        Some(value) => {
+            let value = Boxed::new(alloc, value)?;
+            Ok(Some(value))
+        }
+    }
+}
+
+/// The value of CASE, in a box. Rule 33, and those of the expression.
+pub fn boxed_case_value<S: Surroundings>(
+    alloc: Global,
+    here: &S,
+    book: &mut Notebook,
+    x: &Expr,
+) -> Result<Option<Boxed<Valued>>, AllocError>
+    ensures made { IfOk result (λ r. r ≡ (spec.case_judged (S.around here.now) (exprs.phrase_of x.now)).node) }
+    ensures noted { OnOk result (book.new ≡ book_after book.old (spec.case_judged (S.around here.now) (exprs.phrase_of x.now)).notes) }
+{
+    let value = case_value(alloc, here, book, x)?;
+    boxed(alloc, value)
+}
+
+/// The value of CASE out of its box.
+pub fn unboxed(value: Option<Boxed<Valued>>) -> Option<Valued>
+    ensures { result ≡ value }
+{
+    match value {
+        None => None,
+        Some(value) => Some(value.into_inner()),
+    }
+}
+
+/// What the labels of CASE are to be, where its value is sound.
+pub fn case_selects<T: Types>(types: &T, value: &Option<Boxed<Valued>>) -> Option<Selects>
+    ensures { result ≡ spec.selects_if (T.types types.now) value.now }
+{
+    match value {
+        None => None,
+        Some(value) => selects_if(types, Some(value.get())),
+    }
 }
 
 // The upper bound of a label, none where it has no other.

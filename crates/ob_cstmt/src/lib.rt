@@ -8,6 +8,7 @@ mod guards;
 mod labels;
 mod loops;
 mod returns;
+mod single;
 mod walk;
 
 pub use walk::check_stmts;

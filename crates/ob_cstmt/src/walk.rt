@@ -4,25 +4,25 @@
 ghost use Rattle.std.specs.Prelude.{◌≡◌, [], IfOk, OnOk, map};
 ghost use Rattle.std.specs.Option.{option_map};
 ghost use Rattle.ob_rules.specs.Books.{book_after};
+ghost use Rattle.ob_rules.specs.Expressions as exprs;
 ghost use Rattle.ob_rules.specs.Statements as spec;
-ghost use Rattle.ob_cparts.specs.Seen.{branches_in, cases_in, else_in, stmt_in, stmts_in};
+ghost use Rattle.ob_cparts.specs.Seen.{branches_in, cases_in, else_in, stmts_in};
 
-use crate::assign::assignment;
-use crate::calls::call_statement;
 use crate::conditions::condition;
 use crate::guards::check_guard;
-use crate::labels::{case_value, check_labels};
+use crate::labels::{boxed_case_value, case_selects, check_labels};
 use crate::loops::{check_bound, check_step_if};
-use crate::returns::check_return;
+use crate::single::{
+    assignment_alone, call_alone, case_alone, exit_alone, if_alone, return_alone, with_alone,
+};
 use ob_cname::types;
 use ob_cparts::{
-    alone, case_made, exit, for_if, for_variable, if_made, loop_made, repeat_made, selects_if,
-    some_stmts, test_tree, tested_type, variable_meant, while_made, with_branch, with_case,
-    with_made, with_stmts,
+    alone, for_if, for_variable, loop_made, repeat_made, some_stmts, test_tree, tested_type,
+    variable_meant, while_made, with_branch, with_case, with_stmts,
 };
 use ob_rules::{Notebook, Selects, Surroundings};
-use ob_tree::{Branch, Case, GuardedBranch, List, Pos, Stmt};
-use ob_trees::{BranchTrees, CaseTrees, StmtTree, StmtTrees};
+use ob_tree::{Branch, Case, Expr, GuardedBranch, Ident, List, Pos, Stmt};
+use ob_trees::{BranchTrees, CaseTrees, StmtTrees};
 use ob_types::{TypeRef, Variable};
 use std::alloc::{AllocError, Global};
 
@@ -60,13 +60,9 @@ fn check_stmt<S: Surroundings>(
 {
     match stmt {
         Stmt::Empty => Ok(Some(StmtTrees::new(alloc))),
-        Stmt::Call(designator) => {
-            let made = call_statement(alloc, here, book, designator)?;
-            alone(alloc, made)
-        }
+        Stmt::Call(designator) => call_alone(alloc, here, book, designator),
         Stmt::Assign { target, pos, value } => {
-            let made = assignment(alloc, here, book, target, *pos, value)?;
-            alone(alloc, made)
+            assignment_alone(alloc, here, book, target, *pos, value)
         }
         Stmt::If {
             branches,
@@ -75,7 +71,7 @@ fn check_stmt<S: Surroundings>(
         } => {
             let branches = check_branches(alloc, here, book, branches.as_slice())?;
             let otherwise = check_otherwise(alloc, here, book, otherwise)?;
-            alone(alloc, if_made(alloc, branches, otherwise))
+            if_alone(alloc, branches, otherwise)
         }
         Stmt::Case {
             pos,
@@ -83,21 +79,17 @@ fn check_stmt<S: Surroundings>(
             cases,
             otherwise,
         } => {
-            let value = case_value(alloc, here, book, value)?;
-            let selects = selects_if(types(here), value.as_ref());
+            let value = boxed_case_value(alloc, here, book, value)?;
+            let selects = case_selects(types(here), &value);
             let cases = check_cases(alloc, here, book, cases.as_slice(), selects)?;
             let otherwise = check_otherwise(alloc, here, book, otherwise)?;
-            alone(alloc, case_made(*pos, value, cases, otherwise))
+            case_alone(alloc, *pos, value, cases, otherwise)
         }
         Stmt::While { pos, test, body } => {
-            let tested = condition(alloc, here, book, test)?;
-            let repeated = check_stmts(alloc, here, book, body.as_slice())?;
-            alone(alloc, while_made(*pos, tested, repeated))
+            check_while(alloc, here, book, body.as_slice(), *pos, test)
         }
         Stmt::Repeat { pos, body, test } => {
-            let repeated = check_stmts(alloc, here, book, body.as_slice())?;
-            let tested = condition(alloc, here, book, test)?;
-            alone(alloc, repeat_made(*pos, repeated, tested))
+            check_repeat(alloc, here, book, body.as_slice(), *pos, test)
         }
         Stmt::For {
             pos,
@@ -106,26 +98,20 @@ fn check_stmt<S: Surroundings>(
             end,
             step,
             body,
-        } => {
-            let place = for_variable(alloc, here, book, *pos, variable)?;
-            let first = check_bound(alloc, here, book, *pos, place.as_ref(), start)?;
-            let last = check_bound(alloc, here, book, *pos, place.as_ref(), end)?;
-            let by = check_step_if(alloc, here, book, *pos, step)?;
-            let repeated = check_stmts(alloc, here, book, body.as_slice())?;
-            alone(
-                alloc,
-                for_if(types(here), *pos, place, first, last, by, repeated),
-            )
-        }
-        Stmt::Loop { pos, body } => {
-            let made = check_loop(alloc, here, book, body.as_slice(), *pos)?;
-            alone(alloc, made)
-        }
-        Stmt::Exit(pos) => alone(alloc, exit(here, book, *pos)),
-        Stmt::Return { pos, value } => {
-            let made = check_return(alloc, here, book, *pos, value)?;
-            alone(alloc, made)
-        }
+        } => check_for(
+            alloc,
+            here,
+            book,
+            body.as_slice(),
+            *pos,
+            variable,
+            start,
+            end,
+            step,
+        ),
+        Stmt::Loop { pos, body } => check_loop(alloc, here, book, body.as_slice(), *pos),
+        Stmt::Exit(pos) => exit_alone(alloc, here, book, *pos),
+        Stmt::Return { pos, value } => return_alone(alloc, here, book, *pos, value),
         Stmt::With {
             pos,
             branches,
@@ -133,9 +119,75 @@ fn check_stmt<S: Surroundings>(
         } => {
             let branches = check_guarded(alloc, here, book, branches.as_slice())?;
             let otherwise = check_otherwise(alloc, here, book, otherwise)?;
-            alone(alloc, with_made(*pos, branches, otherwise))
+            with_alone(alloc, *pos, branches, otherwise)
         }
     }
+}
+
+// WHILE.
+#[cycle(walk)]
+fn check_while<S: Surroundings>(
+    alloc: Global,
+    here: &mut S,
+    book: &mut Notebook,
+    body: &[Stmt],
+    at: Pos,
+    test: &Expr,
+) -> Result<Option<StmtTrees>, AllocError>
+    ensures made { IfOk result (λ r. stmts_in r ≡ (spec.while_statement at (exprs.phrase_of test.now) (map spec.judging body.now) (S.around here.old)).node) }
+    ensures noted { OnOk result (book.new ≡ book_after book.old (spec.while_statement at (exprs.phrase_of test.now) (map spec.judging body.now) (S.around here.old)).notes) }
+    ensures around { OnOk result (S.around here.new ≡ S.around here.old) }
+{
+    let tested = condition(alloc, here, book, test)?;
+    let repeated = check_stmts(alloc, here, book, body)?;
+    alone(alloc, while_made(at, tested, repeated))
+}
+
+// REPEAT.
+#[cycle(walk)]
+fn check_repeat<S: Surroundings>(
+    alloc: Global,
+    here: &mut S,
+    book: &mut Notebook,
+    body: &[Stmt],
+    at: Pos,
+    test: &Expr,
+) -> Result<Option<StmtTrees>, AllocError>
+    ensures made { IfOk result (λ r. stmts_in r ≡ (spec.repeat_statement at (map spec.judging body.now) (exprs.phrase_of test.now) (S.around here.old)).node) }
+    ensures noted { OnOk result (book.new ≡ book_after book.old (spec.repeat_statement at (map spec.judging body.now) (exprs.phrase_of test.now) (S.around here.old)).notes) }
+    ensures around { OnOk result (S.around here.new ≡ S.around here.old) }
+{
+    let repeated = check_stmts(alloc, here, book, body)?;
+    let tested = condition(alloc, here, book, test)?;
+    alone(alloc, repeat_made(at, repeated, tested))
+}
+
+// FOR.
+#[cycle(walk)]
+fn check_for<S: Surroundings>(
+    alloc: Global,
+    here: &mut S,
+    book: &mut Notebook,
+    body: &[Stmt],
+    at: Pos,
+    variable: &Ident,
+    start: &Expr,
+    end: &Expr,
+    step: &Option<Expr>,
+) -> Result<Option<StmtTrees>, AllocError>
+    ensures made { IfOk result (λ r. stmts_in r ≡ (spec.for (S.around here.old) at variable.now (exprs.phrase_of start.now) (exprs.phrase_of end.now) (spec.phrase_if step.now) (map spec.judging body.now)).node) }
+    ensures noted { OnOk result (book.new ≡ book_after book.old (spec.for (S.around here.old) at variable.now (exprs.phrase_of start.now) (exprs.phrase_of end.now) (spec.phrase_if step.now) (map spec.judging body.now)).notes) }
+    ensures around { OnOk result (S.around here.new ≡ S.around here.old) }
+{
+    let place = for_variable(alloc, here, book, at, variable)?;
+    let first = check_bound(alloc, here, book, at, place.as_ref(), start)?;
+    let last = check_bound(alloc, here, book, at, place.as_ref(), end)?;
+    let by = check_step_if(alloc, here, book, at, step)?;
+    let repeated = check_stmts(alloc, here, book, body)?;
+    alone(
+        alloc,
+        for_if(types(here), at, place, first, last, by, repeated),
+    )
 }
 
 // The statements behind ELSE, if it is there.
@@ -258,6 +310,7 @@ fn check_guarded_body<S: Surroundings>(
     }
 }
 
+// LOOP.
 #[cycle(walk)]
 fn check_loop<S: Surroundings>(
     alloc: Global,
@@ -265,8 +318,8 @@ fn check_loop<S: Surroundings>(
     book: &mut Notebook,
     body: &[Stmt],
     at: Pos,
-) -> Result<Option<StmtTree>, AllocError>
-    ensures made { IfOk result (λ r. stmt_in r ≡ (spec.loop_statement at (map spec.judging body.now) (S.around here.old)).node) }
+) -> Result<Option<StmtTrees>, AllocError>
+    ensures made { IfOk result (λ r. stmts_in r ≡ (spec.loop_statement at (map spec.judging body.now) (S.around here.old)).node) }
     ensures noted { OnOk result (book.new ≡ book_after book.old (spec.loop_statement at (map spec.judging body.now) (S.around here.old)).notes) }
     ensures around { OnOk result (S.around here.new ≡ S.around here.old) }
 {
@@ -274,5 +327,5 @@ fn check_loop<S: Surroundings>(
     here.set_in_loop(true);
     let repeated = check_stmts(alloc, here, book, body)?;
     here.set_in_loop(outer);
-    Ok(loop_made(at, repeated))
+    alone(alloc, loop_made(at, repeated))
 }

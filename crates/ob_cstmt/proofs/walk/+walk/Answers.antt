@@ -13,7 +13,7 @@ use Rattle.ob_rules.proofs.BookLaws.{after_none}
 use Rattle.ob_rules.proofs.RowLaws.{made_noted}
 use Rattle.ob_cparts.specs.Seen.{expr_in, test_in, stmts_in, branches_in, cases_in, else_in, rejoined}
 use Rattle.ob_cparts.proofs.RowSteps.{begins, ends}
-use Rattle.ob_cstmt.proofs.Steps.{alone_made, map_from, map_over, always, pair_made, pair_noted, some_made, stmts_step, branches_step, guarded_step, cases_step, unguarded, loop_made, loop_noted, left_loop, for_is, for_says, case_of_parts, case_says}
+use Rattle.ob_cstmt.proofs.Steps.{alone_made, noted_as, map_from, map_over, always, pair_made, pair_noted, some_made, stmts_step, branches_step, guarded_step, cases_step, unguarded, loop_made, loop_noted, left_loop, for_is, for_says, case_of_parts, case_says}
 use Rattle.ob_cstmt.proofs.StmtViews.{judging_empty, judging_call, judging_assign, judging_if, judging_case, judging_while, judging_repeat, judging_for, judging_loop, judging_exit, judging_return, judging_with, conditional_is, labelled_is, guarded_is}
 use Rattle.ob_cstmt.proofs.walk.+walk.Goals as goal
 
@@ -157,158 +157,133 @@ check_stmt-returns-in-Empty-clause-noted g t c =
     let whole : spec.judging c.args.stmt.now u ≡ sound [] = ap (λ y. spec.judging y u) c.in-Empty.is ∙ judging_empty u in
     sym (after_none c.args.book.now) ∙ ap (λ j. book_after c.args.book.now j.notes) (sym whole)
 
-pub check_stmt-returns-in_ok-made-in-Call-clause-made : goal.check_stmt-returns-in_ok-made-in-Call-clause-made
-check_stmt-returns-in_ok-made-in-Call-clause-made g t c =
+pub check_stmt-returns-in-Call-clause-made : goal.check_stmt-returns-in-Call-clause-made
+check_stmt-returns-in-Call-clause-made g t c =
     let u = g.S.Surroundings.around c.args.here.now in
     let whole : spec.judging c.args.stmt.now u ≡ spec.call_statement (exprs.named_of c.in-Call.designator) u = ap (λ y. spec.judging y u) c.in-Call.is ∙ judging_call c.in-Call.designator u in
-    alone_made c.alone.result _ _ c.alone.ensures (c.in_ok-made-in-Call.ensures.made ∙ ap (λ j. j.node) (sym whole))
+    alone_made c.call_alone.result _ _ c.call_alone.ensures.made (ap (λ j. j.node) (sym whole))
 
-pub check_stmt-returns-in_ok-made-in-Call-clause-noted : goal.check_stmt-returns-in_ok-made-in-Call-clause-noted
-check_stmt-returns-in_ok-made-in-Call-clause-noted g t c =
+pub check_stmt-returns-in-Call-clause-noted : goal.check_stmt-returns-in-Call-clause-noted
+check_stmt-returns-in-Call-clause-noted g t c =
     let u = g.S.Surroundings.around c.args.here.now in
     let whole : spec.judging c.args.stmt.now u ≡ spec.call_statement (exprs.named_of c.in-Call.designator) u = ap (λ y. spec.judging y u) c.in-Call.is ∙ judging_call c.in-Call.designator u in
-    always {P = c.call_statement.new.book ≡ book_after c.args.book.now (spec.judging c.args.stmt.now u).notes} c.alone.result (c.in_ok-made-in-Call.ensures.noted ∙ ap (λ j. book_after c.args.book.now j.notes) (sym whole))
+    noted_as c.call_alone.result c.call_alone.new.book c.args.book.now (spec.judging c.args.stmt.now u) _ whole c.call_alone.ensures.noted
 
-pub check_stmt-returns-in_ok-made-in-Call-clause-around : goal.check_stmt-returns-in_ok-made-in-Call-clause-around
-check_stmt-returns-in_ok-made-in-Call-clause-around g t c =
-    always c.alone.result refl
+pub check_stmt-returns-in-Call-clause-around : goal.check_stmt-returns-in-Call-clause-around
+check_stmt-returns-in-Call-clause-around g t c =
+    always c.call_alone.result refl
 
-pub check_stmt-returns-in_ok-made-in-Assign-clause-made : goal.check_stmt-returns-in_ok-made-in-Assign-clause-made
-check_stmt-returns-in_ok-made-in-Assign-clause-made g t c =
+pub check_stmt-returns-in-Assign-clause-made : goal.check_stmt-returns-in-Assign-clause-made
+check_stmt-returns-in-Assign-clause-made g t c =
     let u = g.S.Surroundings.around c.args.here.now in
     let whole : spec.judging c.args.stmt.now u ≡ spec.assignment u (exprs.named_of c.in-Assign.target) c.in-Assign.pos (exprs.phrase_of c.in-Assign.value) = ap (λ y. spec.judging y u) c.in-Assign.is ∙ judging_assign c.in-Assign.target c.in-Assign.pos c.in-Assign.value u in
-    alone_made c.alone-in-Assign.result _ _ c.alone-in-Assign.ensures (c.in_ok-made-in-Assign.ensures.made ∙ ap (λ j. j.node) (sym whole))
+    alone_made c.assignment_alone.result _ _ c.assignment_alone.ensures.made (ap (λ j. j.node) (sym whole))
 
-pub check_stmt-returns-in_ok-made-in-Assign-clause-noted : goal.check_stmt-returns-in_ok-made-in-Assign-clause-noted
-check_stmt-returns-in_ok-made-in-Assign-clause-noted g t c =
+pub check_stmt-returns-in-Assign-clause-noted : goal.check_stmt-returns-in-Assign-clause-noted
+check_stmt-returns-in-Assign-clause-noted g t c =
     let u = g.S.Surroundings.around c.args.here.now in
     let whole : spec.judging c.args.stmt.now u ≡ spec.assignment u (exprs.named_of c.in-Assign.target) c.in-Assign.pos (exprs.phrase_of c.in-Assign.value) = ap (λ y. spec.judging y u) c.in-Assign.is ∙ judging_assign c.in-Assign.target c.in-Assign.pos c.in-Assign.value u in
-    always {P = c.assignment.new.book ≡ book_after c.args.book.now (spec.judging c.args.stmt.now u).notes} c.alone-in-Assign.result (c.in_ok-made-in-Assign.ensures.noted ∙ ap (λ j. book_after c.args.book.now j.notes) (sym whole))
+    noted_as c.assignment_alone.result c.assignment_alone.new.book c.args.book.now (spec.judging c.args.stmt.now u) _ whole c.assignment_alone.ensures.noted
 
-pub check_stmt-returns-in_ok-made-in-Assign-clause-around : goal.check_stmt-returns-in_ok-made-in-Assign-clause-around
-check_stmt-returns-in_ok-made-in-Assign-clause-around g t c =
-    always c.alone-in-Assign.result refl
+pub check_stmt-returns-in-Assign-clause-around : goal.check_stmt-returns-in-Assign-clause-around
+check_stmt-returns-in-Assign-clause-around g t c =
+    always c.assignment_alone.result refl
 
-pub check_stmt-returns-in_ok-made-in-Return-clause-made : goal.check_stmt-returns-in_ok-made-in-Return-clause-made
-check_stmt-returns-in_ok-made-in-Return-clause-made g t c =
+pub check_stmt-returns-in-Return-clause-made : goal.check_stmt-returns-in-Return-clause-made
+check_stmt-returns-in-Return-clause-made g t c =
     let u = g.S.Surroundings.around c.args.here.now in
     let whole : spec.judging c.args.stmt.now u ≡ spec.return u c.in-Return.pos (spec.phrase_if c.in-Return.value) = ap (λ y. spec.judging y u) c.in-Return.is ∙ judging_return c.in-Return.pos c.in-Return.value u in
-    alone_made c.alone-in-Return.result _ _ c.alone-in-Return.ensures (c.in_ok-made-in-Return.ensures.made ∙ ap (λ j. j.node) (sym whole))
+    alone_made c.return_alone.result _ _ c.return_alone.ensures.made (ap (λ j. j.node) (sym whole))
 
-pub check_stmt-returns-in_ok-made-in-Return-clause-noted : goal.check_stmt-returns-in_ok-made-in-Return-clause-noted
-check_stmt-returns-in_ok-made-in-Return-clause-noted g t c =
+pub check_stmt-returns-in-Return-clause-noted : goal.check_stmt-returns-in-Return-clause-noted
+check_stmt-returns-in-Return-clause-noted g t c =
     let u = g.S.Surroundings.around c.args.here.now in
     let whole : spec.judging c.args.stmt.now u ≡ spec.return u c.in-Return.pos (spec.phrase_if c.in-Return.value) = ap (λ y. spec.judging y u) c.in-Return.is ∙ judging_return c.in-Return.pos c.in-Return.value u in
-    always {P = c.check_return.new.book ≡ book_after c.args.book.now (spec.judging c.args.stmt.now u).notes} c.alone-in-Return.result (c.in_ok-made-in-Return.ensures.noted ∙ ap (λ j. book_after c.args.book.now j.notes) (sym whole))
+    noted_as c.return_alone.result c.return_alone.new.book c.args.book.now (spec.judging c.args.stmt.now u) _ whole c.return_alone.ensures.noted
 
-pub check_stmt-returns-in_ok-made-in-Return-clause-around : goal.check_stmt-returns-in_ok-made-in-Return-clause-around
-check_stmt-returns-in_ok-made-in-Return-clause-around g t c =
-    always c.alone-in-Return.result refl
+pub check_stmt-returns-in-Return-clause-around : goal.check_stmt-returns-in-Return-clause-around
+check_stmt-returns-in-Return-clause-around g t c =
+    always c.return_alone.result refl
 
-pub check_stmt-returns-in_ok-repeated-in-While-clause-made : goal.check_stmt-returns-in_ok-repeated-in-While-clause-made
-check_stmt-returns-in_ok-repeated-in-While-clause-made g t c =
+pub check_stmt-returns-in-While-clause-made : goal.check_stmt-returns-in-While-clause-made
+check_stmt-returns-in-While-clause-made g t c =
     let u = g.S.Surroundings.around c.args.here.now in
     let whole : spec.judging c.args.stmt.now u ≡ spec.while_statement c.in-While.pos (exprs.phrase_of c.in-While.test) (map spec.judging c.as_slice-in-While.result.now) u = ap (λ y. spec.judging y u) (c.in-While.is ∙ ap (λ b. s.While c.in-While.pos c.in-While.test b) (sym c.as_slice-in-While.ensures)) ∙ judging_while c.in-While.pos c.in-While.test c.as_slice-in-While.result.now u in
-    alone_made c.alone-in-While.result _ _ c.alone-in-While.ensures (pair_made (λ p. spec.one (typed.While p.0 p.1 c.in-While.pos)) (spec.condition u (exprs.phrase_of c.in-While.test)) (spec.in_turn (map spec.judging c.as_slice-in-While.result.now) u) _ _ _ c.in_ok-tested-in-While.ensures.made c.in_ok-repeated-in-While.ensures.made c.while_made.ensures ∙ ap (λ j. j.node) (sym whole))
+    alone_made c.check_while.result _ _ c.check_while.ensures.made (ap (λ j. j.node) (sym whole))
 
-pub check_stmt-returns-in_ok-repeated-in-While-clause-noted : goal.check_stmt-returns-in_ok-repeated-in-While-clause-noted
-check_stmt-returns-in_ok-repeated-in-While-clause-noted g t c =
+pub check_stmt-returns-in-While-clause-noted : goal.check_stmt-returns-in-While-clause-noted
+check_stmt-returns-in-While-clause-noted g t c =
     let u = g.S.Surroundings.around c.args.here.now in
     let whole : spec.judging c.args.stmt.now u ≡ spec.while_statement c.in-While.pos (exprs.phrase_of c.in-While.test) (map spec.judging c.as_slice-in-While.result.now) u = ap (λ y. spec.judging y u) (c.in-While.is ∙ ap (λ b. s.While c.in-While.pos c.in-While.test b) (sym c.as_slice-in-While.ensures)) ∙ judging_while c.in-While.pos c.in-While.test c.as_slice-in-While.result.now u in
-    always {P = c.check_stmts.new.book ≡ book_after c.args.book.now (spec.judging c.args.stmt.now u).notes} c.alone-in-While.result (pair_noted (λ p. typed.While p.0 p.1 c.in-While.pos ∷ []) (spec.condition u (exprs.phrase_of c.in-While.test)) (spec.in_turn (map spec.judging c.as_slice-in-While.result.now) u) c.args.book.now c.condition.new.book c.check_stmts.new.book c.in_ok-tested-in-While.ensures.noted c.in_ok-repeated-in-While.ensures.noted ∙ ap (λ j. book_after c.args.book.now j.notes) (sym whole))
+    noted_as c.check_while.result c.check_while.new.book c.args.book.now (spec.judging c.args.stmt.now u) _ whole c.check_while.ensures.noted
 
-pub check_stmt-returns-in_ok-repeated-in-While-clause-around : goal.check_stmt-returns-in_ok-repeated-in-While-clause-around
-check_stmt-returns-in_ok-repeated-in-While-clause-around g t c =
-    always c.alone-in-While.result c.in_ok-repeated-in-While.ensures.around
+pub check_stmt-returns-in-While-clause-around : goal.check_stmt-returns-in-While-clause-around
+check_stmt-returns-in-While-clause-around g t c =
+    c.check_while.ensures.around
 
-pub check_stmt-returns-in_ok-tested-in-Repeat-clause-made : goal.check_stmt-returns-in_ok-tested-in-Repeat-clause-made
-check_stmt-returns-in_ok-tested-in-Repeat-clause-made g t c =
+pub check_stmt-returns-in-Repeat-clause-made : goal.check_stmt-returns-in-Repeat-clause-made
+check_stmt-returns-in-Repeat-clause-made g t c =
     let u = g.S.Surroundings.around c.args.here.now in
     let whole : spec.judging c.args.stmt.now u ≡ spec.repeat_statement c.in-Repeat.pos (map spec.judging c.as_slice-in-Repeat.result.now) (exprs.phrase_of c.in-Repeat.test) u = ap (λ y. spec.judging y u) (c.in-Repeat.is ∙ ap (λ b. s.Repeat c.in-Repeat.pos b c.in-Repeat.test) (sym c.as_slice-in-Repeat.ensures)) ∙ judging_repeat c.in-Repeat.pos c.as_slice-in-Repeat.result.now c.in-Repeat.test u in
-    alone_made c.alone-in-Repeat.result _ _ c.alone-in-Repeat.ensures (pair_made (λ p. spec.one (typed.Repeat p.0 p.1 c.in-Repeat.pos)) (spec.in_turn (map spec.judging c.as_slice-in-Repeat.result.now) u) (spec.condition u (exprs.phrase_of c.in-Repeat.test)) _ _ _ c.in_ok-repeated-in-Repeat.ensures.made (c.in_ok-tested-in-Repeat.ensures.made ∙ ap (λ y. (spec.condition y (exprs.phrase_of c.in-Repeat.test)).node) c.in_ok-repeated-in-Repeat.ensures.around) c.repeat_made.ensures ∙ ap (λ j. j.node) (sym whole))
+    alone_made c.check_repeat.result _ _ c.check_repeat.ensures.made (ap (λ j. j.node) (sym whole))
 
-pub check_stmt-returns-in_ok-tested-in-Repeat-clause-noted : goal.check_stmt-returns-in_ok-tested-in-Repeat-clause-noted
-check_stmt-returns-in_ok-tested-in-Repeat-clause-noted g t c =
+pub check_stmt-returns-in-Repeat-clause-noted : goal.check_stmt-returns-in-Repeat-clause-noted
+check_stmt-returns-in-Repeat-clause-noted g t c =
     let u = g.S.Surroundings.around c.args.here.now in
     let whole : spec.judging c.args.stmt.now u ≡ spec.repeat_statement c.in-Repeat.pos (map spec.judging c.as_slice-in-Repeat.result.now) (exprs.phrase_of c.in-Repeat.test) u = ap (λ y. spec.judging y u) (c.in-Repeat.is ∙ ap (λ b. s.Repeat c.in-Repeat.pos b c.in-Repeat.test) (sym c.as_slice-in-Repeat.ensures)) ∙ judging_repeat c.in-Repeat.pos c.as_slice-in-Repeat.result.now c.in-Repeat.test u in
-    always {P = c.condition-in-Repeat.new.book ≡ book_after c.args.book.now (spec.judging c.args.stmt.now u).notes} c.alone-in-Repeat.result (pair_noted (λ p. typed.Repeat p.0 p.1 c.in-Repeat.pos ∷ []) (spec.in_turn (map spec.judging c.as_slice-in-Repeat.result.now) u) (spec.condition u (exprs.phrase_of c.in-Repeat.test)) c.args.book.now c.check_stmts-in-Repeat.new.book c.condition-in-Repeat.new.book c.in_ok-repeated-in-Repeat.ensures.noted (c.in_ok-tested-in-Repeat.ensures.noted ∙ ap (λ y. book_after c.check_stmts-in-Repeat.new.book (spec.condition y (exprs.phrase_of c.in-Repeat.test)).notes) c.in_ok-repeated-in-Repeat.ensures.around) ∙ ap (λ j. book_after c.args.book.now j.notes) (sym whole))
+    noted_as c.check_repeat.result c.check_repeat.new.book c.args.book.now (spec.judging c.args.stmt.now u) _ whole c.check_repeat.ensures.noted
 
-pub check_stmt-returns-in_ok-tested-in-Repeat-clause-around : goal.check_stmt-returns-in_ok-tested-in-Repeat-clause-around
-check_stmt-returns-in_ok-tested-in-Repeat-clause-around g t c =
-    always c.alone-in-Repeat.result c.in_ok-repeated-in-Repeat.ensures.around
+pub check_stmt-returns-in-Repeat-clause-around : goal.check_stmt-returns-in-Repeat-clause-around
+check_stmt-returns-in-Repeat-clause-around g t c =
+    c.check_repeat.ensures.around
 
-pub check_stmt-returns-in_ok-repeated-in-For-clause-made : goal.check_stmt-returns-in_ok-repeated-in-For-clause-made
-check_stmt-returns-in_ok-repeated-in-For-clause-made g t c =
+pub check_stmt-returns-in-For-clause-made : goal.check_stmt-returns-in-For-clause-made
+check_stmt-returns-in-For-clause-made g t c =
     let u = g.S.Surroundings.around c.args.here.now in
-    let at = c.in-For.pos in
-    let v = names.named u c.in-For.variable ▷ λ e. spec.for_variable u at c.in-For.variable e in
-    let a = (exprs.phrase_of c.in-For.start).value u in
-    let b = (exprs.phrase_of c.in-For.end).value u in
-    let step = spec.for_step u at (spec.phrase_if c.in-For.step) in
-    let body = spec.in_turn (map spec.judging c.as_slice-in-For.result.now) u in
-    let p = c.in_ok-place-in-For.place in
-    let whole : spec.judging c.args.stmt.now u ≡ spec.for u at c.in-For.variable (exprs.phrase_of c.in-For.start) (exprs.phrase_of c.in-For.end) (spec.phrase_if c.in-For.step) (map spec.judging c.as_slice-in-For.result.now) = ap (λ y. spec.judging y u) (c.in-For.is ∙ ap (λ b. s.For at c.in-For.variable c.in-For.start c.in-For.end c.in-For.step b) (sym c.as_slice-in-For.ensures)) ∙ judging_for at c.in-For.variable c.in-For.start c.in-For.end c.in-For.step c.as_slice-in-For.result.now u in
-    let all = for_is u at v a b step body (g.S.Types.types c.types-in-For.result.now) p (expr_in c.in_ok-first-in-For.first) (expr_in c.in_ok-last-in-For.last) c.in_ok-by-in-For.by (stmts_in c.in_ok-repeated-in-For.repeated) _
-    (c.types-in-For.ensures.map ∙ ap map_of c.in_ok-repeated-in-For.ensures.around) c.in_ok-place-in-For.ensures.made
-    (c.in_ok-first-in-For.ensures.made ∙ ap (λ o. (spec.bound_if (map_of u) at o a).node) c.as_ref-in-For.ensures.value)
-    (c.in_ok-last-in-For.ensures.made ∙ ap (λ o. (spec.bound_if (map_of u) at o b).node) c.as_ref-in-For-2.ensures.value)
-    c.in_ok-by-in-For.ensures.made c.in_ok-repeated-in-For.ensures.made c.for_if.ensures in
-    alone_made c.alone-in-For.result _ _ c.alone-in-For.ensures (all ∙ ap (λ j. j.node) (sym whole))
+    let whole : spec.judging c.args.stmt.now u ≡ spec.for u c.in-For.pos c.in-For.variable (exprs.phrase_of c.in-For.start) (exprs.phrase_of c.in-For.end) (spec.phrase_if c.in-For.step) (map spec.judging c.as_slice-in-For.result.now) = ap (λ y. spec.judging y u) (c.in-For.is ∙ ap (λ b. s.For c.in-For.pos c.in-For.variable c.in-For.start c.in-For.end c.in-For.step b) (sym c.as_slice-in-For.ensures)) ∙ judging_for c.in-For.pos c.in-For.variable c.in-For.start c.in-For.end c.in-For.step c.as_slice-in-For.result.now u in
+    alone_made c.check_for.result _ _ c.check_for.ensures.made (ap (λ j. j.node) (sym whole))
 
-pub check_stmt-returns-in_ok-repeated-in-For-clause-noted : goal.check_stmt-returns-in_ok-repeated-in-For-clause-noted
-check_stmt-returns-in_ok-repeated-in-For-clause-noted g t c =
+pub check_stmt-returns-in-For-clause-noted : goal.check_stmt-returns-in-For-clause-noted
+check_stmt-returns-in-For-clause-noted g t c =
     let u = g.S.Surroundings.around c.args.here.now in
-    let at = c.in-For.pos in
-    let v = names.named u c.in-For.variable ▷ λ e. spec.for_variable u at c.in-For.variable e in
-    let a = (exprs.phrase_of c.in-For.start).value u in
-    let b = (exprs.phrase_of c.in-For.end).value u in
-    let step = spec.for_step u at (spec.phrase_if c.in-For.step) in
-    let body = spec.in_turn (map spec.judging c.as_slice-in-For.result.now) u in
-    let p = c.in_ok-place-in-For.place in
-    let whole : spec.judging c.args.stmt.now u ≡ spec.for u at c.in-For.variable (exprs.phrase_of c.in-For.start) (exprs.phrase_of c.in-For.end) (spec.phrase_if c.in-For.step) (map spec.judging c.as_slice-in-For.result.now) = ap (λ y. spec.judging y u) (c.in-For.is ∙ ap (λ b. s.For at c.in-For.variable c.in-For.start c.in-For.end c.in-For.step b) (sym c.as_slice-in-For.ensures)) ∙ judging_for at c.in-For.variable c.in-For.start c.in-For.end c.in-For.step c.as_slice-in-For.result.now u in
-    always {P = c.check_stmts-in-For.new.book ≡ book_after c.args.book.now (spec.judging c.args.stmt.now u).notes} c.alone-in-For.result (
-    for_says u at v a b step body p c.args.book.now c.for_variable.new.book c.check_bound.new.book c.check_bound-in-For.new.book c.check_step_if.new.book c.check_stmts-in-For.new.book
-    c.in_ok-place-in-For.ensures.made c.in_ok-place-in-For.ensures.noted
-    (c.in_ok-first-in-For.ensures.noted ∙ ap (λ o. book_after c.for_variable.new.book (spec.bound_if (map_of u) at o a).notes) c.as_ref-in-For.ensures.value)
-    (c.in_ok-last-in-For.ensures.noted ∙ ap (λ o. book_after c.check_bound.new.book (spec.bound_if (map_of u) at o b).notes) c.as_ref-in-For-2.ensures.value)
-    c.in_ok-by-in-For.ensures.noted c.in_ok-repeated-in-For.ensures.noted
-    ∙ ap (λ j. book_after c.args.book.now j.notes) (sym whole))
+    let whole : spec.judging c.args.stmt.now u ≡ spec.for u c.in-For.pos c.in-For.variable (exprs.phrase_of c.in-For.start) (exprs.phrase_of c.in-For.end) (spec.phrase_if c.in-For.step) (map spec.judging c.as_slice-in-For.result.now) = ap (λ y. spec.judging y u) (c.in-For.is ∙ ap (λ b. s.For c.in-For.pos c.in-For.variable c.in-For.start c.in-For.end c.in-For.step b) (sym c.as_slice-in-For.ensures)) ∙ judging_for c.in-For.pos c.in-For.variable c.in-For.start c.in-For.end c.in-For.step c.as_slice-in-For.result.now u in
+    noted_as c.check_for.result c.check_for.new.book c.args.book.now (spec.judging c.args.stmt.now u) _ whole c.check_for.ensures.noted
 
-pub check_stmt-returns-in_ok-repeated-in-For-clause-around : goal.check_stmt-returns-in_ok-repeated-in-For-clause-around
-check_stmt-returns-in_ok-repeated-in-For-clause-around g t c =
-    always c.alone-in-For.result c.in_ok-repeated-in-For.ensures.around
+pub check_stmt-returns-in-For-clause-around : goal.check_stmt-returns-in-For-clause-around
+check_stmt-returns-in-For-clause-around g t c =
+    c.check_for.ensures.around
 
-pub check_stmt-returns-in_ok-made-in-Loop-clause-made : goal.check_stmt-returns-in_ok-made-in-Loop-clause-made
-check_stmt-returns-in_ok-made-in-Loop-clause-made g t c =
+pub check_stmt-returns-in-Loop-clause-made : goal.check_stmt-returns-in-Loop-clause-made
+check_stmt-returns-in-Loop-clause-made g t c =
     let u = g.S.Surroundings.around c.args.here.now in
     let whole : spec.judging c.args.stmt.now u ≡ spec.loop_statement c.in-Loop.pos (map spec.judging c.as_slice-in-Loop.result.now) u = ap (λ y. spec.judging y u) (c.in-Loop.is ∙ ap (λ b. s.Loop c.in-Loop.pos b) (sym c.as_slice-in-Loop.ensures)) ∙ judging_loop c.in-Loop.pos c.as_slice-in-Loop.result.now u in
-    alone_made c.alone-in-Loop.result _ _ c.alone-in-Loop.ensures (c.in_ok-made-in-Loop.ensures.made ∙ ap (λ j. j.node) (sym whole))
+    alone_made c.check_loop.result _ _ c.check_loop.ensures.made (ap (λ j. j.node) (sym whole))
 
-pub check_stmt-returns-in_ok-made-in-Loop-clause-noted : goal.check_stmt-returns-in_ok-made-in-Loop-clause-noted
-check_stmt-returns-in_ok-made-in-Loop-clause-noted g t c =
+pub check_stmt-returns-in-Loop-clause-noted : goal.check_stmt-returns-in-Loop-clause-noted
+check_stmt-returns-in-Loop-clause-noted g t c =
     let u = g.S.Surroundings.around c.args.here.now in
     let whole : spec.judging c.args.stmt.now u ≡ spec.loop_statement c.in-Loop.pos (map spec.judging c.as_slice-in-Loop.result.now) u = ap (λ y. spec.judging y u) (c.in-Loop.is ∙ ap (λ b. s.Loop c.in-Loop.pos b) (sym c.as_slice-in-Loop.ensures)) ∙ judging_loop c.in-Loop.pos c.as_slice-in-Loop.result.now u in
-    always {P = c.check_loop.new.book ≡ book_after c.args.book.now (spec.judging c.args.stmt.now u).notes} c.alone-in-Loop.result (c.in_ok-made-in-Loop.ensures.noted ∙ ap (λ j. book_after c.args.book.now j.notes) (sym whole))
+    noted_as c.check_loop.result c.check_loop.new.book c.args.book.now (spec.judging c.args.stmt.now u) _ whole c.check_loop.ensures.noted
 
-pub check_stmt-returns-in_ok-made-in-Loop-clause-around : goal.check_stmt-returns-in_ok-made-in-Loop-clause-around
-check_stmt-returns-in_ok-made-in-Loop-clause-around g t c =
-    always c.alone-in-Loop.result c.in_ok-made-in-Loop.ensures.around
+pub check_stmt-returns-in-Loop-clause-around : goal.check_stmt-returns-in-Loop-clause-around
+check_stmt-returns-in-Loop-clause-around g t c =
+    c.check_loop.ensures.around
 
 pub check_stmt-returns-in-Exit-clause-made : goal.check_stmt-returns-in-Exit-clause-made
 check_stmt-returns-in-Exit-clause-made g t c =
     let u = g.S.Surroundings.around c.args.here.now in
     let whole : spec.judging c.args.stmt.now u ≡ spec.exit u c.in-Exit.pos = ap (λ y. spec.judging y u) c.in-Exit.is ∙ judging_exit c.in-Exit.pos u in
-    alone_made c.alone-in-Exit.result _ _ c.alone-in-Exit.ensures (c.exit.ensures.made ∙ ap (λ j. j.node) (sym whole))
+    alone_made c.exit_alone.result _ _ c.exit_alone.ensures.made (ap (λ j. j.node) (sym whole))
 
 pub check_stmt-returns-in-Exit-clause-noted : goal.check_stmt-returns-in-Exit-clause-noted
 check_stmt-returns-in-Exit-clause-noted g t c =
     let u = g.S.Surroundings.around c.args.here.now in
     let whole : spec.judging c.args.stmt.now u ≡ spec.exit u c.in-Exit.pos = ap (λ y. spec.judging y u) c.in-Exit.is ∙ judging_exit c.in-Exit.pos u in
-    always {P = c.exit.new.book ≡ book_after c.args.book.now (spec.judging c.args.stmt.now u).notes} c.alone-in-Exit.result (c.exit.ensures.noted ∙ ap (λ j. book_after c.args.book.now j.notes) (sym whole))
+    noted_as c.exit_alone.result c.exit_alone.new.book c.args.book.now (spec.judging c.args.stmt.now u) _ whole c.exit_alone.ensures.noted
 
 pub check_stmt-returns-in-Exit-clause-around : goal.check_stmt-returns-in-Exit-clause-around
 check_stmt-returns-in-Exit-clause-around g t c =
-    always c.alone-in-Exit.result refl
+    always c.exit_alone.result refl
 
 pub check_stmt-returns-in_ok-otherwise-in-If-clause-made : goal.check_stmt-returns-in_ok-otherwise-in-If-clause-made
 check_stmt-returns-in_ok-otherwise-in-If-clause-made g t c =
@@ -316,7 +291,7 @@ check_stmt-returns-in_ok-otherwise-in-If-clause-made g t c =
     let rows = spec.conditionals u (map spec.conditional_of c.as_slice.result.now) in
     let other = λ (y : Around). spec.in_turn_if (option_map (λ b. map spec.judging b) c.in-If.otherwise) y in
     let whole : spec.judging c.args.stmt.now u ≡ spec.if_statement (map spec.conditional_of c.as_slice.result.now) (option_map (λ b. map spec.judging b) c.in-If.otherwise) u = ap (λ y. spec.judging y u) (c.in-If.is ∙ ap (λ b. s.If c.in-If.pos b c.in-If.otherwise) (sym c.as_slice.ensures)) ∙ judging_if c.in-If.pos c.as_slice.result.now c.in-If.otherwise u in
-    alone_made c.alone-in-If.result _ _ c.alone-in-If.ensures (pair_made (λ p. spec.one (typed.If p.0 (spec.empty_if_none p.1))) rows (other u) _ _ _ c.in_ok-branches-in-If.ensures.made (c.in_ok-otherwise-in-If.ensures.made ∙ ap (λ y. (other y).node) c.in_ok-branches-in-If.ensures.around) c.if_made.ensures ∙ ap (λ j. j.node) (sym whole))
+    alone_made c.if_alone.result _ _ c.if_alone.ensures (pair_made (λ p. spec.one (typed.If p.0 (spec.empty_if_none p.1))) rows (other u) _ _ _ c.in_ok-branches-in-If.ensures.made (c.in_ok-otherwise-in-If.ensures.made ∙ ap (λ y. (other y).node) c.in_ok-branches-in-If.ensures.around) refl ∙ ap (λ j. j.node) (sym whole))
 
 pub check_stmt-returns-in_ok-otherwise-in-If-clause-noted : goal.check_stmt-returns-in_ok-otherwise-in-If-clause-noted
 check_stmt-returns-in_ok-otherwise-in-If-clause-noted g t c =
@@ -324,11 +299,11 @@ check_stmt-returns-in_ok-otherwise-in-If-clause-noted g t c =
     let rows = spec.conditionals u (map spec.conditional_of c.as_slice.result.now) in
     let other = λ (y : Around). spec.in_turn_if (option_map (λ b. map spec.judging b) c.in-If.otherwise) y in
     let whole : spec.judging c.args.stmt.now u ≡ spec.if_statement (map spec.conditional_of c.as_slice.result.now) (option_map (λ b. map spec.judging b) c.in-If.otherwise) u = ap (λ y. spec.judging y u) (c.in-If.is ∙ ap (λ b. s.If c.in-If.pos b c.in-If.otherwise) (sym c.as_slice.ensures)) ∙ judging_if c.in-If.pos c.as_slice.result.now c.in-If.otherwise u in
-    always {P = c.check_otherwise.new.book ≡ book_after c.args.book.now (spec.judging c.args.stmt.now u).notes} c.alone-in-If.result (pair_noted (λ p. typed.If p.0 (spec.empty_if_none p.1) ∷ []) rows (other u) c.args.book.now c.check_branches.new.book c.check_otherwise.new.book c.in_ok-branches-in-If.ensures.noted (c.in_ok-otherwise-in-If.ensures.noted ∙ ap (λ y. book_after c.check_branches.new.book (other y).notes) c.in_ok-branches-in-If.ensures.around) ∙ ap (λ j. book_after c.args.book.now j.notes) (sym whole))
+    always {P = c.check_otherwise.new.book ≡ book_after c.args.book.now (spec.judging c.args.stmt.now u).notes} c.if_alone.result (pair_noted (λ p. typed.If p.0 (spec.empty_if_none p.1) ∷ []) rows (other u) c.args.book.now c.check_branches.new.book c.check_otherwise.new.book c.in_ok-branches-in-If.ensures.noted (c.in_ok-otherwise-in-If.ensures.noted ∙ ap (λ y. book_after c.check_branches.new.book (other y).notes) c.in_ok-branches-in-If.ensures.around) ∙ ap (λ j. book_after c.args.book.now j.notes) (sym whole))
 
 pub check_stmt-returns-in_ok-otherwise-in-If-clause-around : goal.check_stmt-returns-in_ok-otherwise-in-If-clause-around
 check_stmt-returns-in_ok-otherwise-in-If-clause-around g t c =
-    always c.alone-in-If.result (c.in_ok-otherwise-in-If.ensures.around ∙ c.in_ok-branches-in-If.ensures.around)
+    always c.if_alone.result (c.in_ok-otherwise-in-If.ensures.around ∙ c.in_ok-branches-in-If.ensures.around)
 
 pub check_stmt-returns-in_ok-otherwise-in-With-clause-made : goal.check_stmt-returns-in_ok-otherwise-in-With-clause-made
 check_stmt-returns-in_ok-otherwise-in-With-clause-made g t c =
@@ -336,7 +311,7 @@ check_stmt-returns-in_ok-otherwise-in-With-clause-made g t c =
     let rows = spec.with_branches u (map spec.guarded_of c.as_slice-in-With.result.now) in
     let other = λ (y : Around). spec.in_turn_if (option_map (λ b. map spec.judging b) c.in-With.otherwise) y in
     let whole : spec.judging c.args.stmt.now u ≡ spec.with_statement c.in-With.pos (map spec.guarded_of c.as_slice-in-With.result.now) (option_map (λ b. map spec.judging b) c.in-With.otherwise) u = ap (λ y. spec.judging y u) (c.in-With.is ∙ ap (λ b. s.With c.in-With.pos b c.in-With.otherwise) (sym c.as_slice-in-With.ensures)) ∙ judging_with c.in-With.pos c.as_slice-in-With.result.now c.in-With.otherwise u in
-    alone_made c.alone-in-With.result _ _ c.alone-in-With.ensures (pair_made (λ p. spec.one (typed.With p.0 p.1 c.in-With.pos)) rows (other u) _ _ _ c.in_ok-branches-in-With.ensures.made (c.in_ok-otherwise-in-With.ensures.made ∙ ap (λ y. (other y).node) c.in_ok-branches-in-With.ensures.around) c.with_made.ensures ∙ ap (λ j. j.node) (sym whole))
+    alone_made c.with_alone.result _ _ c.with_alone.ensures (pair_made (λ p. spec.one (typed.With p.0 p.1 c.in-With.pos)) rows (other u) _ _ _ c.in_ok-branches-in-With.ensures.made (c.in_ok-otherwise-in-With.ensures.made ∙ ap (λ y. (other y).node) c.in_ok-branches-in-With.ensures.around) refl ∙ ap (λ j. j.node) (sym whole))
 
 pub check_stmt-returns-in_ok-otherwise-in-With-clause-noted : goal.check_stmt-returns-in_ok-otherwise-in-With-clause-noted
 check_stmt-returns-in_ok-otherwise-in-With-clause-noted g t c =
@@ -344,11 +319,11 @@ check_stmt-returns-in_ok-otherwise-in-With-clause-noted g t c =
     let rows = spec.with_branches u (map spec.guarded_of c.as_slice-in-With.result.now) in
     let other = λ (y : Around). spec.in_turn_if (option_map (λ b. map spec.judging b) c.in-With.otherwise) y in
     let whole : spec.judging c.args.stmt.now u ≡ spec.with_statement c.in-With.pos (map spec.guarded_of c.as_slice-in-With.result.now) (option_map (λ b. map spec.judging b) c.in-With.otherwise) u = ap (λ y. spec.judging y u) (c.in-With.is ∙ ap (λ b. s.With c.in-With.pos b c.in-With.otherwise) (sym c.as_slice-in-With.ensures)) ∙ judging_with c.in-With.pos c.as_slice-in-With.result.now c.in-With.otherwise u in
-    always {P = c.check_otherwise-in-With.new.book ≡ book_after c.args.book.now (spec.judging c.args.stmt.now u).notes} c.alone-in-With.result (pair_noted (λ p. typed.With p.0 p.1 c.in-With.pos ∷ []) rows (other u) c.args.book.now c.check_guarded.new.book c.check_otherwise-in-With.new.book c.in_ok-branches-in-With.ensures.noted (c.in_ok-otherwise-in-With.ensures.noted ∙ ap (λ y. book_after c.check_guarded.new.book (other y).notes) c.in_ok-branches-in-With.ensures.around) ∙ ap (λ j. book_after c.args.book.now j.notes) (sym whole))
+    always {P = c.check_otherwise-in-With.new.book ≡ book_after c.args.book.now (spec.judging c.args.stmt.now u).notes} c.with_alone.result (pair_noted (λ p. typed.With p.0 p.1 c.in-With.pos ∷ []) rows (other u) c.args.book.now c.check_guarded.new.book c.check_otherwise-in-With.new.book c.in_ok-branches-in-With.ensures.noted (c.in_ok-otherwise-in-With.ensures.noted ∙ ap (λ y. book_after c.check_guarded.new.book (other y).notes) c.in_ok-branches-in-With.ensures.around) ∙ ap (λ j. book_after c.args.book.now j.notes) (sym whole))
 
 pub check_stmt-returns-in_ok-otherwise-in-With-clause-around : goal.check_stmt-returns-in_ok-otherwise-in-With-clause-around
 check_stmt-returns-in_ok-otherwise-in-With-clause-around g t c =
-    always c.alone-in-With.result (c.in_ok-otherwise-in-With.ensures.around ∙ c.in_ok-branches-in-With.ensures.around)
+    always c.with_alone.result (c.in_ok-otherwise-in-With.ensures.around ∙ c.in_ok-branches-in-With.ensures.around)
 
 pub check_stmt-returns-in_ok-otherwise-in-Case-clause-made : goal.check_stmt-returns-in_ok-otherwise-in-Case-clause-made
 check_stmt-returns-in_ok-otherwise-in-Case-clause-made g t c =
@@ -358,9 +333,9 @@ check_stmt-returns-in_ok-otherwise-in-Case-clause-made g t c =
     let o = (option_map (λ b. map spec.judging b) c.in-Case.otherwise) in
     let m = g.S.Types.types c.types.result.now in
     let em : m ≡ map_of u = c.types.ensures.map in
-    let es : c.selects_if-selects.result ≡ spec.selects_if m c.in_ok-value-in-Case.value = c.selects_if-selects.ensures ∙ ap (λ y. spec.selects_if m y) c.as_ref.ensures.value in
+    let es : c.case_selects-selects.result ≡ spec.selects_if m c.in_ok-value-in-Case.value = c.case_selects-selects.ensures in
     let whole : spec.judging c.args.stmt.now u ≡ spec.case_with u c.in-Case.pos x ds o = ap (λ y. spec.judging y u) (c.in-Case.is ∙ ap (λ b. s.Case c.in-Case.pos c.in-Case.value b c.in-Case.otherwise) (sym c.as_slice-in-Case.ensures)) ∙ judging_case c.in-Case.pos c.in-Case.value c.as_slice-in-Case.result.now c.in-Case.otherwise u in
-    alone_made c.alone-in-Case.result _ _ c.alone-in-Case.ensures (case_of_parts u c.in-Case.pos x ds o m c.in_ok-value-in-Case.value c.selects_if-selects.result (cases_in c.in_ok-cases-in-Case.cases) (else_in c.in_ok-otherwise-in-Case.otherwise) _ em c.in_ok-value-in-Case.ensures.made es c.in_ok-cases-in-Case.ensures.made (c.in_ok-otherwise-in-Case.ensures.made ∙ ap (λ y. (spec.in_turn_if o y).node) c.in_ok-cases-in-Case.ensures.around) c.case_made.ensures ∙ ap (λ j. j.node) (sym whole))
+    alone_made c.case_alone.result _ _ c.case_alone.ensures (case_of_parts u c.in-Case.pos x ds o m c.in_ok-value-in-Case.value c.case_selects-selects.result (cases_in c.in_ok-cases-in-Case.cases) (else_in c.in_ok-otherwise-in-Case.otherwise) _ em c.in_ok-value-in-Case.ensures.made es c.in_ok-cases-in-Case.ensures.made (c.in_ok-otherwise-in-Case.ensures.made ∙ ap (λ y. (spec.in_turn_if o y).node) c.in_ok-cases-in-Case.ensures.around) refl ∙ ap (λ j. j.node) (sym whole))
 
 pub check_stmt-returns-in_ok-otherwise-in-Case-clause-noted : goal.check_stmt-returns-in_ok-otherwise-in-Case-clause-noted
 check_stmt-returns-in_ok-otherwise-in-Case-clause-noted g t c =
@@ -370,31 +345,31 @@ check_stmt-returns-in_ok-otherwise-in-Case-clause-noted g t c =
     let o = (option_map (λ b. map spec.judging b) c.in-Case.otherwise) in
     let m = g.S.Types.types c.types.result.now in
     let em : m ≡ map_of u = c.types.ensures.map in
-    let es : c.selects_if-selects.result ≡ spec.selects_if m c.in_ok-value-in-Case.value = c.selects_if-selects.ensures ∙ ap (λ y. spec.selects_if m y) c.as_ref.ensures.value in
+    let es : c.case_selects-selects.result ≡ spec.selects_if m c.in_ok-value-in-Case.value = c.case_selects-selects.ensures in
     let whole : spec.judging c.args.stmt.now u ≡ spec.case_with u c.in-Case.pos x ds o = ap (λ y. spec.judging y u) (c.in-Case.is ∙ ap (λ b. s.Case c.in-Case.pos c.in-Case.value b c.in-Case.otherwise) (sym c.as_slice-in-Case.ensures)) ∙ judging_case c.in-Case.pos c.in-Case.value c.as_slice-in-Case.result.now c.in-Case.otherwise u in
-    always {P = c.check_otherwise-in-Case.new.book ≡ book_after c.args.book.now (spec.judging c.args.stmt.now u).notes} c.alone-in-Case.result (case_says u c.in-Case.pos x ds o m c.in_ok-value-in-Case.value c.selects_if-selects.result c.args.book.now c.case_value.new.book c.check_cases.new.book c.check_otherwise-in-Case.new.book em c.in_ok-value-in-Case.ensures.made es c.in_ok-value-in-Case.ensures.noted c.in_ok-cases-in-Case.ensures.noted (c.in_ok-otherwise-in-Case.ensures.noted ∙ ap (λ y. book_after c.check_cases.new.book (spec.in_turn_if o y).notes) c.in_ok-cases-in-Case.ensures.around) ∙ ap (λ j. book_after c.args.book.now j.notes) (sym whole))
+    always {P = c.check_otherwise-in-Case.new.book ≡ book_after c.args.book.now (spec.judging c.args.stmt.now u).notes} c.case_alone.result (case_says u c.in-Case.pos x ds o m c.in_ok-value-in-Case.value c.case_selects-selects.result c.args.book.now c.boxed_case_value.new.book c.check_cases.new.book c.check_otherwise-in-Case.new.book em c.in_ok-value-in-Case.ensures.made es c.in_ok-value-in-Case.ensures.noted c.in_ok-cases-in-Case.ensures.noted (c.in_ok-otherwise-in-Case.ensures.noted ∙ ap (λ y. book_after c.check_cases.new.book (spec.in_turn_if o y).notes) c.in_ok-cases-in-Case.ensures.around) ∙ ap (λ j. book_after c.args.book.now j.notes) (sym whole))
 
 pub check_stmt-returns-in_ok-otherwise-in-Case-clause-around : goal.check_stmt-returns-in_ok-otherwise-in-Case-clause-around
 check_stmt-returns-in_ok-otherwise-in-Case-clause-around g t c =
-    always c.alone-in-Case.result (c.in_ok-otherwise-in-Case.ensures.around ∙ c.in_ok-cases-in-Case.ensures.around)
+    always c.case_alone.result (c.in_ok-otherwise-in-Case.ensures.around ∙ c.in_ok-cases-in-Case.ensures.around)
 
 pub check_loop-returns-clause-made : goal.check_loop-returns-clause-made
 check_loop-returns-clause-made g t c =
     let u = g.S.Surroundings.around c.args.here.now in
     let inside : g.S.Surroundings.around c.set_in_loop.new.self ≡ spec.in_loop u = c.set_in_loop.ensures in
-    loop_made u c.args.at (map spec.judging c.args.body.now) _ _ (c.in_ok-repeated.ensures.made ∙ ap (λ y. (spec.in_turn (map spec.judging c.args.body.now) y).node) inside) c.loop_made.ensures
+    alone_made c.alone.result _ _ c.alone.ensures (loop_made u c.args.at (map spec.judging c.args.body.now) _ _ (c.in_ok-repeated.ensures.made ∙ ap (λ y. (spec.in_turn (map spec.judging c.args.body.now) y).node) inside) c.loop_made.ensures)
 
 pub check_loop-returns-clause-noted : goal.check_loop-returns-clause-noted
 check_loop-returns-clause-noted g t c =
     let u = g.S.Surroundings.around c.args.here.now in
     let inside : g.S.Surroundings.around c.set_in_loop.new.self ≡ spec.in_loop u = c.set_in_loop.ensures in
-    loop_noted u c.args.at (map spec.judging c.args.body.now) c.args.book.now c.check_stmts.new.book (c.in_ok-repeated.ensures.noted ∙ ap (λ y. book_after c.args.book.now (spec.in_turn (map spec.judging c.args.body.now) y).notes) inside)
+    always {P = c.check_stmts.new.book ≡ book_after c.args.book.now (spec.loop_statement c.args.at (map spec.judging c.args.body.now) u).notes} c.alone.result (loop_noted u c.args.at (map spec.judging c.args.body.now) c.args.book.now c.check_stmts.new.book (c.in_ok-repeated.ensures.noted ∙ ap (λ y. book_after c.args.book.now (spec.in_turn (map spec.judging c.args.body.now) y).notes) inside))
 
 pub check_loop-returns-clause-around : goal.check_loop-returns-clause-around
 check_loop-returns-clause-around g t c =
     let u = g.S.Surroundings.around c.args.here.now in
     let inside : g.S.Surroundings.around c.set_in_loop.new.self ≡ spec.in_loop u = c.set_in_loop.ensures in
-    left_loop u (g.S.Surroundings.around c.check_stmts.new.here) _ c.in_loop-outer.result c.in_loop-outer.ensures (c.in_ok-repeated.ensures.around ∙ inside) c.set_in_loop-2.ensures
+    always c.alone.result (left_loop u (g.S.Surroundings.around c.check_stmts.new.here) _ c.in_loop-outer.result c.in_loop-outer.ensures (c.in_ok-repeated.ensures.around ∙ inside) c.set_in_loop-2.ensures)
 
 pub check_otherwise-returns-in_ok-made-in-Some-clause-made : goal.check_otherwise-returns-in_ok-made-in-Some-clause-made
 check_otherwise-returns-in_ok-made-in-Some-clause-made g t c =
@@ -433,3 +408,68 @@ check_guarded_body-returns-in_ok-made-in-Some-clause-around g t c =
     let inside : g.S.Surroundings.around c.guard.new.self ≡ spec.guarded_around u (Some variable) c.args.of = c.in_ok-guard-in-Some.ensures in
     let whole : spec.guarded_around u c.args.variable c.args.of ≡ spec.guarded_around u (Some variable) c.args.of = ap (λ o. spec.guarded_around u o c.args.of) c.in-Some.is in
     unguarded u (g.S.Surroundings.around c.check_stmts-in-Some.new.here) _ variable c.args.of (c.in_ok-made-in-Some.ensures.around ∙ inside) (λ h. c.unguard.ensures u.guards (variable, c.args.of) h)
+
+pub check_while-returns-clause-made : goal.check_while-returns-clause-made
+check_while-returns-clause-made g t c =
+    let u = g.S.Surroundings.around c.args.here.now in
+    alone_made c.alone.result _ _ c.alone.ensures (pair_made (λ p. spec.one (typed.While p.0 p.1 c.args.at)) (spec.condition u (exprs.phrase_of c.args.test.now)) (spec.in_turn (map spec.judging c.args.body.now) u) _ _ _ c.in_ok-tested.ensures.made c.in_ok-repeated.ensures.made c.while_made.ensures)
+
+pub check_while-returns-clause-noted : goal.check_while-returns-clause-noted
+check_while-returns-clause-noted g t c =
+    let u = g.S.Surroundings.around c.args.here.now in
+    always {P = c.check_stmts.new.book ≡ book_after c.args.book.now (spec.while_statement c.args.at (exprs.phrase_of c.args.test.now) (map spec.judging c.args.body.now) u).notes} c.alone.result (pair_noted (λ p. typed.While p.0 p.1 c.args.at ∷ []) (spec.condition u (exprs.phrase_of c.args.test.now)) (spec.in_turn (map spec.judging c.args.body.now) u) c.args.book.now c.condition.new.book c.check_stmts.new.book c.in_ok-tested.ensures.noted c.in_ok-repeated.ensures.noted)
+
+pub check_while-returns-clause-around : goal.check_while-returns-clause-around
+check_while-returns-clause-around g t c =
+    always c.alone.result c.in_ok-repeated.ensures.around
+
+pub check_repeat-returns-clause-made : goal.check_repeat-returns-clause-made
+check_repeat-returns-clause-made g t c =
+    let u = g.S.Surroundings.around c.args.here.now in
+    alone_made c.alone.result _ _ c.alone.ensures (pair_made (λ p. spec.one (typed.Repeat p.0 p.1 c.args.at)) (spec.in_turn (map spec.judging c.args.body.now) u) (spec.condition u (exprs.phrase_of c.args.test.now)) _ _ _ c.in_ok-repeated.ensures.made (c.in_ok-tested.ensures.made ∙ ap (λ y. (spec.condition y (exprs.phrase_of c.args.test.now)).node) c.in_ok-repeated.ensures.around) c.repeat_made.ensures)
+
+pub check_repeat-returns-clause-noted : goal.check_repeat-returns-clause-noted
+check_repeat-returns-clause-noted g t c =
+    let u = g.S.Surroundings.around c.args.here.now in
+    always {P = c.condition.new.book ≡ book_after c.args.book.now (spec.repeat_statement c.args.at (map spec.judging c.args.body.now) (exprs.phrase_of c.args.test.now) u).notes} c.alone.result (pair_noted (λ p. typed.Repeat p.0 p.1 c.args.at ∷ []) (spec.in_turn (map spec.judging c.args.body.now) u) (spec.condition u (exprs.phrase_of c.args.test.now)) c.args.book.now c.check_stmts.new.book c.condition.new.book c.in_ok-repeated.ensures.noted (c.in_ok-tested.ensures.noted ∙ ap (λ y. book_after c.check_stmts.new.book (spec.condition y (exprs.phrase_of c.args.test.now)).notes) c.in_ok-repeated.ensures.around))
+
+pub check_repeat-returns-clause-around : goal.check_repeat-returns-clause-around
+check_repeat-returns-clause-around g t c =
+    always c.alone.result c.in_ok-repeated.ensures.around
+
+pub check_for-returns-clause-made : goal.check_for-returns-clause-made
+check_for-returns-clause-made g t c =
+    let u = g.S.Surroundings.around c.args.here.now in
+    let at = c.args.at in
+    let v = names.named u c.args.variable.now ▷ λ e. spec.for_variable u at c.args.variable.now e in
+    let a = (exprs.phrase_of c.args.start.now).value u in
+    let b = (exprs.phrase_of c.args.end.now).value u in
+    let step = spec.for_step u at (spec.phrase_if c.args.step.now) in
+    let body = spec.in_turn (map spec.judging c.args.body.now) u in
+    let p = c.in_ok-place.place in
+    let all = for_is u at v a b step body (g.S.Types.types c.types.result.now) p (expr_in c.in_ok-first.first) (expr_in c.in_ok-last.last) c.in_ok-by.by (stmts_in c.in_ok-repeated.repeated) _
+    (c.types.ensures.map ∙ ap map_of c.in_ok-repeated.ensures.around) c.in_ok-place.ensures.made
+    (c.in_ok-first.ensures.made ∙ ap (λ o. (spec.bound_if (map_of u) at o a).node) c.as_ref.ensures.value)
+    (c.in_ok-last.ensures.made ∙ ap (λ o. (spec.bound_if (map_of u) at o b).node) c.as_ref-2.ensures.value)
+    c.in_ok-by.ensures.made c.in_ok-repeated.ensures.made c.for_if.ensures in
+    alone_made c.alone.result _ _ c.alone.ensures all
+
+pub check_for-returns-clause-noted : goal.check_for-returns-clause-noted
+check_for-returns-clause-noted g t c =
+    let u = g.S.Surroundings.around c.args.here.now in
+    let at = c.args.at in
+    let v = names.named u c.args.variable.now ▷ λ e. spec.for_variable u at c.args.variable.now e in
+    let a = (exprs.phrase_of c.args.start.now).value u in
+    let b = (exprs.phrase_of c.args.end.now).value u in
+    let step = spec.for_step u at (spec.phrase_if c.args.step.now) in
+    let body = spec.in_turn (map spec.judging c.args.body.now) u in
+    let p = c.in_ok-place.place in
+    always {P = c.check_stmts.new.book ≡ book_after c.args.book.now (spec.for u c.args.at c.args.variable.now (exprs.phrase_of c.args.start.now) (exprs.phrase_of c.args.end.now) (spec.phrase_if c.args.step.now) (map spec.judging c.args.body.now)).notes} c.alone.result (for_says u at v a b step body p c.args.book.now c.for_variable.new.book c.check_bound.new.book c.check_bound-2.new.book c.check_step_if.new.book c.check_stmts.new.book
+    c.in_ok-place.ensures.made c.in_ok-place.ensures.noted
+    (c.in_ok-first.ensures.noted ∙ ap (λ o. book_after c.for_variable.new.book (spec.bound_if (map_of u) at o a).notes) c.as_ref.ensures.value)
+    (c.in_ok-last.ensures.noted ∙ ap (λ o. book_after c.check_bound.new.book (spec.bound_if (map_of u) at o b).notes) c.as_ref-2.ensures.value)
+    c.in_ok-by.ensures.noted c.in_ok-repeated.ensures.noted)
+
+pub check_for-returns-clause-around : goal.check_for-returns-clause-around
+check_for-returns-clause-around g t c =
+    always c.alone.result c.in_ok-repeated.ensures.around

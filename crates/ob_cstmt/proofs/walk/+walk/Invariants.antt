@@ -52,3 +52,12 @@ decreases-check_cases g l = goal.size-check_cases g l * 4 + 3
 
 abbrev pub decreases-check_guarded : goal.decreases-check_guarded
 decreases-check_guarded g l = goal.size-check_guarded g l * 4 + 3
+
+abbrev pub decreases-check_while : goal.decreases-check_while
+decreases-check_while g l = goal.size-check_while g l * 4 + 2
+
+abbrev pub decreases-check_repeat : goal.decreases-check_repeat
+decreases-check_repeat g l = goal.size-check_repeat g l * 4 + 2
+
+abbrev pub decreases-check_for : goal.decreases-check_for
+decreases-check_for g l = goal.size-check_for g l * 4 + 2
