@@ -2,3 +2,4 @@ pub mod Behind
 pub mod Typings
 pub mod Written
 pub mod Sequences
+pub mod Heads

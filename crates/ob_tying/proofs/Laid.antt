@@ -1,5 +1,5 @@
 -- What a layout, and what is shown to the rules, leave of the types that a description names.
-use Rattle.std.proofs.Common.{◌≡◌, ℕ, suc, List, [], ◌∷◌, ◌++◌, Bool, true, false, cond, Option, Some, map as each, refl, ap, ◌∙◌, subst}
+use Rattle.std.proofs.Common.{◌≡◌, ℕ, suc, ◌+◌, List, [], ◌∷◌, ◌++◌, Bool, true, false, cond, Option, Some, map as each, refl, ap, ◌∙◌, subst}
 use Rattle.std.specs.Prelude.{◌≢◌, bytes_eq}
 use Rattle.std.specs.List.{AllByRecursion, flat_map}
 use Rattle.std.proofs.lemmas.Slice.Eq.{bytes_eq-Decides}
@@ -14,13 +14,10 @@ use Rattle.ob_types.specs.declared.typed.TypedType.{TypedType}
 use Rattle.ob_types.specs.TypedSyntax.{Module}
 use Rattle.ob_types.specs.Maps.{listed, signature_types}
 use Rattle.ob_layout.specs.LaidOut.{type_named, base_of, placed, numbered, laid_record, laid_desc, laid_type}
-use Rattle.ob_layout.specs.Lists.{in_order}
-use Rattle.ob_desc.specs.Grammar.{by_place}
 use Rattle.ob_env.specs.Shown.{unplaced, unnumbered, blank}
 use Rattle.ob_distinct.specs.Distinct.{AreDistinct}
 use Rattle.ob_mentions.specs.Agreement.{IsIn, AreIn}
 use Rattle.ob_mentions.proofs.Near.{left_in, right_in}
-use Rattle.ob_local.proofs.Laid.{order_all, placed_all}
 use Rattle.ob_tied.specs.Settled.{core, NamesIn}
 use Rattle.ob_tied.proofs.Setting.{all_both}
 
@@ -51,16 +48,9 @@ blank_core (desc.ProcType m s) = refl
 -- ---- and so do the types that are named
 
 module _ (P : QName → Type 0) where
-  pub fields_of : (fs : List Field) → AreIn P (each (λ f. f.of) fs) → AllByRecursion (λ f. IsIn P f.of) fs
-  fields_of [] h = tt
-  fields_of (f ∷ fs) h = (h.0, fields_of fs h.1)
-
-  of_fields : (fs : List Field) → AllByRecursion (λ f. IsIn P f.of) fs → AreIn P (each (λ f. f.of) fs)
-  of_fields [] h = tt
-  of_fields (f ∷ fs) h = (h.0, of_fields fs h.1)
-
-  laid_fields : (w : TypeRef → ℕ) (at : ℕ) (fs : List Field) → AreIn P (each (λ f. f.of) fs) → AreIn P (each (λ f. f.of) (in_order by_place (placed w at fs)))
-  laid_fields w at fs h = of_fields (in_order by_place (placed w at fs)) (order_all by_place (λ f. IsIn P f.of) (placed w at fs) (placed_all (IsIn P) w at fs (fields_of fs h)))
+  placed_in : (w : TypeRef → ℕ) (at : ℕ) (fs : List Field) → AreIn P (each (λ f. f.of) fs) → AreIn P (each (λ f. f.of) (placed w at fs))
+  placed_in w at [] h = tt
+  placed_in w at (f ∷ fs) h = (h.0, placed_in w (at + w f.of) fs h.1)
 
   numbered_in : (n : ℕ) (ms : List Method) → AreIn P (flat_map (λ m. signature_types m.signature) ms) → AreIn P (flat_map (λ m. signature_types m.signature) (numbered n ms))
   numbered_in n [] h = tt
@@ -78,7 +68,7 @@ module _ (P : QName → Type 0) where
       (g (right_in P (listed r.base ++ each (λ f. f.of) r.fields) (flat_map (λ m. signature_types m.signature) r.methods) h))
 
   pub laid_named : (words procedures : TypeRef → ℕ) (q : QName) (d : Desc) → NamesIn P d → NamesIn P (laid_desc words procedures q d)
-  laid_named w p q (desc.Record r) h = record_in r (laid_record w p q r).fields (laid_record w p q r).methods h (laid_fields w (base_of w r.base) r.fields) (numbered_in (base_of p r.base) r.methods)
+  laid_named w p q (desc.Record r) h = record_in r (laid_record w p q r).fields (laid_record w p q r).methods h (placed_in w (base_of w r.base) r.fields) (numbered_in (base_of p r.base) r.methods)
   laid_named w p q (desc.Const v) h = h
   laid_named w p q (desc.Var m t) h = h
   laid_named w p q (desc.Proc s) h = h
