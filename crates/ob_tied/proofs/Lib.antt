@@ -1,0 +1,12 @@
+pub mod Setting
+pub mod Chains
+pub mod Names
+pub mod Rooms
+pub mod Values
+pub mod Calls
+pub mod Functions
+pub mod Designators
+pub mod Expressions
+pub mod Statements
+pub mod Bodies
+pub mod Whole
