@@ -1,11 +1,10 @@
 -- What counts is closed: what is near a type that counts does, and so does what it stands for.
-use Rattle.std.proofs.Common.{◌≡◌, ℕ, zero, suc, ◌+◌, Bool, true, false, cond, List, [], ◌∷◌, ◌++◌, length, map, Option, Some, None, refl, sym, ap, subst, ◌∙◌, inl, inr, ⊎_elim, arith}
-use Rattle.std.specs.Prelude.{◌⊎◌, bytes_eq, codes}
+use Rattle.std.proofs.Common.{◌≡◌, ℕ, zero, suc, ◌+◌, Bool, true, false, cond, List, [], ◌∷◌, length, map, Option, Some, None, refl, sym, ap, subst, ◌∙◌, inl, inr, ⊎_elim}
+use Rattle.std.specs.Prelude.{bytes_eq, codes}
 use Rattle.std.specs.List.{AllByRecursion}
 use Rattle.std.proofs.lemmas.Slice.Eq.{bytes_eq-Decides}
 use Rattle.ob_format.specs.Format.{◌>>=◌}
 use Rattle.ob_tree.specs.declared.names.QName.{QName}
-use Rattle.ob_tree.specs.declared.print.Print.{Print}
 use Rattle.ob_types.specs.declared.types.TypeRef.{TypeRef}
 use Rattle.ob_types.specs.declared.types.TypeRef.TheVariants as ref
 use Rattle.ob_types.specs.declared.desc.Desc.{Desc}
@@ -27,7 +26,7 @@ use Rattle.ob_uses.proofs.Searching.{itself, left_of, right_of, exact_here}
 use Rattle.ob_uses.proofs.Holding.{view_held}
 use Rattle.ob_compile.specs.Compiling.{Compiled}
 use Rattle.ob_planned.specs.Compiled.{Text, is_record}
-use Rattle.ob_recorded.specs.Trees.{IsRecordType, StandsFor, StandsForOne, PointsTo, IsBase}
+use Rattle.ob_recorded.specs.Trees.{IsRecordType, StandsFor, PointsTo, IsBase}
 use Rattle.ob_linked.specs.Linked.{types_of, names_counted, IsCounted}
 use Rattle.ob_linked.proofs.Mentioned.{both_not}
 

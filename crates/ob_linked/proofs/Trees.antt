@@ -1,8 +1,8 @@
 -- What the trees of a checked module name of other modules counts: variables and procedures as they are mentioned, record types as the
 -- types of its variables lead to them.
-use Rattle.std.proofs.Common.{◌≡◌, ℕ, true, false, List, [], ◌∷◌, ◌++◌, Option, Some, None, sym, subst}
+use Rattle.std.proofs.Common.{◌≡◌, ℕ, false, List, [], ◌∷◌, ◌++◌, Option, Some, None, sym, subst}
 use Rattle.std.specs.Prelude.{bytes_eq, codes}
-use Rattle.std.specs.List.{AllByRecursion, flat_map}
+use Rattle.std.specs.List.{AllByRecursion}
 use Rattle.ob_tree.specs.declared.names.QName.{QName}
 use Rattle.ob_types.specs.declared.types.TypeRef.{TypeRef}
 use Rattle.ob_types.specs.declared.types.TypeRef.TheVariants as ref
@@ -30,7 +30,7 @@ use Rattle.ob_compile.specs.Compiling.{Compiled}
 use Rattle.ob_planned.specs.Compiled.{Text, is_variable, is_procedure, is_record}
 use Rattle.ob_named.specs.Mentions.{Any}
 use Rattle.ob_named.specs.Trees.{VariableNamed, NameNamed, TypeNamed, TagNamed, GuardNamed, CalleeNamed, PassedNamed, DesigNamed, ExprNamed, ActualsNamed, AssignedNamed, MadeNamed, ResultNamed, StmtNamed, StmtsNamed, BranchesNamed, CasesNamed, ElseNamed}
-use Rattle.ob_recorded.specs.Trees.{StandsForOne, IsBase, GuardRecorded, CalleeRecorded, PassedRecorded, DesigRecorded, ExprRecorded, ActualsRecorded, AssignedRecorded, MadeRecorded, ResultRecorded, StmtRecorded, StmtsRecorded, BranchesRecorded, CasesRecorded, ElseRecorded}
+use Rattle.ob_recorded.specs.Trees.{StandsForOne, GuardRecorded, CalleeRecorded, PassedRecorded, DesigRecorded, ExprRecorded, ActualsRecorded, AssignedRecorded, MadeRecorded, ResultRecorded, StmtRecorded, StmtsRecorded, BranchesRecorded, CasesRecorded, ElseRecorded}
 use Rattle.ob_linked.specs.Linked.{types_of, IsCounted}
 use Rattle.ob_linked.proofs.Near.{IsNear, On, stands_near, points_near, CountIn, AreIn, base_near, counted}
 

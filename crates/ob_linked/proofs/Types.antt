@@ -7,7 +7,6 @@ use Rattle.ob_tree.specs.declared.which.Which.{Which}
 use Rattle.ob_tree.specs.declared.names.QName.{QName}
 use Rattle.ob_tree.specs.declared.decl.Module.{Module as Tree}
 use Rattle.ob_types.specs.declared.types.TypeRef.{TypeRef}
-use Rattle.ob_types.specs.declared.types.TypeRef.TheVariants as ref
 use Rattle.ob_types.specs.declared.desc.Desc.{Desc}
 use Rattle.ob_types.specs.declared.desc.Desc.TheVariants as desc
 use Rattle.ob_types.specs.declared.typed.TypedType.{TypedType}
@@ -17,7 +16,7 @@ use Rattle.ob_types.specs.Maps.{listed}
 use Rattle.ob_types.specs.TypedView.{stmts_view, procedure_view, module_view}
 use Rattle.ob_rules.specs.declared.broken.Broken.{Broken as BrokenRule}
 use Rattle.ob_rules.specs.Declarations.{first_break, checked}
-use Rattle.ob_layout.specs.LaidOut.{type_named, laid_desc, laid_type, laid_out, words_in, procedures_in}
+use Rattle.ob_layout.specs.LaidOut.{type_named, laid_desc, laid_type, words_in, procedures_in}
 use Rattle.ob_env.specs.Faces.{Face, described}
 use Rattle.ob_env.specs.Fit.{first_unfit}
 use Rattle.ob_env.specs.Stale.{StaleUse, first_stale}
@@ -37,7 +36,7 @@ use Rattle.ob_named.specs.Mentions.{IsVariable, IsProcedure, Any, IsAmong, AreMe
 use Rattle.ob_named.specs.Trees.{StmtsNamed}
 use Rattle.ob_named.proofs.Modules.{modules_mention}
 use Rattle.ob_recorded.specs.Trees.{StandsForOne, BaseRecorded, TypeRecorded, StmtsRecorded, ModuleRecorded}
-use Rattle.ob_recorded.specs.Told.{core, IsTold, AreTold}
+use Rattle.ob_recorded.specs.Told.{core, IsTold}
 use Rattle.ob_recorded.proofs.Modules.{modules_recorded}
 use Rattle.ob_linked.specs.Linked.{types_of, IsCounted, IsBaseCounted, IsTypeCounted}
 use Rattle.ob_linked.specs.Trees.{IsTreeCounted}
