@@ -4,3 +4,7 @@ pub mod Codes
 pub mod Bodies
 pub mod Mentioned
 pub mod Names
+pub mod Near
+pub mod Trees
+pub mod Walked
+pub mod Types

@@ -118,11 +118,11 @@ blank_proc (desc.Pointer n u) s e = absurd cc
 blank_proc (desc.ProcType n t) s e = absurd cc
 blank_proc (desc.Record r) s e = absurd cc
 
-described_by : (o : Option Desc) (e : Desc) → option_map blank o ≡ Some e → (d : Desc) × (o ≡ Some d) × (blank d ≡ e)
+pub described_by : (o : Option Desc) (e : Desc) → option_map blank o ≡ Some e → (d : Desc) × (o ≡ Some d) × (blank d ≡ e)
 described_by None e h = absurd cc
 described_by (Some d) e h = (d, refl, cc)
 
-both_not : (a b : Bool) → a ≡ false → b ≡ false → (not a && not b) ≡ true
+pub both_not : (a b : Bool) → a ≡ false → b ≡ false → (not a && not b) ≡ true
 both_not true b e f = absurd cc
 both_not false true e f = absurd cc
 both_not false false e f = refl

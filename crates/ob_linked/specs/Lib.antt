@@ -1,3 +1,4 @@
 pub mod Linked
 pub mod Trees
 pub mod Said
+pub mod Types

@@ -4,6 +4,7 @@
 ghost use Rattle.ob_linked.specs.Linked.{LinksFollow};
 ghost use Rattle.ob_linked.specs.Trees.{LinksFollowTrees};
 ghost use Rattle.ob_linked.specs.Said.{CompiledNamesUsed};
+ghost use Rattle.ob_linked.specs.Types.{CompiledTypesUsed};
 
 /// A law, with nothing to run: where all that the code of a module names of other modules counts for
 /// its uses and is of the kind that it is named as, the links of its object file name what it uses;
@@ -18,4 +19,11 @@ pub fn links_follow()
 /// that compiles name what it uses, whatever interfaces there are.
 pub fn names_are_used()
     ensures { CompiledNamesUsed }
+{}
+
+/// A law, with nothing to run: the links to record types in the object file of a module that
+/// compiles name what it uses, where each name has an interface of that name, or none, and the types
+/// of modules that are read and keep the rules differ in name.
+pub fn types_are_used()
+    ensures { CompiledTypesUsed }
 {}

@@ -1,0 +1,13 @@
+pub mod Telling
+pub mod Setting
+pub mod Values
+pub mod Calls
+pub mod Functions
+pub mod Designators
+pub mod Expressions
+pub mod Statements
+pub mod Bodies
+pub mod Typings
+pub mod Written
+pub mod Heads
+pub mod Modules
