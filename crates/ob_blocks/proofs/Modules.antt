@@ -41,7 +41,7 @@ use Rattle.ob_mentions.proofs.Following.{said_right}
 use Rattle.ob_mentions.proofs.Tests.{two}
 use Rattle.ob_mentions.proofs.Parameters.{agrees_known}
 use Rattle.ob_sound.specs.Quiet.{IsNamed, AreNamed}
-use Rattle.ob_blocks.specs.Laws.{LeavesIn, ContentsIn, is_there, variables_layer, declares_variables, AreOthers, module_heads, ShowSame, ModulesAgree}
+use Rattle.ob_blocks.specs.Laws.{LeavesIn, ContentsIn, is_there, variables_layer, declares_variables, AreOthers, module_heads, ShowSame, CountsAlike, IsSameThere, ModulesAgree}
 use Rattle.ob_blocks.proofs.Steady.{AllHeld, Start, Names}
 use Rattle.ob_blocks.proofs.Bound.{Signed}
 use Rattle.ob_blocks.proofs.Blocks.{GoodProcedure, GoodDeclaration, AreGood, block_same, contents_right}
@@ -200,12 +200,14 @@ unbroken_parts : (bs : List Broken) (x m : TypedModule) → if_unbroken bs x ≡
 unbroken_parts [] x m e = (refl, cc)
 unbroken_parts (b ∷ bs) x m e = absurd cc
 
-pub modules_agree : ModulesAgree
-modules_agree names s leaves shown tree t is w own bases imports plain there bound mentions =
-    let P : QName → Type 0 = λ q. names q ≡ true in
+pub agree_on : (P : QName → Type 0) (s : QName → Option Desc) → LeavesIn P s → (shown : QName → Option Desc) (tree : Tree) (t : TypedModule) → checked shown tree ≡ Some t → CountsAlike P shown s tree t → IsSameThere s tree t
+agree_on P s leaves shown tree t is c =
     let p = module_part shown tree in
     let ds = map declaration tree.decls in
     let k = unbroken_parts p.notes.broken (typed_module shown tree.name tree.imports ds p) t is in
-    let m : ModuleIn P (typed_module shown tree.name tree.imports ds p) = subst (ModuleIn P) (sym k.1) mentions in
-    let same = module_same P s leaves shown tree w own bases imports plain there bound k.0 (record { objects = m.objects; types = m.types; lengths = m.lengths }) (m.bodies, m.body) in
-    (ap (checked_part s tree.name tree.imports ds) same ∙ is, ap (λ (p : Part). least p.notes.broken) (same) ∙ ap least k.0)
+    let m : ModuleIn P (typed_module shown tree.name tree.imports ds p) = subst (ModuleIn P) (sym k.1) c.mentions in
+    let same = module_same P s leaves shown tree c.shows c.own c.bases c.imports c.plain c.variables c.redefined k.0 (record { objects = m.objects; types = m.types; lengths = m.lengths }) (m.bodies, m.body) in
+    (ap (checked_part s tree.name tree.imports ds) same ∙ is, ap (λ (p : Part). least p.notes.broken) same ∙ ap least k.0)
+
+pub modules_agree : ModulesAgree
+modules_agree names s leaves shown tree t is c = agree_on (λ q. names q ≡ true) s leaves shown tree t is c

@@ -63,9 +63,24 @@ pub record ShowSame (P : QName → Type 0) (shown other : QName → Option Desc)
   pub near : (q : QName) → P q → DescIn P (shown q)
   pub out : (q : QName) → is_out q.«module» ≡ true → other q ≡ shown q
 
--- MODULES: one that breaks no rule is the same checked module with other interfaces around that show the same on these names, where
--- what it mentions and what its bound procedures redefine is among them, and so is what is left for later.
+-- Interfaces that a module was checked against, and others that show the same of all that counts for it: of these names, among which
+-- is each of the module itself, all that it mentions, and what its bound procedures redefine. The interfaces hold the bases of the
+-- pointers that they show, the module does not import itself, and its text is one of the grammar.
+pub record CountsAlike (P : QName → Type 0) (shown other : QName → Option Desc) (tree : Tree) (t : TypedModule) : Type 0 where
+  pub shows : ShowSame P shown other
+  pub own : OwnIn P tree.name.name
+  pub bases : ShowBases shown tree.name.name
+  pub imports : AreOthers tree.name.name tree.imports
+  pub plain : all_true (map is_named_plainly tree.decls) ≡ true
+  pub variables : all_true (map declares_variables tree.decls) ≡ true
+  pub redefined : BindingsIn P (module_heads shown tree).around (reversed (module_heads shown tree).before)
+  pub mentions : ModuleIn P t
+
+-- the module is the same checked module, without a broken rule, with the others around
+abbrev pub IsSameThere : (QName → Option Desc) → Tree → TypedModule → Type 0
+IsSameThere other tree t = (checked other tree ≡ Some t) × (first_break other tree ≡ None)
+
+-- MODULES: one that breaks no rule is the same with other interfaces around that show the same of all that counts for it, where what is
+-- left for later counts too.
 abbrev pub ModulesAgree : Type 0
-ModulesAgree = (names : QName → Bool) (other : QName → Option Desc) → LeavesIn (λ q. names q ≡ true) other → (shown : QName → Option Desc) (tree : Tree) (t : TypedModule) → checked shown tree ≡ Some t →
-    ShowSame (λ q. names q ≡ true) shown other → OwnIn (λ q. names q ≡ true) tree.name.name → ShowBases shown tree.name.name → AreOthers tree.name.name tree.imports → all_true (map is_named_plainly tree.decls) ≡ true → all_true (map declares_variables tree.decls) ≡ true →
-    BindingsIn (λ q. names q ≡ true) (module_heads shown tree).around (reversed (module_heads shown tree).before) → ModuleIn (λ q. names q ≡ true) t → (checked other tree ≡ Some t) × (first_break other tree ≡ None)
+ModulesAgree = (names : QName → Bool) (other : QName → Option Desc) → LeavesIn (λ q. names q ≡ true) other → (shown : QName → Option Desc) (tree : Tree) (t : TypedModule) → checked shown tree ≡ Some t → CountsAlike (λ q. names q ≡ true) shown other tree t → IsSameThere other tree t
