@@ -1,0 +1,9 @@
+pub mod Operators
+pub mod Predeclared
+pub mod Maps
+pub mod Guards
+pub mod Calls
+pub mod Designators
+pub mod Expressions
+pub mod Bodies
+pub mod Statements
