@@ -1,0 +1,4 @@
+pub mod Staying
+pub mod Shown
+pub mod Used
+pub mod Loaded
