@@ -1,12 +1,11 @@
 -- Words above the limit are kept as the next number.
-use Rattle.std.proofs.Common.{◌≡◌, ℕ, ◌+◌, ◌*◌, ◌<◌, List, [], ◌∷◌, ◌++◌, suc, map, length, drop, get_or, refl, sym, ap, subst, ◌∙◌, arith}
+use Rattle.std.proofs.Common.{◌≡◌, ℕ, ◌+◌, ◌*◌, ◌<◌, List, [], ◌∷◌, ◌++◌, suc, length, drop, get_or, refl, sym, ap, subst, ◌∙◌, arith}
 use Rattle.std.proofs.lemmas.List.{drop_more}
 use Rattle.std.specs.Prelude.{min}
 use Rattle.ob_types.specs.declared.types.TypeRef.{TypeRef}
 use Rattle.ob_types.specs.declared.desc.Field.{Field}
 use Rattle.ob_layout.specs.LaidOut.{kept, placed, numbered}
-use Rattle.ob_laid.specs.Placed.{placed_behind, to_field}
-use Rattle.ob_laid.specs.declared.placed.Placed.{Placed}
+use Rattle.ob_laid.specs.Placed.{placed_behind}
 use Rattle.ob_types.specs.declared.desc.Method.{Method}
 
 pub kept_plus : (a b : ℕ) → kept (kept a + kept b) ≡ kept (a + b)
@@ -33,16 +32,6 @@ behind words at (f ∷ fs) =
 pub kept_right : (a b : ℕ) → kept (a + kept b) ≡ kept (a + b)
 kept_right a b = grind arith
 
-pushed : (xs : List Placed) (x : Placed) (ys : List Field) → map to_field (xs ++ x ∷ []) ++ ys ≡ map to_field xs ++ to_field x ∷ ys
-pushed [] x ys = refl
-pushed (z ∷ xs) x ys = ap (λ l. to_field z ∷ l) (pushed xs x ys)
-
-pub placed_more : (words : TypeRef → ℕ) (xs : List Placed) (x : Placed) (at : ℕ) (f : Field) (fs whole : List Field) → map to_field xs ++ placed_behind words at (f ∷ fs) ≡ whole → x.field ≡ (let g : Field = record f { place = at } in g) → map to_field (xs ++ x ∷ []) ++ placed_behind words (kept (at + words f.of)) fs ≡ whole
-placed_more words xs x at f fs whole e is =
-    pushed xs x (placed_behind words (kept (at + words f.of)) fs)
-    ∙ ap (λ (g : Field). map to_field xs ++ g ∷ placed_behind words (kept (at + words f.of)) fs) is
-    ∙ e
-
 appended : {A : Type 0} (xs : List A) (x : A) (ys : List A) → (xs ++ x ∷ []) ++ ys ≡ xs ++ x ∷ ys
 appended [] x ys = refl
 appended (z ∷ xs) x ys = ap (λ l. z ∷ l) (appended xs x ys)
@@ -51,10 +40,12 @@ pub numbered_more : (xs : List Method) (n : ℕ) (p : Method) (ps whole : List M
 numbered_more xs n p ps whole e = appended xs (let q : Method = record p { number = n } in q) (numbered (suc n) ps) ∙ e
 
 -- a turn of the loop over fields
-pub placed_step : (words : TypeRef → ℕ) (xs : List Placed) (x : Placed) (at next : ℕ) (fs : List Field) (i : ℕ) (f : Field) (ys : List Placed) (whole : List Field) → i < length fs → f ≡ get_or fs i f → map to_field xs ++ placed_behind words at (drop i fs) ≡ whole → x.field ≡ (let g : Field = record f { place = at } in g) → ys ≡ xs ++ x ∷ [] → next ≡ kept (at + words f.of) → map to_field ys ++ placed_behind words next (drop (i + 1) fs) ≡ whole
+pub placed_step : (words : TypeRef → ℕ) (xs : List Field) (x : Field) (at next : ℕ) (fs : List Field) (i : ℕ) (f : Field) (ys whole : List Field) → i < length fs → f ≡ get_or fs i f → xs ++ placed_behind words at (drop i fs) ≡ whole → x ≡ (let g : Field = record f { place = at } in g) → ys ≡ xs ++ x ∷ [] → next ≡ kept (at + words f.of) → ys ++ placed_behind words next (drop (i + 1) fs) ≡ whole
 placed_step words xs x at next fs i f ys whole l is e one all behind =
     let d : drop i fs ≡ f ∷ drop (i + 1) fs = drop_more fs i f l ∙ ap (λ (g : Field). g ∷ drop (i + 1) fs) (sym is) in
-    let inv : map to_field xs ++ placed_behind words at (f ∷ drop (i + 1) fs) ≡ whole = subst (λ (l : List Field). map to_field xs ++ placed_behind words at l ≡ whole) d e in
-    ap (λ (l : List Placed). map to_field l ++ placed_behind words next (drop (i + 1) fs)) all
-    ∙ ap (λ (n : ℕ). map to_field (xs ++ x ∷ []) ++ placed_behind words n (drop (i + 1) fs)) behind
-    ∙ placed_more words xs x at f (drop (i + 1) fs) whole inv one
+    let inv : xs ++ placed_behind words at (f ∷ drop (i + 1) fs) ≡ whole = subst (λ (l : List Field). xs ++ placed_behind words at l ≡ whole) d e in
+    ap (λ (l : List Field). l ++ placed_behind words next (drop (i + 1) fs)) all
+    ∙ ap (λ (n : ℕ). (xs ++ x ∷ []) ++ placed_behind words n (drop (i + 1) fs)) behind
+    ∙ appended xs x (placed_behind words (kept (at + words f.of)) (drop (i + 1) fs))
+    ∙ ap (λ (g : Field). xs ++ g ∷ placed_behind words (kept (at + words f.of)) (drop (i + 1) fs)) one
+    ∙ inv

@@ -21,8 +21,8 @@ fn types_of(alloc: Global, env: &Env, module: &TypedModule) -> Result<List<Typed
 
 /// Lays the module's own records out over its environment: the places of their fields, the numbers
 /// of the bound procedures that they introduce, their words and the number of their bound
-/// procedures. The fields stand in the order of the text before, and by place and name after, so it
-/// is done once. After an `Err`, which is want of memory, the module is as before.
+/// procedures. The fields stay in the order of the text. After an `Err`, which is want of memory, the
+/// module is as before.
 pub fn lay_out(alloc: Global, env: &Env, module: &mut TypedModule) -> Result<(), AllocError>
     ensures ok { OnOk result (module_view «module».new ≡ laid_out (described (faces_of env.now)) (module_view «module».old)) }
     ensures err { OnErr result («module».new ≡ «module».old) }

@@ -4,8 +4,6 @@
 
 mod counts;
 mod laying;
-mod order;
-mod placed;
 mod records;
 mod sums;
 

@@ -2,16 +2,12 @@
 
 ghost use Rattle.std.specs.Prelude.{◌≡◌, ◌+◌, ◌<◌, length, map, IfOk};
 ghost use Rattle.ob_types.specs.TypedView.{module_view};
-ghost use Rattle.ob_desc.specs.Grammar.{by_place};
-ghost use Rattle.ob_layout.specs.Lists.{in_order};
 ghost use Rattle.ob_layout.specs.LaidOut.{words_in, procedures_in, base_of, kept, placed, numbered as numbered_from, laid_record as record_laid, laid_desc as desc_laid, laid_type as type_laid};
 ghost use Rattle.ob_env.specs.Faces.{faces_of, described};
-ghost use Rattle.ob_laid.specs.Placed.{placed_behind, to_field};
+ghost use Rattle.ob_laid.specs.Placed.{placed_behind};
 ghost use Rattle.ob_laid.specs.Sums.{own_name, rows_below};
 
 use crate::counts::{count_of_base, own_count};
-use crate::order::fields_in_order;
-use crate::placed::Placed;
 use crate::sums::{CHAIN, own_words, plus, words_at, words_of_base};
 use ob_env::View;
 use ob_tree::List;
@@ -19,17 +15,15 @@ use ob_trees::{copy_desc, copy_method, copy_type};
 use ob_types::{Desc, Field, Method, RecordDesc, TypeRef, TypedType};
 use std::alloc::{AllocError, Global};
 
-fn placed_at(field: &Field, place: u32) -> Result<Placed, AllocError>
-    ensures { IfOk result (λ p. p.field ≡ record field.now { place = place }) }
+fn placed_at(field: &Field, place: u32) -> Result<Field, AllocError>
+    ensures { IfOk result (λ f. f ≡ record field.now { place = place }) }
 {
     let of = copy_type(&field.of)?;
-    Ok(Placed {
-        field: Field {
-            name: field.name,
-            mark: field.mark,
-            place,
-            of,
-        },
+    Ok(Field {
+        name: field.name,
+        mark: field.mark,
+        place,
+        of,
     })
 }
 
@@ -44,19 +38,18 @@ fn next_place(view: &View<'_>, rows: &[List<u32>], at: u32, field: &Field) -> u3
 }
 
 // Fields one behind the other.
-
 fn placed_fields(
     alloc: Global,
     view: &View<'_>,
     rows: &[List<u32>],
     from: u32,
     fields: &[Field],
-) -> Result<Vec<Placed>, AllocError>
+) -> Result<List<Field>, AllocError>
     requires rows { rows.now ≡ rows_below (described (faces_of view.now.env.now)) (module_view view.now.«module».now) (length rows.now) }
     requires steps { 201 < length rows.now }
-    ensures { IfOk result (λ v. map to_field v.items ≡ placed_behind (words_in (described (faces_of view.now.env.now)) (module_view view.now.«module».now)) from fields.now) }
+    ensures { IfOk result (λ l. l ≡ placed_behind (words_in (described (faces_of view.now.env.now)) (module_view view.now.«module».now)) from fields.now) }
 {
-    let mut all = Vec::new(alloc);
+    let mut all = List::new(alloc);
     let mut at = from;
     'fields: for field in fields {
         let one = placed_at(field, at)?;
@@ -104,7 +97,7 @@ fn copy_base(base: &Option<TypeRef>) -> Result<Option<TypeRef>, AllocError>
     }
 }
 
-// The fields of a record in the order of their places.
+// The fields of a record, with their places.
 #[tactic(auto, using(crate::proofs::Keeping::behind))]
 fn laid_fields(
     alloc: Global,
@@ -114,11 +107,10 @@ fn laid_fields(
 ) -> Result<List<Field>, AllocError>
     requires rows { rows.now ≡ rows_below (described (faces_of view.now.env.now)) (module_view view.now.«module».now) (length rows.now) }
     requires steps { 201 < length rows.now }
-    ensures { IfOk result (λ l. l ≡ in_order by_place (placed (words_in (described (faces_of view.now.env.now)) (module_view view.now.«module».now)) (base_of (words_in (described (faces_of view.now.env.now)) (module_view view.now.«module».now)) own.now.base) own.now.fields)) }
+    ensures { IfOk result (λ l. l ≡ placed (words_in (described (faces_of view.now.env.now)) (module_view view.now.«module».now)) (base_of (words_in (described (faces_of view.now.env.now)) (module_view view.now.«module».now)) own.now.base) own.now.fields) }
 {
     let from = words_of_base(view, rows, CHAIN, &own.base);
-    let all = placed_fields(alloc, view, rows, from, own.fields.as_slice())?;
-    fields_in_order(alloc, all)
+    placed_fields(alloc, view, rows, from, own.fields.as_slice())
 }
 
 // The bound procedures that a record introduces, with their numbers.

@@ -2,10 +2,7 @@
 use Rattle.std.proofs.Common.{◌≡◌, ℕ, ◌+◌, List, [], ◌∷◌, ◌++◌, Bool, true, false, cond, Option, Some, None, map as each, refl, sym, ap, ◌∙◌, subst, ⊎_elim}
 use Rattle.std.specs.Prelude.{bytes_eq}
 use Rattle.std.specs.List.{AllByRecursion, flat_map}
-use Rattle.std.specs.Cmp.Lexicographic.{bytes_decides, slice_cmp}
-use Rattle.std.specs.Ordering.{nat_cmp, ordering_then}
-use Rattle.std.specs.declared.cmp.Ordering.{Ordering}
-use Rattle.std.specs.declared.cmp.Ordering.TheVariants.{Less, Equal, Greater}
+use Rattle.std.specs.Cmp.Lexicographic.{bytes_decides}
 use Rattle.ob_tree.specs.declared.names.QName.{QName}
 use Rattle.ob_types.specs.declared.types.TypeRef.{TypeRef}
 use Rattle.ob_types.specs.declared.types.TypeRef.TheVariants as ref
@@ -17,10 +14,9 @@ use Rattle.ob_types.specs.declared.typed.TypedType.{TypedType}
 use Rattle.ob_types.specs.TypedSyntax.{Module}
 use Rattle.ob_types.specs.Maps.{listed}
 use Rattle.ob_types.specs.Relations.{is_record}
-use Rattle.ob_desc.specs.Grammar.{by_place, same_object}
+use Rattle.ob_desc.specs.Grammar.{same_object}
 use Rattle.ob_desc.specs.Laws.{object_decides}
-use Rattle.ob_layout.specs.Lists.{put_before, put_in, in_order}
-use Rattle.ob_layout.specs.LaidOut.{type_named, is_own, base_of, words_in, procedures_in, kept, placed, laid_desc, laid_type, laid_out}
+use Rattle.ob_layout.specs.LaidOut.{type_named, is_own, base_of, words_in, procedures_in, placed, laid_desc, laid_type, laid_out}
 use Rattle.ob_counts.specs.Counts.{Count, Shapes, Layouts, both, own_name, counts_of_mentioned, counts_of_type, counts_of_desc, counts_of_variable, counts_of_procedure, counts_of_all, counts_of_module}
 use Rattle.ob_counts.specs.Noted.{names_of, shape_starts, layout_starts}
 use Rattle.ob_env.specs.Faces.{Face, described}
@@ -29,15 +25,14 @@ use Rattle.ob_uses.specs.Uses.{flat_types}
 use Rattle.ob_uses.specs.Ways.{leads_by, desc_leads, is_of}
 use Rattle.ob_uses.specs.Closed.{is_among, of_found}
 use Rattle.ob_uses.specs.Reaching.{first, onward}
-use Rattle.ob_uses.proofs.SamePairs.{bytes_same}
 use Rattle.ob_uses.proofs.Searching.{itself, left_of, in_back, either}
 use Rattle.ob_local.specs.Agreeing.{Map, On, IsNear, IsFlat}
 use Rattle.ob_local.specs.Laws.{Text, IsRoom, room, IsLaid, flat, own, told, over, view, IsTied}
 use Rattle.ob_local.specs.Read.{TypeRead, ModuleRead}
 use Rattle.ob_local.specs.Tied.{IsTypeOf}
-use Rattle.ob_local.specs.Checked.{AreApart, FieldsApart, IsChecked, CountsAreEnough}
+use Rattle.ob_local.specs.Checked.{IsChecked, CountsAreEnough}
 use Rattle.ob_local.proofs.Told.{among_on}
-use Rattle.ob_local.proofs.Laid.{join_all, to_each, order_all}
+use Rattle.ob_local.proofs.Laid.{join_all, to_each}
 use Rattle.ob_local.proofs.Whole.{some_desc, plain_near}
 use Rattle.ob_local.proofs.Counted.{CountsOn, counts_front, counts_back, variables_read, procedures_read, stmts_read}
 use Rattle.ob_local.proofs.Nears.{Any, module_near}
@@ -67,40 +62,11 @@ layouts_among P L (Layouts (ref.Named r) ∷ cs) on q i = ⊎_elim
     (λ (h : is_among (names_of (layout_starts cs)) q ≡ true). layouts_among P L cs on.1 q h)
     (either (same_object q r) (is_among (names_of (layout_starts cs)) q) i)
 
--- ---- fields that differ in name all stay in their order
+-- ---- fields with their places have the types that they had
 
-second_equal : (o p : Ordering) → ordering_then o p ≡ Equal → p ≡ Equal
-second_equal Less p e = absurd cc
-second_equal Equal p e = e
-second_equal Greater p e = absurd cc
-
-unlike : (f g : Field) → bytes_eq f.name g.name ≡ false → by_place f g ≡ Equal → ⊥
-unlike f g e i =
-    let same : f.name ≡ g.name = bytes_same f.name g.name (second_equal (nat_cmp f.place g.place) (slice_cmp nat_cmp f.name g.name) i) in
-    let yes : bytes_eq f.name g.name ≡ true = (bytes_decides f.name g.name).1 same in
-    let no_way : true ≡ false = sym yes ∙ e in
-    absurd cc
-
-put_back : (P : Field → Type 0) (f : Field) (ys : List Field) → AllByRecursion (λ g. bytes_eq f.name g.name ≡ false) ys → AllByRecursion P (put_in by_place f ys) → P f × AllByRecursion P ys
-put_back P f [] apart all = (all.0, tt)
-put_back P f (y ∷ ys) apart all = go (by_place f y) refl (λ h. put_back P f ys apart.1 h) all
-  where
-    go : (o : Ordering) → by_place f y ≡ o → (AllByRecursion P (put_in by_place f ys) → P f × AllByRecursion P ys) → AllByRecursion P (put_before o f y ys (put_in by_place f ys)) → P f × AllByRecursion P (y ∷ ys)
-    go Less e more all = (all.0, (all.1.0, all.1.1))
-    go Equal e more all = absurd (unlike f y apart.0 e)
-    go Greater e more all = let h = more all.1 in (h.0, (all.0, h.1))
-
-placed_apart : (f : Field) (w : TypeRef → ℕ) (at : ℕ) (fs : List Field) → AllByRecursion (λ g. bytes_eq f.name g.name ≡ false) fs → AllByRecursion (λ g. bytes_eq f.name g.name ≡ false) (placed w at fs)
-placed_apart f w at [] all = tt
-placed_apart f w at (x ∷ fs) all = (all.0, placed_apart f w (at + w x.of) fs all.1)
-
-order_back : (Q : TypeRef → Type 0) (w : TypeRef → ℕ) (at : ℕ) (fs : List Field) → AreApart fs → AllByRecursion (λ g. Q g.of) (in_order by_place (placed w at fs)) → AllByRecursion (λ g. Q g.of) fs
-order_back Q w at [] apart all = tt
-order_back Q w at (f ∷ fs) apart all =
-    let rest = in_order by_place (placed w (at + w f.of) fs) in
-    let f' = record f { place = kept at } in
-    let h = put_back (λ g. Q g.of) f' rest (order_all by_place (λ g. bytes_eq f.name g.name ≡ false) (placed w (at + w f.of) fs) (placed_apart f w (at + w f.of) fs apart.0)) all in
-    (h.0, order_back Q w (at + w f.of) fs apart.1 h.1)
+placed_back : (Q : TypeRef → Type 0) (w : TypeRef → ℕ) (at : ℕ) (fs : List Field) → AllByRecursion (λ g. Q g.of) (placed w at fs) → AllByRecursion (λ g. Q g.of) fs
+placed_back Q w at [] all = tt
+placed_back Q w at (f ∷ fs) all = (all.0, placed_back Q w (at + w f.of) fs all.1)
 
 -- ---- what counts of types
 
@@ -237,37 +203,37 @@ module _ (faces : List (Face Text)) (m : Module) (checked : IsChecked faces m) w
   rooms : (q : QName) → P q → IsRoom V m.name q → L q
   rooms q on r = told on r
 
-  type_read : (t : TypedType) (d : Desc) → t.desc ≡ d → type_named m.types t.name ≡ Some t.desc → FieldsApart d → CountsOn P L (counts_of_desc (laid_desc (words_in (described faces) m) (procedures_in (described faces) m) (own_name m t) d)) → TypeRead P L (own_name m t) d
-  type_read t (desc.Record r) e named apart on =
+  type_read : (t : TypedType) (d : Desc) → t.desc ≡ d → type_named m.types t.name ≡ Some t.desc → CountsOn P L (counts_of_desc (laid_desc (words_in (described faces) m) (procedures_in (described faces) m) (own_name m t) d)) → TypeRead P L (own_name m t) d
+  type_read t (desc.Record r) e named on =
       let w = words_in (described faces) m in
-      let fs = in_order by_place (placed w (base_of w r.base) r.fields) in
+      let fs = placed w (base_of w r.base) r.fields in
       let b = both_list P L (listed r.base) (counts_front P L (flat_map both (listed r.base)) (flat_map (λ f. both f.of) fs) on) in
       let f = both_fields P L fs (counts_back P L (flat_map both (listed r.base)) (flat_map (λ f. both f.of) fs) on) in
       let k = laid_named (described faces) m m.types t.name r (named ∙ ap (λ d. Some d) e) in
       let o : is_own m (own_name m t) ≡ true = (bytes_decides m.name m.name).1 refl in
-      (own k.0 o (ap (λ b. cond b (type_named M.types t.name) (described faces (own_name m t))) o ∙ k.1), b.0, b.1, order_back (On L) w (base_of w r.base) r.fields apart f.1)
-  type_read t (desc.Const v) e named apart on = tt
-  type_read t (desc.Var k u) e named apart on = tt
-  type_read t (desc.Proc s) e named apart on = tt
-  type_read t (desc.Alias k u) e named apart on = tt
-  type_read t (desc.Array k n u) e named apart on = tt
-  type_read t (desc.OpenArray k u) e named apart on = tt
-  type_read t (desc.Pointer k u) e named apart on = tt
-  type_read t (desc.ProcType k s) e named apart on = tt
+      (own k.0 o (ap (λ b. cond b (type_named M.types t.name) (described faces (own_name m t))) o ∙ k.1), b.0, b.1, placed_back (On L) w (base_of w r.base) r.fields f.1)
+  type_read t (desc.Const v) e named on = tt
+  type_read t (desc.Var k u) e named on = tt
+  type_read t (desc.Proc s) e named on = tt
+  type_read t (desc.Alias k u) e named on = tt
+  type_read t (desc.Array k n u) e named on = tt
+  type_read t (desc.OpenArray k u) e named on = tt
+  type_read t (desc.Pointer k u) e named on = tt
+  type_read t (desc.ProcType k s) e named on = tt
 
-  types_read : (ts : List TypedType) → AllByRecursion (λ t. type_named m.types t.name ≡ Some t.desc) ts → AllByRecursion (λ t. FieldsApart t.desc) ts → CountsOn P L (flat_map (counts_of_type M) (each (laid_type (described faces) m) ts)) → AllByRecursion (λ t. TypeRead P L (own_name m t) t.desc) ts
-  types_read [] named apart on = tt
-  types_read (t ∷ ts) named apart on =
+  types_read : (ts : List TypedType) → AllByRecursion (λ t. type_named m.types t.name ≡ Some t.desc) ts → CountsOn P L (flat_map (counts_of_type M) (each (laid_type (described faces) m) ts)) → AllByRecursion (λ t. TypeRead P L (own_name m t) t.desc) ts
+  types_read [] named on = tt
+  types_read (t ∷ ts) named on =
       let a = counts_of_type M (laid_type (described faces) m t) in
       let b = flat_map (counts_of_type M) (each (laid_type (described faces) m) ts) in
-      (type_read t t.desc refl named.0 apart.0 (counts_front P L a b on).1, types_read ts named.1 apart.1 (counts_back P L a b on))
+      (type_read t t.desc refl named.0 (counts_front P L a b on).1, types_read ts named.1 (counts_back P L a b on))
 
   read : ModuleRead P L m
   read =
       let f4 = counts_front P L (counts_of_mentioned M ++ c2 ++ c3 ++ c4) c5 laid_on in
       let f3 = counts_front P L (counts_of_mentioned M ++ c2 ++ c3) c4 f4 in
       record {
-        types = types_read m.types checked.types checked.fields (types_part L laid_on);
+        types = types_read m.types checked.types (types_part L laid_on);
         variables = variables_read V m.name (IsTypeOf m) P L near goes_on owned rooms m.variables (counts_back P L (counts_of_mentioned M ++ c2) c3 f3);
         procedures = procedures_read V m.name (IsTypeOf m) P L near goes_on owned rooms V m.procedures (counts_back P L (counts_of_mentioned M ++ c2 ++ c3) c4 f4) checked.tied.procedures;
         body = stmts_read V m.name (IsTypeOf m) P L near goes_on owned rooms m.body (counts_back P L (counts_of_mentioned M ++ c2 ++ c3 ++ c4) c5 laid_on) checked.tied.body;

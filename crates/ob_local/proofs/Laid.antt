@@ -3,8 +3,6 @@ use Rattle.std.proofs.Common.{◌≡◌, ℕ, zero, suc, ◌+◌, ◌*◌, List,
 use Rattle.std.specs.Prelude.{bytes_eq}
 use Rattle.std.specs.Option.{option_map}
 use Rattle.std.specs.List.{AllByRecursion}
-use Rattle.std.specs.declared.cmp.Ordering.{Ordering}
-use Rattle.std.specs.declared.cmp.Ordering.TheVariants.{Less, Equal, Greater}
 use Rattle.ob_tree.specs.declared.names.QName.{QName}
 use Rattle.ob_types.specs.declared.types.TypeRef.{TypeRef}
 use Rattle.ob_types.specs.declared.types.TypeRef.TheVariants as ref
@@ -15,8 +13,7 @@ use Rattle.ob_types.specs.declared.desc.Field.{Field}
 use Rattle.ob_types.specs.declared.typed.TypedType.{TypedType}
 use Rattle.ob_types.specs.TypedSyntax.{Module}
 use Rattle.ob_types.specs.Maps.{listed}
-use Rattle.ob_desc.specs.Grammar.{by_place}
-use Rattle.ob_layout.specs.Lists.{put_before, put_in, in_order, sum_of}
+use Rattle.ob_layout.specs.Lists.{sum_of}
 use Rattle.ob_layout.specs.LaidOut.{type_named, is_own, viewed, base_of, record_words, declared_words, summed, declared_procedures, counted, words_in, procedures_in, kept, placed, numbered, laid_desc, laid_type, laid_out}
 use Rattle.ob_counts.specs.Counts.{own_name}
 use Rattle.ob_counts.specs.Noted.{names_of}
@@ -49,19 +46,6 @@ of_each f P (x ∷ xs) all = (all.0, of_each f P xs all.1)
 pub to_each : {A B : Type 0} (f : A → B) (P : B → Type 0) (xs : List A) → AllByRecursion (λ x. P (f x)) xs → AllByRecursion P (each f xs)
 to_each f P [] all = tt
 to_each f P (x ∷ xs) all = (all.0, to_each f P xs all.1)
-
-put_all : {A : Type 0} (R : A → A → Ordering) (P : A → Type 0) (x : A) (ys : List A) → P x → AllByRecursion P ys → AllByRecursion P (put_in R x ys)
-put_all R P x [] p all = (p, tt)
-put_all R P x (y ∷ ys) p all = go (R x y) (put_all R P x ys p all.1)
-  where
-    go : (o : Ordering) → AllByRecursion P (put_in R x ys) → AllByRecursion P (put_before o x y ys (put_in R x ys))
-    go Less h = (p, (all.0, all.1))
-    go Equal h = (all.0, all.1)
-    go Greater h = (all.0, h)
-
-pub order_all : {A : Type 0} (R : A → A → Ordering) (P : A → Type 0) (xs : List A) → AllByRecursion P xs → AllByRecursion P (in_order R xs)
-order_all R P [] all = tt
-order_all R P (x ∷ xs) all = put_all R P x (in_order R xs) all.0 (order_all R P xs all.1)
 
 pub placed_all : (P : TypeRef → Type 0) (f : TypeRef → ℕ) (at : ℕ) (fs : List Field) → AllByRecursion (λ x. P x.of) fs → AllByRecursion (λ x. P x.of) (placed f at fs)
 placed_all P f at [] all = tt
@@ -143,10 +127,10 @@ module _ (map other : Map) (m : Module) (Shapes Layouts : QName → Type 0) (agr
       let h = procedures_in other m in
       let same : (t : TypeRef) → On Layouts t → f t ≡ g t = λ t i. summed_told 201 t i in
       let counts : (t : TypeRef) → On Layouts t → c t ≡ h t = λ t i. counted_told 201 t i in
-      ap (λ fs. desc.Record (record r { fields = in_order by_place fs; methods = numbered (base_of c r.base) r.methods; words = kept (f (ref.Named q)); procedures = c (ref.Named q) })) (placed_told Layouts f g same (base_of f r.base) (base_of g r.base) (base_told Layouts f g same r.base on.2) r.fields on.3)
-      ∙ ap (λ k. desc.Record (record r { fields = in_order by_place (placed g (base_of g r.base) r.fields); methods = numbered k r.methods; words = kept (f (ref.Named q)); procedures = c (ref.Named q) })) (base_told Layouts c h counts r.base on.2)
-      ∙ ap (λ k. desc.Record (record r { fields = in_order by_place (placed g (base_of g r.base) r.fields); methods = numbered (base_of h r.base) r.methods; words = kept k; procedures = c (ref.Named q) })) (same (ref.Named q) on.0)
-      ∙ ap (λ k. desc.Record (record r { fields = in_order by_place (placed g (base_of g r.base) r.fields); methods = numbered (base_of h r.base) r.methods; words = kept (g (ref.Named q)); procedures = k })) (counts (ref.Named q) on.0)
+      ap (λ fs. desc.Record (record r { fields = fs; methods = numbered (base_of c r.base) r.methods; words = kept (f (ref.Named q)); procedures = c (ref.Named q) })) (placed_told Layouts f g same (base_of f r.base) (base_of g r.base) (base_told Layouts f g same r.base on.2) r.fields on.3)
+      ∙ ap (λ k. desc.Record (record r { fields = placed g (base_of g r.base) r.fields; methods = numbered k r.methods; words = kept (f (ref.Named q)); procedures = c (ref.Named q) })) (base_told Layouts c h counts r.base on.2)
+      ∙ ap (λ k. desc.Record (record r { fields = placed g (base_of g r.base) r.fields; methods = numbered (base_of h r.base) r.methods; words = kept k; procedures = c (ref.Named q) })) (same (ref.Named q) on.0)
+      ∙ ap (λ k. desc.Record (record r { fields = placed g (base_of g r.base) r.fields; methods = numbered (base_of h r.base) r.methods; words = kept (g (ref.Named q)); procedures = k })) (counts (ref.Named q) on.0)
   laid_desc_told q (desc.Const v) on = refl
   laid_desc_told q (desc.Var k t) on = refl
   laid_desc_told q (desc.Proc s) on = refl
@@ -168,7 +152,7 @@ module _ (map other : Map) (m : Module) (Shapes Layouts : QName → Type 0) (agr
 
 module _ (map : Map) (m : Module) (Shapes Layouts : QName → Type 0) where
   type_read : (q : QName) (d : Desc) → TypeRead Shapes Layouts q d → TypeRead Shapes Layouts q (laid_desc (words_in map m) (procedures_in map m) q d)
-  type_read q (desc.Record r) on = (on.0, on.1, on.2, order_all by_place (λ x. On Layouts x.of) (placed (words_in map m) (base_of (words_in map m) r.base) r.fields) (placed_all (On Layouts) (words_in map m) (base_of (words_in map m) r.base) r.fields on.3))
+  type_read q (desc.Record r) on = (on.0, on.1, on.2, placed_all (On Layouts) (words_in map m) (base_of (words_in map m) r.base) r.fields on.3)
   type_read q (desc.Const v) on = on
   type_read q (desc.Var k t) on = on
   type_read q (desc.Proc s) on = on
@@ -199,9 +183,9 @@ module _ (map : Map) (m : Module) (Shapes Layouts : QName → Type 0) where
 
   laid_flat : (q : QName) (own : Bool) (d : Desc) → AllByRecursion (On Layouts) (flat_types own d) → AllByRecursion (On Layouts) (flat_types own (laid_desc (words_in map m) (procedures_in map m) q d))
   laid_flat q true (desc.Record r) all =
-      join_all (On Layouts) (listed r.base) (each (λ x. x.of) (in_order by_place (placed (words_in map m) (base_of (words_in map m) r.base) r.fields))) (front_all (On Layouts) (listed r.base) (each (λ x. x.of) r.fields) all)
-      (to_each (λ x. x.of) (On Layouts) (in_order by_place (placed (words_in map m) (base_of (words_in map m) r.base) r.fields)) (order_all by_place (λ x. On Layouts x.of) (placed (words_in map m) (base_of (words_in map m) r.base) r.fields)
-      (placed_all (On Layouts) (words_in map m) (base_of (words_in map m) r.base) r.fields (of_each (λ x. x.of) (On Layouts) r.fields (back_all (On Layouts) (listed r.base) (each (λ x. x.of) r.fields) all)))))
+      join_all (On Layouts) (listed r.base) (each (λ x. x.of) (placed (words_in map m) (base_of (words_in map m) r.base) r.fields)) (front_all (On Layouts) (listed r.base) (each (λ x. x.of) r.fields) all)
+      (to_each (λ x. x.of) (On Layouts) (placed (words_in map m) (base_of (words_in map m) r.base) r.fields)
+      (placed_all (On Layouts) (words_in map m) (base_of (words_in map m) r.base) r.fields (of_each (λ x. x.of) (On Layouts) r.fields (back_all (On Layouts) (listed r.base) (each (λ x. x.of) r.fields) all))))
   laid_flat q false (desc.Record r) all = all
   laid_flat q own (desc.Const v) all = all
   laid_flat q own (desc.Var k t) all = all

@@ -1,10 +1,7 @@
 -- What the rules see to, of a checked module, so that what counts is all that its layout and code read.
-use Rattle.std.specs.Prelude.{◌≡◌, true, false, List, [], ◌∷◌, Some, IsSome, bytes_eq}
+use Rattle.std.specs.Prelude.{◌≡◌, true, List, Some, IsSome}
 use Rattle.std.specs.List.{AllByRecursion}
 use Rattle.ob_tree.specs.declared.names.QName.{QName}
-use Rattle.ob_types.specs.declared.desc.Desc.{Desc}
-use Rattle.ob_types.specs.declared.desc.Desc.TheVariants as desc
-use Rattle.ob_types.specs.declared.desc.Field.{Field}
 use Rattle.ob_types.specs.TypedSyntax.{Module}
 use Rattle.ob_layout.specs.LaidOut.{type_named}
 use Rattle.ob_env.specs.Faces.{Face, described}
@@ -13,22 +10,11 @@ use Rattle.ob_local.specs.Agreeing.{IsNear}
 use Rattle.ob_local.specs.Laws.{Text, over, view, IsTied}
 use Rattle.ob_local.specs.Tied.{ModuleTied}
 
--- the fields of a record differ in name
-abbrev pub AreApart : List Field → Type 0
-AreApart [] = Unit {0}
-AreApart (f ∷ fs) = AllByRecursion (λ g. bytes_eq f.name g.name ≡ false) fs × AreApart fs
-
-abbrev pub FieldsApart : Desc → Type 0
-FieldsApart (desc.Record r) = AreApart r.fields
-FieldsApart d = Unit {0}
-
--- The tree is tied, what counts is there, each type of the module is the one of its name, and fields
--- of a record differ in name.
+-- The tree is tied, what counts is there, and each type of the module is the one of its name.
 pub record IsChecked (faces : List (Face Text)) (m : Module) : Type 0 where
   pub tied : ModuleTied (view faces m) m
   pub held : (q : QName) → IsNear (view faces m) (over faces m) q → is_imported m q ≡ true → IsSome (described faces q)
   pub types : AllByRecursion (λ t. type_named m.types t.name ≡ Some t.desc) m.types
-  pub fields : AllByRecursion (λ t. FieldsApart t.desc) m.types
 
 -- THE LAW: what counts is then all that layout and code read.
 abbrev pub CountsAreEnough : Type 0

@@ -10,7 +10,7 @@ ghost use Rattle.ob_local.specs.Laws.{ModulesAreLocal, ShapesAreTold};
 /// its uses is there, and its layout and code read nothing else (`IsTied`), symbol files can hold all
 /// these interfaces, and none of them is of the built-in module Out. And what those show to the rules
 /// of what counts is the same (`shown`). Layout and code read nothing but what counts, where the tree
-/// is tied to the types that it names (`specs/Tied.antt`), types and fields differ in name (`read`).
+/// is tied to the types that it names (`specs/Tied.antt`) and its types differ in name (`read`).
 pub fn modules_are_local()
     ensures same { ModulesAreLocal }
     ensures shown { ShapesAreTold }

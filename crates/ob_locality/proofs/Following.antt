@@ -28,8 +28,7 @@ use Rattle.ob_local.proofs.Whole.{modules_are_local}
 use Rattle.ob_local.proofs.Bridged.{counts_are_enough}
 use Rattle.ob_local.proofs.Blanked.{shapes_are_told}
 use Rattle.ob_locality.specs.Laws.{ShowAlike, RulesAreLocal, BuildsAreTied, LocalityFollows}
-use Rattle.ob_distinct.proofs.FieldBlocks.{fields_differ}
-use Rattle.ob_locality.proofs.Named.{found_all, types_apart}
+use Rattle.ob_locality.proofs.Named.{found_all}
 use Rattle.ob_locality.proofs.Walked.{have_none, have_no_root}
 use Rattle.ob_locality.proofs.Compiled.{ComesOf, comes_of, checked_name}
 
@@ -65,7 +64,6 @@ module _ (rules : RulesAreLocal) (are_tied : BuildsAreTied) (b : Build) (c : Com
         tied = k.tied;
         held = k.held;
         types = found_all t.types k.names;
-        fields = types_apart t.types (fields_differ (shown c.against) m t (comes_of b c m valid read).tree_is);
       }
 
   met : AreMet faces (face_from text_in c.against T).uses

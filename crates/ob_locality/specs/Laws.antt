@@ -30,8 +30,8 @@ RulesAreLocal = (b : Build) (c : Compiled Text) (m : Tree) (t : TypedModule) →
     IsChecked c.against (module_view t) → (others : List (Face Text)) → HaveNoOut c.against → HaveNoOut others → ShowAlike c.against others t →
     (checked (shown others) m ≡ Some t) × (first_break (shown others) m ≡ None)
 
--- What the rules see to of a checked module, beside that the fields of its records differ in name: the tree is tied to the types that
--- it names, what counts is there, and its types differ in name.
+-- What the rules see to of a checked module: the tree is tied to the types that it names, what counts is there, and its types differ in
+-- name.
 pub record IsTied (faces : List (Face Text)) (m : Module) : Type 0 where
   pub tied : ModuleTied (view faces m) m
   pub held : (q : QName) → IsNear (view faces m) (over faces m) q → is_imported m q ≡ true → IsSome (described faces q)

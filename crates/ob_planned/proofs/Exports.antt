@@ -20,7 +20,7 @@ use Rattle.ob_desc.specs.Grammar.{is_shown, seen, shape_text, layout_text, text_
 use Rattle.ob_fprint.specs.Print.{print_from}
 use Rattle.ob_obj.specs.declared.parts.Export.{Export}
 use Rattle.ob_env.specs.Faces.{Face, object_named, object_of, interface_of, printed}
-use Rattle.ob_uses.specs.Objects.{by_name, is_exported, constant_object, variable_object, procedure_object, type_object, types_among, reached_types, objects_of}
+use Rattle.ob_uses.specs.Objects.{by_name, is_exported, constant_object, variable_object, procedure_object, in_places, type_object, types_among, reached_types, objects_of}
 use Rattle.ob_planned.proofs.Orders.{all_in_order, order_strict}
 use Rattle.ob_uses.proofs.Objecting.{seen_twice}
 use Rattle.ob_compile.specs.Compiling.{layout_export, object_exports, exports_of}
@@ -117,7 +117,7 @@ objects_seen t =
     all_in_order by_name P (cs ++ vs ++ ps ++ ts)
     (all_joined P (cs ++ vs ++ ps) ts
     (all_joined P (cs ++ vs) ps (all_joined P cs vs (each_seen constant_object (λ c. refl) (filter (λ c. is_shown c.mark) t.constants)) (each_seen variable_object (λ v. refl) (filter (λ v. is_shown v.mark) t.variables))) (each_seen procedure_object (λ p. refl) (filter is_exported t.procedures)))
-    (each_seen type_object (λ x. seen_twice x.desc) (types_among t (reached_types t))))
+    (each_seen type_object (λ x. seen_twice (in_places x.desc)) (types_among t (reached_types t))))
 
 objects_sorted : (t : Module) → IsStrictlySortedBy by_name (objects_of t)
 objects_sorted t = order_strict (on_total (λ (o : Named). o.0) nat_list_cmp_total) (map constant_object (filter (λ c. is_shown c.mark) t.constants) ++ map variable_object (filter (λ v. is_shown v.mark) t.variables) ++ map procedure_object (filter is_exported t.procedures) ++ map type_object (types_among t (reached_types t)))

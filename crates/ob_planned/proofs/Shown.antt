@@ -26,7 +26,7 @@ use Rattle.ob_obj.specs.Grammar.{by_name as by_bytes}
 use Rattle.ob_meaning.specs.Commands.{is_hidden}
 use Rattle.ob_layout.specs.Lists.{put_before, put_in, in_order}
 use Rattle.ob_env.specs.Faces.{object_named}
-use Rattle.ob_uses.specs.Objects.{by_name, is_exported, constant_object, variable_object, procedure_object, type_object, types_among, reached_types, objects_of}
+use Rattle.ob_uses.specs.Objects.{by_name, is_exported, constant_object, variable_object, procedure_object, in_places, type_object, types_among, reached_types, objects_of}
 use Rattle.ob_code.specs.Context.{variable_place}
 use Rattle.ob_code.specs.Object.{is_seen, is_full, is_free, own, seen_variables, variables, commands_among, commands, record_in, records_in}
 use Rattle.ob_link.specs.Plan.{is_there}
@@ -189,7 +189,7 @@ module _ (types : QName → Option Desc) (m : Module) where
     type_more n x (desc.Pointer a t) rest h = h
     type_more n x (desc.ProcType a s) rest h = h
 
-    type_here : (x : List ℕ) (d : Desc) (rest : List RecordType) → is_record (seen d) ≡ true → has_type x (with_record x d rest) ≡ true
+    type_here : (x : List ℕ) (d : Desc) (rest : List RecordType) → is_record (seen (in_places d)) ≡ true → has_type x (with_record x d rest) ≡ true
     type_here x (desc.Record r) rest e = first_true (bytes_eq x x) (has_type x rest) (eq_itself x)
     type_here x (desc.Const v) rest e = absurd (false≢true e)
     type_here x (desc.Var a t) rest e = absurd (false≢true e)
@@ -200,16 +200,16 @@ module _ (types : QName → Option Desc) (m : Module) where
     type_here x (desc.Pointer a t) rest e = absurd (false≢true e)
     type_here x (desc.ProcType a s) rest e = absurd (false≢true e)
 
-    types_all : (ts : List TypedType) → AllByRecursion (λ t. is_record (seen t.desc) ≡ true → has_type t.name (records_in types m links ts) ≡ true) ts
+    types_all : (ts : List TypedType) → AllByRecursion (λ t. is_record (seen (in_places t.desc)) ≡ true → has_type t.name (records_in types m links ts) ≡ true) ts
     types_all [] = tt
     types_all (t ∷ ts) = (
       type_here t.name t.desc (records_in types m links ts),
-      all_map (λ u. is_record (seen u.desc) ≡ true → has_type u.name (records_in types m links ts) ≡ true) (λ u. is_record (seen u.desc) ≡ true → has_type u.name (records_in types m links (t ∷ ts)) ≡ true)
+      all_map (λ u. is_record (seen (in_places u.desc)) ≡ true → has_type u.name (records_in types m links ts) ≡ true) (λ u. is_record (seen (in_places u.desc)) ≡ true → has_type u.name (records_in types m links (t ∷ ts)) ≡ true)
           (λ u h e. type_more u.name t.name t.desc (records_in types m links ts) (h e)) ts (types_all ts),
     )
 
 -- a type is neither a variable nor a procedure
-no_variable : (d : Desc) → is_type d ≡ true → is_variable (seen d) ≡ true → ⊥
+no_variable : (d : Desc) → is_type d ≡ true → is_variable (seen (in_places d)) ≡ true → ⊥
 no_variable (desc.Const v) h e = false≢true e
 no_variable (desc.Var m t) h e = false≢true h
 no_variable (desc.Proc s) h e = false≢true e
@@ -220,7 +220,7 @@ no_variable (desc.Pointer n u) h e = false≢true e
 no_variable (desc.ProcType n s) h e = false≢true e
 no_variable (desc.Record r) h e = false≢true e
 
-no_procedure : (d : Desc) → is_type d ≡ true → is_procedure (seen d) ≡ true → ⊥
+no_procedure : (d : Desc) → is_type d ≡ true → is_procedure (seen (in_places d)) ≡ true → ⊥
 no_procedure (desc.Const v) h e = false≢true e
 no_procedure (desc.Var m t) h e = false≢true e
 no_procedure (desc.Proc s) h e = false≢true h
@@ -282,4 +282,4 @@ module _ (types : QName → Option Desc) (t : Module) (described : AllByRecursio
       (all_each constant_object _ (filter (λ c. is_shown c.mark) t.constants) (all_sure _ (λ c e. absurd (false≢true e)) (filter (λ c. is_shown c.mark) t.constants)))
       (all_each variable_object _ (filter (λ v. is_shown v.mark) t.variables) (all_sure _ (λ v e. absurd (false≢true e)) (filter (λ v. is_shown v.mark) t.variables)))
       (all_each procedure_object _ (filter is_exported t.procedures) (all_sure _ (λ p e. absurd (false≢true e)) (filter is_exported t.procedures)))
-      (all_each type_object _ (types_among t (reached_types t)) (types_kept t (λ x. is_record (seen x.desc) ≡ true → has_type x.name (records_in types t links t.types) ≡ true) (types_all types t links t.types))))
+      (all_each type_object _ (types_among t (reached_types t)) (types_kept t (λ x. is_record (seen (in_places x.desc)) ≡ true → has_type x.name (records_in types t links t.types) ≡ true) (types_all types t links t.types))))

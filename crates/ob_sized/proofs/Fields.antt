@@ -2,8 +2,6 @@
 use Rattle.std.proofs.Common.{◌≡◌, ◌≢◌, ℕ, ◌+◌, Bool, true, false, List, [], ◌∷◌, ◌++◌, map, Option, Some, None, refl, sym, ap, subst, ◌∙◌}
 use Rattle.std.specs.Prelude.{bytes_eq, if◌then◌else◌, codes, MatchOption}
 use Rattle.std.specs.List.{AllByRecursion}
-use Rattle.std.specs.declared.cmp.Ordering.{Ordering}
-use Rattle.std.specs.declared.cmp.Ordering.TheVariants as order
 use Rattle.ob_tree.specs.declared.names.QName.{QName}
 use Rattle.ob_types.specs.declared.types.TypeRef.{TypeRef}
 use Rattle.ob_types.specs.declared.desc.Desc.{Desc}
@@ -15,8 +13,6 @@ use Rattle.ob_types.specs.TypedSyntax.{Module}
 use Rattle.ob_types.specs.TypedView.{module_view}
 use Rattle.ob_meaning.specs.Values.{Program, type_named, description}
 use Rattle.ob_relation.proofs.Names.{bytes_sym}
-use Rattle.ob_desc.specs.Grammar.{by_place}
-use Rattle.ob_layout.specs.Lists.{put_before, put_in, in_order}
 use Rattle.ob_layout.specs.LaidOut.{base_of, words_in, procedures_in, placed, laid_desc, laid_type}
 use Rattle.ob_env.specs.Faces.{described}
 use Rattle.ob_rules.specs.Names.{is_out, out_string}
@@ -32,33 +28,7 @@ use Rattle.ob_joining.specs.Builds.{program_of}
 use Rattle.ob_sized.specs.Sizes.{FieldsHaveNames, NothingOfOut}
 use Rattle.ob_sized.proofs.Different.{build_comes}
 
--- ---- fields in another order
-
-fresh_put : (R : Field → Field → Ordering) (x : List ℕ) (f : Field) (fs : List Field) → x ≢ f.name → IsFreshName x fs → IsFreshName x (put_in R f fs)
-fresh_put R x f [] n h = (n, tt)
-fresh_put R x f (g ∷ gs) n h = by (R f g) (fresh_put R x f gs n h.1)
-  where
-    by : (o : Ordering) → IsFreshName x (put_in R f gs) → IsFreshName x (put_before o f g gs (put_in R f gs))
-    by order.Less k = (n, h)
-    by order.Equal k = h
-    by order.Greater k = (h.0, k)
-
-names_put : (R : Field → Field → Ordering) (f : Field) (fs : List Field) → IsFreshName f.name fs → HaveNames fs → HaveNames (put_in R f fs)
-names_put R f [] n h = (tt, tt)
-names_put R f (g ∷ gs) n h = by (R f g) (names_put R f gs n.1 h.1)
-  where
-    by : (o : Ordering) → HaveNames (put_in R f gs) → HaveNames (put_before o f g gs (put_in R f gs))
-    by order.Less k = (n, h)
-    by order.Equal k = h
-    by order.Greater k = (fresh_put R g.name f gs (λ e. n.0 (sym e)) h.0, k)
-
-fresh_ordered : (R : Field → Field → Ordering) (x : List ℕ) (fs : List Field) → IsFreshName x fs → IsFreshName x (in_order R fs)
-fresh_ordered R x [] h = tt
-fresh_ordered R x (f ∷ fs) h = fresh_put R x f (in_order R fs) h.0 (fresh_ordered R x fs h.1)
-
-names_ordered : (R : Field → Field → Ordering) (fs : List Field) → HaveNames fs → HaveNames (in_order R fs)
-names_ordered R [] h = tt
-names_ordered R (f ∷ fs) h = names_put R f (in_order R fs) (fresh_ordered R f.name fs h.0) (names_ordered R fs h.1)
+-- ---- fields with their places
 
 fresh_placed : (words : TypeRef → ℕ) (n : ℕ) (x : List ℕ) (fs : List Field) → AllByRecursion (λ f. f.name ≢ x) fs → IsFreshName x (placed words n fs)
 fresh_placed words n x [] h = tt
@@ -83,7 +53,7 @@ laid_names words procedures q (desc.Array m n t) h = tt
 laid_names words procedures q (desc.OpenArray m t) h = tt
 laid_names words procedures q (desc.Pointer m t) h = tt
 laid_names words procedures q (desc.ProcType m s) h = tt
-laid_names words procedures q (desc.Record r) h = names_ordered by_place (placed words (base_of words r.base) r.fields) (names_placed words (base_of words r.base) r.fields h)
+laid_names words procedures q (desc.Record r) h = names_placed words (base_of words r.base) r.fields h
 
 all_laid : (types : QName → Option Desc) (m : Module) (ts : List TypedType) → AreApart ts → AllByRecursion (λ t. HasNames t.desc) (map (laid_type types m) ts)
 all_laid types m [] h = tt

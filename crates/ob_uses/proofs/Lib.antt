@@ -4,7 +4,6 @@ pub mod Searching
 pub mod Leading
 pub mod Going
 pub mod Pairing
-pub mod Putting
 pub mod Looping
 pub mod Starting
 pub mod Objecting

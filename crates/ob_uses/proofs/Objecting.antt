@@ -29,7 +29,7 @@ use Rattle.ob_uses.specs.Entries.{by_entry, entry_of}
 use Rattle.ob_uses.specs.Objects.{by_name, own_names, first_shown, signature_of, is_exported, shown_types, reached_types, types_among, constant_object, variable_object, procedure_object, type_object, objects_of, HasOwnTypes}
 use Rattle.ob_uses.specs.Ways.{paired, has_pair, AreReached, leads_by, desc_leads}
 use Rattle.ob_uses.proofs.Leading.{filter_join, map_join}
-use Rattle.ob_uses.proofs.Putting.{order_each}
+use Rattle.ob_order.proofs.Putting.{order_each}
 use Rattle.ob_uses.proofs.Sorting.{Has}
 use Rattle.ob_uses.proofs.Searching.{known, no_both, itself, either, left_of, right_of, in_which, exact_here}
 use Rattle.ob_uses.proofs.Pairing.{has_of_among, kept_only}

@@ -3,6 +3,7 @@ pub mod Reaching
 pub mod Objects
 pub mod Order
 pub mod Entries
+pub mod Placed
 pub mod Uses
 pub mod Ways
 pub mod Made

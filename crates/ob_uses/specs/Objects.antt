@@ -16,7 +16,7 @@ use Rattle.ob_types.specs.declared.typed.TypedType.{TypedType}
 use Rattle.ob_types.specs.declared.typed.TypedVariable.{TypedVariable}
 use Rattle.ob_types.specs.TypedSyntax.{Procedure, Module}
 use Rattle.ob_types.specs.Maps.{listed, signature_types}
-use Rattle.ob_desc.specs.Grammar.{is_shown, seen}
+use Rattle.ob_desc.specs.Grammar.{is_shown, by_place, seen}
 use Rattle.ob_layout.specs.Lists.{in_order}
 use Rattle.ob_layout.specs.LaidOut.{type_named, is_own}
 use Rattle.ob_env.specs.Shown.{is_visible}
@@ -77,9 +77,14 @@ variable_object v = (v.name, desc.Var v.mark v.of)
 abbrev pub procedure_object : Procedure → List ℕ × Desc
 procedure_object p = (p.name, desc.Proc (signature_of p))
 
+-- a record with its fields in the order of their places, and at one place of their names
+abbrev pub in_places : Desc → Desc
+in_places (desc.Record r) = desc.Record (record r { fields = in_order by_place r.fields })
+in_places d = d
+
 -- without the fields and bound procedures that are not exported
 abbrev pub type_object : TypedType → List ℕ × Desc
-type_object t = (t.name, seen t.desc)
+type_object t = (t.name, seen (in_places t.desc))
 
 abbrev pub by_name : List ℕ × Desc → List ℕ × Desc → Ordering
 by_name a b = slice_cmp nat_cmp a.0 b.0

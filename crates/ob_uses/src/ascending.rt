@@ -3,6 +3,7 @@ ghost use Rattle.ob_layout.specs.Lists.{in_order};
 ghost use Rattle.ob_uses.specs.Entries.{by_entry};
 
 use crate::entry::Entry;
+use ob_order::ordered_set;
 use ob_tree::List;
 use ob_types::Object;
 use std::alloc::{AllocError, Global};
@@ -25,10 +26,7 @@ fn taken(alloc: Global, set: BTreeSet<Entry, Global>) -> Result<List<Object>, Al
 pub fn ascending(alloc: Global, found: Vec<Entry>) -> Result<List<Object>, AllocError>
     ensures { IfOk result (λ l. l ≡ each (λ e. e.object) (in_order by_entry found.items)) }
 {
-    let mut left = found;
-    let mut set = BTreeSet::new(alloc);
-    'entries: while let Some(entry) = left.pop() {
-        set.insert(entry)?;
-    }
-    taken(alloc, set)
+    let set = ordered_set(alloc, found)?;
+    let objects = taken(alloc, set)?;
+    Ok(objects)
 }

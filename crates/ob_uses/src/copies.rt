@@ -1,15 +1,20 @@
 ghost use Rattle.std.specs.Prelude.{◌≡◌, ◌++◌, ◌∷◌, [], OnOk, IfOk, map as each};
 ghost use Rattle.std.specs.List.{filter};
-ghost use Rattle.ob_desc.specs.Grammar.{is_shown, seen};
+ghost use Rattle.ob_desc.specs.Grammar.{is_shown, by_place, seen};
+ghost use Rattle.ob_layout.specs.Lists.{in_order};
 ghost use Rattle.ob_counts.specs.Counts.{mode_of};
-ghost use Rattle.ob_uses.specs.Objects.{formal_of};
+ghost use Rattle.ob_uses.specs.Objects.{formal_of, in_places};
+ghost use Rattle.ob_uses.specs.Placed.{to_field, as_placed};
 
 use crate::leads::shows;
+use crate::placed::Placed;
+use ob_order::ordered_set;
 use ob_tree::{List, Text};
 use ob_types::{
     Desc, Field, Method, Mode, Passing, RecordDesc, Signature, TypeRef, TypedParameter, Value,
 };
 use std::alloc::{AllocError, Global};
+use std::collections::BTreeSet;
 
 /// A copy of the type.
 pub fn copy_type(t: &TypeRef) -> Result<TypeRef, AllocError>
@@ -78,30 +83,60 @@ pub fn copy_value(alloc: Global, value: &Value) -> Result<Value, AllocError>
 
 // ---- what other modules see of a description
 
-fn add_field(all: &mut List<Field>, field: &Field) -> Result<(), AllocError>
-    ensures { OnOk result (all.new ≡ all.old ++ filter (λ f. is_shown f.mark) (field.now ∷ [])) }
+fn placed(field: &Field) -> Result<Placed, AllocError>
+    ensures { IfOk result (λ p. p ≡ as_placed field.now) }
 {
-    if !shows(field.mark) {
-        return Ok(());
-    }
     let of = copy_type(&field.of)?;
-    all.push(Field {
-        name: field.name,
-        mark: field.mark,
-        place: field.place,
-        of,
-    })?;
+    Ok(Placed {
+        field: Field {
+            name: field.name,
+            mark: field.mark,
+            place: field.place,
+            of,
+        },
+    })
+}
+
+fn all_placed(alloc: Global, fields: &[Field]) -> Result<Vec<Placed>, AllocError>
+    ensures { IfOk result (λ v. v.items ≡ each as_placed fields.now) }
+{
+    let mut all = Vec::new(alloc);
+    'fields: for field in fields {
+        let one = placed(field)?;
+        all.push(one)?;
+    }
+    Ok(all)
+}
+
+fn keep_shown(all: &mut List<Field>, field: Field) -> Result<(), AllocError>
+    ensures { OnOk result (all.new ≡ all.old ++ filter (λ f. is_shown f.mark) (field ∷ [])) }
+{
+    if shows(field.mark) {
+        all.push(field)?;
+    }
     Ok(())
 }
 
-fn seen_fields(alloc: Global, fields: &[Field]) -> Result<List<Field>, AllocError>
-    ensures { IfOk result (λ l. l ≡ filter (λ f. is_shown f.mark) fields.now) }
+fn shown_of(alloc: Global, set: BTreeSet<Placed, Global>) -> Result<List<Field>, AllocError>
+    ensures { IfOk result (λ l. l ≡ filter (λ f. is_shown f.mark) (each to_field set.keys)) }
 {
+    let mut left = set;
     let mut all = List::new(alloc);
-    'fields: for field in fields {
-        add_field(&mut all, field)?;
+    'items: while let Some(item) = left.pop_first() {
+        let Placed { field } = item;
+        keep_shown(&mut all, field)?;
     }
     Ok(all)
+}
+
+// The fields that are exported, in the order of their places.
+fn seen_fields(alloc: Global, fields: &[Field]) -> Result<List<Field>, AllocError>
+    ensures { IfOk result (λ l. l ≡ filter (λ f. is_shown f.mark) (in_order by_place fields.now)) }
+{
+    let found = all_placed(alloc, fields)?;
+    let set = ordered_set(alloc, found)?;
+    let fields = shown_of(alloc, set)?;
+    Ok(fields)
 }
 
 fn add_method(alloc: Global, all: &mut List<Method>, method: &Method) -> Result<(), AllocError>
@@ -131,9 +166,10 @@ fn seen_methods(alloc: Global, methods: &[Method]) -> Result<List<Method>, Alloc
     Ok(all)
 }
 
-/// A copy of a description without the fields and the bound procedures that are not exported.
+/// A copy of a description without the fields and the bound procedures that are not exported, the
+/// fields in the order of their places.
 pub fn seen_desc(alloc: Global, desc: &Desc) -> Result<Desc, AllocError>
-    ensures { IfOk result (λ d. d ≡ seen desc.now) }
+    ensures { IfOk result (λ d. d ≡ seen (in_places desc.now)) }
 {
     match desc {
         Desc::Const(value) => {

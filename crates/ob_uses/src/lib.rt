@@ -10,6 +10,7 @@ mod leads;
 mod objects;
 mod pair;
 mod pairs;
+mod placed;
 mod prints;
 mod search;
 mod sorted;

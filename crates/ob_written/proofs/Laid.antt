@@ -18,7 +18,7 @@ use Rattle.ob_desc.specs.Grammar.{by_place, by_number}
 use Rattle.ob_layout.specs.Words.{most_words}
 use Rattle.ob_layout.specs.LaidOut.{base_of, kept, placed, numbered, laid_desc, laid_type}
 use Rattle.ob_written.specs.Trees.{FieldIsSpelled, MethodIsSpelled, TypeIsSpelled, TypedTypeIsSpelled, IsSmall}
-use Rattle.ob_written.proofs.Lists.{all_map, all_in_order}
+use Rattle.ob_written.proofs.Lists.{all_map}
 
 pub places_total : IsTotalOrder by_place
 places_total = then_total (on_total (λ f. f.place) nat_cmp_total) (on_total (λ f. f.name) nat_list_cmp_total)
@@ -44,7 +44,7 @@ desc_spelled words procedures q (desc.Pointer m t) h = h
 desc_spelled words procedures q (desc.ProcType m s) h = h
 desc_spelled words procedures q (desc.Record r) h = record {
   base = h.base;
-  fields = all_in_order by_place FieldIsSpelled (placed words (base_of words r.base) r.fields) (placed_spelled words (base_of words r.base) r.fields h.fields);
+  fields = placed_spelled words (base_of words r.base) r.fields h.fields;
   methods = numbered_spelled (base_of procedures r.base) r.methods h.methods;
 }
 

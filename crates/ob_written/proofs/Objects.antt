@@ -19,10 +19,12 @@ use Rattle.ob_types.specs.declared.typed.TypedType.{TypedType}
 use Rattle.ob_types.specs.TypedSyntax.{Procedure, Module}
 use Rattle.ob_format.specs.Names.{is_object, object_name}
 use Rattle.ob_desc.specs.Grammar.{value_fits, type_fits, field, method, is_shown, by_place, by_number, seen, IsSpelled}
+use Rattle.ob_layout.specs.Lists.{in_order}
 use Rattle.ob_described.specs.Described.{is_whole}
-use Rattle.ob_uses.specs.Objects.{is_exported, by_name, constant_object, variable_object, procedure_object, type_object, types_among, reached_types, objects_of}
+use Rattle.ob_uses.specs.Objects.{is_exported, by_name, constant_object, variable_object, procedure_object, in_places, type_object, types_among, reached_types, objects_of}
 use Rattle.ob_written.specs.Trees.{IsNamed, FieldIsSpelled, MethodIsSpelled, TypeIsSpelled, ConstantIsSpelled, VariableIsSpelled, ProcedureIsSpelled, TypedTypeIsSpelled, IsLaid}
 use Rattle.ob_written.proofs.Lists.{all_map, all_each, all_joined, all_filtered, all_in_order, order_strict, both_all}
+use Rattle.ob_written.proofs.Laid.{places_total}
 use Rattle.ob_written.proofs.Names.{named_object, object_fits, is_object_of}
 
 -- ---- members of a record
@@ -49,7 +51,7 @@ methods_fit ps h k = all_filtered (λ p. is_shown p.mark) method.fits ps (all_ma
 -- ---- objects
 
 module _ (q : QName) (named : IsNamed q.«module») (object : is_object q.object ≡ true) where
-  type_spelled : (d : Desc) → TypeIsSpelled d → IsLaid d → IsSpelled q (seen d)
+  type_spelled : (d : Desc) → TypeIsSpelled d → IsLaid d → IsSpelled q (seen (in_places d))
   type_spelled (desc.Const v) h k = absurd h
   type_spelled (desc.Var m t) h k = absurd h
   type_spelled (desc.Proc s) h k = absurd h
@@ -62,8 +64,8 @@ module _ (q : QName) (named : IsNamed q.«module») (object : is_object q.object
     shape = (
       ((named, object), (tt, h.base)),
       (
-        (fields_fit r.fields h.fields k.places, methods_fit r.methods h.methods k.numbers),
-        (IsStrictlySortedBy-filter by_place (λ f. is_shown f.mark) r.fields k.fields, IsStrictlySortedBy-filter by_number (λ p. is_shown p.mark) r.methods k.methods),
+        (fields_fit (in_order by_place r.fields) (all_in_order by_place FieldIsSpelled r.fields h.fields) (all_in_order by_place (λ f. f.place < 2 ^ 31) r.fields k.places), methods_fit r.methods h.methods k.numbers),
+        (IsStrictlySortedBy-filter by_place (λ f. is_shown f.mark) (in_order by_place r.fields) (order_strict places_total r.fields), IsStrictlySortedBy-filter by_number (λ p. is_shown p.mark) r.methods k.methods),
       ),
     );
     layout = (k.words, k.procedures);

@@ -11,13 +11,12 @@ use Rattle.ob_types.specs.declared.desc.Desc.TheVariants as desc
 use Rattle.ob_types.specs.declared.desc.RecordDesc.{RecordDesc}
 use Rattle.ob_types.specs.declared.typed.TypedType.{TypedType}
 use Rattle.ob_types.specs.TypedSyntax.{Module}
-use Rattle.ob_desc.specs.Grammar.{by_place}
 use Rattle.ob_layout.specs.Words.{most_words}
 use Rattle.ob_layout.specs.LaidOut.{type_named, is_own, base_of, declared_procedures, counted, words_in, procedures_in, placed, numbered, laid_type, laid_out}
 use Rattle.ob_layout.specs.Room.{bound_procedures}
 use Rattle.ob_written.specs.Trees.{IsSmall, IsLaid}
-use Rattle.ob_written.proofs.Lists.{all_map, all_in_order, order_strict}
-use Rattle.ob_written.proofs.Laid.{places_total, kept_few, placed_few, few_small, numbers_below, numbers_rise}
+use Rattle.ob_written.proofs.Lists.{all_map}
+use Rattle.ob_written.proofs.Laid.{kept_few, placed_few, few_small, numbers_below, numbers_rise}
 
 pub eq_itself : (x : List ℕ) → bytes_eq x x ≡ true
 eq_itself x = (bytes_eq-Decides x x).1 refl
@@ -170,8 +169,7 @@ module _ (map_of : QName → Option Desc) (m : Module) where
           record {
             words = few_small _ (kept_few (words_in map_of m (ref.Named q)));
             procedures = few_small _ (omega (arith, n));
-            places = all_in_order by_place (λ f. IsSmall f.place) fs (all_map (λ f. f.place ≤ suc most_words) (λ f. IsSmall f.place) (λ f h. few_small f.place h) fs (placed_few (words_in map_of m) (base_of (words_in map_of m) r.base) r.fields));
-            fields = order_strict places_total fs;
+            places = all_map (λ f. f.place ≤ suc most_words) (λ f. IsSmall f.place) (λ f h. few_small f.place h) fs (placed_few (words_in map_of m) (base_of (words_in map_of m) r.base) r.fields);
             numbers = all_map (λ p. p.number < from + length r.methods) (λ p. IsSmall p.number) (λ p h. omega (arith, h, k, b)) (numbered from r.methods) (numbers_below from r.methods);
             methods = numbers_rise from r.methods;
           }

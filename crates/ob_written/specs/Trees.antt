@@ -14,7 +14,7 @@ use Rattle.ob_types.specs.declared.typed.TypedVariable.{TypedVariable}
 use Rattle.ob_types.specs.declared.typed.TypedType.{TypedType}
 use Rattle.ob_types.specs.TypedSyntax.{Procedure, Module}
 use Rattle.ob_format.specs.Names.{is_identifier, object_name}
-use Rattle.ob_desc.specs.Grammar.{type_fits, value_fits, signature, by_place, by_number}
+use Rattle.ob_desc.specs.Grammar.{type_fits, value_fits, signature, by_number}
 use Rattle.ob_described.specs.Described.{is_whole}
 use Rattle.ob_uses.specs.Objects.{signature_of, is_exported}
 
@@ -88,11 +88,10 @@ pub record RecordIsLaid (r : RecordDesc) : Type 0 where
   pub words : IsSmall r.words
   pub procedures : IsSmall r.procedures
   pub places : AllByRecursion (λ f. IsSmall f.place) r.fields
-  pub fields : IsStrictlySortedBy by_place r.fields
   pub numbers : AllByRecursion (λ p. IsSmall p.number) r.methods
   pub methods : IsStrictlySortedBy by_number r.methods
 
--- of a record: its sizes have a spelling, and its members are in their order
+-- of a record: its sizes have a spelling, and its bound procedures are in their order
 abbrev pub IsLaid : Desc → Type 0
 IsLaid (desc.Record r) = RecordIsLaid r
 IsLaid d = Unit {0}

@@ -5,13 +5,12 @@ use Rattle.ob_types.specs.declared.desc.Field.{Field}
 use Rattle.ob_types.specs.TypedView.{module_view}
 use Rattle.ob_env.specs.Faces.{faces_of, described}
 use Rattle.ob_layout.specs.LaidOut.{words_in}
-use Rattle.ob_laid.specs.declared.placed.Placed.{Placed}
-use Rattle.ob_laid.specs.Placed.{placed_behind, to_field}
+use Rattle.ob_laid.specs.Placed.{placed_behind}
 use Rattle.ob_laid.proofs.Keeping.{placed_step}
 use Rattle.ob_laid.proofs.records.placed_fields.Goals as goal
 
 pub fields-preserved : goal.fields-preserved
 fields-preserved c =
-    placed_step (words_in (described (faces_of c.args.view.now.env.now)) (module_view c.args.view.now.«module».now)) c.fields.all.items c.in_ok-one.one c.fields.at c.next_place-at.result c.args.fields.now c.fields.field-index c.field-item.result c.push.new.self.items
+    placed_step (words_in (described (faces_of c.args.view.now.env.now)) (module_view c.args.view.now.«module».now)) c.fields.all c.in_ok-one.one c.fields.at c.next_place-at.result c.args.fields.now c.fields.field-index c.field-item.result c.push.new.self
     (placed_behind (words_in (described (faces_of c.args.view.now.env.now)) (module_view c.args.view.now.«module».now)) c.args.from c.args.fields.now)
-    c.fields-test.true c.field-item.is c.fields.invariant c.in_ok-one.ensures c.in_ok-push.ensures.items c.next_place-at.ensures
+    c.fields-test.true c.field-item.is c.fields.invariant c.in_ok-one.ensures c.in_ok-push.ensures.ok c.next_place-at.ensures

@@ -2,7 +2,7 @@ ghost use Rattle.std.specs.Prelude.{◌≡◌, Some, refl};
 ghost use Rattle.std.specs.Ordering.{eq_by_cmp};
 ghost use Rattle.std.specs.Cmp.{eq_by_cmp_equiv, partial_order_from_agreeing_total};
 ghost use Rattle.std.specs.Cmp;
-ghost use Rattle.ob_laid.specs.Placed.{by_placed, placed_total};
+ghost use Rattle.ob_uses.specs.Placed.{by_placed, placed_total};
 
 use ob_types::Field;
 use std::cmp::Ordering;
