@@ -243,16 +243,16 @@ module _ (c : Compiled Text) (ruled : IsRuled c) (found : AllByRecursion (λ t. 
 
     used_at : (q : QName) → is_own c.tree q ≡ false → near q ≡ true → IsUsed before c.tree (described c.against) near q
     unfolding near
-    used_at q own i = by (described c.against q) refl
+    used_at q own i =
+        let h = both_true (is_imported c.tree q) (is_among reached q && is_described is_type (described c.against q)) i in
+        let k = both_true (is_among reached q) (is_described is_type (described c.against q)) h.1 in
+        by (described c.against q) refl k.0 k.1
       where
-        h = both_true (is_imported c.tree q) (is_among reached q && is_described is_type (described c.against q)) i
-        k = both_true (is_among reached q) (is_described is_type (described c.against q)) h.1
-
-        by : (o : Option Desc) → described c.against q ≡ o → IsUsed before c.tree (described c.against) near q
-        by None e = let bad : false ≡ true = sym (ap (is_described is_type) e) ∙ k.1 in absurd cc
-        by (Some d) e =
-            let ty : is_type d ≡ true = sym (ap (is_described is_type) e) ∙ k.1 in
-            let n = is_near q k.0 in
+        by : (o : Option Desc) → described c.against q ≡ o → is_among reached q ≡ true → is_described is_type (described c.against q) ≡ true → IsUsed before c.tree (described c.against) near q
+        by None e there kind = let bad : false ≡ true = sym (ap (is_described is_type) e) ∙ kind in absurd cc
+        by (Some d) e there kind =
+            let ty : is_type d ≡ true = sym (ap (is_described is_type) e) ∙ kind in
+            let n = is_near q there in
             let a = alike q d own n e ty in
             let v : types_of c q ≡ Some d = ap (λ (b : Bool). cond b (type_named c.tree.types q.object) (described c.against q)) own ∙ e in
             record {
