@@ -10,6 +10,7 @@ use Rattle.ob_types.specs.declared.desc.Desc.{Desc}
 use Rattle.ob_types.specs.declared.desc.Desc.TheVariants as desc
 use Rattle.ob_types.specs.declared.typed.TypedVariable.{TypedVariable}
 use Rattle.ob_types.specs.Maps.{is_type, IsHeld}
+use Rattle.ob_types.specs.Relations.{Is, is_open}
 use Rattle.ob_types.specs.TypedSyntax.{Module}
 use Rattle.ob_types.specs.TypedView.{module_view}
 use Rattle.ob_meaning.specs.Values.{Program, description}
@@ -24,7 +25,8 @@ use Rattle.ob_declares.specs.Near.{core}
 use Rattle.ob_declares.specs.Near as declares
 use Rattle.ob_declares.specs.Ordered.{StandsOver, StandInOrder}
 use Rattle.ob_declares.proofs.Near.{users_stand}
-use Rattle.ob_declares.proofs.Ordered.{all, view, has_more, view_held, held_more, program_sound}
+use Rattle.ob_declares.proofs.Keeping.{open_kind, kind_back}
+use Rattle.ob_declares.proofs.Ordered.{AreSound, has_more, view_held, held_more, in_order_sound, program_sound}
 use Rattle.ob_compile.specs.Compiling.{Compiled}
 use Rattle.ob_planned.proofs.Checked.{compiled_marked}
 use Rattle.ob_ages.specs.Builds.{Text, Build, IsValid, IsSpelled, of, shows_of, tree_of, name_of}
@@ -39,6 +41,8 @@ use Rattle.ob_locality.proofs.Walked.{have_none}
 use Rattle.ob_sized.proofs.Different.{build_comes}
 use Rattle.ob_ordered.specs.Loaded.{types_of, BuildsAreRuled, LoadedStand, LoadedFormsStay, LoadedValuesStay}
 use Rattle.ob_ordered.specs.Staying.{AreVariablesHeld}
+use Rattle.ob_ordered.specs.Sound.{AreVariablesClosed}
+use Rattle.ob_ordered.proofs.Closed.{all_closed}
 use Rattle.ob_ordered.proofs.Shown.{Showing, builds_show}
 use Rattle.ob_ordered.proofs.Staying.{record_stays, ordered_stay}
 use Rattle.ob_ordered.proofs.Used.{near, variables_near, are_used}
@@ -102,6 +106,20 @@ all_modules_held : (types larger : QName → Option Desc) → ((t : TypeRef) →
 all_modules_held types larger more [] h = tt
 all_modules_held types larger more (k ∷ ks) h = (all_held types larger more k.variables h.0, all_modules_held types larger more ks h.1)
 
+all_closed_on : (types larger : QName → Option Desc) → ((t : TypeRef) → IsHeld types t → (Is types is_open t → ⊥) → Is larger is_open t → ⊥) → (vs : List TypedVariable) → AllByRecursion (λ v. IsHeld types v.of) vs → AllByRecursion (λ v. Is types is_open v.of → ⊥) vs → AllByRecursion (λ v. Is larger is_open v.of → ⊥) vs
+all_closed_on types larger more [] h never = tt
+all_closed_on types larger more (v ∷ vs) h never = (more v.of h.0 never.0, all_closed_on types larger more vs h.1 never.1)
+
+all_modules_closed : (types larger : QName → Option Desc) → ((t : TypeRef) → IsHeld types t → (Is types is_open t → ⊥) → Is larger is_open t → ⊥) → (ks : List Module) → AllByRecursion (λ k. AllByRecursion (λ v. IsHeld types v.of) k.variables) ks → AllByRecursion (λ k. AllByRecursion (λ v. Is types is_open v.of → ⊥) k.variables) ks → AllByRecursion (λ k. AllByRecursion (λ v. Is larger is_open v.of → ⊥) k.variables) ks
+all_modules_closed types larger more [] h never = tt
+all_modules_closed types larger more (k ∷ ks) h never = (all_closed_on types larger more k.variables h.0 never.0, all_modules_closed types larger more ks h.1 never.1)
+
+-- types are sound, and those of variables are types, and no open arrays
+pub record Kept (program : Program) : Type 0 where
+  pub sound : AreSound program
+  pub held : AreVariablesHeld program
+  pub closed : AreVariablesClosed program
+
 -- what is near and held where the module was compiled is held in the program
 module _ (c : Compiled Text) (before : Program) (over : StandsOver before c.tree) (near : QName → Bool) (used : declares.AreUsed before c.tree (described c.against) near) where
   near_held : (t : TypeRef) → declares.IsNear c.tree near t → IsHeld (types_of c) t → IsHeld (description (before ++ c.tree ∷ [])) t
@@ -122,7 +140,7 @@ module _ (c : Compiled Text) (before : Program) (over : StandsOver before c.tree
 -- ---- one more
 
 module _ (written : BuildsAreWritten) (ruled : BuildsAreRuled) where
-  valid_of : (b : Build) (x : Compiled Text) → IsValid b x → IsValid b (of b)
+  pub valid_of : (b : Build) (x : Compiled Text) → IsValid b x → IsValid b (of b)
   valid_of b x v = subst (IsValid b) (sym (of_is b x v)) v
 
   module _ (b : Build) (x : Compiled Text) (v : IsValid b x) where
@@ -178,6 +196,27 @@ module _ (written : BuildsAreWritten) (ruled : BuildsAreRuled) where
         (variables_near (of b) (ruled b (of b) (valid_of b x v)) (found_all (tree_of b).types (ruled b (of b) (valid_of b x v)).names) types_are (spelled_here b x v) (no_out_here b x v) (shows_is b x v))
         (ruled b (of b) (valid_of b x v)).variables
 
+    closed_here : AllByRecursion (λ v. Is (description (program_of before ++ tree_of b ∷ [])) is_open v.of → ⊥) (tree_of b).variables
+    closed_here =
+        all_closed (of b) (program_of before) stands (near (of b) (ruled b (of b) (valid_of b x v)) (found_all (tree_of b).types (ruled b (of b) (valid_of b x v)).names) types_are (spelled_here b x v) (no_out_here b x v) (shows_is b x v)) used (ruled b (of b) (valid_of b x v)).grounded types_are (tree_of b).variables
+        (variables_near (of b) (ruled b (of b) (valid_of b x v)) (found_all (tree_of b).types (ruled b (of b) (valid_of b x v)).names) types_are (spelled_here b x v) (no_out_here b x v) (shows_is b x v))
+        (ruled b (of b) (valid_of b x v)).variables
+        (ruled b (of b) (valid_of b x v)).closed
+
+    kept_here : Kept (program_of before) → Kept (program_of before ++ tree_of b ∷ [])
+    kept_here kept =
+        let small = description (program_of before) in
+        let large = description (program_of before ++ tree_of b ∷ []) in
+        let more = has_more (program_of before) (tree_of b) stands in
+        record {
+          sound = in_order_sound (program_of before) (tree_of b ∷ []) kept.sound (stands, tt);
+          held = all_last (λ (j : Module). AllByRecursion (λ v. IsHeld large v.of) j.variables) (program_of before) (tree_of b) (all_modules_held small large (held_more small large more) (program_of before) kept.held) variables_here;
+          closed =
+              all_last (λ (j : Module). AllByRecursion (λ v. Is large is_open v.of → ⊥) j.variables) (program_of before) (tree_of b)
+              (all_modules_closed small large (kind_back small large (λ q d f ty. (d, (more q d f, inl refl))) kept.sound.held is_open open_kind) (program_of before) kept.held kept.closed)
+              closed_here;
+        }
+
   -- ---- all
 
   stand_all : (before bs : List Build) → Before before → AreTogether before bs → StandInOrder (program_of before) (program_of bs)
@@ -188,13 +227,10 @@ module _ (written : BuildsAreWritten) (ruled : BuildsAreRuled) where
   append_none [] = refl
   append_none (y ∷ ys) = ap (λ r. y ∷ r) (append_none ys)
 
-  held_all : (before bs : List Build) → Before before → AreVariablesHeld (program_of before) → AreTogether before bs → AreVariablesHeld (program_of (before ++ bs))
-  held_all before [] k held h = subst (λ xs. AreVariablesHeld (program_of xs)) (sym (append_none before)) held
-  held_all before (b ∷ bs) k held h =
-      let over = stands before b k h.0 in
-      let kept = all_modules_held (description (program_of before)) (description (program_of before ++ tree_of b ∷ [])) (held_more (description (program_of before)) (description (program_of before ++ tree_of b ∷ [])) (has_more (program_of before) (tree_of b) over)) (program_of before) held in
-      let one : AreVariablesHeld (program_of before ++ tree_of b ∷ []) = all_last (λ (j : Module). AllByRecursion (λ v. IsHeld (description (program_of before ++ tree_of b ∷ [])) v.of) j.variables) (program_of before) (tree_of b) kept (variables_here before b k h.0) in
-      subst (λ xs. AreVariablesHeld (program_of xs)) (append_assoc before (b ∷ []) bs) (held_all (before ++ b ∷ []) bs (before_more before b k h.0) (subst AreVariablesHeld (sym (map_last tree_of before b)) one) h.1)
+  kept_all : (before bs : List Build) → Before before → Kept (program_of before) → AreTogether before bs → Kept (program_of (before ++ bs))
+  kept_all before [] k kept h = subst (λ xs. Kept (program_of xs)) (sym (append_none before)) kept
+  kept_all before (b ∷ bs) k kept h =
+      subst (λ xs. Kept (program_of xs)) (append_assoc before (b ∷ []) bs) (kept_all (before ++ b ∷ []) bs (before_more before b k h.0) (subst Kept (sym (map_last tree_of before b)) (kept_here before b k h.0 kept)) h.1)
 
   none : Before []
   none = record { showing = tt; spelled = tt; out = tt }
@@ -202,8 +238,8 @@ module _ (written : BuildsAreWritten) (ruled : BuildsAreRuled) where
   pub in_order : (bs : List Build) → AreTogether [] bs → StandInOrder [] (program_of bs)
   in_order bs h = stand_all [] bs none h
 
-  pub variables_held : (bs : List Build) → AreTogether [] bs → AreVariablesHeld (program_of bs)
-  variables_held bs h = held_all [] bs none tt h
+  pub kept_in : (bs : List Build) → AreTogether [] bs → Kept (program_of bs)
+  kept_in bs h = kept_all [] bs none (record { sound = program_sound [] tt; held = tt; closed = tt }) h
 
 together_front : (before bs : List Build) (b : Build) → AreTogether before (bs ++ b ∷ []) → AreTogether before bs
 together_front before [] b h = tt
@@ -215,7 +251,7 @@ loaded_stand written ruled bs l = in_order written ruled bs l.together
 pub loaded_forms_stay : LoadedFormsStay
 loaded_forms_stay written ruled bs b l =
     let t = together_front [] bs b l.together in
-    ordered_stay (program_of bs) (in_order written ruled bs t) (variables_held written ruled bs t) (tree_of b)
+    ordered_stay (program_of bs) (in_order written ruled bs t) (kept_in written ruled bs t).held (tree_of b)
 
 pub loaded_values_stay : LoadedValuesStay
 loaded_values_stay written ruled bs b l =

@@ -108,7 +108,7 @@ same_some : (d e : Desc) → Some d ≡ Some e → d ≡ e
 same_some d e h = cc
 
 -- what is near is named
-near_named : (P : TypeRef → Type 0) (d : Desc) → is_type d ≡ true → AllByRecursion P (named_by d) → AllByRecursion P (near_types d)
+pub near_named : (P : TypeRef → Type 0) (d : Desc) → is_type d ≡ true → AllByRecursion P (named_by d) → AllByRecursion P (near_types d)
 near_named P (desc.Const v) ty h = absurd cc
 near_named P (desc.Var m t) ty h = absurd cc
 near_named P (desc.Proc s) ty h = absurd cc

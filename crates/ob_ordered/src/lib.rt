@@ -2,7 +2,8 @@
 //! them with one more behind.
 #![tactic(auto)]
 
-ghost use Rattle.ob_ordered.specs.Loaded.{LoadedFormsStay, LoadedStand, LoadedValuesStay};
+ghost use Rattle.ob_ordered.specs.Loaded.{LoadedAreSound, LoadedFormsStay, LoadedStand, LoadedValuesStay, LoadedVariables};
+ghost use Rattle.ob_ordered.specs.Sound.{OrderedDescribe, VariablesHaveForms};
 ghost use Rattle.ob_ordered.specs.Staying.{OrderedStay};
 
 /// A law, with nothing to run. Each module of builds that are loaded together stands over those
@@ -20,4 +21,15 @@ pub fn loaded_stay()
     ensures ordered { OrderedStay }
     ensures forms { LoadedFormsStay }
     ensures values { LoadedValuesStay }
+{}
+
+/// A law, with nothing to run. Where the bound procedures that records introduce are there
+/// (`BoundAreThere`), the types of builds that are loaded together are sound, and the variables of
+/// their modules can have first values, in the words of `Owed`. And the declarations of a sound
+/// program whose modules are laid out in order describe its types (`IsDescribed` of ob_standing).
+pub fn loaded_are_sound()
+    ensures sound { LoadedAreSound }
+    ensures forms { VariablesHaveForms }
+    ensures variables { LoadedVariables }
+    ensures described { OrderedDescribe }
 {}
