@@ -1,0 +1,258 @@
+-- The modules of builds that are loaded together stand in order.
+use Rattle.std.proofs.Common.{◌≡◌, ◌≢◌, ℕ, Bool, true, false, List, [], ◌∷◌, ◌++◌, map as each, Option, Some, None, refl, sym, ap, subst, ◌∙◌, inl, inr, append_assoc}
+use Rattle.std.proofs.lemmas.Bool.{false≢true}
+use Rattle.std.specs.Prelude.{◌||◌, Contains, cond, codes, MatchOption, IsTrue}
+use Rattle.std.specs.List.{AllByRecursion}
+use Rattle.ob_tree.specs.declared.names.QName.{QName}
+use Rattle.ob_types.specs.declared.types.TypeRef.{TypeRef}
+use Rattle.ob_types.specs.declared.types.TypeRef.TheVariants as ref
+use Rattle.ob_types.specs.declared.desc.Desc.{Desc}
+use Rattle.ob_types.specs.declared.desc.Desc.TheVariants as desc
+use Rattle.ob_types.specs.declared.typed.TypedVariable.{TypedVariable}
+use Rattle.ob_types.specs.Maps.{is_type, IsHeld}
+use Rattle.ob_types.specs.Relations.{Is, is_open}
+use Rattle.ob_types.specs.TypedSyntax.{Module}
+use Rattle.ob_types.specs.TypedView.{module_view}
+use Rattle.ob_meaning.specs.Values.{Program, description}
+use Rattle.ob_layout.specs.LaidOut.{type_named, is_own, viewed}
+use Rattle.ob_env.specs.Faces.{Face, described, text_in}
+use Rattle.ob_rules.specs.Names.{is_out}
+use Rattle.ob_uses.specs.Made.{face_of_laid}
+use Rattle.ob_uses.specs.Objects.{objects_of}
+use Rattle.ob_distinct.proofs.Blocks.{not_out}
+use Rattle.ob_local.specs.Laws.{AreSpelled, HaveNoOut}
+use Rattle.ob_declares.specs.Near.{core}
+use Rattle.ob_declares.specs.Near as declares
+use Rattle.ob_declares.specs.Ordered.{StandsOver, StandInOrder}
+use Rattle.ob_declares.proofs.Near.{users_stand}
+use Rattle.ob_declares.proofs.Keeping.{open_kind, kind_back}
+use Rattle.ob_declares.proofs.Ordered.{AreSound, has_more, view_held, held_more, in_order_sound, program_sound}
+use Rattle.ob_compile.specs.Compiling.{Compiled}
+use Rattle.ob_planned.proofs.Checked.{compiled_marked}
+use Rattle.ob_ages.specs.Builds.{Text, Build, IsValid, IsSpelled, of, shows_of, tree_of, name_of}
+use Rattle.ob_ages.specs.Laws.{AreTogether, IsBehind, BuildsAreWritten}
+use Rattle.ob_ages.proofs.Members.{In, to_in, has_head, has_more as has_behind}
+use Rattle.ob_ages.proofs.Stood.{of_is}
+use Rattle.ob_joining.specs.Builds.{program_of}
+use Rattle.ob_valued.proofs.Stays.{values_stay}
+use Rattle.ob_locality.proofs.Compiled.{comes_of}
+use Rattle.ob_locality.proofs.Named.{found_all}
+use Rattle.ob_locality.proofs.Walked.{have_none}
+use Rattle.ob_sized.proofs.Different.{build_comes}
+use Rattle.ob_ordered.specs.Loaded.{types_of, BuildsAreRuled, LoadedStand, LoadedFormsStay, LoadedValuesStay}
+use Rattle.ob_ordered.specs.Staying.{AreVariablesHeld}
+use Rattle.ob_ordered.specs.Sound.{AreVariablesClosed}
+use Rattle.ob_ordered.proofs.Closed.{all_closed}
+use Rattle.ob_ordered.proofs.Shown.{Showing, builds_show}
+use Rattle.ob_ordered.proofs.Staying.{record_stays, ordered_stay}
+use Rattle.ob_ordered.proofs.Used.{near, variables_near, are_used}
+
+-- ---- lists
+
+map_last : {A B : Type 0} (f : A → B) (xs : List A) (x : A) → each f (xs ++ x ∷ []) ≡ each f xs ++ f x ∷ []
+map_last f [] x = refl
+map_last f (y ∷ ys) x = ap (λ r. f y ∷ r) (map_last f ys x)
+
+all_last : {A : Type 0} (P : A → Type 0) (xs : List A) (x : A) → AllByRecursion P xs → P x → AllByRecursion P (xs ++ x ∷ [])
+all_last P [] x h p = (p, tt)
+all_last P (y ∷ ys) x h p = (h.0, all_last P ys x h.1 p)
+
+-- ---- the builds before one
+
+abbrev IsNotOut : Face Text → Type 0
+IsNotOut f = is_out f.«module» ≡ false
+
+record Before (before : List Build) : Type 0 where
+  showing : AllByRecursion Showing before
+  spelled : AllByRecursion IsSpelled (each shows_of before)
+  out : AllByRecursion IsNotOut (each shows_of before)
+
+none_out : (fs : List (Face Text)) → AllByRecursion IsNotOut fs → In (each (λ (f : Face Text). f.«module») fs) (codes "Out") → ⊥
+none_out [] h i = i
+none_out (f ∷ fs) h (inl e) = false≢true (sym h.0 ∙ ap is_out e)
+none_out (f ∷ fs) h (inr i) = none_out fs h.1 i
+
+have_no_out : (fs : List (Face Text)) → AllByRecursion IsNotOut fs → HaveNoOut fs
+have_no_out fs h c = none_out fs h (to_in (each (λ (f : Face Text). f.«module») fs) (codes "Out") c)
+
+names_fresh : (n : List ℕ) (xs : List Build) → AllByRecursion Showing xs → (Contains (each name_of xs) n → ⊥) → AllByRecursion (λ (k : Module). k.name ≢ n) (program_of xs)
+names_fresh n [] h never = tt
+names_fresh n (x ∷ xs) h never = (
+  λ e. never (subst (Contains (name_of x ∷ each name_of xs)) (h.0.name ∙ e) (has_head (name_of x) (each name_of xs))),
+  names_fresh n xs h.1 (λ c. never (has_behind (name_of x) (each name_of xs) n c)),
+)
+
+-- ---- types of variables
+
+core_type : (d : Desc) → is_type (core d) ≡ is_type d
+core_type (desc.Const v) = refl
+core_type (desc.Var m t) = refl
+core_type (desc.Proc s) = refl
+core_type (desc.Alias m t) = refl
+core_type (desc.Array m n t) = refl
+core_type (desc.OpenArray m t) = refl
+core_type (desc.Pointer m t) = refl
+core_type (desc.ProcType m s) = refl
+core_type (desc.Record r) = refl
+
+abbrev IsTypeIn : Option Desc → Type 0
+IsTypeIn o = MatchOption o ⊥ (λ d. IsTrue (is_type d))
+
+all_held : (types larger : QName → Option Desc) → ((t : TypeRef) → IsHeld types t → IsHeld larger t) → (vs : List TypedVariable) → AllByRecursion (λ v. IsHeld types v.of) vs → AllByRecursion (λ v. IsHeld larger v.of) vs
+all_held types larger more [] h = tt
+all_held types larger more (v ∷ vs) h = (more v.of h.0, all_held types larger more vs h.1)
+
+all_modules_held : (types larger : QName → Option Desc) → ((t : TypeRef) → IsHeld types t → IsHeld larger t) → (ks : List Module) → AllByRecursion (λ k. AllByRecursion (λ v. IsHeld types v.of) k.variables) ks → AllByRecursion (λ k. AllByRecursion (λ v. IsHeld larger v.of) k.variables) ks
+all_modules_held types larger more [] h = tt
+all_modules_held types larger more (k ∷ ks) h = (all_held types larger more k.variables h.0, all_modules_held types larger more ks h.1)
+
+all_closed_on : (types larger : QName → Option Desc) → ((t : TypeRef) → IsHeld types t → (Is types is_open t → ⊥) → Is larger is_open t → ⊥) → (vs : List TypedVariable) → AllByRecursion (λ v. IsHeld types v.of) vs → AllByRecursion (λ v. Is types is_open v.of → ⊥) vs → AllByRecursion (λ v. Is larger is_open v.of → ⊥) vs
+all_closed_on types larger more [] h never = tt
+all_closed_on types larger more (v ∷ vs) h never = (more v.of h.0 never.0, all_closed_on types larger more vs h.1 never.1)
+
+all_modules_closed : (types larger : QName → Option Desc) → ((t : TypeRef) → IsHeld types t → (Is types is_open t → ⊥) → Is larger is_open t → ⊥) → (ks : List Module) → AllByRecursion (λ k. AllByRecursion (λ v. IsHeld types v.of) k.variables) ks → AllByRecursion (λ k. AllByRecursion (λ v. Is types is_open v.of → ⊥) k.variables) ks → AllByRecursion (λ k. AllByRecursion (λ v. Is larger is_open v.of → ⊥) k.variables) ks
+all_modules_closed types larger more [] h never = tt
+all_modules_closed types larger more (k ∷ ks) h never = (all_closed_on types larger more k.variables h.0 never.0, all_modules_closed types larger more ks h.1 never.1)
+
+-- types are sound, and those of variables are types, and no open arrays
+pub record Kept (program : Program) : Type 0 where
+  pub sound : AreSound program
+  pub held : AreVariablesHeld program
+  pub closed : AreVariablesClosed program
+
+-- what is near and held where the module was compiled is held in the program
+module _ (c : Compiled Text) (before : Program) (over : StandsOver before c.tree) (near : QName → Bool) (used : declares.AreUsed before c.tree (described c.against) near) where
+  near_held : (t : TypeRef) → declares.IsNear c.tree near t → IsHeld (types_of c) t → IsHeld (description (before ++ c.tree ∷ [])) t
+  near_held (ref.Basic b) n h = tt
+  near_held (ref.Named q) n h = by (is_own c.tree q) refl
+    where
+      by : (b : Bool) → is_own c.tree q ≡ b → IsHeld (description (before ++ c.tree ∷ [])) (ref.Named q)
+      by true e = view_held before c.tree over (ref.Named q) (subst (λ (b : Bool). IsTypeIn (cond b (type_named c.tree.types q.object) (over.others q))) (sym e) (subst (λ (b : Bool). IsTypeIn (cond b (type_named c.tree.types q.object) (described c.against q))) e h))
+      by false e =
+          let u = used.others q e (ap (λ (b : Bool). b || near q) (sym e) ∙ n) in
+          let ty : is_type u.e ≡ true = sym (core_type u.e) ∙ ap is_type u.alike ∙ core_type u.d ∙ u.type in
+          held_more (description before) (description (before ++ c.tree ∷ [])) (has_more before c.tree over) (ref.Named q) (subst IsTypeIn (sym u.has) ty)
+
+  all_near_held : (vs : List TypedVariable) → AllByRecursion (λ v. declares.IsNear c.tree near v.of) vs → AllByRecursion (λ v. IsHeld (types_of c) v.of) vs → AllByRecursion (λ v. IsHeld (description (before ++ c.tree ∷ [])) v.of) vs
+  all_near_held [] n h = tt
+  all_near_held (v ∷ vs) n h = (near_held v.of n.0 h.0, all_near_held vs n.1 h.1)
+
+-- ---- one more
+
+module _ (written : BuildsAreWritten) (ruled : BuildsAreRuled) where
+  pub valid_of : (b : Build) (x : Compiled Text) → IsValid b x → IsValid b (of b)
+  valid_of b x v = subst (IsValid b) (sym (of_is b x v)) v
+
+  module _ (b : Build) (x : Compiled Text) (v : IsValid b x) where
+    shows_is : (of b).shows ≡ face_of_laid (text_in (of b).against) (of b).against (of b).tree
+    shows_is = subst (λ (y : Compiled Text). y.shows ≡ face_of_laid (text_in y.against) y.against y.tree) (sym (build_comes b x v).is) refl
+
+    not_out_here : is_out (tree_of b).name ≡ false
+    not_out_here = let k = build_comes b x v in subst (λ (y : Compiled Text). is_out y.tree.name ≡ false) (sym k.is) (not_out _ k.tree k.module_is k.checked_is)
+
+    showing : Showing b
+    showing = record {
+      name = ap (λ (f : Face Text). f.«module») shows_is;
+      objects = ap (λ (f : Face Text). f.objects) shows_is;
+      types = (ruled b (of b) (valid_of b x v)).names;
+    }
+
+    spelled_here : AreSpelled (of b).against
+    spelled_here = let w = valid_of b x v in subst (λ fs. AllByRecursion IsSpelled fs) (sym w.whole) w.spelled
+
+    no_out_here : HaveNoOut (of b).against
+    no_out_here = let k = build_comes b x v in have_none k.tree.name.name (of b).against (comes_of b (of b) k.tree (valid_of b x v) k.read).clean
+
+  before_more : (before : List Build) (b : Build) → Before before → IsBehind before b → Before (before ++ b ∷ [])
+  before_more before b k h =
+      let s = showing b h.valid.0 h.valid.1 in
+      let e : each shows_of before ++ shows_of b ∷ [] ≡ each shows_of (before ++ b ∷ []) = sym (map_last shows_of before b) in
+      record {
+        showing = all_last Showing before b k.showing s;
+        spelled = subst (λ fs. AllByRecursion IsSpelled fs) e (all_last IsSpelled (each shows_of before) (shows_of b) k.spelled (written b (of b) (valid_of b h.valid.0 h.valid.1)).symbols);
+        out = subst (λ fs. AllByRecursion IsNotOut fs) e (all_last IsNotOut (each shows_of before) (shows_of b) k.out (ap is_out s.name ∙ not_out_here b h.valid.0 h.valid.1));
+      }
+
+  module _ (before : List Build) (b : Build) (k : Before before) (h : IsBehind before b) where
+    abbrev x : Compiled Text
+    x = h.valid.0
+
+    abbrev v : IsValid b x
+    v = h.valid.1
+
+    types_are : AllByRecursion (λ t. is_type t.desc ≡ true) (tree_of b).types
+    types_are = let w = valid_of b x v in (compiled_marked _ _ (of b) w.is).types
+
+    -- it uses what those before it declare
+    used : declares.AreUsed (program_of before) (tree_of b) (described (of b).against) (near (of b) (ruled b (of b) (valid_of b x v)) (found_all (tree_of b).types (ruled b (of b) (valid_of b x v)).names) types_are (spelled_here b x v) (no_out_here b x v) (shows_is b x v))
+    used = are_used (of b) (ruled b (of b) (valid_of b x v)) (found_all (tree_of b).types (ruled b (of b) (valid_of b x v)).names) types_are (spelled_here b x v) (no_out_here b x v) (shows_is b x v) (program_of before) (each shows_of before) k.spelled (have_no_out (each shows_of before) k.out) h.uses (builds_show before k.showing)
+
+    stands : StandsOver (program_of before) (tree_of b)
+    stands = users_stand (program_of before) (tree_of b) (described (of b).against) (near (of b) (ruled b (of b) (valid_of b x v)) (found_all (tree_of b).types (ruled b (of b) (valid_of b x v)).names) types_are (spelled_here b x v) (no_out_here b x v) (shows_is b x v)) (names_fresh (tree_of b).name before k.showing (subst (λ (n : List ℕ). Contains (each name_of before) n → ⊥) (showing b x v).name h.new)) types_are (ruled b (of b) (valid_of b x v)).grounded used
+
+    variables_here : AllByRecursion (λ v. IsHeld (description (program_of before ++ tree_of b ∷ [])) v.of) (tree_of b).variables
+    variables_here =
+        all_near_held (of b) (program_of before) stands (near (of b) (ruled b (of b) (valid_of b x v)) (found_all (tree_of b).types (ruled b (of b) (valid_of b x v)).names) types_are (spelled_here b x v) (no_out_here b x v) (shows_is b x v)) used (tree_of b).variables
+        (variables_near (of b) (ruled b (of b) (valid_of b x v)) (found_all (tree_of b).types (ruled b (of b) (valid_of b x v)).names) types_are (spelled_here b x v) (no_out_here b x v) (shows_is b x v))
+        (ruled b (of b) (valid_of b x v)).variables
+
+    closed_here : AllByRecursion (λ v. Is (description (program_of before ++ tree_of b ∷ [])) is_open v.of → ⊥) (tree_of b).variables
+    closed_here =
+        all_closed (of b) (program_of before) stands (near (of b) (ruled b (of b) (valid_of b x v)) (found_all (tree_of b).types (ruled b (of b) (valid_of b x v)).names) types_are (spelled_here b x v) (no_out_here b x v) (shows_is b x v)) used (ruled b (of b) (valid_of b x v)).grounded types_are (tree_of b).variables
+        (variables_near (of b) (ruled b (of b) (valid_of b x v)) (found_all (tree_of b).types (ruled b (of b) (valid_of b x v)).names) types_are (spelled_here b x v) (no_out_here b x v) (shows_is b x v))
+        (ruled b (of b) (valid_of b x v)).variables
+        (ruled b (of b) (valid_of b x v)).closed
+
+    kept_here : Kept (program_of before) → Kept (program_of before ++ tree_of b ∷ [])
+    kept_here kept =
+        let small = description (program_of before) in
+        let large = description (program_of before ++ tree_of b ∷ []) in
+        let more = has_more (program_of before) (tree_of b) stands in
+        record {
+          sound = in_order_sound (program_of before) (tree_of b ∷ []) kept.sound (stands, tt);
+          held = all_last (λ (j : Module). AllByRecursion (λ v. IsHeld large v.of) j.variables) (program_of before) (tree_of b) (all_modules_held small large (held_more small large more) (program_of before) kept.held) variables_here;
+          closed =
+              all_last (λ (j : Module). AllByRecursion (λ v. Is large is_open v.of → ⊥) j.variables) (program_of before) (tree_of b)
+              (all_modules_closed small large (kind_back small large (λ q d f ty. (d, (more q d f, inl refl))) kept.sound.held is_open open_kind) (program_of before) kept.held kept.closed)
+              closed_here;
+        }
+
+  -- ---- all
+
+  stand_all : (before bs : List Build) → Before before → AreTogether before bs → StandInOrder (program_of before) (program_of bs)
+  stand_all before [] k h = tt
+  stand_all before (b ∷ bs) k h = (stands before b k h.0, subst (λ p. StandInOrder p (program_of bs)) (map_last tree_of before b) (stand_all (before ++ b ∷ []) bs (before_more before b k h.0) h.1))
+
+  append_none : (xs : List Build) → xs ++ [] ≡ xs
+  append_none [] = refl
+  append_none (y ∷ ys) = ap (λ r. y ∷ r) (append_none ys)
+
+  kept_all : (before bs : List Build) → Before before → Kept (program_of before) → AreTogether before bs → Kept (program_of (before ++ bs))
+  kept_all before [] k kept h = subst (λ xs. Kept (program_of xs)) (sym (append_none before)) kept
+  kept_all before (b ∷ bs) k kept h =
+      subst (λ xs. Kept (program_of xs)) (append_assoc before (b ∷ []) bs) (kept_all (before ++ b ∷ []) bs (before_more before b k h.0) (subst Kept (sym (map_last tree_of before b)) (kept_here before b k h.0 kept)) h.1)
+
+  none : Before []
+  none = record { showing = tt; spelled = tt; out = tt }
+
+  pub in_order : (bs : List Build) → AreTogether [] bs → StandInOrder [] (program_of bs)
+  in_order bs h = stand_all [] bs none h
+
+  pub kept_in : (bs : List Build) → AreTogether [] bs → Kept (program_of bs)
+  kept_in bs h = kept_all [] bs none (record { sound = program_sound [] tt; held = tt; closed = tt }) h
+
+together_front : (before bs : List Build) (b : Build) → AreTogether before (bs ++ b ∷ []) → AreTogether before bs
+together_front before [] b h = tt
+together_front before (x ∷ bs) b h = (h.0, together_front (before ++ x ∷ []) bs b h.1)
+
+pub loaded_stand : LoadedStand
+loaded_stand written ruled bs l = in_order written ruled bs l.together
+
+pub loaded_forms_stay : LoadedFormsStay
+loaded_forms_stay written ruled bs b l =
+    let t = together_front [] bs b l.together in
+    ordered_stay (program_of bs) (in_order written ruled bs t) (kept_in written ruled bs t).held (tree_of b)
+
+pub loaded_values_stay : LoadedValuesStay
+loaded_values_stay written ruled bs b l =
+    values_stay (program_of bs) (tree_of b) (record_stays (program_of bs) (tree_of b) (program_sound (program_of bs) (in_order written ruled bs (together_front [] bs b l.together))))

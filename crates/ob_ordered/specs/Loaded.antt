@@ -1,0 +1,80 @@
+-- Builds that are loaded together: their modules stand in order, and what is so of some is so of them with one more behind.
+use Rattle.std.specs.Prelude.{◌≡◌, true, List, [], ◌∷◌, ◌++◌, Some, Contains}
+use Rattle.std.specs.List.{AllByRecursion, flat_map}
+use Rattle.ob_tree.specs.declared.names.QName.{QName}
+use Rattle.ob_types.specs.declared.types.TypeRef.{TypeRef}
+use Rattle.ob_types.specs.declared.desc.Desc.{Desc}
+use Rattle.ob_types.specs.declared.desc.Desc.TheVariants as desc
+use Rattle.ob_types.specs.Maps.{IsHeld, signature_types}
+use Rattle.ob_types.specs.Relations.{IsGrounded, Is, is_open}
+use Rattle.ob_types.specs.declared.desc.RecordDesc.{RecordDesc}
+use Rattle.ob_meaning.specs.Values.{Formals, description}
+use Rattle.ob_relation.specs.Layout.{module_held}
+use Rattle.ob_relation.specs.Linked.{OwnFormsOk}
+use Rattle.ob_relation.specs.Relation.{IsLength}
+use Rattle.ob_layout.specs.LaidOut.{viewed}
+use Rattle.ob_env.specs.Faces.{described}
+use Rattle.ob_distinct.specs.Distinct.{AreDistinct}
+use Rattle.ob_local.specs.Agreeing.{Map, IsNear, On}
+use Rattle.ob_forms.specs.Formed.{IsMethodOf}
+use Rattle.ob_forms.specs.Said.{IsSound}
+use Rattle.ob_declares.specs.Ordered.{StandInOrder}
+use Rattle.ob_valued.specs.Valued.{values}
+use Rattle.ob_compile.specs.Compiling.{Compiled}
+use Rattle.ob_ages.specs.Builds.{Text, Build, IsValid, tree_of}
+use Rattle.ob_ages.specs.Laws.{BuildsAreWritten}
+use Rattle.ob_joining.specs.Builds.{program_of, AreLoaded, FormsStay}
+
+-- the descriptions that a module was compiled with
+abbrev pub types_of : Compiled Text → Map
+types_of c = viewed (described c.against) c.tree
+
+-- the types of the parameters and the results of the bound procedures of a record
+abbrev pub bound_types : Desc → List TypeRef
+bound_types (desc.Record r) = flat_map (λ m. signature_types m.signature) r.methods
+bound_types d = []
+
+-- an array has a length
+abbrev pub HasLength : Desc → Type 0
+HasLength (desc.Array m n t) = IsLength n
+HasLength d = Unit {0}
+
+-- What the rules see to of a module that compiles, in the descriptions that it was compiled with: its types differ in name, arrays have
+-- lengths, and the map with them is grounded; what the bound procedures of its records take and give counts for its uses; and its
+-- variables have types, which are no open arrays.
+pub record IsRuled (c : Compiled Text) : Type 0 where
+  pub names : AreDistinct (λ t. t.name) c.tree.types
+  pub grounded : IsGrounded (types_of c)
+  pub bound : AllByRecursion (λ t. AllByRecursion (On (IsNear (types_of c) c.tree)) (bound_types t.desc)) c.tree.types
+  pub lengths : AllByRecursion (λ t. HasLength t.desc) c.tree.types
+  pub variables : AllByRecursion (λ v. IsHeld (types_of c) v.of) c.tree.variables
+  pub closed : AllByRecursion (λ v. Is (types_of c) is_open v.of → ⊥) c.tree.variables
+
+abbrev pub BuildsAreRuled : Type 0
+BuildsAreRuled = (b : Build) (c : Compiled Text) → IsValid b c → IsRuled c
+
+-- THE LAWS
+
+-- each module stands over those before it
+abbrev pub LoadedStand : Type 0
+LoadedStand = BuildsAreWritten → BuildsAreRuled → (bs : List Build) → AreLoaded bs → StandInOrder [] (program_of bs)
+
+-- types of a program stay what they are
+abbrev pub LoadedFormsStay : Type 0
+LoadedFormsStay = BuildsAreWritten → BuildsAreRuled → (bs : List Build) (b : Build) → AreLoaded (bs ++ b ∷ []) → FormsStay (program_of bs) (tree_of b)
+
+-- values stay values
+abbrev pub LoadedValuesStay : Type 0
+LoadedValuesStay = BuildsAreWritten → BuildsAreRuled → (bs : List Build) (b : Build) → AreLoaded (bs ++ b ∷ []) → (fs : Formals) (q : QName) → values (program_of bs) fs q ≡ true → values (program_of bs ++ tree_of b ∷ []) fs q ≡ true
+
+-- the bound procedures that the records of a program introduce are there
+abbrev pub BoundAreThere : Type 0
+BoundAreThere = (bs : List Build) → AreLoaded bs → (q : QName) (r : RecordDesc) → description (program_of bs) q ≡ Some (desc.Record r) → AllByRecursion (λ m. IsMethodOf (program_of bs) q m) r.methods
+
+-- where they are, its types are sound
+abbrev pub LoadedAreSound : Type 0
+LoadedAreSound = BuildsAreWritten → BuildsAreRuled → BoundAreThere → (bs : List Build) → AreLoaded bs → IsSound (program_of bs)
+
+-- variables of modules can have first values
+abbrev pub LoadedVariables : Type 0
+LoadedVariables = BuildsAreWritten → BuildsAreRuled → BoundAreThere → (bs : List Build) → AreLoaded bs → (b : Build) → Contains bs b → OwnFormsOk (program_of bs) (module_held (program_of bs) (tree_of b))

@@ -1,0 +1,35 @@
+//! Builds that are loaded together: their modules stand in order, and what is so of some is so of
+//! them with one more behind.
+#![tactic(auto)]
+
+ghost use Rattle.ob_ordered.specs.Loaded.{LoadedAreSound, LoadedFormsStay, LoadedStand, LoadedValuesStay, LoadedVariables};
+ghost use Rattle.ob_ordered.specs.Sound.{OrderedDescribe, VariablesHaveForms};
+ghost use Rattle.ob_ordered.specs.Staying.{OrderedStay};
+
+/// A law, with nothing to run. Each module of builds that are loaded together stands over those
+/// before it (`StandsOver` of ob_declares): the types that it sees of others are as those declare
+/// them now, but for the members of records, whatever interfaces it was compiled against, since the
+/// texts of its uses are met. (Taken for granted: `BuildsAreWritten`, and of each build alone
+/// `BuildsAreRuled`.)
+pub fn loaded_stand()
+    ensures { LoadedStand }
+{}
+
+/// A law, with nothing to run. Types, variables of modules, and procedures that are values stay so
+/// where one more build is loaded, in the words of `Owed`.
+pub fn loaded_stay()
+    ensures ordered { OrderedStay }
+    ensures forms { LoadedFormsStay }
+    ensures values { LoadedValuesStay }
+{}
+
+/// A law, with nothing to run. Where the bound procedures that records introduce are there
+/// (`BoundAreThere`), the types of builds that are loaded together are sound, and the variables of
+/// their modules can have first values, in the words of `Owed`. And the declarations of a sound
+/// program whose modules are laid out in order describe its types (`IsDescribed` of ob_standing).
+pub fn loaded_are_sound()
+    ensures sound { LoadedAreSound }
+    ensures forms { VariablesHaveForms }
+    ensures variables { LoadedVariables }
+    ensures described { OrderedDescribe }
+{}
