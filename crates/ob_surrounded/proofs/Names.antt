@@ -35,6 +35,7 @@ use Rattle.ob_typed.specs.Makes.{IfThere}
 use Rattle.ob_typed.specs.Forms.{IsKnown, AreKnown, ResultIs, SignatureIs}
 use Rattle.ob_typed.specs.Known.{ConstantIs, VariableIs, ProcedureIs}
 use Rattle.ob_typed.specs.Laws.{Having}
+use Rattle.ob_typed.specs.Redefined.{AreRedefined}
 use Rattle.ob_typed.specs.Surrounded.{IsSurrounded}
 use Rattle.ob_bodies.specs.Knows.{EntityStands}
 use Rattle.ob_bodies.specs.Judged.{mode_of, AreOf, IsGlobal, IsInside, StandsIn, IsProcedureIn, VariableStands, NameIs, StandsAround}
@@ -78,7 +79,7 @@ module _ (program : Program) where
 at_name : (P : Known → Type 0) (ks : List Known) (x : List ℕ) (k : Known) → AllByRecursion P ks → find_name ks x ≡ Some k → P k
 at_name P ks x k h e = subst (IfThere P) e (find_has P (λ k. bytes_eq k.name x) ks h)
 
-module _ (program : Program) (has : Formals → QName → Bool) (shown : QName → Option Desc) (checked : TypedModule) (m : Module) (whole : IsWhole program) (is : IsModuleOf program checked m) (out : is_out checked.name ≡ false) (constants : AreConstantsShown shown) (values : HasProcedures program (Having has)) where
+module _ (program : Program) (has : Formals → QName → Bool) (shown : QName → Option Desc) (checked : TypedModule) (m : Module) (whole : IsWhole program) (is : IsModuleOf program checked m) (out : is_out checked.name ≡ false) (constants : AreConstantsShown shown) (values : HasProcedures program (Having has)) (redefined : AreRedefined program) where
   abbrev Has : Formals → QName → Type 0
   Has = Having has
 
@@ -170,16 +171,17 @@ module _ (program : Program) (has : Formals → QName → Bool) (shown : QName �
       result_is = same;
       result_plain = plain;
       receivers = left.receivers;
-      supers = left.supers;
+      redefined = redefined;
+      kinds = left.kinds;
       outside = bytes_sym (codes "Out") u.unit ∙ ap (λ (n : List ℕ). bytes_eq n (codes "Out")) around.knows.unit_is ∙ out;
     }
 
 pub procedures_surrounded : ProceduresSurrounded
-procedures_surrounded program has shown checked m whole is out constants values p i different forms u around left =
+procedures_surrounded program has shown checked m whole is out constants values redefined p i different forms u around left =
     let v = procedure_view p in
     let held = static_held program v in
-    let h = heading program has shown checked m whole is out constants values p i in
-    surrounded program has shown checked m whole is out constants values held p.result (Some p) u around left
+    let h = heading program has shown checked m whole is out constants values redefined p i in
+    surrounded program has shown checked m whole is out constants values redefined held p.result (Some p) u around left
     (λ scope w t b e g.
     let k = known_is ConstantIs checked.name shown u around.knows t g.1 in
     ⊎_elim
@@ -193,4 +195,4 @@ no_scope : (k n : ℕ) → k ≤ n → n ≡ 1 → nat_lt 1 k ≡ true → ⊥
 no_scope k n h e f = grind (arith, nat_tests)
 
 pub modules_surrounded : ModulesSurrounded
-modules_surrounded program has shown checked m whole is out constants values held u around one left = surrounded program has shown checked m whole is out constants values held None None u around left (λ scope v t b e g. absurd (no_scope scope u.scope b one e)) tt around.result
+modules_surrounded program has shown checked m whole is out constants values redefined held u around one left = surrounded program has shown checked m whole is out constants values redefined held None None u around left (λ scope v t b e g. absurd (no_scope scope u.scope b one e)) tt around.result

@@ -17,15 +17,16 @@ use Rattle.ob_forms.specs.Said.{IsOneOf}
 use Rattle.ob_forms.specs.Whole.{IsWhole}
 use Rattle.ob_typed.specs.Known.{ConstantIs}
 use Rattle.ob_typed.specs.Laws.{Having}
+use Rattle.ob_typed.specs.Redefined.{AreRedefined}
 use Rattle.ob_typed.specs.Surrounded.{IsSurrounded}
 use Rattle.ob_bodies.specs.Judged.{StandsAround, IsJudged}
 use Rattle.ob_surrounded.specs.Left.{IsModuleOf, AreConstantsShown, HasProcedures, IsLeft}
 
--- Around the body of a procedure, whose variables have different names and can be built; constants that are shown are constants, and
--- procedures may be values.
+-- Around the body of a procedure, whose variables have different names and can be built; constants that are shown are constants,
+-- procedures may be values, and redefinitions are alike.
 abbrev pub ProceduresSurrounded : Type 0
 ProceduresSurrounded =
-    (program : Program) (has : Formals → QName → Bool) (shown : QName → Option Desc) (checked : TypedModule) (m : Module) → IsWhole program → IsModuleOf program checked m → is_out checked.name ≡ false → AreConstantsShown shown → HasProcedures program (Having has)
+    (program : Program) (has : Formals → QName → Bool) (shown : QName → Option Desc) (checked : TypedModule) (m : Module) → IsWhole program → IsModuleOf program checked m → is_out checked.name ≡ false → AreConstantsShown shown → HasProcedures program (Having has) → AreRedefined program
     → (p : TypedProcedure) → IsOneOf checked.procedures p → AreDifferent (static_held program (procedure_view p)) → AllByRecursion (λ v. FormOk program (form_in program v.of)) p.locals
     → (u : Around) → StandsAround ConstantIs shown checked (Some p) u → IsLeft program (Having has) checked.name (static_held program (procedure_view p)) p.result u
     → IsSurrounded program (Having has) checked.name (static_held program (procedure_view p)) p.result u
@@ -33,7 +34,7 @@ ProceduresSurrounded =
 -- Around the body of the module, which has no variables of its own but those that FOR and CASE keep.
 abbrev pub ModulesSurrounded : Type 0
 ModulesSurrounded =
-    (program : Program) (has : Formals → QName → Bool) (shown : QName → Option Desc) (checked : TypedModule) (m : Module) → IsWhole program → IsModuleOf program checked m → is_out checked.name ≡ false → AreConstantsShown shown → HasProcedures program (Having has)
+    (program : Program) (has : Formals → QName → Bool) (shown : QName → Option Desc) (checked : TypedModule) (m : Module) → IsWhole program → IsModuleOf program checked m → is_out checked.name ≡ false → AreConstantsShown shown → HasProcedures program (Having has) → AreRedefined program
     → (held : List Held) (u : Around) → StandsAround ConstantIs shown checked None u → u.scope ≡ 1 → IsLeft program (Having has) checked.name held None u
     → IsSurrounded program (Having has) checked.name held None u
 

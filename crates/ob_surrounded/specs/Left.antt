@@ -7,25 +7,24 @@ use Rattle.ob_types.specs.declared.types.Signature.{Signature}
 use Rattle.ob_types.specs.declared.value.Value.{Value as Literal}
 use Rattle.ob_types.specs.declared.desc.Desc.{Desc}
 use Rattle.ob_types.specs.declared.desc.Desc.TheVariants as desc
-use Rattle.ob_types.specs.declared.desc.Method.{Method}
 use Rattle.ob_types.specs.declared.typed.Variable.{Variable}
 use Rattle.ob_types.specs.declared.typed.TypedModule.{TypedModule}
 use Rattle.ob_types.specs.AssigningTests.{is_value}
 use Rattle.ob_types.specs.Relations.{IsGrounded}
 use Rattle.ob_types.specs.TypedSyntax.{Module}
 use Rattle.ob_types.specs.TypedView.{procedure_view}
-use Rattle.ob_meaning.specs.Values.{Program, Formals, form_in, record_in, formals_in, Held}
-use Rattle.ob_relation.specs.Relation.{Sub, FormOk}
+use Rattle.ob_meaning.specs.Values.{Program, Formals, form_in, formals_in, Held}
+use Rattle.ob_relation.specs.Relation.{FormOk}
 use Rattle.ob_rules.specs.declared.entity.Entity.TheVariants as entity
 use Rattle.ob_rules.specs.declared.entity.Known.{Known}
 use Rattle.ob_rules.specs.declared.entity.Received.{Received}
-use Rattle.ob_rules.specs.Shapes.{AMethod, member, base_record}
 use Rattle.ob_rules.specs.Names.{Around, map_of, find_name}
 use Rattle.ob_rules.specs.Designators.{same_variable}
 use Rattle.ob_forms.specs.Formed.{Formed, IsProcedureOf}
 use Rattle.ob_forms.specs.Said.{IsOneOf}
 use Rattle.ob_typed.specs.Forms.{ResultIs}
-use Rattle.ob_typed.specs.Known.{ConstantIs, VariableIs, ProcedureIs, ReceiverIs, SuperIs}
+use Rattle.ob_typed.specs.Known.{ConstantIs, VariableIs, ProcedureIs, ReceiverIs}
+use Rattle.ob_typed.specs.Redefined.{AreOfOneKind}
 
 -- The checked module is one of the program, perhaps with its records laid out. Its variables can be built, and results are no arrays and no records.
 pub record IsModuleOf (program : Program) (checked : TypedModule) (m : Module) : Type 0 where
@@ -50,4 +49,4 @@ pub record IsLeft (program : Program) (Has : Formals → QName → Type 0) (unit
   pub grounded : IsGrounded (map_of u)
   pub forwards : (x : List ℕ) (k : Known) (q : QName) (s : Signature) → find_name u.known x ≡ Some k → k.what ≡ entity.Forward q s → ProcedureIs program Has unit held result (map_of u) q s
   pub receivers : (r : Received) (v : Variable) (t : TypeRef) → u.receiver ≡ Some r → same_variable v r.variable ≡ true → VariableIs program Has unit held result (map_of u) v t → ReceiverIs program (map_of u) r t
-  pub supers : (r : Received) (b o : QName) (x : List ℕ) (m : Method) → u.receiver ≡ Some r → base_record (map_of u) r.owner ≡ Some b → member (map_of u) b x ≡ Some (AMethod o m) → SuperIs program Has unit held result (map_of u) r.variable b o m × Sub (record_in program r.owner) (record_in program b)
+  pub kinds : AreOfOneKind program (map_of u)
