@@ -19,15 +19,19 @@ use Rattle.ob_rules.specs.declared.entity.Known.{Known}
 use Rattle.ob_rules.specs.Shapes.{Map}
 use Rattle.ob_rules.specs.Names.{Around, map_of, is_out}
 use Rattle.ob_rules.specs.Types.{Parameters, nothing}
-use Rattle.ob_rules.specs.Headings.{Head, reversed, types_of}
-use Rattle.ob_rules.specs.Declarations.{Contents, Part, Written_procedure, closing_judged, self_parameters, around_body, result_in, bound_to, typed_procedure, types_of_head, procedure_judged, procedures_judged}
+use Rattle.ob_tree.specs.declared.ident.Ident.{Ident}
+use Rattle.ob_types.specs.declared.desc.Receiver.{Receiver}
+use Rattle.ob_types.specs.declared.desc.Receiver.TheVariants as receiver
+use Rattle.ob_rules.specs.Headings.{Head, BoundAs, self_by, self_parameter, reversed, types_of}
+use Rattle.ob_rules.specs.Declarations.{Contents, Part, Written_procedure, closing_judged, self_parameters, received_by, received, around_body, result_in, bound_to, typed_procedure, types_of_head, procedure_judged, procedures_judged}
 use Rattle.ob_forms.specs.Said.{IsOneOf}
 use Rattle.ob_typed.specs.Makes.{IfThere}
 use Rattle.ob_bodies.specs.Knows.{Grows, Stands, IsDescribed, EntityStands}
-use Rattle.ob_bodies.specs.Judged.{AreOf, IsParameter, IsInside, result_of, NameIs, StandsAround, IsJudged, ProcedureIsJudged}
+use Rattle.ob_bodies.specs.Judged.{IsReceivedAs, IsWithin, ReceiverStands, AreOf, IsParameter, IsInside, result_of, NameIs, StandsAround, IsJudged, ProcedureIsJudged}
 use Rattle.ob_bodies.proofs.Lists.{one_left, one_right, all_of, all_both, there_of, first_empty, second_empty}
-use Rattle.ob_bodies.proofs.Standing.{grows_same, grows_front, grows_behind, grows_then, stands_grown}
-use Rattle.ob_bodies.proofs.Heads.{InsideEntity, SignatureStands, HeadStands, all_parameters}
+use Rattle.ob_bodies.proofs.Standing.{Lies, lies_same, lies_front, lies_behind, lies_then, grows_front, grows_then, stands_grown}
+use Rattle.ob_bodies.proofs.Heads.{self_is, InsideEntity, SignatureStands, HeadStands, all_parameters}
+use Rattle.ob_bodies.proofs.Receivers.{received_as}
 use Rattle.ob_bodies.proofs.Headings.{Aligned, IsUnbroken, AreGoodHeadings}
 use Rattle.ob_bodies.proofs.Levels.{Level, AtModule, Within, frame, IsPlaced, IsVariableAt, Included, IsFull, none_full, both_full, first_included, second_included, BlockAt, not_module, outer_name}
 
@@ -89,18 +93,18 @@ procedures_body u [] hs = refl
 procedures_body u (p ∷ ps) [] = refl
 procedures_body u (p ∷ ps) (h ∷ hs) = two_empty (procedure_judged u p h p.forward).contents.body (procedures_judged u ps hs).contents.body (judged_body u p h p.forward) (procedures_body u ps hs)
 
-module _ (IsConstant : Value → Type 0) (shown : QName → Option Desc) (m : TypedModule) (out : is_out m.name ≡ false) where
+module _ (IsConstant : Value → Type 0) (shown : QName → Option Desc) (m : TypedModule) (content : Contents) (out : is_out m.name ≡ false) where
   abbrev S : List TypedType → TypeRef → Type 0
   S own t = Stands m.name shown own t
 
   abbrev B : Level → Around → Type 0
-  B l u = BlockAt IsConstant shown m l u
+  B l u = BlockAt IsConstant shown m content l u
 
   abbrev I : Level → Contents → Type 0
-  I l c = Included IsConstant shown m l c
+  I l c = Included IsConstant shown m content l c
 
   abbrev N : List TypedType → Option TypedProcedure → ℕ → ℕ → Entity → Type 0
-  N own p level scope e = NameIs IsConstant shown m own p level scope e
+  N own p level scope e = NameIs IsConstant shown m content own p level scope e
 
   abbrev HS : List TypedType → ℕ → Head → Type 0
   HS own scope h = HeadStands IsConstant m.name shown out own scope h
@@ -108,14 +112,14 @@ module _ (IsConstant : Value → Type 0) (shown : QName → Option Desc) (m : Ty
   -- THE BODIES IN A PART
 
   abbrev pub AreJudged : List TypedProcedure → Type 0
-  AreJudged ps = AllByRecursion (ProcedureIsJudged IsConstant shown m) ps
+  AreJudged ps = AllByRecursion (ProcedureIsJudged IsConstant shown m content) ps
 
   -- the bodies of procedures, and that of the part
   pub record PartIs (l : Level) (c : Contents) : Type 0 where
     pub procedures : AreJudged c.procedures
-    pub body : IsJudged IsConstant shown m (frame l) c.body
+    pub body : IsJudged IsConstant shown m content (frame l) c.body
     pub placed : IsPlaced l body.u
-    pub full : IsFull IsConstant shown m c
+    pub full : IsFull IsConstant shown m content c
 
   abbrev pub IsBlock : (Around → Part) → Type 0
   IsBlock f = (l : Level) (u : Around) → B l u → (f u).notes.broken ≡ [] → I l (f u).contents → PartIs l (f u).contents
@@ -132,8 +136,8 @@ module _ (IsConstant : Value → Type 0) (shown : QName → Option Desc) (m : Ty
   headings_good (p ∷ ps) g = (g.0.heading.0, headings_good ps g.1)
 
   -- the body of a part, judged at a level
-  pub stands_at : (l : Level) (u : Around) → B l u → StandsAround IsConstant shown m (frame l) u
-  stands_at l u b = record { knows = b.knows; below = b.below; names = b.names; guards = b.guards; result = b.result; in_loop = b.in_loop }
+  pub stands_at : (l : Level) (u : Around) → B l u → StandsAround IsConstant shown m content (frame l) u
+  stands_at l u b = record { knows = b.knows; below = b.below; names = b.names; guards = b.guards; result = b.result; in_loop = b.in_loop; within = b.within; receiver = b.receiver }
 
   -- WHAT IS KNOWN IN A PROCEDURE
 
@@ -159,7 +163,7 @@ module _ (IsConstant : Value → Type 0) (shown : QName → Option Desc) (m : Ty
   inside_frame own types h (Some q) c v t i = (inr i.0, i.1)
 
   no_scope : (k n : ℕ) → k ≡ suc n → 1 ≤ n → nat_lt 1 k ≡ false → ⊥
-  no_scope k n e h f = not_module IsConstant shown m k (deep k n e h) f
+  no_scope k n e h f = not_module IsConstant shown m content k (deep k n e h) f
     where
       deep : (k n : ℕ) → k ≡ suc n → 1 ≤ n → 1 < k
       deep k n e h = omega (arith, e, h)
@@ -186,9 +190,43 @@ module _ (IsConstant : Value → Type 0) (shown : QName → Option Desc) (m : Ty
   framed_result types h None c = refl
   framed_result types h (Some q) c = refl
 
+  -- THE RECEIVER
+
+  -- somewhere in the module it is bound to that record
+  pub record IsBoundWithin (b : BoundAs) : Type 0 where
+    pub w : Around
+    pub within : IsWithin IsConstant shown m content w
+    pub is : received_as (map_of w) b.receiver b.of ≡ Some b.owner
+
+  abbrev pub HeadBound : Head → Type 0
+  HeadBound h = IfThere IsBoundWithin h.bound
+
+  as_self : (types : Map) (x : Ident) (b : BoundAs) (k : Receiver) → received_as types k b.of ≡ Some b.owner → IsReceivedAs types (self_by x b k).passing (self_by x b k).of b.owner
+  as_self types x b receiver.Record e = e
+  as_self types x b receiver.Pointer e = e
+
+  receiver_stands : (types : Map) (h : Head) (o : Option Parameters) (c : Contents) → HeadBound h → ReceiverStands IsConstant shown m content (framed types h o c) (received h)
+  receiver_stands types h None c k = tt
+  receiver_stands types h (Some q) c k = by h.self h.bound refl refl k
+    where
+      by : (s : Option Ident) (o : Option BoundAs) → h.self ≡ s → h.bound ≡ o → IfThere IsBoundWithin o → ReceiverStands IsConstant shown m content (Some (typed_of types h q c)) (received_by s o)
+      by None None e f k = tt
+      by None (Some b) e f k = tt
+      by (Some x) None e f k = tt
+      by (Some x) (Some b) e f k =
+          let own : self_parameters h h.self h.bound ≡ self_parameter x b ∷ [] = ap (λ s. self_parameters h s h.bound) e ∙ ap (λ o. self_parameters h (Some x) o) f in
+          record {
+            x = self_parameter x b;
+            there = subst (λ l. IsOneOf (l ++ q.parameters) (self_parameter x b)) (sym own) (inl refl);
+            is = (self_is x b b.receiver refl).0;
+            w = k.w;
+            within = k.within;
+            record_is = as_self (map_of k.w) x b b.receiver k.is;
+          }
+
   -- what stands around the body of a procedure
-  inside_block : (l : Level) (u : Around) → B l u → (h : Head) → HS u.own u.scope h → AllByRecursion (KnownBehind l u) h.known → (types : Map) (c : Contents) → B (Within (framed types h h.parameters c)) (around_body u h)
-  inside_block l u b h s k types c =
+  inside_block : (l : Level) (u : Around) → B l u → (h : Head) → HS u.own u.scope h → HeadBound h → AllByRecursion (KnownBehind l u) h.known → (types : Map) (c : Contents) → B (Within (framed types h h.parameters c)) (around_body u h)
+  inside_block l u b h s r k types c =
       let p = framed types h h.parameters c in
       record {
         knows = record {
@@ -204,12 +242,14 @@ module _ (IsConstant : Value → Type 0) (shown : QName → Option Desc) (m : Ty
             (all_of (KnownBehind l u) (λ (k : Known). k.scope ≤ suc u.scope) h.known (λ k i. one_more k.scope u.scope i.below) k);
         names = all_both (λ (k : Known). N u.own p (suc u.scope) k.scope k.what) h.inside h.known
             (all_of (λ (k : Known). (k.scope ≡ suc u.scope) × InsideEntity IsConstant m.name shown out u.own h k.what) (λ (k : Known). N u.own p (suc u.scope) k.scope k.what) h.inside (λ k i. inside_name u.own types h c u.scope k.scope i.0 (some_scope l u b.placed) k.what i.1) s.inside)
-            (all_of (KnownBehind l u) (λ (k : Known). N u.own p (suc u.scope) k.scope k.what) h.known (λ k i. outer_name IsConstant shown m u.own (frame l) p u.level k.scope u.scope i.below k.what i.name) k);
+            (all_of (KnownBehind l u) (λ (k : Known). N u.own p (suc u.scope) k.scope k.what) h.known (λ k i. outer_name IsConstant shown m content u.own (frame l) p u.level k.scope u.scope i.below k.what i.name) k);
         placed = (no_nothing h.path 47 [], (refl, deeper u.scope (some_scope l u b.placed)));
         guards = refl;
         result = framed_result types h h.parameters c;
         in_loop = refl;
         grown = b.grown;
+        within = record { unit_is = b.within.unit_is; shown_is = b.within.shown_is; own = b.within.own };
+        receiver = receiver_stands types h h.parameters c r;
       }
 
   -- ONE PROCEDURE AND THOSE INSIDE IT
@@ -217,13 +257,13 @@ module _ (IsConstant : Value → Type 0) (shown : QName → Option Desc) (m : Ty
   -- bodies that are judged, and what else is added
   pub record Adds (c : Contents) : Type 0 where
     pub procedures : AreJudged c.procedures
-    pub full : IsFull IsConstant shown m c
+    pub full : IsFull IsConstant shown m content c
 
   head_made : (o : Option Parameters) → IfThere (λ p. AllByRecursion (IsDescribed IsConstant) p.made) o → AllByRecursion (IsDescribed IsConstant) (types_of_head o)
   head_made None h = tt
   head_made (Some p) h = h
 
-  framed_variables : (types : Map) (h : Head) (o : Option Parameters) (c : Contents) (x : TypedVariable) → IsOneOf c.variables x → IsVariableAt IsConstant shown m (Within (framed types h o c)) x
+  framed_variables : (types : Map) (h : Head) (o : Option Parameters) (c : Contents) (x : TypedVariable) → IsOneOf c.variables x → IsVariableAt IsConstant shown m content (Within (framed types h o c)) x
   framed_variables types h None c x i = tt
   framed_variables types h (Some q) c x i = i
 
@@ -233,7 +273,7 @@ module _ (IsConstant : Value → Type 0) (shown : QName → Option Desc) (m : Ty
   parameters_stand own (p ∷ ps) [] a h = absurd a
   parameters_stand own (p ∷ ps) (k ∷ ks) a h = (subst (S own) (sym a.0.0) h.0, parameters_stand own ps ks a.1 h.1)
 
-  framed_judged : (own : List TypedType) → Grows own m.types → (types : Map) (h : Head) → AllByRecursion (λ (x : TypedParameter). S own x.of) (self_parameters h h.self h.bound) → (o : Option Parameters) (c : Contents) → IfThere (SignatureStands IsConstant m.name shown out own) o → IsJudged IsConstant shown m (framed types h o c) c.body → AreJudged (typed_procedure types h o c)
+  framed_judged : (own : List TypedType) → Grows own m.types → (types : Map) (h : Head) → AllByRecursion (λ (x : TypedParameter). S own x.of) (self_parameters h h.self h.bound) → (o : Option Parameters) (c : Contents) → IfThere (SignatureStands IsConstant m.name shown out own) o → IsJudged IsConstant shown m content (framed types h o c) c.body → AreJudged (typed_procedure types h o c)
   framed_judged own g types h self None c s j = tt
   framed_judged own g types h self (Some q) c s j =
       let all = all_both (λ (x : TypedParameter). S own x.of) (self_parameters h h.self h.bound) q.parameters self (parameters_stand own q.parameters q.signature.params s.answer s.params) in (
@@ -246,30 +286,30 @@ module _ (IsConstant : Value → Type 0) (shown : QName → Option Desc) (m : Ty
         tt,
       )
 
-  procedure_is : (l : Level) (u : Around) → B l u → (p : Written_procedure) → IsProcedure p → (h : Head) → HS u.own u.scope h → AllByRecursion (KnownBehind l u) h.known → (forward : Bool) → (procedure_judged u p h forward).notes.broken ≡ [] → I l (procedure_judged u p h forward).contents → Adds (procedure_judged u p h forward).contents
-  procedure_is l u b p g h s k true n i = record { procedures = tt; full = record { constants = tt; types = head_made h.parameters s.made; bound = tt } }
-  procedure_is l u b p g h s k false n i =
+  procedure_is : (l : Level) (u : Around) → B l u → (p : Written_procedure) → IsProcedure p → (h : Head) → HS u.own u.scope h → HeadBound h → AllByRecursion (KnownBehind l u) h.known → (forward : Bool) → (procedure_judged u p h forward).notes.broken ≡ [] → I l (procedure_judged u p h forward).contents → Adds (procedure_judged u p h forward).contents
+  procedure_is l u b p g h s r k true n i = record { procedures = tt; full = record { constants = tt; types = head_made h.parameters s.made; bound = tt } }
+  procedure_is l u b p g h s o k false n i =
       let c = (p.inside (around_body u h)).contents in
       let types = map_of u in
       let f = framed types h h.parameters c in
       let own = typed_procedure types h h.parameters c in
       let quiet = second_empty (closing_judged h.name p.closing).broken _ (second_empty h.notes.broken _ n) in
-      let r = g.inside (Within f) (around_body u h) (inside_block l u b h s k types c) quiet (record { variables = λ x j. framed_variables types h h.parameters c x j; procedures = λ q j. i.procedures q (one_right own c.procedures q j); types = grows_then c.types (types_of_head h.parameters ++ c.types) m.types (grows_front (types_of_head h.parameters) c.types) i.types }) in
+      let r = g.inside (Within f) (around_body u h) (inside_block l u b h s o k types c) quiet (record { variables = λ x j. framed_variables types h h.parameters c x j; procedures = λ q j. i.procedures q (one_right own c.procedures q j); types = grows_then c.types (types_of_head h.parameters ++ c.types) m.types (grows_front (types_of_head h.parameters) c.types) i.types; made = λ t j. i.made t (one_right (types_of_head h.parameters) c.types t j); bound = tt }) in
       record {
-        procedures = all_both (ProcedureIsJudged IsConstant shown m) own c.procedures (framed_judged u.own b.grown types h s.self h.parameters c s.signature r.body) r.procedures;
+        procedures = all_both (ProcedureIsJudged IsConstant shown m content) own c.procedures (framed_judged u.own b.grown types h s.self h.parameters c s.signature r.body) r.procedures;
         full = record { constants = tt; types = all_both (IsDescribed IsConstant) (types_of_head h.parameters) c.types (head_made h.parameters s.made) r.full.types; bound = tt };
       }
 
-  pub procedures_are : (l : Level) (u : Around) → B l u → (ps : List Written_procedure) → AreProcedures ps → (hs : List Head) → AllByRecursion (HS u.own u.scope) hs → AllByRecursion (λ (h : Head). AllByRecursion (KnownBehind l u) h.known) hs → (procedures_judged u ps hs).notes.broken ≡ [] → I l (procedures_judged u ps hs).contents → Adds (procedures_judged u ps hs).contents
-  procedures_are l u b [] g hs s k n i = record { procedures = tt; full = none_full IsConstant shown m }
-  procedures_are l u b (p ∷ ps) g [] s k n i = record { procedures = tt; full = none_full IsConstant shown m }
-  procedures_are l u b (p ∷ ps) g (h ∷ hs) s k n i =
+  pub procedures_are : (l : Level) (u : Around) → B l u → (ps : List Written_procedure) → AreProcedures ps → (hs : List Head) → AllByRecursion (HS u.own u.scope) hs → AllByRecursion HeadBound hs → AllByRecursion (λ (h : Head). AllByRecursion (KnownBehind l u) h.known) hs → (procedures_judged u ps hs).notes.broken ≡ [] → I l (procedures_judged u ps hs).contents → Adds (procedures_judged u ps hs).contents
+  procedures_are l u b [] g hs s r k n i = record { procedures = tt; full = none_full IsConstant shown m content }
+  procedures_are l u b (p ∷ ps) g [] s r k n i = record { procedures = tt; full = none_full IsConstant shown m content }
+  procedures_are l u b (p ∷ ps) g (h ∷ hs) s r k n i =
       let a = (procedure_judged u p h p.forward).contents in
       let c = (procedures_judged u ps hs).contents in
       let one = (procedure_judged u p h p.forward).notes.broken in
-      let x = procedure_is l u b p g.0 h s.0 k.0 p.forward (first_empty one _ n) (first_included IsConstant shown m l a c i) in
-      let y = procedures_are l u b ps g.1 hs s.1 k.1 (second_empty one _ n) (second_included IsConstant shown m l a c i) in
-      record { procedures = all_both (ProcedureIsJudged IsConstant shown m) a.procedures c.procedures x.procedures y.procedures; full = both_full IsConstant shown m a c x.full y.full }
+      let x = procedure_is l u b p g.0 h s.0 r.0 k.0 p.forward (first_empty one _ n) (first_included IsConstant shown m content l a c i) in
+      let y = procedures_are l u b ps g.1 hs s.1 r.1 k.1 (second_empty one _ n) (second_included IsConstant shown m content l a c i) in
+      record { procedures = all_both (ProcedureIsJudged IsConstant shown m content) a.procedures c.procedures x.procedures y.procedures; full = both_full IsConstant shown m content a c x.full y.full }
 
   -- headings against which nothing is said, and the types that they make
   head_unbroken : (u : Around) (p : Written_procedure) (h : Head) (forward : Bool) → (procedure_judged u p h forward).notes.broken ≡ [] → IsUnbroken h
@@ -287,23 +327,23 @@ module _ (IsConstant : Value → Type 0) (shown : QName → Option Desc) (m : Ty
   same_types None = refl
   same_types (Some p) = refl
 
-  types_judged : (u : Around) (p : Written_procedure) (h : Head) (forward : Bool) → Grows (types_of_head h.parameters) (procedure_judged u p h forward).contents.types
-  types_judged u p h true = grows_same (types_of_head h.parameters)
-  types_judged u p h false = grows_behind (types_of_head h.parameters) (p.inside (around_body u h)).contents.types
+  types_judged : (u : Around) (p : Written_procedure) (h : Head) (forward : Bool) → Lies (types_of_head h.parameters) (procedure_judged u p h forward).contents.types
+  types_judged u p h true = lies_same (types_of_head h.parameters)
+  types_judged u p h false = lies_behind (types_of_head h.parameters) (p.inside (around_body u h)).contents.types
 
-  pub types_there : (u : Around) (ps : List Written_procedure) (hs : List Head) → Aligned ps hs → (h : Head) → IsOneOf hs h → Grows (types_of h.parameters) (procedures_judged u ps hs).contents.types
+  pub types_there : (u : Around) (ps : List Written_procedure) (hs : List Head) → Aligned ps hs → (h : Head) → IsOneOf hs h → Lies (types_of h.parameters) (procedures_judged u ps hs).contents.types
   types_there u [] [] a h i = absurd i
   types_there u [] (g ∷ hs) a h i = absurd a
   types_there u (p ∷ ps) [] a h i = absurd i
   types_there u (p ∷ ps) (g ∷ hs) a h (inl e) =
       let one = (procedure_judged u p g p.forward).contents.types in
       let rest = (procedures_judged u ps hs).contents.types in
-      subst (λ (x : Head). Grows (types_of x.parameters) (one ++ rest)) e
-      (subst (λ ts. Grows ts (one ++ rest)) (sym (same_types g.parameters)) (grows_then (types_of_head g.parameters) one (one ++ rest) (types_judged u p g p.forward) (grows_behind one rest)))
+      subst (λ (x : Head). Lies (types_of x.parameters) (one ++ rest)) e
+      (subst (λ ts. Lies ts (one ++ rest)) (sym (same_types g.parameters)) (lies_then (types_of_head g.parameters) one (one ++ rest) (types_judged u p g p.forward) (lies_behind one rest)))
   types_there u (p ∷ ps) (g ∷ hs) a h (inr i) =
       let one = (procedure_judged u p g p.forward).contents.types in
       let rest = (procedures_judged u ps hs).contents.types in
-      grows_then (types_of h.parameters) rest (one ++ rest) (types_there u ps hs a.1 h i) (grows_front one rest)
+      lies_then (types_of h.parameters) rest (one ++ rest) (types_there u ps hs a.1 h i) (lies_front one rest)
 
   -- THE PROCEDURES ARE THOSE OF THE HEADINGS
 

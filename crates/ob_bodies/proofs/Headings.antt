@@ -15,7 +15,7 @@ use Rattle.ob_forms.specs.Said.{IsOneOf}
 use Rattle.ob_typed.specs.Makes.{IfThere}
 use Rattle.ob_bodies.specs.Knows.{Grows, IsDescribed, EntityStands, Knows}
 use Rattle.ob_bodies.proofs.Lists.{all_of, second_empty}
-use Rattle.ob_bodies.proofs.Standing.{grows_front, grows_behind, grows_then, grows_both, with_types_known}
+use Rattle.ob_bodies.proofs.Standing.{Lies, lies_front, lies_behind, lies_then, lies_both, grows_front, grows_then, with_types_known}
 use Rattle.ob_bodies.proofs.Sections.{AreGoodSections}
 use Rattle.ob_bodies.proofs.Heads.{InsideEntity, inside_none, inside_again, HeadStands, head_grown, head_stands}
 
@@ -82,14 +82,14 @@ named_own : (u : Around) (h : Head) (b : Bool) → (knows_procedure u h b).own �
 named_own u h true = refl
 named_own u h false = refl
 
-known_own : (u : Around) (twice : Bool) (h : Head) → (known_behind u twice h).own ≡ u.own
+pub known_own : (u : Around) (twice : Bool) (h : Head) → (known_behind u twice h).own ≡ u.own
 known_own u true h = refl
 known_own u false h = named_own u h h.is_bound
 
 -- behind headings those types are known that they make, and those before
-pub grown_in_order : (base : List TypedType) (ps : List Written_procedure) (hs : Heads) → ((h : Head) → IsOneOf (headings_in_order ps hs).before h → IsUnbroken h) → Grows hs.around.own (types_of_all hs.before ++ base) → Grows (headings_in_order ps hs).around.own (types_of_all (headings_in_order ps hs).before ++ base)
-grown_in_order base [] hs f g = g
-grown_in_order base (p ∷ ps) hs f g =
+pub lies_in_order : (base : List TypedType) (ps : List Written_procedure) (hs : Heads) → ((h : Head) → IsOneOf (headings_in_order ps hs).before h → IsUnbroken h) → Lies hs.around.own (types_of_all hs.before ++ base) → Lies (headings_in_order ps hs).around.own (types_of_all (headings_in_order ps hs).before ++ base)
+lies_in_order base [] hs f g = g
+lies_in_order base (p ∷ ps) hs f g =
     let d = head_of hs.around p.heading p.forward in
     let u = with_types hs.around (types_of d.parameters) in
     let t = name_twice u hs.before d in
@@ -97,15 +97,15 @@ grown_in_order base (p ∷ ps) hs f g =
     let h = declared_head t d v in
     let more = types_of_all hs.before ++ base in
     let mine : types_of h.parameters ≡ types_of d.parameters = declared_types t d v (f h (stays_before ps (add_heading hs p.heading p.forward) h (inl refl))) in
-    let all : Grows (types_of d.parameters ++ hs.around.own) (types_of d.parameters ++ more) = grows_both (types_of d.parameters) hs.around.own (types_of d.parameters ++ more) (grows_behind (types_of d.parameters) more) (grows_then hs.around.own more (types_of d.parameters ++ more) g (grows_front (types_of d.parameters) more)) in
-    let as_made : Grows (types_of d.parameters ++ hs.around.own) (types_of h.parameters ++ more) = subst (λ ts. Grows (types_of d.parameters ++ hs.around.own) (ts ++ more)) (sym mine) all in
-    let as_joined : Grows (types_of d.parameters ++ hs.around.own) ((types_of h.parameters ++ types_of_all hs.before) ++ base) = subst (λ ts. Grows (types_of d.parameters ++ hs.around.own) ts) (sym (append_assoc (types_of h.parameters) (types_of_all hs.before) base)) as_made in
-    grown_in_order base ps (add_heading hs p.heading p.forward) f (subst (λ ts. Grows ts ((types_of h.parameters ++ types_of_all hs.before) ++ base)) (sym (known_own u t d)) as_joined)
+    let all : Lies (types_of d.parameters ++ hs.around.own) (types_of d.parameters ++ more) = lies_both (types_of d.parameters) hs.around.own (types_of d.parameters ++ more) (lies_behind (types_of d.parameters) more) (lies_then hs.around.own more (types_of d.parameters ++ more) g (lies_front (types_of d.parameters) more)) in
+    let as_made : Lies (types_of d.parameters ++ hs.around.own) (types_of h.parameters ++ more) = subst (λ ts. Lies (types_of d.parameters ++ hs.around.own) (ts ++ more)) (sym mine) all in
+    let as_joined : Lies (types_of d.parameters ++ hs.around.own) ((types_of h.parameters ++ types_of_all hs.before) ++ base) = subst (λ ts. Lies (types_of d.parameters ++ hs.around.own) ts) (sym (append_assoc (types_of h.parameters) (types_of_all hs.before) base)) as_made in
+    lies_in_order base ps (add_heading hs p.heading p.forward) f (subst (λ ts. Lies ts ((types_of h.parameters ++ types_of_all hs.before) ++ base)) (sym (known_own u t d)) as_joined)
 
 -- where each of these makes types of some others, so do all
-pub types_grow : (hs : List Head) (more : List TypedType) → ((h : Head) → IsOneOf hs h → Grows (types_of h.parameters) more) → Grows (types_of_all hs) more
-types_grow [] more f = λ x h. absurd h.1.0
-types_grow (h ∷ hs) more f = grows_both (types_of h.parameters) (types_of_all hs) more (f h (inl refl)) (types_grow hs more (λ g i. f g (inr i)))
+pub types_lie : (hs : List Head) (more : List TypedType) → ((h : Head) → IsOneOf hs h → Lies (types_of h.parameters) more) → Lies (types_of_all hs) more
+types_lie [] more f = λ t i. absurd i
+types_lie (h ∷ hs) more f = lies_both (types_of h.parameters) (types_of_all hs) more (f h (inl refl)) (types_lie hs more (λ g i. f g (inr i)))
 
 procedure_behind : (base u : Around) → IsBehind base u → (h : Head) (b : Bool) → IsBehind base (knows_procedure u h b)
 procedure_behind base u e h true = e

@@ -47,7 +47,7 @@ receiver_around u (Some r) None = refl
 receiver_around u (Some r) (Some None) = refl
 receiver_around u (Some r) (Some (Some b)) = refl
 
-self_is : (x : Ident) (b : BoundAs) (k : Receiver) → b.receiver ≡ k → (self_of x b.receiver ≡ variable.Parameter (self_parameter x b).passing (self_parameter x b).name) × (b.of ≡ (self_parameter x b).of)
+pub self_is : (x : Ident) (b : BoundAs) (k : Receiver) → b.receiver ≡ k → (self_of x b.receiver ≡ variable.Parameter (self_parameter x b).passing (self_parameter x b).name) × (b.of ≡ (self_parameter x b).of)
 self_is x b receiver.Record e = by b e
   where
     by : (b : BoundAs) → b.receiver ≡ receiver.Record → (self_of x b.receiver ≡ variable.Parameter (self_parameter x b).passing (self_parameter x b).name) × (b.of ≡ (self_parameter x b).of)

@@ -1,5 +1,5 @@
 -- What stands around a sequence of declarations, at the level of the module or in a procedure.
-use Rattle.std.proofs.Common.{◌≡◌, refl, ℕ, suc, ◌≤◌, ◌<◌, true, false, List, [], ◌∷◌, ◌++◌, Option, Some, None, arith}
+use Rattle.std.proofs.Common.{◌≡◌, ⊎_elim, refl, ℕ, suc, ◌≤◌, ◌<◌, true, false, List, [], ◌∷◌, ◌++◌, Option, Some, None, arith}
 use Rattle.std.specs.Prelude.{nat_lt}
 use Rattle.std.specs.List.{AllByRecursion}
 use Rattle.std.proofs.lemmas.Bool.Decides.{nat_tests}
@@ -23,8 +23,8 @@ use Rattle.ob_rules.specs.Types.{with_types, nothing}
 use Rattle.ob_rules.specs.Declarations.{Contents, no_contents, together, declare_if, declare}
 use Rattle.ob_forms.specs.Said.{IsOneOf}
 use Rattle.ob_bodies.specs.Knows.{Grows, Stands, IsDescribed, EntityStands, Knows}
-use Rattle.ob_bodies.specs.Judged.{IsInside, result_of, NameIs}
-use Rattle.ob_bodies.proofs.Lists.{one_left, one_right, all_of, all_both, there_of}
+use Rattle.ob_bodies.specs.Judged.{IsMade, IsWithin, ReceiverStands, IsInside, result_of, NameIs}
+use Rattle.ob_bodies.proofs.Lists.{one_left, one_right, one_joined, all_of, all_both, there_of}
 use Rattle.ob_bodies.proofs.Standing.{grows_front, grows_behind, grows_then, grows_both, stands_grown, with_types_known}
 
 -- in the module, or in a procedure, whose heading may break a rule
@@ -37,14 +37,14 @@ frame AtModule = None
 frame (Within p) = p
 
 abbrev pub IsPlaced : Level → Around → Type 0
-IsPlaced AtModule u = (u.path ≡ []) × ((u.scope ≡ 1) × (u.level ≡ 1))
+IsPlaced AtModule u = (u.path ≡ []) × ((u.scope ≡ 1) × ((u.level ≡ 1) × (u.receiver ≡ None)))
 IsPlaced (Within p) u = (nothing u.path ≡ false) × ((u.level ≡ u.scope) × (1 < u.scope))
 
 abbrev IsLocalOf : Option TypedProcedure → TypedVariable → Type 0
 IsLocalOf None x = Unit {0}
 IsLocalOf (Some p) x = IsOneOf p.locals x
 
-module _ (IsConstant : Value → Type 0) (shown : QName → Option Desc) (m : TypedModule) where
+module _ (IsConstant : Value → Type 0) (shown : QName → Option Desc) (m : TypedModule) (content : Contents) where
   abbrev pub S : List TypedType → TypeRef → Type 0
   S own t = Stands m.name shown own t
 
@@ -53,12 +53,19 @@ module _ (IsConstant : Value → Type 0) (shown : QName → Option Desc) (m : Ty
   IsVariableAt AtModule x = IsOneOf m.variables x
   IsVariableAt (Within p) x = IsLocalOf p x
 
+  -- what is bound at the level of the module is made by it
+  abbrev pub IsBoundAt : Level → Contents → Type 0
+  IsBoundAt AtModule c = (t : TypedType) → IsOneOf c.bound t → IsMade content t
+  IsBoundAt (Within p) c = Unit {0}
+
   -- what a part adds is in the module
   pub record Included (l : Level) (c : Contents) : Type 0 where
     pub variables : (x : TypedVariable) → IsOneOf c.variables x → IsVariableAt l x
     pub procedures : (p : TypedProcedure) → IsOneOf c.procedures p → IsOneOf m.procedures p
     -- by their names
     pub types : Grows c.types m.types
+    pub made : (t : TypedType) → IsOneOf c.types t → IsMade content t
+    pub bound : IsBoundAt l c
 
   -- the constants of a part are constants, and its types are described
   pub record IsFull (c : Contents) : Type 0 where
@@ -76,22 +83,32 @@ module _ (IsConstant : Value → Type 0) (shown : QName → Option Desc) (m : Ty
     bound = all_both (IsDescribed IsConstant) a.bound b.bound g.bound h.bound;
   }
 
+  first_bound : (l : Level) (a b : Contents) → IsBoundAt l (together a b) → IsBoundAt l a
+  first_bound AtModule a b i = λ t h. i t (one_left a.bound b.bound t h)
+  first_bound (Within p) a b i = tt
+
+  second_bound : (l : Level) (a b : Contents) → IsBoundAt l (together a b) → IsBoundAt l b
+  second_bound AtModule a b i = λ t h. i t (one_right a.bound b.bound t h)
+  second_bound (Within p) a b i = tt
+
   pub first_included : (l : Level) (a b : Contents) → Included l (together a b) → Included l a
-  first_included l a b i = record { variables = λ x h. i.variables x (one_left a.variables b.variables x h); procedures = λ p h. i.procedures p (one_left a.procedures b.procedures p h); types = grows_then a.types (a.types ++ b.types) m.types (grows_behind a.types b.types) i.types }
+  first_included l a b i = record { variables = λ x h. i.variables x (one_left a.variables b.variables x h); procedures = λ p h. i.procedures p (one_left a.procedures b.procedures p h); types = grows_then a.types (a.types ++ b.types) m.types (grows_behind a.types b.types) i.types; made = λ t h. i.made t (one_left a.types b.types t h); bound = first_bound l a b i.bound }
 
   pub second_included : (l : Level) (a b : Contents) → Included l (together a b) → Included l b
-  second_included l a b i = record { variables = λ x h. i.variables x (one_right a.variables b.variables x h); procedures = λ p h. i.procedures p (one_right a.procedures b.procedures p h); types = grows_then b.types (a.types ++ b.types) m.types (grows_front a.types b.types) i.types }
+  second_included l a b i = record { variables = λ x h. i.variables x (one_right a.variables b.variables x h); procedures = λ p h. i.procedures p (one_right a.procedures b.procedures p h); types = grows_then b.types (a.types ++ b.types) m.types (grows_front a.types b.types) i.types; made = λ t h. i.made t (one_right a.types b.types t h); bound = second_bound l a b i.bound }
 
   pub record BlockAt (l : Level) (u : Around) : Type 0 where
     pub knows : Knows IsConstant m.name shown u
     pub below : AllByRecursion (λ (k : Known). k.scope ≤ u.scope) u.known
-    pub names : AllByRecursion (λ (k : Known). NameIs IsConstant shown m u.own (frame l) u.level k.scope k.what) u.known
+    pub names : AllByRecursion (λ (k : Known). NameIs IsConstant shown m content u.own (frame l) u.level k.scope k.what) u.known
     pub placed : IsPlaced l u
     pub guards : u.guards ≡ []
     pub result : u.result ≡ result_of (frame l)
     pub in_loop : u.in_loop ≡ false
     -- the types known are the module's, by their names
     pub grown : Grows u.own m.types
+    pub within : IsWithin IsConstant shown m content u
+    pub receiver : ReceiverStands IsConstant shown m content (frame l) u.receiver
 
   -- MORE TYPES
 
@@ -99,7 +116,7 @@ module _ (IsConstant : Value → Type 0) (shown : QName → Option Desc) (m : Ty
   inside_grown own more g None v t h = tt
   inside_grown own more g (Some p) v t h = (h.0, stands_grown m.name shown own more g t h.1)
 
-  pub name_grown : (own more : List TypedType) → Grows own more → (p : Option TypedProcedure) (level scope : ℕ) (e : Entity) → NameIs IsConstant shown m own p level scope e → NameIs IsConstant shown m more p level scope e
+  pub name_grown : (own more : List TypedType) → Grows own more → (p : Option TypedProcedure) (level scope : ℕ) (e : Entity) → NameIs IsConstant shown m content own p level scope e → NameIs IsConstant shown m content more p level scope e
   name_grown own more g p level scope (entity.Variable v t) h = record { outside = λ e. let r = h.outside e in (r.0, stands_grown m.name shown own more g t r.1); inside = λ e f. inside_grown own more g p v t (h.inside e f) }
   name_grown own more g p level scope (entity.Procedure q s) h = record {
     p = h.p;
@@ -122,16 +139,18 @@ module _ (IsConstant : Value → Type 0) (shown : QName → Option Desc) (m : Ty
   types_placed AtModule u ts h = h
   types_placed (Within p) u ts h = h
 
-  pub block_typed : (l : Level) (u : Around) → BlockAt l u → (ts : List TypedType) → AllByRecursion (IsDescribed IsConstant) ts → Grows ts m.types → BlockAt l (with_types u ts)
-  block_typed l u b ts h g = record {
+  pub block_typed : (l : Level) (u : Around) → BlockAt l u → (ts : List TypedType) → AllByRecursion (IsDescribed IsConstant) ts → Grows ts m.types → ((t : TypedType) → IsOneOf ts t → IsMade content t) → BlockAt l (with_types u ts)
+  block_typed l u b ts h g made = record {
     knows = with_types_known m.name shown IsConstant u b.knows ts h;
     below = b.below;
-    names = all_of (λ (k : Known). NameIs IsConstant shown m u.own (frame l) u.level k.scope k.what) (λ (k : Known). NameIs IsConstant shown m (ts ++ u.own) (frame l) u.level k.scope k.what) u.known (λ k. name_grown u.own (ts ++ u.own) (grows_front ts u.own) (frame l) u.level k.scope k.what) b.names;
+    names = all_of (λ (k : Known). NameIs IsConstant shown m content u.own (frame l) u.level k.scope k.what) (λ (k : Known). NameIs IsConstant shown m content (ts ++ u.own) (frame l) u.level k.scope k.what) u.known (λ k. name_grown u.own (ts ++ u.own) (grows_front ts u.own) (frame l) u.level k.scope k.what) b.names;
     placed = types_placed l u ts b.placed;
     guards = b.guards;
     result = b.result;
     in_loop = b.in_loop;
     grown = grows_both ts u.own m.types g b.grown;
+    within = record { unit_is = b.within.unit_is; shown_is = b.within.shown_is; own = λ t i. ⊎_elim (λ j. made t j) (λ j. b.within.own t j) (one_joined ts u.own t i) };
+    receiver = b.receiver;
   }
 
   -- A NAME THAT IS DECLARED
@@ -143,7 +162,7 @@ module _ (IsConstant : Value → Type 0) (shown : QName → Option Desc) (m : Ty
   at_most : (n : ℕ) → n ≤ n
   at_most n = omega arith
 
-  declared_if : (l : Level) (u : Around) → BlockAt l u → (x : Ident) (e : Entity) → EntityStands IsConstant m.name shown u.own e → NameIs IsConstant shown m u.own (frame l) u.level u.scope e → (o : Option Known) → BlockAt l (declare_if o u x e)
+  declared_if : (l : Level) (u : Around) → BlockAt l u → (x : Ident) (e : Entity) → EntityStands IsConstant m.name shown u.own e → NameIs IsConstant shown m content u.own (frame l) u.level u.scope e → (o : Option Known) → BlockAt l (declare_if o u x e)
   declared_if l u b x e h n (Some k) = b
   declared_if l u b x e h n None = record {
     knows = record { unit_is = b.knows.unit_is; shown_is = b.knows.shown_is; own = b.knows.own; known = (h, b.knows.known) };
@@ -154,9 +173,11 @@ module _ (IsConstant : Value → Type 0) (shown : QName → Option Desc) (m : Ty
     result = b.result;
     in_loop = b.in_loop;
     grown = b.grown;
+    within = record { unit_is = b.within.unit_is; shown_is = b.within.shown_is; own = b.within.own };
+    receiver = b.receiver;
   }
 
-  pub block_declared : (l : Level) (u : Around) → BlockAt l u → (x : Ident) (e : Entity) → EntityStands IsConstant m.name shown u.own e → NameIs IsConstant shown m u.own (frame l) u.level u.scope e → BlockAt l (declare u x e)
+  pub block_declared : (l : Level) (u : Around) → BlockAt l u → (x : Ident) (e : Entity) → EntityStands IsConstant m.name shown u.own e → NameIs IsConstant shown m content u.own (frame l) u.level u.scope e → BlockAt l (declare u x e)
   block_declared l u b x e h n = declared_if l u b x e h n (found_in_scope u x.name)
 
   if_own : (o : Option Known) (u : Around) (x : Ident) (e : Entity) → (declare_if o u x e).own ≡ u.own
@@ -178,7 +199,7 @@ module _ (IsConstant : Value → Type 0) (shown : QName → Option Desc) (m : Ty
   pub not_inner : (k n : ℕ) → k ≤ n → nat_lt k (suc n) ≡ false → ⊥
   not_inner k n h e = grind (arith, nat_tests)
 
-  pub outer_name : (own : List TypedType) (p q : Option TypedProcedure) (level k n : ℕ) → k ≤ n → (e : Entity) → NameIs IsConstant shown m own p level k e → NameIs IsConstant shown m own q (suc n) k e
+  pub outer_name : (own : List TypedType) (p q : Option TypedProcedure) (level k n : ℕ) → k ≤ n → (e : Entity) → NameIs IsConstant shown m content own p level k e → NameIs IsConstant shown m content own q (suc n) k e
   outer_name own p q level k n below (entity.Variable v t) h = record { outside = h.outside; inside = λ e f. absurd (not_inner k n below f) }
   outer_name own p q level k n below (entity.Procedure r s) h = h
   outer_name own p q level k n below (entity.Constant v) h = tt

@@ -7,6 +7,7 @@ pub mod Written
 pub mod Heads
 pub mod Binding
 pub mod Headings
+pub mod Receivers
 pub mod Levels
 pub mod Plain
 pub mod Blocks

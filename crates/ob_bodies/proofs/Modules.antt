@@ -63,19 +63,19 @@ first_false : (a b : Bool) → (a || b) ≡ false → a ≡ false
 first_false true b e = absurd cc
 first_false false b e = refl
 
-module _ (IsConstant : Value → Type 0) (truths : (b : Bool) → IsConstant (literal.Bool b)) (shown : QName → Option Desc) (m : TypedModule) (out : is_out m.name ≡ false) (constants : (x : Expr) → is_spelled x ≡ true → ConstantPhrase IsConstant m.name shown out (phrase_of x)) where
+module _ (IsConstant : Value → Type 0) (truths : (b : Bool) → IsConstant (literal.Bool b)) (shown : QName → Option Desc) (m : TypedModule) (content : Contents) (out : is_out m.name ≡ false) (constants : (x : Expr) → is_spelled x ≡ true → ConstantPhrase IsConstant m.name shown out (phrase_of x)) where
   abbrev GoodDeclaration : Declaration → Type 0
-  GoodDeclaration (Plain x f) = IsPlain IsConstant shown m out f
-  GoodDeclaration (Procedure p) = IsProcedure IsConstant shown m out p
+  GoodDeclaration (Plain x f) = IsPlain IsConstant shown m content out f
+  GoodDeclaration (Procedure p) = IsProcedure IsConstant shown m content out p
 
   abbrev AreGood : List Declaration → Type 0
   AreGood ds = AllByRecursion GoodDeclaration ds
 
-  plain_good : (d : Declaration) → GoodDeclaration d → IfThere (IsPlain IsConstant shown m out) (plain_of d)
+  plain_good : (d : Declaration) → GoodDeclaration d → IfThere (IsPlain IsConstant shown m content out) (plain_of d)
   plain_good (Plain x f) h = h
   plain_good (Procedure p) h = tt
 
-  procedure_good : (d : Declaration) → GoodDeclaration d → IfThere (IsProcedure IsConstant shown m out) (procedure_of d)
+  procedure_good : (d : Declaration) → GoodDeclaration d → IfThere (IsProcedure IsConstant shown m content out) (procedure_of d)
   procedure_good (Plain x f) h = tt
   procedure_good (Procedure p) h = h
 
@@ -83,13 +83,13 @@ module _ (IsConstant : Value → Type 0) (truths : (b : Bool) → IsConstant (li
   later_placed AtModule u xs h = h
   later_placed (Within p) u xs h = h
 
-  block_good : (ds : List Declaration) → AreGood ds → (xs : List Stmt) → all_true (map stmt_spelled xs) ≡ true → IsBlock IsConstant shown m out (block ds (map judging xs))
+  block_good : (ds : List Declaration) → AreGood ds → (xs : List Stmt) → all_true (map stmt_spelled xs) ≡ true → IsBlock IsConstant shown m content out (block ds (map judging xs))
   block_good ds g xs e l u b n i =
       let names = filter_map type_name_of ds in
       let v : Around = record u { later_types = names } in
       let ps = filter_map procedure_of ds in
       let d = in_order (filter_map plain_of ds) v in
-      let c : BlockAt IsConstant shown m l v = record {
+      let c : BlockAt IsConstant shown m content l v = record {
         knows = record { unit_is = b.knows.unit_is; shown_is = b.knows.shown_is; own = b.knows.own; known = b.knows.known };
         below = b.below;
         names = b.names;
@@ -98,9 +98,11 @@ module _ (IsConstant : Value → Type 0) (truths : (b : Bool) → IsConstant (li
         result = b.result;
         in_loop = b.in_loop;
         grown = b.grown;
+        within = record { unit_is = b.within.unit_is; shown_is = b.within.shown_is; own = b.within.own };
+        receiver = b.receiver;
       } in
-      let r = order_plain IsConstant shown m out (filter_map plain_of ds) (kept_all GoodDeclaration (IsPlain IsConstant shown m out) plain_of plain_good ds g) l v c (first_included IsConstant shown m l d.part.contents _ i) in
-      block_is IsConstant shown m out l ps (kept_all GoodDeclaration (IsProcedure IsConstant shown m out) procedure_of procedure_good ds g) xs e u d r n i
+      let r = order_plain IsConstant shown m content out (filter_map plain_of ds) (kept_all GoodDeclaration (IsPlain IsConstant shown m content out) plain_of plain_good ds g) l v c (first_included IsConstant shown m content l d.part.contents _ i) in
+      block_is IsConstant shown m content out l ps (kept_all GoodDeclaration (IsProcedure IsConstant shown m content out) procedure_of procedure_good ds g) xs e u b.placed d r n i
 
   -- BY INDUCTION OVER DECLARATIONS
 
@@ -120,13 +122,13 @@ module _ (IsConstant : Value → Type 0) (truths : (b : Bool) → IsConstant (li
   layer : (x : Decl-F Decl) → (decl_layer (map-Decl Decl Bool decl_spelled x) ≡ true → GoodDeclaration (decl_rule (map-Decl Decl Declaration declaration x))) → PD (roll-Decl x)
   layer x h e = subst GoodDeclaration (sym (fold-roll-Decl Declaration decl_rule x)) (h (sym (fold-roll-Decl Bool decl_layer x) ∙ e))
 
-  no_block : IsBlock IsConstant shown m out (λ u. record { notes = Rattle.ob_rules.specs.Judged.no_notes; contents = no_contents })
-  no_block l u b n i = record { procedures = tt; body = record { u = u; xs = []; is = refl; spelled = refl; stands = stands_at IsConstant shown m out l u b }; placed = b.placed; full = none_full IsConstant shown m }
+  no_block : IsBlock IsConstant shown m content out (λ u. record { notes = Rattle.ob_rules.specs.Judged.no_notes; contents = no_contents })
+  no_block l u b n i = record { procedures = tt; body = record { u = u; xs = []; is = refl; spelled = refl; stands = stands_at IsConstant shown m content out l u b }; placed = b.placed; full = none_full IsConstant shown m content }
 
   decl_cases : (y : Decl-F SD) → PD (roll-Decl (map-Decl SD Decl (λ x. x.0) y))
-  decl_cases (Decl-F.Constant d x) = layer (Decl-F.Constant d x) (λ e. constant_plain IsConstant shown m out d (phrase_of x) (constants x e))
-  decl_cases (Decl-F.NamedType d n) = layer (Decl-F.NamedType d n) (λ e. type_plain IsConstant shown m out d (written n) (written_good IsConstant m.name shown out constants n e))
-  decl_cases (Decl-F.Variables ds n) = layer (Decl-F.Variables ds n) (λ e. variables_declared_plain IsConstant shown m out ds (written n) (written_good IsConstant m.name shown out constants n e))
+  decl_cases (Decl-F.Constant d x) = layer (Decl-F.Constant d x) (λ e. constant_plain IsConstant shown m content out d (phrase_of x) (constants x e))
+  decl_cases (Decl-F.NamedType d n) = layer (Decl-F.NamedType d n) (λ e. type_plain IsConstant shown m content out d (written n) (written_good IsConstant m.name shown out constants n e))
+  decl_cases (Decl-F.Variables ds n) = layer (Decl-F.Variables ds n) (λ e. variables_declared_plain IsConstant shown m content out ds (written n) (written_good IsConstant m.name shown out constants n e))
   decl_cases (Decl-F.Procedure h ds body closing) = layer (Decl-F.Procedure h (decls_in ds) body closing) (λ e.
       let p = and_both (parameters_spelled h.parameters) (all_true (map decl_spelled (decls_in ds)) && all_true (map stmt_spelled body)) e in
       let q = and_both (all_true (map decl_spelled (decls_in ds))) (all_true (map stmt_spelled body)) p.1 in
@@ -149,19 +151,19 @@ module _ (IsConstant : Value → Type 0) (truths : (b : Bool) → IsConstant (li
   import_at own true t h = tt
   import_at own false t h = h
 
-  import_name : (own : List TypedType) (p : Option TypedProcedure) (level scope : ℕ) (b : Bool) (t : Ident) → NameIs IsConstant shown m own p level scope (import_entity b t)
+  import_name : (own : List TypedType) (p : Option TypedProcedure) (level scope : ℕ) (b : Bool) (t : Ident) → NameIs IsConstant shown m content own p level scope (import_entity b t)
   import_name own p level scope true t = tt
   import_name own p level scope false t = tt
 
-  import_plain : (i : Import) (t : Ident) → bytes_eq t.name m.name ≡ false → IsPlain IsConstant shown m out (import_declared i t)
+  import_plain : (i : Import) (t : Ident) → bytes_eq t.name m.name ≡ false → IsPlain IsConstant shown m content out (import_declared i t)
   import_plain i t h l u b c = record {
-    around = name_declared IsConstant shown m l u b i.ident (import_entity (is_system t.name) t) (import_at u.own (is_system t.name) t h) (import_name u.own (frame l) u.level u.scope (is_system t.name) t);
+    around = name_declared IsConstant shown m content l u b i.ident (import_entity (is_system t.name) t) (import_at u.own (is_system t.name) t h) (import_name u.own (frame l) u.level u.scope (is_system t.name) t);
     procedures = refl;
     body = refl;
-    full = none_full IsConstant shown m;
+    full = none_full IsConstant shown m content;
   }
 
-  imports_plain : (is : List Import) → AllByRecursion (λ (i : Import). bytes_eq (target_of i).name m.name ≡ false) is → AllByRecursion (IsPlain IsConstant shown m out) (map (λ i. import_declared i (target_of i)) is)
+  imports_plain : (is : List Import) → AllByRecursion (λ (i : Import). bytes_eq (target_of i).name m.name ≡ false) is → AllByRecursion (IsPlain IsConstant shown m content out) (map (λ i. import_declared i (target_of i)) is)
   imports_plain [] h = tt
   imports_plain (i ∷ is) h = (import_plain i (target_of i) h.0, imports_plain is h.1)
 
@@ -173,33 +175,35 @@ module _ (IsConstant : Value → Type 0) (truths : (b : Bool) → IsConstant (li
   predeclared_below : AllByRecursion (λ (k : Known). k.scope ≤ 1) predeclared
   predeclared_below = let z = none_below in (z, (z, (z, (z, (z, (z, (z, (z, (z, (z, (z, (z, (z, (z, (z, (z, (z, (z, (z, (z, (z, (z, (z, (z, (z, (z, (z, (z, (z, (z, (z, tt)))))))))))))))))))))))))))))))
 
-  module_around : (name : List ℕ) (ds : List Declaration) → name ≡ m.name → BlockAt IsConstant shown m AtModule (around_module shown name ds)
+  module_around : (name : List ℕ) (ds : List Declaration) → name ≡ m.name → BlockAt IsConstant shown m content AtModule (around_module shown name ds)
   module_around name ds e = record {
     knows = record { unit_is = e; shown_is = refl; own = tt; known = (tt, (tt, (tt, (tt, (tt, (tt, (truths true, (truths false, (tt, (tt, (tt, (tt, (tt, (tt, (tt, (tt, (tt, (tt, (tt, (tt, (tt, (tt, (tt, (tt, (tt, (tt, (tt, (tt, (tt, (tt, (tt, tt))))))))))))))))))))))))))))))) };
     below = predeclared_below;
     names = (tt, (tt, (tt, (tt, (tt, (tt, (tt, (tt, (tt, (tt, (tt, (tt, (tt, (tt, (tt, (tt, (tt, (tt, (tt, (tt, (tt, (tt, (tt, (tt, (tt, (tt, (tt, (tt, (tt, (tt, (tt, tt)))))))))))))))))))))))))))))));
-    placed = (refl, (refl, refl));
+    placed = (refl, (refl, (refl, refl)));
     guards = refl;
     result = refl;
     in_loop = refl;
     grown = λ x h. absurd h.1.0;
+    within = record { unit_is = e; shown_is = refl; own = λ t i. absurd i };
+    receiver = tt;
   }
 
-  module_is : (name : Ident) → name.name ≡ m.name → (imports : List Import) → AllByRecursion (λ (i : Import). bytes_eq (target_of i).name m.name ≡ false) imports → (ds : List Declaration) → AreGood ds → (xs : List Stmt) → all_true (map stmt_spelled xs) ≡ true → (closing : Ident) → (module_of shown name imports ds (map judging xs) closing).notes.broken ≡ [] → Included IsConstant shown m AtModule (module_of shown name imports ds (map judging xs) closing).contents → PartIs IsConstant shown m out AtModule (module_of shown name imports ds (map judging xs) closing).contents
+  module_is : (name : Ident) → name.name ≡ m.name → (imports : List Import) → AllByRecursion (λ (i : Import). bytes_eq (target_of i).name m.name ≡ false) imports → (ds : List Declaration) → AreGood ds → (xs : List Stmt) → all_true (map stmt_spelled xs) ≡ true → (closing : Ident) → (module_of shown name imports ds (map judging xs) closing).notes.broken ≡ [] → Included IsConstant shown m content AtModule (module_of shown name imports ds (map judging xs) closing).contents → PartIs IsConstant shown m content out AtModule (module_of shown name imports ds (map judging xs) closing).contents
   module_is name e imports o ds g xs s closing n i =
       let u = around_module shown name.name ds in
       let d = imports_declared imports u in
       let c = (block ds (map judging xs) d.around).contents in
-      let j = second_included IsConstant shown m AtModule no_contents (together d.part.contents c) i in
-      let r = order_plain IsConstant shown m out (map (λ i. import_declared i (target_of i)) imports) (imports_plain imports o) AtModule u (module_around name.name ds e) (first_included IsConstant shown m AtModule d.part.contents c j) in
+      let j = second_included IsConstant shown m content AtModule no_contents (together d.part.contents c) i in
+      let r = order_plain IsConstant shown m content out (map (λ i. import_declared i (target_of i)) imports) (imports_plain imports o) AtModule u (module_around name.name ds e) (first_included IsConstant shown m content AtModule d.part.contents c j) in
       let inner = (block ds (map judging xs) d.around).notes.broken in
       let quiet : inner ≡ [] = second_empty d.part.notes.broken inner (second_empty _ (d.part.notes.broken ++ inner) n) in
-      let p = block_good ds g xs s AtModule d.around r.around quiet (second_included IsConstant shown m AtModule d.part.contents c j) in
+      let p = block_good ds g xs s AtModule d.around r.around quiet (second_included IsConstant shown m content AtModule d.part.contents c j) in
       record {
-        procedures = all_both (ProcedureIsJudged IsConstant shown m) d.part.contents.procedures c.procedures (all_empty (ProcedureIsJudged IsConstant shown m) d.part.contents.procedures r.procedures) p.procedures;
+        procedures = all_both (ProcedureIsJudged IsConstant shown m content) d.part.contents.procedures c.procedures (all_empty (ProcedureIsJudged IsConstant shown m content) d.part.contents.procedures r.procedures) p.procedures;
         body = record { u = p.body.u; xs = p.body.xs; is = ◌∙◌ {c = stmts_in (in_turn (map judging p.body.xs) p.body.u).node} (ap (λ l. l ++ c.body) r.body) p.body.is; spelled = p.body.spelled; stands = p.body.stands };
         placed = p.placed;
-        full = both_full IsConstant shown m no_contents (together d.part.contents c) (none_full IsConstant shown m) (both_full IsConstant shown m d.part.contents c r.full p.full);
+        full = both_full IsConstant shown m content no_contents (together d.part.contents c) (none_full IsConstant shown m content) (both_full IsConstant shown m content d.part.contents c r.full p.full);
       }
 
 -- ---- the checked module
@@ -239,8 +243,8 @@ module _ (IsConstant : Value → Type 0) (truths : (b : Bool) → IsConstant (li
   whole_is : parts.notes.broken ≡ [] → (out : is_out whole.name ≡ false) → ((x : Expr) → is_spelled x ≡ true → ConstantPhrase IsConstant whole.name shown out (phrase_of x)) → tree_spelled tree ≡ true → AllByRecursion (λ (i : Import). bytes_eq (target_of i).name tree.name.name ≡ false) tree.imports → BodiesAreJudged IsConstant shown whole
   whole_is quiet out constants s o =
       let e = and_both (all_true (map decl_spelled tree.decls)) (all_true (map stmt_spelled tree.body)) s in
-      let p = module_is IsConstant truths shown whole out constants tree.name refl tree.imports o (map declaration tree.decls) (decls_good IsConstant truths shown whole out constants tree.decls e.0) tree.body e.1 tree.closing quiet (record { variables = λ x i. i; procedures = λ p i. i; types = names_kept parts.contents.bound parts.contents.types }) in
-      record { procedures = p.procedures; body = p.body; scope = p.placed.1.0; name = out; constants = p.full.constants; types = all_described_are IsConstant parts.contents.bound p.full.bound parts.contents.types p.full.types }
+      let p = module_is IsConstant truths shown whole parts.contents out constants tree.name refl tree.imports o (map declaration tree.decls) (decls_good IsConstant truths shown whole parts.contents out constants tree.decls e.0) tree.body e.1 tree.closing quiet (record { variables = λ x i. i; procedures = λ p i. i; types = names_kept parts.contents.bound parts.contents.types; made = λ t i. inl i; bound = λ t i. inr i }) in
+      record { content = parts.contents; types_are = refl; procedures = p.procedures; body = p.body; scope = p.placed.1.0; receiver = p.placed.1.1.1; name = out; constants = p.full.constants; types = all_described_are IsConstant parts.contents.bound p.full.bound parts.contents.types p.full.types }
 
   pub bodies_judged : (m : TypedModule) → checked shown tree ≡ Some m → ((out : is_out tree.name.name ≡ false) (x : Expr) → is_spelled x ≡ true → ConstantPhrase IsConstant tree.name.name shown out (phrase_of x)) → tree_spelled tree ≡ true → AllByRecursion (λ (i : Import). bytes_eq (target_of i).name tree.name.name ≡ false) tree.imports → BodiesAreJudged IsConstant shown m
   bodies_judged m e constants s o =

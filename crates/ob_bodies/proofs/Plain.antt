@@ -32,15 +32,15 @@ use Rattle.ob_bodies.specs.Judged.{IsInside, VariableStands, NameIs}
 use Rattle.ob_bodies.proofs.Typings.{TypingIs, ConstantPhrase, IsGood, typed_is}
 use Rattle.ob_bodies.proofs.Levels.{Level, AtModule, Within, frame, IsVariableAt, Included, IsFull, none_full, both_full, first_included, second_included, BlockAt, block_typed, block_declared, declared_own, not_outer, not_module}
 
-module _ (IsConstant : Value → Type 0) (shown : QName → Option Desc) (m : TypedModule) (out : is_out m.name ≡ false) where
+module _ (IsConstant : Value → Type 0) (shown : QName → Option Desc) (m : TypedModule) (content : Contents) (out : is_out m.name ≡ false) where
   abbrev S : List TypedType → TypeRef → Type 0
   S own t = Stands m.name shown own t
 
   abbrev B : Level → Around → Type 0
-  B l u = BlockAt IsConstant shown m l u
+  B l u = BlockAt IsConstant shown m content l u
 
   abbrev I : Level → Contents → Type 0
-  I l c = Included IsConstant shown m l c
+  I l c = Included IsConstant shown m content l c
 
   abbrev T : List TypedType → Typing → Type 0
   T own t = TypingIs IsConstant m.name shown out own t
@@ -50,7 +50,7 @@ module _ (IsConstant : Value → Type 0) (shown : QName → Option Desc) (m : Ty
     pub around : B l d.around
     pub procedures : d.part.contents.procedures ≡ []
     pub body : d.part.contents.body ≡ []
-    pub full : IsFull IsConstant shown m d.part.contents
+    pub full : IsFull IsConstant shown m content d.part.contents
 
   abbrev pub IsPlain : (Around → Declared) → Type 0
   IsPlain f = (l : Level) (u : Around) → B l u → I l (f u).part.contents → DeclaredIs l (f u)
@@ -69,7 +69,7 @@ module _ (IsConstant : Value → Type 0) (shown : QName → Option Desc) (m : Ty
   constant_stands own None h = tt
   constant_stands own (Some p) h = h.1
 
-  constant_name : (own : List TypedType) (p : Option TypedProcedure) (level scope : ℕ) (o : Option (Mark × Value)) → NameIs IsConstant shown m own p level scope (constant_entity o)
+  constant_name : (own : List TypedType) (p : Option TypedProcedure) (level scope : ℕ) (o : Option (Mark × Value)) → NameIs IsConstant shown m content own p level scope (constant_entity o)
   constant_name own p level scope None = tt
   constant_name own p level scope (Some x) = tt
 
@@ -78,10 +78,10 @@ module _ (IsConstant : Value → Type 0) (shown : QName → Option Desc) (m : Ty
   constant_adds true x (Some p) = (refl, refl)
   constant_adds false x o = (refl, refl)
 
-  constant_full : (b : Bool) (x : Ident) (o : Option (Mark × Value)) → IfThere (λ (p : Mark × Value). Unit {0} × IsConstant p.1) o → IsFull IsConstant shown m (constant_contents b x o)
-  constant_full true x None h = none_full IsConstant shown m
+  constant_full : (b : Bool) (x : Ident) (o : Option (Mark × Value)) → IfThere (λ (p : Mark × Value). Unit {0} × IsConstant p.1) o → IsFull IsConstant shown m content (constant_contents b x o)
+  constant_full true x None h = none_full IsConstant shown m content
   constant_full true x (Some p) h = record { constants = (h.1, tt); types = tt; bound = tt }
-  constant_full false x o h = none_full IsConstant shown m
+  constant_full false x o h = none_full IsConstant shown m content
 
   pub constant_plain : (d : IdentDef) (x : Phrase) → ConstantPhrase IsConstant m.name shown out x → IsPlain (constant_declared d x)
   constant_plain d x c l u b i =
@@ -90,7 +90,7 @@ module _ (IsConstant : Value → Type 0) (shown : QName → Option Desc) (m : Ty
       let h = second_has IsConstant (marked u false d) v (then_has IsConstant IsConstant (constant_value u x) (no_nil x.start) (c u b.knows) (λ v g. no_nil_is x.start v g)) in
       let a = constant_adds (is_module_level u) d.ident o in
       record {
-        around = block_declared IsConstant shown m l u b d.ident (constant_entity o) (constant_stands u.own o h) (constant_name u.own (frame l) u.level u.scope o);
+        around = block_declared IsConstant shown m content l u b d.ident (constant_entity o) (constant_stands u.own o h) (constant_name u.own (frame l) u.level u.scope o);
         procedures = a.0;
         body = a.1;
         full = constant_full (is_module_level u) d.ident o h;
@@ -110,7 +110,7 @@ module _ (IsConstant : Value → Type 0) (shown : QName → Option Desc) (m : Ty
   type_stands own None h = tt
   type_stands own (Some p) h = h.1.of
 
-  type_name : (own : List TypedType) (p : Option TypedProcedure) (level scope : ℕ) (o : Option (Mark × Typing)) → NameIs IsConstant shown m own p level scope (type_entity o)
+  type_name : (own : List TypedType) (p : Option TypedProcedure) (level scope : ℕ) (o : Option (Mark × Typing)) → NameIs IsConstant shown m content own p level scope (type_entity o)
   type_name own p level scope None = tt
   type_name own p level scope (Some x) = tt
 
@@ -122,7 +122,7 @@ module _ (IsConstant : Value → Type 0) (shown : QName → Option Desc) (m : Ty
       let h = second_has (T u.own) k t (as_good u b.knows (u.path ++ d.ident.name) (mark_or_hidden k.node) w g w.name) in
       let v = with_types u (types_made o) in
       record {
-        around = block_declared IsConstant shown m l v (block_typed IsConstant shown m l u b (types_made o) (type_made u.own o h) i.types) d.ident (type_entity o) (type_stands u.own o h) (type_name v.own (frame l) u.level u.scope o);
+        around = block_declared IsConstant shown m content l v (block_typed IsConstant shown m content l u b (types_made o) (type_made u.own o h) i.types i.made) d.ident (type_entity o) (type_stands u.own o h) (type_name v.own (frame l) u.level u.scope o);
         procedures = refl;
         body = refl;
         full = record { constants = tt; types = type_made u.own o h; bound = tt };
@@ -134,25 +134,25 @@ module _ (IsConstant : Value → Type 0) (shown : QName → Option Desc) (m : Ty
   unsound_name u x None = tt
   unsound_name u x (Some p) = tt
 
-  variable_inside : (p : Option TypedProcedure) (own : List TypedType) (x : Ident) (k : Mark) (t : TypeRef) → IsVariableAt IsConstant shown m (Within p) (record { name = x.name; mark = k; of = t }) → S own t → IsInside (S own) p (variable.Local x.name) t
+  variable_inside : (p : Option TypedProcedure) (own : List TypedType) (x : Ident) (k : Mark) (t : TypeRef) → IsVariableAt IsConstant shown m content (Within p) (record { name = x.name; mark = k; of = t }) → S own t → IsInside (S own) p (variable.Local x.name) t
   variable_inside None own x k t h s = tt
   variable_inside (Some p) own x k t h s = (inl (record { name = x.name; mark = k; of = t }, (h, (refl, refl))), s)
 
-  variable_stands : (l : Level) (u : Around) → B l u → (x : Ident) (k : Mark) (t : TypeRef) → S u.own t → IsVariableAt IsConstant shown m l (record { name = x.name; mark = k; of = t }) → VariableStands IsConstant shown m u.own (frame l) u.level u.scope (variable_of (is_module_level u) u x.name) t
+  variable_stands : (l : Level) (u : Around) → B l u → (x : Ident) (k : Mark) (t : TypeRef) → S u.own t → IsVariableAt IsConstant shown m content l (record { name = x.name; mark = k; of = t }) → VariableStands IsConstant shown m content u.own (frame l) u.level u.scope (variable_of (is_module_level u) u x.name) t
   variable_stands AtModule u b x k t s i =
       let n : variable_of (is_module_level u) u x.name ≡ variable.Module m.name x.name = ap (λ (p : List ℕ). variable_of (nothing p) u x.name) b.placed.0 ∙ ap (λ n. variable.Module n x.name) b.knows.unit_is in
       record {
         outside = λ e. ((record { name = x.name; mark = k; of = t }, (i, (n, refl))), s);
-        inside = λ e f. absurd (not_outer IsConstant shown m (ap (λ n. nat_lt 1 n) (sym b.placed.1.0) ∙ e));
+        inside = λ e f. absurd (not_outer IsConstant shown m content (ap (λ n. nat_lt 1 n) (sym b.placed.1.0) ∙ e));
       }
   variable_stands (Within p) u b x k t s i =
       let n : variable_of (is_module_level u) u x.name ≡ variable.Local x.name = ap (λ c. variable_of c u x.name) b.placed.0 in
       record {
-        outside = λ e. absurd (not_module IsConstant shown m u.scope b.placed.1.1 e);
+        outside = λ e. absurd (not_module IsConstant shown m content u.scope b.placed.1.1 e);
         inside = λ e f. subst (λ v. IsInside (S u.own) p v t) (sym n) (variable_inside p u.own x k t i s);
       }
 
-  variable_name : (l : Level) (u : Around) → B l u → (x : Ident) (k : Option Mark) (t : Option Typing) → IfThere (λ t. S u.own t.of) t → I l (variable_contents x (paired_typing k t)) → NameIs IsConstant shown m u.own (frame l) u.level u.scope (variable_entity u x (paired_typing k t))
+  variable_name : (l : Level) (u : Around) → B l u → (x : Ident) (k : Option Mark) (t : Option Typing) → IfThere (λ t. S u.own t.of) t → I l (variable_contents x (paired_typing k t)) → NameIs IsConstant shown m content u.own (frame l) u.level u.scope (variable_entity u x (paired_typing k t))
   variable_name l u b x (Some k) (Some t) h i = variable_stands l u b x k t.of h (i.variables (record { name = x.name; mark = k; of = t.of }) (inl refl))
   variable_name l u b x (Some k) None h i = tt
   variable_name l u b x None t h i = tt
@@ -161,15 +161,15 @@ module _ (IsConstant : Value → Type 0) (shown : QName → Option Desc) (m : Ty
   variable_adds x None = (refl, refl)
   variable_adds x (Some p) = (refl, refl)
 
-  variable_full : (x : Ident) (o : Option (Mark × Typing)) → IsFull IsConstant shown m (variable_contents x o)
-  variable_full x None = none_full IsConstant shown m
+  variable_full : (x : Ident) (o : Option (Mark × Typing)) → IsFull IsConstant shown m content (variable_contents x o)
+  variable_full x None = none_full IsConstant shown m content
   variable_full x (Some p) = record { constants = tt; types = tt; bound = tt }
 
   pub two_empty : {A : Type 0} (xs ys : List A) → xs ≡ [] → ys ≡ [] → xs ++ ys ≡ []
   two_empty xs ys e f = ap (λ l. l ++ ys) e ∙ f
 
   variables_plain : (ds : List IdentDef) (t : Option Typing) (l : Level) (u : Around) → B l u → IfThere (λ t. S u.own t.of) t → I l (variables_with ds t u).part.contents → DeclaredIs l (variables_with ds t u)
-  variables_plain [] t l u b h i = record { around = b; procedures = refl; body = refl; full = none_full IsConstant shown m }
+  variables_plain [] t l u b h i = record { around = b; procedures = refl; body = refl; full = none_full IsConstant shown m content }
   variables_plain (d ∷ ds) t l u b h i =
       let k = (marked u true d).node in
       let o = paired_typing k t in
@@ -177,10 +177,10 @@ module _ (IsConstant : Value → Type 0) (shown : QName → Option Desc) (m : Ty
       let v = declare u d.ident e in
       let mine = variable_contents d.ident o in
       let rest = (variables_with ds t v).part.contents in
-      let c = block_declared IsConstant shown m l u b d.ident e (unsound_name u d.ident o) (variable_name l u b d.ident k t h (first_included IsConstant shown m l mine rest i)) in
-      let r = variables_plain ds t l v c (subst (λ own. IfThere (λ t. S own t.of) t) (sym (declared_own IsConstant shown m u d.ident e)) h) (second_included IsConstant shown m l mine rest i) in
+      let c = block_declared IsConstant shown m content l u b d.ident e (unsound_name u d.ident o) (variable_name l u b d.ident k t h (first_included IsConstant shown m content l mine rest i)) in
+      let r = variables_plain ds t l v c (subst (λ own. IfThere (λ t. S own t.of) t) (sym (declared_own IsConstant shown m content u d.ident e)) h) (second_included IsConstant shown m content l mine rest i) in
       let a = variable_adds d.ident o in
-      record { around = r.around; procedures = two_empty mine.procedures rest.procedures a.0 r.procedures; body = two_empty mine.body rest.body a.1 r.body; full = both_full IsConstant shown m mine rest (variable_full d.ident o) r.full }
+      record { around = r.around; procedures = two_empty mine.procedures rest.procedures a.0 r.procedures; body = two_empty mine.body rest.body a.1 r.body; full = both_full IsConstant shown m content mine rest (variable_full d.ident o) r.full }
 
   in_made : (own : List TypedType) (o : Option Typing) → IfThere (T own) o → AllByRecursion (IsDescribed IsConstant) (made_in o)
   in_made own None h = tt
@@ -196,16 +196,16 @@ module _ (IsConstant : Value → Type 0) (shown : QName → Option Desc) (m : Ty
       let h : Has (T u.own) t = g u b.knows (u.path ++ first_name ds ++ codes ":") mark.Hidden false in
       let v = with_types u (made_in t.node) in
       let mine : Contents = record no_contents { types = made_in t.node } in
-      let r = variables_plain ds t.node l v (block_typed IsConstant shown m l u b (made_in t.node) (in_made u.own t.node h) (first_included IsConstant shown m l mine (variables_with ds t.node v).part.contents i).types) (in_stands u.own t.node h) (second_included IsConstant shown m l mine (variables_with ds t.node v).part.contents i) in
-      record { around = r.around; procedures = r.procedures; body = r.body; full = both_full IsConstant shown m mine (variables_with ds t.node v).part.contents (record { constants = tt; types = in_made u.own t.node h; bound = tt }) r.full }
+      let r = variables_plain ds t.node l v (block_typed IsConstant shown m content l u b (made_in t.node) (in_made u.own t.node h) (first_included IsConstant shown m content l mine (variables_with ds t.node v).part.contents i).types (first_included IsConstant shown m content l mine (variables_with ds t.node v).part.contents i).made) (in_stands u.own t.node h) (second_included IsConstant shown m content l mine (variables_with ds t.node v).part.contents i) in
+      record { around = r.around; procedures = r.procedures; body = r.body; full = both_full IsConstant shown m content mine (variables_with ds t.node v).part.contents (record { constants = tt; types = in_made u.own t.node h; bound = tt }) r.full }
 
   -- IN ORDER
 
   pub order_plain : (fs : List (Around → Declared)) → AllByRecursion IsPlain fs → IsPlain (in_order fs)
-  order_plain [] g l u b i = record { around = b; procedures = refl; body = refl; full = none_full IsConstant shown m }
+  order_plain [] g l u b i = record { around = b; procedures = refl; body = refl; full = none_full IsConstant shown m content }
   order_plain (f ∷ fs) g l u b i =
       let d = f u in
       let rest = in_order fs d.around in
-      let a = g.0 l u b (first_included IsConstant shown m l d.part.contents rest.part.contents i) in
-      let r = order_plain fs g.1 l d.around a.around (second_included IsConstant shown m l d.part.contents rest.part.contents i) in
-      record { around = r.around; procedures = two_empty d.part.contents.procedures rest.part.contents.procedures a.procedures r.procedures; body = two_empty d.part.contents.body rest.part.contents.body a.body r.body; full = both_full IsConstant shown m d.part.contents rest.part.contents a.full r.full }
+      let a = g.0 l u b (first_included IsConstant shown m content l d.part.contents rest.part.contents i) in
+      let r = order_plain fs g.1 l d.around a.around (second_included IsConstant shown m content l d.part.contents rest.part.contents i) in
+      record { around = r.around; procedures = two_empty d.part.contents.procedures rest.part.contents.procedures a.procedures r.procedures; body = two_empty d.part.contents.body rest.part.contents.body a.body r.body; full = both_full IsConstant shown m content d.part.contents rest.part.contents a.full r.full }

@@ -1,5 +1,5 @@
 -- A sequence of declarations with its statements: the bodies of its procedures and its own are judged where what is known is as the module has it.
-use Rattle.std.proofs.Common.{◌≡◌, refl, sym, ap, ◌∙◌, subst, ℕ, ◌≤◌, Bool, true, false, List, [], ◌++◌, map, Option, Some, None}
+use Rattle.std.proofs.Common.{◌≡◌, ⊎_elim, refl, sym, ap, ◌∙◌, subst, ℕ, ◌≤◌, Bool, true, false, List, [], ◌++◌, map, Option, Some, None}
 use Rattle.std.specs.List.{AllByRecursion}
 use Rattle.ob_tree.specs.declared.names.QName.{QName}
 use Rattle.ob_tree.specs.declared.stmt.Stmt.{Stmt}
@@ -12,29 +12,30 @@ use Rattle.ob_rules.specs.declared.entity.Bound.{Bound}
 use Rattle.ob_rules.specs.Names.{Around, in_unit, is_out}
 use Rattle.ob_rules.specs.Types.{Parameters, is_module_level}
 use Rattle.ob_rules.specs.Statements.{judging, in_turn}
-use Rattle.ob_rules.specs.Headings.{Head, Heads, head_entity, entity_as, types_of, reversed}
+use Rattle.ob_rules.specs.Headings.{Head, Heads, head_entity, entity_as, reversed}
 use Rattle.ob_rules.specs.Declarations.{Contents, no_contents, together, Part, Declared, Written_procedure, headings_in_order, procedures_judged, stmts_in, body_part, block_inside, with_bound, binding_at, block_declared}
 use Rattle.ob_forms.specs.Said.{IsOneOf}
 use Rattle.ob_typed.specs.Makes.{IfThere}
 use Rattle.ob_typed.specs.Spelled.{all_true}
 use Rattle.ob_typed.specs.Bodies.{stmt_spelled}
 use Rattle.ob_bodies.specs.Knows.{Grows, IsDescribed, EntityStands}
-use Rattle.ob_bodies.specs.Judged.{AreOf, NameIs, ProcedureIsJudged}
-use Rattle.ob_bodies.proofs.Lists.{one_all, all_of, all_both, all_pairs, first_empty, second_empty}
-use Rattle.ob_bodies.proofs.Standing.{grows_same, grows_then, grows_both, entity_grown}
+use Rattle.ob_bodies.specs.Judged.{IsMade, AreOf, NameIs, ProcedureIsJudged}
+use Rattle.ob_bodies.proofs.Receivers.{IsBoundAmong, bound_in_order}
+use Rattle.ob_bodies.proofs.Lists.{one_joined, one_all, there_of, all_of, all_both, all_pairs, first_empty, second_empty}
+use Rattle.ob_bodies.proofs.Standing.{Lies, lies_same, grows_as, grows_same, grows_then, grows_both, entity_grown}
 use Rattle.ob_bodies.proofs.Heads.{SignatureStands, HeadStands, head_grown}
-use Rattle.ob_bodies.proofs.Headings.{Aligned, IsUnbroken, types_of_all, grown_in_order, types_grow, named_at, aligned_in_order, names_in_order, HeadsStand, named_fine, stand_in_order}
+use Rattle.ob_bodies.proofs.Headings.{Aligned, IsUnbroken, types_of_all, lies_in_order, types_lie, named_at, aligned_in_order, names_in_order, HeadsStand, named_fine, stand_in_order}
 use Rattle.ob_bodies.proofs.Binding.{binding_changes}
-use Rattle.ob_bodies.proofs.Levels.{Level, AtModule, Within, frame, IsPlaced, Included, none_full, both_full, first_included, second_included, BlockAt, name_grown}
+use Rattle.ob_bodies.proofs.Levels.{Level, AtModule, Within, frame, IsPlaced, IsBoundAt, Included, none_full, both_full, first_included, second_included, BlockAt, name_grown}
 use Rattle.ob_bodies.proofs.Plain.{DeclaredIs}
-use Rattle.ob_bodies.proofs.Blocks.{one_reversed, all_reversed, all_empty, at_most, procedures_body, PartIs, AreProcedures, headings_good, stands_at, KnownBehind, procedures_are, heads_unbroken, types_there, HasProcedure, heading_there}
+use Rattle.ob_bodies.proofs.Blocks.{one_reversed, all_reversed, all_empty, at_most, procedures_body, PartIs, AreProcedures, headings_good, stands_at, KnownBehind, IsBoundWithin, HeadBound, procedures_are, heads_unbroken, types_there, HasProcedure, heading_there}
 
-module _ (IsConstant : Value → Type 0) (shown : QName → Option Desc) (m : TypedModule) (out : is_out m.name ≡ false) where
+module _ (IsConstant : Value → Type 0) (shown : QName → Option Desc) (m : TypedModule) (content : Contents) (out : is_out m.name ≡ false) where
   abbrev B : Level → Around → Type 0
-  B l u = BlockAt IsConstant shown m l u
+  B l u = BlockAt IsConstant shown m content l u
 
   abbrev I : Level → Contents → Type 0
-  I l c = Included IsConstant shown m l c
+  I l c = Included IsConstant shown m content l c
 
   abbrev HS : List TypedType → ℕ → Head → Type 0
   HS own scope h = HeadStands IsConstant m.name shown out own scope h
@@ -44,11 +45,11 @@ module _ (IsConstant : Value → Type 0) (shown : QName → Option Desc) (m : Ty
   signature_at : (own : List TypedType) (o : Option Parameters) (q : Parameters) → o ≡ Some q → IfThere (SignatureStands IsConstant m.name shown out own) o → SignatureStands IsConstant m.name shown out own q
   signature_at own o q e h = subst (IfThere (SignatureStands IsConstant m.name shown out own)) e h
 
-  head_name : (l : Level) (base : Around) → base.unit ≡ m.name → (own : List TypedType) (h : Head) → HS own base.scope h → h.is_bound ≡ false → ((q : Parameters) → h.parameters ≡ Some q → h.forward ≡ false → HasProcedure IsConstant shown m out m.procedures h q) → (o : Option Parameters) → h.parameters ≡ o → NameIs IsConstant shown m own (frame l) base.level base.scope (head_entity base h o)
+  head_name : (l : Level) (base : Around) → base.unit ≡ m.name → (own : List TypedType) (h : Head) → HS own base.scope h → h.is_bound ≡ false → ((q : Parameters) → h.parameters ≡ Some q → h.forward ≡ false → HasProcedure IsConstant shown m content out m.procedures h q) → (o : Option Parameters) → h.parameters ≡ o → NameIs IsConstant shown m content own (frame l) base.level base.scope (head_entity base h o)
   head_name l base unit own h s free has None e = tt
   head_name l base unit own h s free has (Some q) e = by h.forward refl
     where
-      by : (f : Bool) → h.forward ≡ f → NameIs IsConstant shown m own (frame l) base.level base.scope (entity_as f (in_unit base h.path) q.signature)
+      by : (f : Bool) → h.forward ≡ f → NameIs IsConstant shown m content own (frame l) base.level base.scope (entity_as f (in_unit base h.path) q.signature)
       by true f = tt
       by false f =
           let r = has q e f in
@@ -69,7 +70,7 @@ module _ (IsConstant : Value → Type 0) (shown : QName → Option Desc) (m : Ty
   placed_with AtModule u ks own bs h = h
   placed_with (Within p) u ks own bs h = h
 
-  module _ (l : Level) (base : Around) (b : B l base) (ps : List Written_procedure) (good : AreProcedures IsConstant shown m out ps) (xs : List Stmt) (spelled : all_true (map stmt_spelled xs) ≡ true) where
+  module _ (l : Level) (base : Around) (b : B l base) (ps : List Written_procedure) (good : AreProcedures IsConstant shown m content out ps) (xs : List Stmt) (spelled : all_true (map stmt_spelled xs) ≡ true) where
     abbrev start : Heads
     start = record { around = base; before = [] }
 
@@ -80,12 +81,12 @@ module _ (IsConstant : Value → Type 0) (shown : QName → Option Desc) (m : Ty
     heads = reversed hs.before
 
     stand : HeadsStand IsConstant m.name shown out base hs
-    stand = stand_in_order IsConstant m.name shown out base ps (headings_good IsConstant shown m out ps good) start (record { behind = refl; knows = b.knows; below = b.below; before = tt; grows = grows_same base.own })
+    stand = stand_in_order IsConstant m.name shown out base ps (headings_good IsConstant shown m content out ps good) start (record { behind = refl; knows = b.knows; below = b.below; before = tt; grows = grows_same base.own })
 
     aligned : Aligned ps heads
     aligned = let a = aligned_in_order ps start in subst (Aligned ps) (sym a.is) a.aligned
 
-    module _ (own : List TypedType) (grows : Grows hs.around.own own) (described : AllByRecursion (IsDescribed IsConstant) own) (grown : Grows own m.types) (bound : List Bound) where
+    module _ (own : List TypedType) (grows : Grows hs.around.own own) (described : AllByRecursion (IsDescribed IsConstant) own) (grown : Grows own m.types) (made : (t : TypedType) → IsOneOf own t → IsMade content t) (heads_bound : AllByRecursion (HeadBound IsConstant shown m content out) hs.before) (bound : List Bound) where
       -- what stands around the procedures and statements
       abbrev w : Around
       w = record base { known = hs.around.known; own = own; bound = bound; coming = [] }
@@ -100,55 +101,62 @@ module _ (IsConstant : Value → Type 0) (shown : QName → Option Desc) (m : Ty
       heads_stand = all_of (HS hs.around.own base.scope) (HS own base.scope) hs.before (λ h i. head_grown IsConstant m.name shown out hs.around.own own grows base.scope h i) stand.before
 
       module _ (n : inside.notes.broken ≡ []) (i : I l inside.contents) where
-        there : (h : Head) → IsOneOf hs.before h → (q : Parameters) → h.parameters ≡ Some q → h.forward ≡ false → HasProcedure IsConstant shown m out m.procedures h q
+        there : (h : Head) → IsOneOf hs.before h → (q : Parameters) → h.parameters ≡ Some q → h.forward ≡ false → HasProcedure IsConstant shown m content out m.procedures h q
         there h j q e f =
-            let r = heading_there IsConstant shown m out w ps heads aligned h (one_reversed hs.before h j) q e f in
+            let r = heading_there IsConstant shown m content out w ps heads aligned h (one_reversed hs.before h j) q e f in
             let c = (procedures_judged w ps heads).contents in
-            record { p = r.p; there = (first_included IsConstant shown m l c (body_part (in_turn (map judging xs) w)).contents i).procedures r.p r.there; name = r.name; result = r.result; parameters = r.parameters }
+            record { p = r.p; there = (first_included IsConstant shown m content l c (body_part (in_turn (map judging xs) w)).contents i).procedures r.p r.there; name = r.name; result = r.result; parameters = r.parameters }
 
-        named : (h : Head) → IsOneOf hs.before h → h.is_bound ≡ false → KnownBehind IsConstant shown m out l w (named_at base h)
+        named : (h : Head) → IsOneOf hs.before h → h.is_bound ≡ false → KnownBehind IsConstant shown m content out l w (named_at base h)
         named h j free = record {
           entity = named_fine IsConstant m.name shown out own base h h.parameters;
           below = at_most base.scope;
           name = head_name l base b.knows.unit_is own h (one_all (HS own base.scope) hs.before h heads_stand j) free (there h j) h.parameters refl;
         }
 
-        before : AllByRecursion (KnownBehind IsConstant shown m out l w) base.known
+        before : AllByRecursion (KnownBehind IsConstant shown m content out l w) base.known
         before =
-            all_of (λ (k : Known). (EntityStands IsConstant m.name shown base.own k.what × (k.scope ≤ base.scope)) × NameIs IsConstant shown m base.own (frame l) base.level k.scope k.what) (KnownBehind IsConstant shown m out l w) base.known
-            (λ k h. record { entity = entity_grown m.name shown IsConstant base.own own whole k.what h.0.0; below = h.0.1; name = name_grown IsConstant shown m base.own own whole (frame l) base.level k.scope k.what h.1 })
-            (all_pairs (λ (k : Known). EntityStands IsConstant m.name shown base.own k.what × (k.scope ≤ base.scope)) (λ (k : Known). NameIs IsConstant shown m base.own (frame l) base.level k.scope k.what) base.known (all_pairs (λ (k : Known). EntityStands IsConstant m.name shown base.own k.what) (λ (k : Known). k.scope ≤ base.scope) base.known b.knows.known b.below) b.names)
+            all_of (λ (k : Known). (EntityStands IsConstant m.name shown base.own k.what × (k.scope ≤ base.scope)) × NameIs IsConstant shown m content base.own (frame l) base.level k.scope k.what) (KnownBehind IsConstant shown m content out l w) base.known
+            (λ k h. record { entity = entity_grown m.name shown IsConstant base.own own whole k.what h.0.0; below = h.0.1; name = name_grown IsConstant shown m content base.own own whole (frame l) base.level k.scope k.what h.1 })
+            (all_pairs (λ (k : Known). EntityStands IsConstant m.name shown base.own k.what × (k.scope ≤ base.scope)) (λ (k : Known). NameIs IsConstant shown m content base.own (frame l) base.level k.scope k.what) base.known (all_pairs (λ (k : Known). EntityStands IsConstant m.name shown base.own k.what) (λ (k : Known). k.scope ≤ base.scope) base.known b.knows.known b.below) b.names)
 
-        known : AllByRecursion (KnownBehind IsConstant shown m out l w) hs.around.known × AllByRecursion (λ (h : Head). AllByRecursion (KnownBehind IsConstant shown m out l w) h.known) hs.before
-        known = names_in_order base (KnownBehind IsConstant shown m out l w) ps start refl named before tt
+        known : AllByRecursion (KnownBehind IsConstant shown m content out l w) hs.around.known × AllByRecursion (λ (h : Head). AllByRecursion (KnownBehind IsConstant shown m content out l w) h.known) hs.before
+        known = names_in_order base (KnownBehind IsConstant shown m content out l w) ps start refl named before tt
 
         around : B l w
         around = record {
-          knows = record { unit_is = b.knows.unit_is; shown_is = b.knows.shown_is; own = described; known = all_of (KnownBehind IsConstant shown m out l w) (λ (k : Known). EntityStands IsConstant m.name shown own k.what) hs.around.known (λ k h. h.entity) known.0 };
-          below = all_of (KnownBehind IsConstant shown m out l w) (λ (k : Known). k.scope ≤ base.scope) hs.around.known (λ k h. h.below) known.0;
-          names = all_of (KnownBehind IsConstant shown m out l w) (λ (k : Known). NameIs IsConstant shown m own (frame l) base.level k.scope k.what) hs.around.known (λ k h. h.name) known.0;
+          knows = record { unit_is = b.knows.unit_is; shown_is = b.knows.shown_is; own = described; known = all_of (KnownBehind IsConstant shown m content out l w) (λ (k : Known). EntityStands IsConstant m.name shown own k.what) hs.around.known (λ k h. h.entity) known.0 };
+          below = all_of (KnownBehind IsConstant shown m content out l w) (λ (k : Known). k.scope ≤ base.scope) hs.around.known (λ k h. h.below) known.0;
+          names = all_of (KnownBehind IsConstant shown m content out l w) (λ (k : Known). NameIs IsConstant shown m content own (frame l) base.level k.scope k.what) hs.around.known (λ k h. h.name) known.0;
           placed = placed_with l base hs.around.known own bound b.placed;
           guards = b.guards;
           result = b.result;
           in_loop = b.in_loop;
           grown = grown;
+          within = record { unit_is = b.within.unit_is; shown_is = b.within.shown_is; own = made };
+          receiver = b.receiver;
         }
 
-        inside_is : PartIs IsConstant shown m out l inside.contents
+        inside_is : PartIs IsConstant shown m content out l inside.contents
         inside_is =
             let c = (procedures_judged w ps heads).contents in
             let s = (body_part (in_turn (map judging xs) w)).contents in
-            let a = procedures_are IsConstant shown m out l w around ps good heads (all_reversed (HS own base.scope) hs.before heads_stand) (all_reversed (λ (h : Head). AllByRecursion (KnownBehind IsConstant shown m out l w) h.known) hs.before known.1) (first_empty (procedures_judged w ps heads).notes.broken _ n) (first_included IsConstant shown m l c s i) in
+            let a = procedures_are IsConstant shown m content out l w around ps good heads (all_reversed (HS own base.scope) hs.before heads_stand) (all_reversed (HeadBound IsConstant shown m content out) hs.before heads_bound) (all_reversed (λ (h : Head). AllByRecursion (KnownBehind IsConstant shown m content out l w) h.known) hs.before known.1) (first_empty (procedures_judged w ps heads).notes.broken _ n) (first_included IsConstant shown m content l c s i) in
             record {
-              procedures = all_both (ProcedureIsJudged IsConstant shown m) c.procedures [] a.procedures tt;
-              body = record { u = w; xs = xs; is = ap (λ l. l ++ s.body) (procedures_body w ps heads); spelled = spelled; stands = stands_at IsConstant shown m out l w around };
+              procedures = all_both (ProcedureIsJudged IsConstant shown m content) c.procedures [] a.procedures tt;
+              body = record { u = w; xs = xs; is = ap (λ l. l ++ s.body) (procedures_body w ps heads); spelled = spelled; stands = stands_at IsConstant shown m content out l w around };
               placed = around.placed;
-              full = both_full IsConstant shown m c s a.full (record { constants = tt; types = tt; bound = tt });
+              full = both_full IsConstant shown m content c s a.full (record { constants = tt; types = tt; bound = tt });
             }
 
+  -- what is known where procedures are bound is made by the module
+  binding_made : (l : Level) (outer : Around) → IsPlaced l outer → (v : Around) (heads : List Head) → ((t : TypedType) → IsOneOf v.own t → IsMade content t) → (c : Contents) → c.bound ≡ (binding_at (is_module_level outer) v heads).own → IsBoundAt IsConstant shown m content l c → (t : TypedType) → IsOneOf (binding_at (is_module_level outer) v heads).own t → IsMade content t
+  binding_made AtModule outer p v _ k c e i t h = i t (subst (λ ts. IsOneOf ts t) (sym e) h)
+  binding_made (Within f) outer p v ks k c e i t h = k t (subst (λ x. IsOneOf (binding_at x v ks).own t) p.0 h)
+
   -- with what is bound, and the declarations before
-  pub block_is : (l : Level) (ps : List Written_procedure) → AreProcedures IsConstant shown m out ps → (xs : List Stmt) → all_true (map stmt_spelled xs) ≡ true → (outer : Around) (d : Declared) → DeclaredIs IsConstant shown m out l d → (block_declared outer ps (map judging xs) d).notes.broken ≡ [] → I l (block_declared outer ps (map judging xs) d).contents → PartIs IsConstant shown m out l (block_declared outer ps (map judging xs) d).contents
-  block_is l ps good xs spelled outer d g n i =
+  pub block_is : (l : Level) (ps : List Written_procedure) → AreProcedures IsConstant shown m content out ps → (xs : List Stmt) → all_true (map stmt_spelled xs) ≡ true → (outer : Around) → IsPlaced l outer → (d : Declared) → DeclaredIs IsConstant shown m content out l d → (block_declared outer ps (map judging xs) d).notes.broken ≡ [] → I l (block_declared outer ps (map judging xs) d).contents → PartIs IsConstant shown m content out l (block_declared outer ps (map judging xs) d).contents
+  block_is l ps good xs spelled outer placed d g n i =
       let base = d.around in
       let h = hs l base g.around ps good xs spelled in
       let all = reversed h.before in
@@ -159,21 +167,30 @@ module _ (IsConstant : Value → Type 0) (shown : QName → Option Desc) (m : Ty
       let e : u ≡ record base { known = h.around.known; own = bind.own; bound = bind.bound; coming = [] } = ap (λ (x : Around). record x { own = bind.own; bound = bind.bound; coming = [] }) s.behind in
       let c = (block_inside u ps all (map judging xs)).contents in
       let bound : Contents = record no_contents { bound = bind.own } in
-      let j : I l c = second_included IsConstant shown m l bound c (second_included IsConstant shown m l no_contents (together bound c) (second_included IsConstant shown m l d.part.contents (together no_contents (together bound c)) i)) in
+      let j : I l c = second_included IsConstant shown m content l bound c (second_included IsConstant shown m content l no_contents (together bound c) (second_included IsConstant shown m content l d.part.contents (together no_contents (together bound c)) i)) in
       let inner = (block_inside u ps all (map judging xs)).notes.broken in
       let quiet : inner ≡ [] = second_empty _ inner (second_empty _ (_ ++ inner) n) in
       let judged = procedures_judged u ps all in
       let align = aligned l base g.around ps good xs spelled in
-      let unbroken : (x : Head) → IsOneOf h.before x → IsUnbroken x = λ x k. heads_unbroken IsConstant shown m out u ps all align (first_empty judged.notes.broken _ quiet) x (one_reversed h.before x k) in
-      let made : Grows (types_of_all h.before) m.types = types_grow h.before m.types (λ x k. grows_then (types_of x.parameters) judged.contents.types m.types (types_there IsConstant shown m out u ps all align x (one_reversed h.before x k)) (first_included IsConstant shown m l judged.contents (body_part (in_turn (map judging xs) u)).contents j).types) in
-      let behind : Grows h.around.own (types_of_all h.before ++ base.own) = grown_in_order base.own ps (record { around = base; before = [] }) unbroken (grows_same base.own) in
-      let grown : Grows bind.own m.types = grows_then bind.own h.around.own m.types ch.back (grows_then h.around.own (types_of_all h.before ++ base.own) m.types behind (grows_both (types_of_all h.before) base.own m.types made g.around.grown)) in
-      let p : PartIs IsConstant shown m out l c =
-      subst (λ (x : Around). (block_inside x ps all (map judging xs)).notes.broken ≡ [] → I l (block_inside x ps all (map judging xs)).contents → PartIs IsConstant shown m out l (block_inside x ps all (map judging xs)).contents) (sym e)
-      (λ k o. inside_is l base g.around ps good xs spelled bind.own ch.grows (ch.described s.knows.own) grown bind.bound k o) quiet j in
+      let unbroken : (x : Head) → IsOneOf h.before x → IsUnbroken x = λ x k. heads_unbroken IsConstant shown m content out u ps all align (first_empty judged.notes.broken _ quiet) x (one_reversed h.before x k) in
+      let inner_included = first_included IsConstant shown m content l judged.contents (body_part (in_turn (map judging xs) u)).contents j in
+      let made : Lies (types_of_all h.before) judged.contents.types = types_lie h.before judged.contents.types (λ x k. types_there IsConstant shown m content out u ps all align x (one_reversed h.before x k)) in
+      let behind : Lies h.around.own (types_of_all h.before ++ base.own) = lies_in_order base.own ps (record { around = base; before = [] }) unbroken (lies_same base.own) in
+      let made_grown : Grows (types_of_all h.before) m.types = grows_then (types_of_all h.before) judged.contents.types m.types (grows_as (types_of_all h.before) judged.contents.types made) inner_included.types in
+      let grown : Grows bind.own m.types = grows_then bind.own h.around.own m.types ch.back (grows_then h.around.own (types_of_all h.before ++ base.own) m.types (grows_as h.around.own (types_of_all h.before ++ base.own) behind) (grows_both (types_of_all h.before) base.own m.types made_grown g.around.grown)) in
+      let heads_made : (t : TypedType) → IsOneOf h.around.own t → IsMade content t = λ t k. ⊎_elim (λ y. inner_included.made t (made t y)) (λ y. g.around.within.own t y) (one_joined (types_of_all h.before) base.own t (behind t k)) in
+      let rest_included = second_included IsConstant shown m content l no_contents (together bound c) (second_included IsConstant shown m content l d.part.contents (together no_contents (together bound c)) i) in
+      let bound_made : (t : TypedType) → IsOneOf bind.own t → IsMade content t = binding_made l outer placed h.around all heads_made bound refl (first_included IsConstant shown m content l bound c rest_included).bound in
+      let heads_bound : AllByRecursion (HeadBound IsConstant shown m content out) h.before =
+      all_of (λ (x : Head). IfThere (IsBoundAmong m.name shown h.around.own) x.bound) (HeadBound IsConstant shown m content out) h.before
+      (λ x. there_of (IsBoundAmong m.name shown h.around.own) (IsBoundWithin IsConstant shown m content out) x.bound (λ b k. record { w = k.w; within = record { unit_is = k.unit_is; shown_is = k.shown_is; own = λ t y. heads_made t (k.lies t y) }; is = k.is }))
+      (bound_in_order m.name shown ps (record { around = base; before = [] }) g.around.knows.unit_is g.around.knows.shown_is tt) in
+      let p : PartIs IsConstant shown m content out l c =
+      subst (λ (x : Around). (block_inside x ps all (map judging xs)).notes.broken ≡ [] → I l (block_inside x ps all (map judging xs)).contents → PartIs IsConstant shown m content out l (block_inside x ps all (map judging xs)).contents) (sym e)
+      (λ k o. inside_is l base g.around ps good xs spelled bind.own ch.grows (ch.described s.knows.own) grown bound_made heads_bound bind.bound k o) quiet j in
       record {
-        procedures = all_both (ProcedureIsJudged IsConstant shown m) d.part.contents.procedures c.procedures (all_empty (ProcedureIsJudged IsConstant shown m) d.part.contents.procedures g.procedures) p.procedures;
+        procedures = all_both (ProcedureIsJudged IsConstant shown m content) d.part.contents.procedures c.procedures (all_empty (ProcedureIsJudged IsConstant shown m content) d.part.contents.procedures g.procedures) p.procedures;
         body = record { u = p.body.u; xs = p.body.xs; is = ◌∙◌ {c = stmts_in (in_turn (map judging p.body.xs) p.body.u).node} (ap (λ l. l ++ c.body) g.body) p.body.is; spelled = p.body.spelled; stands = p.body.stands };
         placed = p.placed;
-        full = both_full IsConstant shown m d.part.contents (together no_contents (together bound c)) g.full (both_full IsConstant shown m no_contents (together bound c) (none_full IsConstant shown m) (both_full IsConstant shown m bound c (record { constants = tt; types = tt; bound = ch.described s.knows.own }) p.full));
+        full = both_full IsConstant shown m content d.part.contents (together no_contents (together bound c)) g.full (both_full IsConstant shown m content no_contents (together bound c) (none_full IsConstant shown m content) (both_full IsConstant shown m content bound c (record { constants = tt; types = tt; bound = ch.described s.knows.own }) p.full));
       }

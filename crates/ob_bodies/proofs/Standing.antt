@@ -14,8 +14,31 @@ use Rattle.ob_rules.specs.declared.entity.Known.{Known}
 use Rattle.ob_rules.specs.Names.{Around}
 use Rattle.ob_rules.specs.Types.{with_types}
 use Rattle.ob_relation.proofs.Names.{bytes_same}
+use Rattle.ob_forms.specs.Said.{IsOneOf}
 use Rattle.ob_bodies.specs.Knows.{HasName, Grows, StandsBy, Stands, IsDescribed, EntityStands, Knows}
 use Rattle.ob_bodies.proofs.Lists.{one_left, one_right, one_joined, all_of, all_both}
+
+-- each of these is one of those
+abbrev pub Lies : List TypedType → List TypedType → Type 0
+Lies own more = (t : TypedType) → IsOneOf own t → IsOneOf more t
+
+pub lies_same : (own : List TypedType) → Lies own own
+lies_same own t h = h
+
+pub lies_front : (ts own : List TypedType) → Lies own (ts ++ own)
+lies_front ts own t h = one_right ts own t h
+
+pub lies_behind : (ts own : List TypedType) → Lies ts (ts ++ own)
+lies_behind ts own t h = one_left ts own t h
+
+pub lies_then : (a b c : List TypedType) → Lies a b → Lies b c → Lies a c
+lies_then a b c f g t h = g t (f t h)
+
+pub lies_both : (a b c : List TypedType) → Lies a c → Lies b c → Lies (a ++ b) c
+lies_both a b c f g t h = ⊎_elim (λ i. f t i) (λ i. g t i) (one_joined a b t h)
+
+pub grows_as : (a b : List TypedType) → Lies a b → Grows a b
+grows_as a b f x h = (h.0, (f h.0 h.1.0, h.1.1))
 
 pub grows_same : (own : List TypedType) → Grows own own
 grows_same own x h = h

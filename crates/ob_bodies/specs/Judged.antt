@@ -22,9 +22,11 @@ use Rattle.ob_types.specs.declared.typed.TypedStmt.{TypedStmt}
 use Rattle.ob_types.specs.declared.typed.TypedModule.{TypedModule}
 use Rattle.ob_rules.specs.declared.entity.Entity.{Entity}
 use Rattle.ob_rules.specs.declared.entity.Entity.TheVariants as entity
-use Rattle.ob_rules.specs.Names.{Around, is_out}
+use Rattle.ob_rules.specs.declared.entity.Received.{Received}
+use Rattle.ob_rules.specs.Shapes.{Map, record_of, pointed_record}
+use Rattle.ob_rules.specs.Names.{Around, map_of, is_out}
 use Rattle.ob_rules.specs.Statements.{judging, in_turn}
-use Rattle.ob_rules.specs.Declarations.{stmts_in}
+use Rattle.ob_rules.specs.Declarations.{Contents, all_described, stmts_in}
 use Rattle.ob_forms.specs.Said.{IsOneOf}
 use Rattle.ob_typed.specs.Makes.{IfThere}
 use Rattle.ob_typed.specs.Spelled.{all_true}
@@ -68,7 +70,38 @@ abbrev pub result_of : Option TypedProcedure → Option TypeRef
 result_of None = None
 result_of (Some p) = p.result
 
-module _ (IsConstant : Value → Type 0) (shown : QName → Option Desc) (m : TypedModule) where
+-- a type that the module makes, or with the procedures that are bound to it
+abbrev pub IsMade : Contents → TypedType → Type 0
+IsMade c t = IsOneOf c.types t ⊎ IsOneOf c.bound t
+
+-- a receiver: of the record by VAR, or of a pointer to it by value
+abbrev pub IsReceivedAs : Map → Passing → TypeRef → QName → Type 0
+IsReceivedAs map passing.VariableRecord t q = record_of map t ≡ Some q
+IsReceivedAs map passing.Scalar t q = pointed_record map t ≡ Some q
+IsReceivedAs map how t q = ⊥
+
+module _ (IsConstant : Value → Type 0) (shown : QName → Option Desc) (m : TypedModule) (content : Contents) where
+  -- what is known somewhere in the module: what is shown to it, and types that it makes
+  pub record IsWithin (w : Around) : Type 0 where
+    pub unit_is : w.unit ≡ m.name
+    pub shown_is : w.shown ≡ shown
+    pub own : (t : TypedType) → IsOneOf w.own t → IsMade content t
+
+  -- the receiver of a procedure is one of its parameters, and was received as its type is known in its heading
+  pub record IsReceived (p : TypedProcedure) (r : Received) : Type 0 where
+    pub x : TypedParameter
+    pub there : IsOneOf p.parameters x
+    pub is : r.variable ≡ variable.Parameter x.passing x.name
+    pub w : Around
+    pub within : IsWithin w
+    pub record_is : IsReceivedAs (map_of w) x.passing x.of r.owner
+
+  -- nothing is said of a procedure whose heading breaks a rule
+  abbrev pub ReceiverStands : Option TypedProcedure → Option Received → Type 0
+  ReceiverStands None o = Unit {0}
+  ReceiverStands (Some p) None = Unit {0}
+  ReceiverStands (Some p) (Some r) = IsReceived p r
+
   abbrev pub StandsIn : List TypedType → TypeRef → Type 0
   StandsIn own t = Stands m.name shown own t
 
@@ -102,6 +135,8 @@ module _ (IsConstant : Value → Type 0) (shown : QName → Option Desc) (m : Ty
     pub guards : u.guards ≡ []
     pub result : u.result ≡ result_of p
     pub in_loop : u.in_loop ≡ false
+    pub within : IsWithin u
+    pub receiver : ReceiverStands p u.receiver
 
   -- Statements of the text are judged there, and this is what they come to, or nothing.
   pub record IsJudged (p : Option TypedProcedure) (body : List TypedStmt) : Type 0 where
@@ -118,12 +153,17 @@ module _ (IsConstant : Value → Type 0) (shown : QName → Option Desc) (m : Ty
     pub parameters : AllByRecursion (λ (x : TypedParameter). StandsIn m.types x.of) p.parameters
     pub answer : IfThere (StandsIn m.types) p.result
 
+module _ (IsConstant : Value → Type 0) (shown : QName → Option Desc) (m : TypedModule) where
   -- the bodies of the procedures, and the body of the module
   pub record BodiesAreJudged : Type 0 where
-    pub procedures : AllByRecursion ProcedureIsJudged m.procedures
-    pub body : IsJudged None m.body
-    -- in the scope of the module
+    -- what the parts of the module make
+    pub content : Contents
+    pub types_are : m.types ≡ all_described content.bound content.types
+    pub procedures : AllByRecursion (ProcedureIsJudged IsConstant shown m content) m.procedures
+    pub body : IsJudged IsConstant shown m content None m.body
+    -- in the scope of the module, and of no procedure
     pub scope : body.u.scope ≡ 1
+    pub receiver : body.u.receiver ≡ None
     -- the module is not Out
     pub name : is_out m.name ≡ false
     -- its constants are constants, its types are described as types, and arrays have lengths

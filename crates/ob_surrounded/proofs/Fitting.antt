@@ -12,7 +12,7 @@ use Rattle.ob_relation.specs.Layout.{static_held}
 use Rattle.ob_relation.specs.Relation.{AreDifferent}
 use Rattle.ob_relation.specs.Typed.{StmtsOk}
 use Rattle.ob_rules.specs.Statements.{judging, in_turn}
-use Rattle.ob_rules.specs.Declarations.{stmts_in}
+use Rattle.ob_rules.specs.Declarations.{Contents, stmts_in}
 use Rattle.ob_typed.specs.Known.{ConstantIs}
 use Rattle.ob_typed.specs.Laws.{Having}
 use Rattle.ob_typed.specs.Surrounded.{IsSurrounded}
@@ -21,7 +21,7 @@ use Rattle.ob_bodies.specs.Judged.{IsJudged}
 use Rattle.ob_bodies.proofs.Held.{hidden_stand}
 use Rattle.ob_surrounded.specs.Laws.{BodiesFit}
 
-module _ (program : Program) (has : Formals → QName → Bool) (shown : QName → Option Desc) (checked : TypedModule) (f : Option TypedProcedure) (body : List TypedStmt) (j : IsJudged ConstantIs shown checked f body) (p : Procedure) (b : p.body ≡ stmts_view body) (different : AreDifferent (static_held program p)) (s : IsSurrounded program (Having has) checked.name (static_held program p) p.result j.u) where
+module _ (program : Program) (has : Formals → QName → Bool) (shown : QName → Option Desc) (checked : TypedModule) (content : Contents) (f : Option TypedProcedure) (body : List TypedStmt) (j : IsJudged ConstantIs shown checked content f body) (p : Procedure) (b : p.body ≡ stmts_view body) (different : AreDifferent (static_held program p)) (s : IsSurrounded program (Having has) checked.name (static_held program p) p.result j.u) where
   abbrev Ok : Stmts → Bool → Type 0
   Ok x l = StmtsOk program (Having has) checked.name (static_held program p) p.result x l
 
@@ -36,4 +36,4 @@ module _ (program : Program) (has : Formals → QName → Bool) (shown : QName �
   by_node (Some ys) e = let k : body ≡ ys = j.is ∙ ap stmts_in e in subst (λ x. Ok (stmts_view x) false) (sym k) (some_fit ys e k)
 
 pub bodies_fit : BodiesFit
-bodies_fit program has shown checked f body j p b different s = subst (λ x. Ok program has shown checked f body j p b different s x false) (sym b) (by_node program has shown checked f body j p b different s (in_turn (map judging j.xs) j.u).node refl)
+bodies_fit program has shown checked content f body j p b different s = subst (λ x. Ok program has shown checked content f body j p b different s x false) (sym b) (by_node program has shown checked content f body j p b different s (in_turn (map judging j.xs) j.u).node refl)

@@ -26,18 +26,23 @@ use Rattle.ob_relation.proofs.Names.{bytes_sym}
 use Rattle.ob_rules.specs.declared.entity.Entity.{Entity}
 use Rattle.ob_rules.specs.declared.entity.Entity.TheVariants as entity
 use Rattle.ob_rules.specs.declared.entity.Known.{Known}
+use Rattle.ob_rules.specs.declared.entity.Received.{Received}
+use Rattle.ob_rules.specs.Designators.{same_variable}
+use Rattle.ob_rules.specs.Declarations.{Contents}
 use Rattle.ob_rules.specs.Names.{Around, map_of, find_name, is_enclosing, is_out}
-use Rattle.ob_forms.specs.Formed.{AreParameters, IsProcedureOf}
+use Rattle.ob_forms.specs.Formed.{AreParameters, IsProcedureOf, Formed}
 use Rattle.ob_forms.specs.Said.{IsOneOf}
 use Rattle.ob_forms.specs.Whole.{IsPassed, HeadingOk, IsWhole}
 use Rattle.ob_forms.proofs.Modules.{own, procedure_there}
 use Rattle.ob_typed.specs.Makes.{IfThere}
 use Rattle.ob_typed.specs.Forms.{IsKnown, AreKnown, ResultIs, SignatureIs}
-use Rattle.ob_typed.specs.Known.{ConstantIs, VariableIs, ProcedureIs}
+use Rattle.ob_typed.specs.Known.{ConstantIs, VariableIs, ProcedureIs, ReceiverIs}
 use Rattle.ob_typed.specs.Laws.{Having}
+use Rattle.ob_typed.specs.Redefined.{AreRedefined}
 use Rattle.ob_typed.specs.Surrounded.{IsSurrounded}
 use Rattle.ob_bodies.specs.Knows.{EntityStands}
-use Rattle.ob_bodies.specs.Judged.{mode_of, AreOf, IsGlobal, IsInside, StandsIn, IsProcedureIn, VariableStands, NameIs, StandsAround}
+use Rattle.ob_surrounded.proofs.Receivers.{receiver_is}
+use Rattle.ob_bodies.specs.Judged.{IsReceived, ReceiverStands, mode_of, AreOf, IsGlobal, IsInside, StandsIn, IsProcedureIn, VariableStands, NameIs, StandsAround}
 use Rattle.ob_bodies.proofs.Lists.{one_all, find_has}
 use Rattle.ob_bodies.proofs.Held.{one_mapped}
 use Rattle.ob_surrounded.specs.Left.{IsModuleOf, AreConstantsShown, HasProcedures, IsLeft}
@@ -78,7 +83,7 @@ module _ (program : Program) where
 at_name : (P : Known → Type 0) (ks : List Known) (x : List ℕ) (k : Known) → AllByRecursion P ks → find_name ks x ≡ Some k → P k
 at_name P ks x k h e = subst (IfThere P) e (find_has P (λ k. bytes_eq k.name x) ks h)
 
-module _ (program : Program) (has : Formals → QName → Bool) (shown : QName → Option Desc) (checked : TypedModule) (m : Module) (whole : IsWhole program) (is : IsModuleOf program checked m) (out : is_out checked.name ≡ false) (constants : AreConstantsShown shown) (values : HasProcedures program (Having has)) where
+module _ (program : Program) (has : Formals → QName → Bool) (shown : QName → Option Desc) (checked : TypedModule) (m : Module) (whole : IsWhole program) (is : IsModuleOf program checked m) (out : is_out checked.name ≡ false) (constants : AreConstantsShown shown) (values : HasProcedures program (Having has)) (redefined : AreRedefined program) where
   abbrev Has : Formals → QName → Type 0
   Has = Having has
 
@@ -89,8 +94,11 @@ module _ (program : Program) (has : Formals → QName → Bool) (shown : QName �
   heading : (p : TypedProcedure) → IsOneOf checked.procedures p → HeadingOk program (procedure_view p)
   heading p i = one_all (HeadingOk program) m.procedures (procedure_view p) (own program whole m is.there).headings (viewed_there p i)
 
-  module _ (held : List Held) (result : Option TypeRef) (p : Option TypedProcedure) (u : Around) (around : StandsAround ConstantIs shown checked p u) (left : IsLeft program Has checked.name held result u) (inside : (scope : ℕ) (v : Variable) (t : TypeRef) → scope ≤ u.scope → nat_lt 1 scope ≡ true → IsInside (StandsIn ConstantIs shown checked u.own) p v t → VariableIs program Has checked.name held result (map_of u) v t) where
-    known : (t : TypeRef) → StandsIn ConstantIs shown checked u.own t → IsKnown (map_of u) t
+  module _ (held : List Held) (result : Option TypeRef) (content : Contents) (p : Option TypedProcedure) (u : Around) (around : StandsAround ConstantIs shown checked content p u) (left : IsLeft program Has shown checked content held result u) (receivers : (r : Received) (v : Variable) (t : TypeRef) → u.receiver ≡ Some r → same_variable v r.variable ≡ true → VariableIs program Has checked.name held result (map_of u) v t → ReceiverIs program (map_of u) r t) (inside : (scope : ℕ) (v : Variable) (t : TypeRef) → scope ≤ u.scope → nat_lt 1 scope ≡ true → IsInside (StandsIn ConstantIs shown checked content u.own) p v t → VariableIs program Has checked.name held result (map_of u) v t) where
+    formed : Formed (map_of u) program
+    formed = left.formed u around.within
+
+    known : (t : TypeRef) → StandsIn ConstantIs shown checked content u.own t → IsKnown (map_of u) t
     known t h = known_is ConstantIs checked.name shown u around.knows t h
 
     -- VARIABLES
@@ -99,32 +107,32 @@ module _ (program : Program) (has : Formals → QName → Bool) (shown : QName �
     second_false true b e f = f
     second_false false b e f = absurd cc
 
-    variable_at : (k : Known) (v : Variable) (t : TypeRef) → k.scope ≤ u.scope → VariableStands ConstantIs shown checked u.own p u.level k.scope v t → is_enclosing u k.scope ≡ false → VariableIs program Has checked.name held result (map_of u) v t
+    variable_at : (k : Known) (v : Variable) (t : TypeRef) → k.scope ≤ u.scope → VariableStands ConstantIs shown checked content u.own p u.level k.scope v t → is_enclosing u k.scope ≡ false → VariableIs program Has checked.name held result (map_of u) v t
     variable_at k v t b h e = by (nat_lt 1 k.scope) refl
       where
         by : (c : Bool) → nat_lt 1 k.scope ≡ c → VariableIs program Has checked.name held result (map_of u) v t
         by false f =
             let g = h.outside f in
-            global_is program whole Has checked.name result (map_of u) left.formed left.grounded held m is.there (sym is.name) v t
+            global_is program whole Has checked.name result (map_of u) formed left.grounded held m is.there (sym is.name) v t
             (subst (λ xs. IsGlobal checked.name xs v t) (sym is.variables) g.0) (subst (AllByRecursion (λ v. FormOk program (form_in program v.of))) (sym is.variables) is.forms) (known t g.1)
         by true f = inside k.scope v t b f (h.inside f (second_false (nat_lt 1 k.scope) (nat_lt k.scope u.level) f e))
 
     variables : (x : List ℕ) (k : Known) (v : Variable) (t : TypeRef) → find_name u.known x ≡ Some k → k.what ≡ entity.Variable v t → is_enclosing u k.scope ≡ false → VariableIs program Has checked.name held result (map_of u) v t
     variables x k v t e f g =
         variable_at k v t (at_name (λ (k : Known). k.scope ≤ u.scope) u.known x k around.below e)
-        (subst (NameIs ConstantIs shown checked u.own p u.level k.scope) f (at_name (λ (k : Known). NameIs ConstantIs shown checked u.own p u.level k.scope k.what) u.known x k around.names e)) g
+        (subst (NameIs ConstantIs shown checked content u.own p u.level k.scope) f (at_name (λ (k : Known). NameIs ConstantIs shown checked content u.own p u.level k.scope k.what) u.known x k around.names e)) g
 
     -- PROCEDURES
 
-    known_params : (ks : List (Mode × TypeRef)) → AllByRecursion (λ k. StandsIn ConstantIs shown checked u.own k.1) ks → AreKnown (map_of u) ks
+    known_params : (ks : List (Mode × TypeRef)) → AllByRecursion (λ k. StandsIn ConstantIs shown checked content u.own k.1) ks → AreKnown (map_of u) ks
     known_params [] h = tt
     known_params (k ∷ ks) h = (known k.1 h.0, known_params ks h.1)
 
-    result_held : (r : Option TypeRef) → IfThere (StandsIn ConstantIs shown checked u.own) r → AllByRecursion (λ t. maps.IsHeld (map_of u) t) (listed r)
+    result_held : (r : Option TypeRef) → IfThere (StandsIn ConstantIs shown checked content u.own) r → AllByRecursion (λ t. maps.IsHeld (map_of u) t) (listed r)
     result_held None h = tt
     result_held (Some t) h = ((known t h).1, tt)
 
-    procedure_is : (q : QName) (s : Signature) → IsProcedureIn ConstantIs shown checked u.own q s → ProcedureIs program Has checked.name held result (map_of u) q s
+    procedure_is : (q : QName) (s : Signature) → IsProcedureIn ConstantIs shown checked content u.own q s → ProcedureIs program Has checked.name held result (map_of u) q s
     procedure_is q s h =
         let v = procedure_view h.p in
         let found : procedure_of program q ≡ Some v = ap (procedure_of program) (h.name ∙ ap (λ (n : List ℕ). record { «module» = n; object = h.p.name }) (sym is.name)) ∙ procedure_there program whole m v is.there (viewed_there h.p h.there) in
@@ -146,7 +154,7 @@ module _ (program : Program) (has : Formals → QName → Bool) (shown : QName �
         }
 
     procedures : (x : List ℕ) (k : Known) (q : QName) (s : Signature) → find_name u.known x ≡ Some k → k.what ≡ entity.Procedure q s → ProcedureIs program Has checked.name held result (map_of u) q s
-    procedures x k q s e f = procedure_is q s (subst (NameIs ConstantIs shown checked u.own p u.level k.scope) f (at_name (λ (k : Known). NameIs ConstantIs shown checked u.own p u.level k.scope k.what) u.known x k around.names e))
+    procedures x k q s e f = procedure_is q s (subst (NameIs ConstantIs shown checked content u.own p u.level k.scope) f (at_name (λ (k : Known). NameIs ConstantIs shown checked content u.own p u.level k.scope k.what) u.known x k around.names e))
 
     -- CONSTANTS, TYPES AND IMPORTS
 
@@ -156,7 +164,7 @@ module _ (program : Program) (has : Formals → QName → Bool) (shown : QName �
     -- the whole
     surrounded : ResultIs program result → u.result ≡ result → IsSurrounded program Has checked.name held result u
     surrounded plain same = record {
-      formed = left.formed;
+      formed = formed;
       grounded = left.grounded;
       variables = variables;
       constants = λ x k v e f. entity_at x k (entity.Constant v) e f;
@@ -169,22 +177,26 @@ module _ (program : Program) (has : Formals → QName → Bool) (shown : QName �
       values = λ q s i k e. values q s i e;
       result_is = same;
       result_plain = plain;
-      receivers = left.receivers;
-      supers = left.supers;
+      receivers = receivers;
+      redefined = redefined;
+      kinds = left.kinds;
       outside = bytes_sym (codes "Out") u.unit ∙ ap (λ (n : List ℕ). bytes_eq n (codes "Out")) around.knows.unit_is ∙ out;
     }
 
 pub procedures_surrounded : ProceduresSurrounded
-procedures_surrounded program has shown checked m whole is out constants values p i different forms u around left =
+procedures_surrounded program has shown checked m whole is out constants values redefined p i different forms content u around left =
     let v = procedure_view p in
     let held = static_held program v in
-    let h = heading program has shown checked m whole is out constants values p i in
-    surrounded program has shown checked m whole is out constants values held p.result (Some p) u around left
+    let h = heading program has shown checked m whole is out constants values redefined p i in
+    let formed = left.formed u around.within in
+    let received : (r : Received) → u.receiver ≡ Some r → IsReceived ConstantIs shown checked content p r = λ r e. subst (ReceiverStands ConstantIs shown checked content (Some p)) e around.receiver in
+    surrounded program has shown checked m whole is out constants values redefined held p.result content (Some p) u around left
+    (λ r w t e s k. let x = received r e in receiver_is program whole (Having has) checked.name p.result (map_of u) formed left.grounded v different x.x x.there (one_all (λ (y : TypedParameter). IsPassed program y) p.parameters x.x h.0 x.there) r x.is (map_of x.w) (left.formed x.w x.within) x.record_is w t s k)
     (λ scope w t b e g.
     let k = known_is ConstantIs checked.name shown u around.knows t g.1 in
     ⊎_elim
-    (λ l. local_is program whole (Having has) checked.name p.result (map_of u) left.formed left.grounded v different w t l forms k)
-    (λ l. parameter_is program whole (Having has) checked.name p.result (map_of u) left.formed left.grounded v different w t l h.0 k)
+    (λ l. local_is program whole (Having has) checked.name p.result (map_of u) formed left.grounded v different w t l forms k)
+    (λ l. parameter_is program whole (Having has) checked.name p.result (map_of u) formed left.grounded v different w t l h.0 k)
     g.0)
     (one_all (λ (p : TypedProcedure). ResultIs program p.result) checked.procedures p is.results i)
     around.result
@@ -193,4 +205,4 @@ no_scope : (k n : ℕ) → k ≤ n → n ≡ 1 → nat_lt 1 k ≡ true → ⊥
 no_scope k n h e f = grind (arith, nat_tests)
 
 pub modules_surrounded : ModulesSurrounded
-modules_surrounded program has shown checked m whole is out constants values held u around one left = surrounded program has shown checked m whole is out constants values held None None u around left (λ scope v t b e g. absurd (no_scope scope u.scope b one e)) tt around.result
+modules_surrounded program has shown checked m whole is out constants values redefined held content u around one none left = surrounded program has shown checked m whole is out constants values redefined held None content None u around left (λ r v t e s k. let bad : None ≡ Some r = sym none ∙ e in absurd cc) (λ scope v t b e g. absurd (no_scope scope u.scope b one e)) tt around.result

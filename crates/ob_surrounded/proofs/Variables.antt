@@ -105,7 +105,7 @@ module _ (program : Program) (whole : IsWhole program) (Has : Formals → QName 
         subst (λ w. Is w t) (sym g.1.1.0) (subst (λ s. Is (variable.Local g.0.name) s) (sym g.1.1.1) h)
 
     -- the slot of a parameter
-    slot_is : (how : Passing) (x : List ℕ) (of : TypeRef) (m : Mode) → how ≡ passing_for m (form_in program of) → IsOneOf held (static_parameter program (record { name = x; passing = how; of = of })) → typed.ParameterOk program Has unit held result how x × (form_named held x ≡ form_in program of)
+    pub slot_is : (how : Passing) (x : List ℕ) (of : TypeRef) (m : Mode) → how ≡ passing_for m (form_in program of) → IsOneOf held (static_parameter program (record { name = x; passing = how; of = of })) → typed.ParameterOk program Has unit held result how x × (form_named held x ≡ form_in program of)
     slot_is passing.Scalar x of m e i = (kind_there IsOwn held different (Own x (form_in program of)) i tt, form_there held different (Own x (form_in program of)) i)
     slot_is passing.Structure x of m e i = (kind_there (IsCopied 1) held different (Copied x 1 (form_in program of)) i refl, form_there held different (Copied x 1 (form_in program of)) i)
     slot_is passing.OpenArray x of m e i =
@@ -123,7 +123,7 @@ module _ (program : Program) (whole : IsWhole program) (Has : Formals → QName 
     record_of passing.Variable x t m e k v = absurd cc
     record_of passing.VariableOpenArray x t m e k v = absurd cc
 
-    parameter_there : (x : TypedParameter) → IsOneOf p.parameters x → IsOneOf held (static_parameter program x)
+    pub parameter_there : (x : TypedParameter) → IsOneOf p.parameters x → IsOneOf held (static_parameter program x)
     parameter_there x i = one_left (map (static_parameter program) p.parameters) (map (held_variable program) p.locals ++ map hidden_held (hidden_of_all p.body)) (static_parameter program x) (one_mapped (static_parameter program) p.parameters x i)
 
     parameter_variable : (x : TypedParameter) → IsOneOf p.parameters x → IsPassed program x → IsKnown types x.of → Is (variable.Parameter x.passing x.name) x.of

@@ -13,34 +13,36 @@ use Rattle.ob_relation.specs.Layout.{static_held}
 use Rattle.ob_relation.specs.Relation.{FormOk, AreDifferent}
 use Rattle.ob_relation.specs.Typed.{StmtsOk}
 use Rattle.ob_rules.specs.Names.{Around, is_out}
+use Rattle.ob_rules.specs.Declarations.{Contents}
 use Rattle.ob_forms.specs.Said.{IsOneOf}
 use Rattle.ob_forms.specs.Whole.{IsWhole}
 use Rattle.ob_typed.specs.Known.{ConstantIs}
 use Rattle.ob_typed.specs.Laws.{Having}
+use Rattle.ob_typed.specs.Redefined.{AreRedefined}
 use Rattle.ob_typed.specs.Surrounded.{IsSurrounded}
 use Rattle.ob_bodies.specs.Judged.{StandsAround, IsJudged}
 use Rattle.ob_surrounded.specs.Left.{IsModuleOf, AreConstantsShown, HasProcedures, IsLeft}
 
--- Around the body of a procedure, whose variables have different names and can be built; constants that are shown are constants, and
--- procedures may be values.
+-- Around the body of a procedure, whose variables have different names and can be built; constants that are shown are constants,
+-- procedures may be values, and redefinitions are alike.
 abbrev pub ProceduresSurrounded : Type 0
 ProceduresSurrounded =
-    (program : Program) (has : Formals → QName → Bool) (shown : QName → Option Desc) (checked : TypedModule) (m : Module) → IsWhole program → IsModuleOf program checked m → is_out checked.name ≡ false → AreConstantsShown shown → HasProcedures program (Having has)
+    (program : Program) (has : Formals → QName → Bool) (shown : QName → Option Desc) (checked : TypedModule) (m : Module) → IsWhole program → IsModuleOf program checked m → is_out checked.name ≡ false → AreConstantsShown shown → HasProcedures program (Having has) → AreRedefined program
     → (p : TypedProcedure) → IsOneOf checked.procedures p → AreDifferent (static_held program (procedure_view p)) → AllByRecursion (λ v. FormOk program (form_in program v.of)) p.locals
-    → (u : Around) → StandsAround ConstantIs shown checked (Some p) u → IsLeft program (Having has) checked.name (static_held program (procedure_view p)) p.result u
+    → (content : Contents) (u : Around) → StandsAround ConstantIs shown checked content (Some p) u → IsLeft program (Having has) shown checked content (static_held program (procedure_view p)) p.result u
     → IsSurrounded program (Having has) checked.name (static_held program (procedure_view p)) p.result u
 
 -- Around the body of the module, which has no variables of its own but those that FOR and CASE keep.
 abbrev pub ModulesSurrounded : Type 0
 ModulesSurrounded =
-    (program : Program) (has : Formals → QName → Bool) (shown : QName → Option Desc) (checked : TypedModule) (m : Module) → IsWhole program → IsModuleOf program checked m → is_out checked.name ≡ false → AreConstantsShown shown → HasProcedures program (Having has)
-    → (held : List Held) (u : Around) → StandsAround ConstantIs shown checked None u → u.scope ≡ 1 → IsLeft program (Having has) checked.name held None u
+    (program : Program) (has : Formals → QName → Bool) (shown : QName → Option Desc) (checked : TypedModule) (m : Module) → IsWhole program → IsModuleOf program checked m → is_out checked.name ≡ false → AreConstantsShown shown → HasProcedures program (Having has) → AreRedefined program
+    → (held : List Held) (content : Contents) (u : Around) → StandsAround ConstantIs shown checked content None u → u.scope ≡ 1 → u.receiver ≡ None → IsLeft program (Having has) shown checked content held None u
     → IsSurrounded program (Having has) checked.name held None u
 
 -- A body that is judged in such surroundings is well typed, where its variables have different names.
 abbrev pub BodiesFit : Type 0
 BodiesFit =
-    (program : Program) (has : Formals → QName → Bool) (shown : QName → Option Desc) (checked : TypedModule) (f : Option TypedProcedure) (body : List TypedStmt) (j : IsJudged ConstantIs shown checked f body)
+    (program : Program) (has : Formals → QName → Bool) (shown : QName → Option Desc) (checked : TypedModule) (content : Contents) (f : Option TypedProcedure) (body : List TypedStmt) (j : IsJudged ConstantIs shown checked content f body)
     → (p : Procedure) → p.body ≡ stmts_view body → AreDifferent (static_held program p)
     → IsSurrounded program (Having has) checked.name (static_held program p) p.result j.u
     → StmtsOk program (Having has) checked.name (static_held program p) p.result p.body false

@@ -7,25 +7,23 @@ use Rattle.ob_types.specs.declared.types.Signature.{Signature}
 use Rattle.ob_types.specs.declared.value.Value.{Value as Literal}
 use Rattle.ob_types.specs.declared.desc.Desc.{Desc}
 use Rattle.ob_types.specs.declared.desc.Desc.TheVariants as desc
-use Rattle.ob_types.specs.declared.desc.Method.{Method}
-use Rattle.ob_types.specs.declared.typed.Variable.{Variable}
 use Rattle.ob_types.specs.declared.typed.TypedModule.{TypedModule}
 use Rattle.ob_types.specs.AssigningTests.{is_value}
 use Rattle.ob_types.specs.Relations.{IsGrounded}
 use Rattle.ob_types.specs.TypedSyntax.{Module}
 use Rattle.ob_types.specs.TypedView.{procedure_view}
-use Rattle.ob_meaning.specs.Values.{Program, Formals, form_in, record_in, formals_in, Held}
-use Rattle.ob_relation.specs.Relation.{Sub, FormOk}
+use Rattle.ob_meaning.specs.Values.{Program, Formals, form_in, formals_in, Held}
+use Rattle.ob_relation.specs.Relation.{FormOk}
 use Rattle.ob_rules.specs.declared.entity.Entity.TheVariants as entity
 use Rattle.ob_rules.specs.declared.entity.Known.{Known}
-use Rattle.ob_rules.specs.declared.entity.Received.{Received}
-use Rattle.ob_rules.specs.Shapes.{AMethod, member, base_record}
 use Rattle.ob_rules.specs.Names.{Around, map_of, find_name}
-use Rattle.ob_rules.specs.Designators.{same_variable}
+use Rattle.ob_rules.specs.Declarations.{Contents}
 use Rattle.ob_forms.specs.Formed.{Formed, IsProcedureOf}
 use Rattle.ob_forms.specs.Said.{IsOneOf}
 use Rattle.ob_typed.specs.Forms.{ResultIs}
-use Rattle.ob_typed.specs.Known.{ConstantIs, VariableIs, ProcedureIs, ReceiverIs, SuperIs}
+use Rattle.ob_typed.specs.Known.{ConstantIs, ProcedureIs}
+use Rattle.ob_typed.specs.Redefined.{AreOfOneKind}
+use Rattle.ob_bodies.specs.Judged.{IsWithin}
 
 -- The checked module is one of the program, perhaps with its records laid out. Its variables can be built, and results are no arrays and no records.
 pub record IsModuleOf (program : Program) (checked : TypedModule) (m : Module) : Type 0 where
@@ -44,10 +42,10 @@ AreConstantsShown shown = (q : QName) (v : Literal) → shown q ≡ Some (desc.C
 abbrev pub HasProcedures : Program → (Formals → QName → Type 0) → Type 0
 HasProcedures program Has = (q : QName) (s : Signature) → IsProcedureOf program q s → is_value q ≡ true → Has (formals_in program s) q
 
--- What is left to ask around a body: of the map of types; of procedures that are known by forward declarations alone; and of receivers.
-pub record IsLeft (program : Program) (Has : Formals → QName → Type 0) (unit : List ℕ) (held : List Held) (result : Option TypeRef) (u : Around) : Type 0 where
-  pub formed : Formed (map_of u) program
+-- What is left to ask around a body: of the map of types, there and in the headings; of procedures that are known by forward declarations
+-- alone; and of bound procedures.
+pub record IsLeft (program : Program) (Has : Formals → QName → Type 0) (shown : QName → Option Desc) (checked : TypedModule) (content : Contents) (held : List Held) (result : Option TypeRef) (u : Around) : Type 0 where
+  pub formed : (w : Around) → IsWithin ConstantIs shown checked content w → Formed (map_of w) program
   pub grounded : IsGrounded (map_of u)
-  pub forwards : (x : List ℕ) (k : Known) (q : QName) (s : Signature) → find_name u.known x ≡ Some k → k.what ≡ entity.Forward q s → ProcedureIs program Has unit held result (map_of u) q s
-  pub receivers : (r : Received) (v : Variable) (t : TypeRef) → u.receiver ≡ Some r → same_variable v r.variable ≡ true → VariableIs program Has unit held result (map_of u) v t → ReceiverIs program (map_of u) r t
-  pub supers : (r : Received) (b o : QName) (x : List ℕ) (m : Method) → u.receiver ≡ Some r → base_record (map_of u) r.owner ≡ Some b → member (map_of u) b x ≡ Some (AMethod o m) → SuperIs program Has unit held result (map_of u) r.variable b o m × Sub (record_in program r.owner) (record_in program b)
+  pub forwards : (x : List ℕ) (k : Known) (q : QName) (s : Signature) → find_name u.known x ≡ Some k → k.what ≡ entity.Forward q s → ProcedureIs program Has checked.name held result (map_of u) q s
+  pub kinds : AreOfOneKind program (map_of u)

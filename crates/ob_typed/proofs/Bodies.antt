@@ -16,6 +16,7 @@ use Rattle.ob_rules.specs.Shapes.{same_name, member, base_record}
 use Rattle.ob_rules.specs.Statements.{Judging, in_turn, in_turn_if, one}
 use Rattle.ob_typed.specs.Makes.{IfThere, Makes}
 use Rattle.ob_typed.specs.Forms.{IsKnown, Forms}
+use Rattle.ob_typed.specs.Redefined.{AreOfOneKind}
 use Rattle.ob_typed.specs.Known.{VariableIs, ProcedureIs, MethodIs, ReceiverIs, SuperIs, IsScoped}
 use Rattle.ob_typed.specs.Bodies.{AreStatements, AreJudging}
 use Rattle.ob_typed.proofs.Makes.{makes_then, makes_made, makes_both}
@@ -62,7 +63,9 @@ module _ (program : Program) (Has : Formals → QName → Type 0) (unit : List �
         imports = s.imports;
         methods = λ q o x k e. let r = s.methods q o x k (ap (λ z. member z q x) m ∙ e) in (subst (λ z. MethodIs program Has unit held result z o k) m r.0, r.1);
         receivers = λ r v t e f h. subst (λ z. ReceiverIs program z r t) m (s.receivers r v t e f (subst (λ z. VariableIs program Has unit held result z v t) (same_map u gs l) h));
-        supers = λ r b o x k e f g. let c = s.supers r b o x k e (ap (λ z. base_record z r.owner) m ∙ f) (ap (λ z. member z b x) m ∙ g) in (subst (λ z. SuperIs program Has unit held result z r.variable b o k) m c.0, c.1);
+        names = λ q o x k e. s.names q o x k (ap (λ z. member z q x) m ∙ e);
+        kinds = subst (AreOfOneKind program) m s.kinds;
+        supers = λ q b o x k f g. let c = s.supers q b o x k (ap (λ z. base_record z q) m ∙ f) (ap (λ z. member z b x) m ∙ g) in (subst (λ z. SuperIs program Has unit held result z b o k) m c.0, c.1);
         outside = s.outside;
       }
 

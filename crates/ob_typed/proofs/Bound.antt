@@ -19,7 +19,7 @@ use Rattle.ob_types.proofs.TypedViews.{view_value_of}
 use Rattle.ob_meaning.specs.Values.{Program, Form, PointerForm, RecordForm, fields_of, form_in, record_in, Formals, Held}
 use Rattle.ob_relation.specs.Relation.{LengthFits, Sub, Scalar}
 use Rattle.ob_relation.specs.Typed as typed
-use Rattle.ob_relation.specs.Typed.{IsFormal, IsRecordForm, IsRecordType, ReceiverOk}
+use Rattle.ob_relation.specs.Typed.{IsFormal, IsRecordForm, ReceiverOk}
 use Rattle.ob_relation.proofs.Actuals.{sub_on}
 use Rattle.ob_rules.specs.declared.entity.Received.{Received}
 use Rattle.ob_rules.specs.declared.meant.Chosen.{Chosen}
@@ -66,17 +66,17 @@ module _ (program : Program) (Has : Formals → QName → Type 0) (unit : List �
         let is_record : IsRecordForm (form_in program (variable_type d)) = (q ∷ m.1.0, i ∙ m.1.1 ∙ ap (λ f. RecordForm (q ∷ m.1.0) (fields_of f)) (sym i)) in
         subst (λ y. typed.RecordOk program Has unit held result y t) (sym (view_value_of p.designator.inner)) (h.fits, (is_record, λ a x. subst (Sub a) (sym k) (sub_on (subst (Sub a) i x) s)))
 
-    record_length : (o : QName) (has : Bool) (t : Form) → IsRecordType program o → t ≡ record_in program o → LengthFits t has
+    record_length : (o : QName) (has : Bool) (t : Form) → IsRecordForm (record_in program o) → t ≡ record_in program o → LengthFits t has
     record_length o has t r e = subst (λ z. LengthFits z has) (sym (e ∙ r.1)) tt
 
-    pointer_passes : (p : Place) (r v : TypeRef) (q o : QName) (t : Form) → P p → pointed map p.of ≡ Some r → record_of map r ≡ Some q → Sub (record_in program q) (record_in program o) → IsRecordType program o → t ≡ PointerForm v → form_in program v ≡ record_in program o → Passes program Has unit held result passing.Scalar (expr_view (e.Designator p.designator.inner)) t
+    pointer_passes : (p : Place) (r v : TypeRef) (q o : QName) (t : Form) → P p → pointed map p.of ≡ Some r → record_of map r ≡ Some q → Sub (record_in program q) (record_in program o) → IsRecordForm (record_in program o) → t ≡ PointerForm v → form_in program v ≡ record_in program o → Passes program Has unit held result passing.Scalar (expr_view (e.Designator p.designator.inner)) t
     pointer_passes p r v q o t h f g s y k l =
         let d = designator_view p.designator.inner in
         let m = forms.records r q g in
         let w : W program Has unit held result (PointerForm r) (PointerForm v) = typed.pointers r v (λ a x. subst (Sub a) (sym l) (sub_on (subst (Sub a) m.0 x) s)) (λ has x. record_length o has (form_in program v) y l) in
         (subst (λ y. Fits program Has unit held result y t) (sym (view_value_of p.designator.inner)) (place_fits program Has unit held result map forms d p.of p.var_record (PointerForm r) t h (forms.pointers p.of r f).0 tt (subst (λ z. W program Has unit held result (PointerForm r) z) (sym k) w)), subst Scalar (sym k) tt)
 
-    receiver_fits : (z : Option Received) (c : Chosen) (k : Receiver) (o : QName) (p1 : TypedParameter) (ps : List TypedParameter) → ChosenIs program Has unit held result map z c → c.method.receiver ≡ k → ReceiverOk program k o (p1 ∷ ps) → Sub (record_in program c.owner) (record_in program o) → IsRecordType program o → OneFits (actual_view (receiver_actual k c)) p1
+    receiver_fits : (z : Option Received) (c : Chosen) (k : Receiver) (o : QName) (p1 : TypedParameter) (ps : List TypedParameter) → ChosenIs program Has unit held result map z c → c.method.receiver ≡ k → ReceiverOk program k o (p1 ∷ ps) → Sub (record_in program c.owner) (record_in program o) → IsRecordForm (record_in program o) → OneFits (actual_view (receiver_actual k c)) p1
     receiver_fits z c receiver.Record o p1 ps h w r s y =
         let q = place_there c.start c.receiver c.pointed h.receiver h.pointed_is h.held_is in
         let g = ap (record_of map) q.1 ∙ h.owner_is in
@@ -95,7 +95,7 @@ module _ (program : Program) (Has : Formals → QName → Type 0) (unit : List �
     abbrev Signed : List Actual → List (Mode × TypeRef) → Type 0
     Signed xs fs = typed.SignatureOk program Has unit held result (actuals_view xs) fs × AreFormals (actuals_view xs) fs
 
-    all_fit : (c : Chosen) (k : Receiver) (o : QName) (ps : List TypedParameter) (xs : List Actual) (fs : List (Mode × TypeRef)) → ChosenIs program Has unit held result (map_of u) u.receiver c → c.method.receiver ≡ k → ReceiverOk program k o ps → Sub (record_in program c.owner) (record_in program o) → IsRecordType program o → AreParameters program (behind ps) fs → Signed xs fs → typed.ActualsOk program Has unit held result (actuals_view (receiver_actual k c ∷ xs)) ps
+    all_fit : (c : Chosen) (k : Receiver) (o : QName) (ps : List TypedParameter) (xs : List Actual) (fs : List (Mode × TypeRef)) → ChosenIs program Has unit held result (map_of u) u.receiver c → c.method.receiver ≡ k → ReceiverOk program k o ps → Sub (record_in program c.owner) (record_in program o) → IsRecordForm (record_in program o) → AreParameters program (behind ps) fs → Signed xs fs → typed.ActualsOk program Has unit held result (actuals_view (receiver_actual k c ∷ xs)) ps
     all_fit c k o [] xs fs h e r s y a g = absurd (none k r)
       where
         none : (k : Receiver) → ReceiverOk program k o [] → ⊥
@@ -113,15 +113,15 @@ module _ (program : Program) (Has : Formals → QName → Type 0) (unit : List �
         let m = scoped.methods c.owner c.introduced x.0 c.method x.1 in
         let k = m.0 in
         by_callee program Has unit held result u scoped (callee.Bound (family_of c) c.method.receiver) (receiver_actual c.method.receiver c ∷ xs) at c.method.signature.result
-        (c.introduced, k.name, k.p, k.type_is, k.near, k.found, k.receives, k.result_is, all_fit c c.method.receiver c.introduced k.p.parameters xs c.method.signature.params h refl k.receives m.1 k.type_is k.parameters g) tt
+        (c.introduced, k.name, k.p, k.type_is, k.near, k.found, k.receives, k.result_is, all_fit c c.method.receiver c.introduced k.p.parameters xs c.method.signature.params h refl k.receives m.1 (c.introduced ∷ k.type_is.0, k.type_is.1) k.parameters g) tt
     tree_at at c xs (Some b) h x g =
-        let k = x.1 in
+        let k = x.0 in
         by_callee program Has unit held result u scoped (callee.Super b (family_of c) c.method.receiver) (receiver_actual c.method.receiver c ∷ xs) at c.method.signature.result
-        (k.name, k.p, k.base_is, k.near, k.found, k.result_is, all_fit c c.method.receiver k.t k.p.parameters xs c.method.signature.params h refl k.receives (sub_on x.2 k.above) k.type_is k.parameters g) tt
+        (k.name, k.p, k.base_is, k.near, k.found, k.result_is, all_fit c c.method.receiver k.t k.p.parameters xs c.method.signature.params h refl k.receives (sub_on x.1 k.above) k.type_is k.parameters g) tt
 
     signature_at_call : (c : Chosen) (b : Option QName) → CallsAt program Has unit held result (map_of u) c b → SignatureIs program (map_of u) c.method.signature
     signature_at_call c None x = (scoped.methods c.owner c.introduced x.0 c.method x.1).0.signature
-    signature_at_call c (Some b) x = x.1.signature
+    signature_at_call c (Some b) x = x.0.signature
 
     sound_is : (b : Bool) (w : Where) (at : Pos) (c : Chosen) (ps : List Phrase) → ChosenIs program Has unit held result (map_of u) u.receiver c → ArePhrases program Has unit held result ps → Makes (Called w) (call_bound_sound b u w at c ps)
     sound_is false w at c ps h k = makes_then (λ xs. Unit {0}) (Called w) (actuals u [] ps) (λ xs. silent) (makes_any (actuals u [] ps)) (λ xs l. record { node = tt })

@@ -25,7 +25,6 @@ use Rattle.ob_typed.proofs.Unguarded.{variable_unguarded, guard_unguarded}
 use Rattle.ob_typed.proofs.Makes.{makes_then}
 use Rattle.ob_typed.proofs.Basics.{none_some, not_true, some_is}
 use Rattle.ob_typed.proofs.Designators.{pointed_is, extends_is, some_true, no_record, variable_is, guarded_is}
-use Rattle.ob_typed.proofs.Relations.{some_of}
 
 -- what the guards of WITH add to a name has what each of them keeps
 pub guards_keep : (map : Map) (Q : Place → Type 0) (K : TypeRef → Type 0) → ((p : Place) (t : TypeRef) (g : Guarded × QName) (at : Pos) → Q p → K t → guard_of map p t ≡ Some g → Q (guarded_by p g t at false)) → (at : Pos) (v : Variable) (gs : List (Variable × Option TypeRef)) (j : Judged Place) → Makes Q j → AllByRecursion (λ (g : Variable × Option TypeRef). IfThere K g.1) gs → Makes Q (with_guards map at v gs j)
@@ -65,7 +64,6 @@ module _ (program : Program) (Has : Formals → QName → Type 0) (unit : List �
           let s : Sub (record_in program g.1) (record_in program r.owner) = sub_on (forms.extensions g.1 i.0 p.of i.1 i.4) (h.below i.0 (ap (λ z. record_of map (pointee p.of z)) (plain p.of i.0 i.1) ∙ i.1)) in
           record {
             below = λ q f. let x : Some g.1 ≡ Some q = sym i.2 ∙ sym (ap (λ z. record_of map (pointee t z)) (plain t g.1 i.2)) ∙ f in subst (λ z. Sub (record_in program z) (record_in program r.owner)) (some_is x) s;
-            pointer = λ f. let w = some_of (pointed map p.of) (h.pointer f) in absurd (no_record program Has unit held result map forms p.of w.0 w.1 (some_true i.1));
           }
         where
           none : (o : Option TypeRef) (s : TypeRef) (q : QName) → record_of map s ≡ Some q → pointed map s ≡ o → o ≡ None
@@ -83,7 +81,6 @@ module _ (program : Program) (Has : Formals → QName → Type 0) (unit : List �
           let s : Sub (record_in program g.1) (record_in program r.owner) = sub_on (forms.extensions g.1 i.0 c.0 up i.4) (h.below i.0 (ap (λ z. record_of map (pointee p.of z)) c.1 ∙ up)) in
           record {
             below = λ q f. let x : Some g.1 ≡ Some q = sym d.2 ∙ sym (ap (λ z. record_of map (pointee t z)) d.1) ∙ f in subst (λ z. Sub (record_in program z) (record_in program r.owner)) (some_is x) s;
-            pointer = λ f. some_true d.1;
           }
 
   module _ (o : Option Received) where

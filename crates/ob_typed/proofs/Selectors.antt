@@ -81,7 +81,7 @@ module _ (program : Program) (Has : Formals → QName → Type 0) (unit : List �
   found w start at x p q o rec (AField owner f) h k = record { node = (field_is program Has unit held result (map_of u) scoped.forms u q rec owner x.name f h.place h.record_is k, λ r e f g. not_true (sym g), field_unguarded u q owner f) }
   found w start at x p q o rec (AMethod owner m) h k =
       bound_there w at (chosen start p o rec owner m) m.receiver (is_some o) refl refl λ g.
-      record { receiver = h.variable; rooted = h.rooted; pointed_is = h.pointed_is; held_is = h.held_is; owner_is = ap (record_of (map_of u)) (sym h.same_type) ∙ h.record_is; by_pointer = g; calls = (x.name, k) }
+      record { receiver = h.variable; rooted = h.rooted; pointed_is = h.pointed_is; held_is = h.held_is; owner_is = ap (record_of (map_of u)) (sym h.same_type) ∙ h.record_is; by_pointer = g; named = record { introduced = owner; method = m; there = ap (member (map_of u) rec) (scoped.names rec owner x.name m k) ∙ k; kind = refl }; calls = (x.name, k) }
 
   member_is : (w : Where) (start at : Pos) (x : Ident) (p q : Place) (o : Option TypeRef) (rec : QName) (last : Bool) (m : Option Member) → SelectedOf p q o rec → member (map_of u) rec x.name ≡ m → Makes (M w) (member_of u start at x p q o rec last m)
   member_is w start at x p q o rec last None h k = missing w (comes u rec x.name) last start x
@@ -131,7 +131,9 @@ module _ (program : Program) (Has : Formals → QName → Type 0) (unit : List �
   super_there w at c r b (Some (AMethod o m)) h x e f g =
       let p = and_is (same_variable c.receiver.root r.variable) (not c.receiver.selected) x in
       let root = h.rooted r e p.0 (off c.receiver.selected p.1) in
-      let s = scoped.supers r b o c.method.name m e f g in
+      let s = scoped.supers r.owner b o c.method.name m f g in
+      let below = sub_on (root.below c.owner (ap (λ z. record_of (map_of u) (pointee c.receiver.of z)) h.pointed_is ∙ h.owner_is)) s.1 in
+      let kind : h.named.method.receiver ≡ m.receiver = scoped.kinds c.owner b h.named.introduced o c.method.name h.named.method m below h.named.there g in
       record {
         node = record {
           receiver = h.receiver;
@@ -139,8 +141,9 @@ module _ (program : Program) (Has : Formals → QName → Type 0) (unit : List �
           pointed_is = h.pointed_is;
           held_is = h.held_is;
           owner_is = h.owner_is;
-          by_pointer = λ k. sym (ap is_some h.pointed_is) ∙ root.pointer (s.0.kind k);
-          calls = (r.variable, s.0, sub_on (root.below c.owner (ap (λ z. record_of (map_of u) (pointee c.receiver.of z)) h.pointed_is ∙ h.owner_is)) s.1);
+          by_pointer = λ k. h.by_pointer (sym h.named.kind ∙ kind ∙ k);
+          named = record { introduced = h.named.introduced; method = h.named.method; there = ap (member (map_of u) c.owner) (scoped.names b o c.method.name m g) ∙ h.named.there; kind = kind };
+          calls = (s.0, below);
         };
       }
   super_there w at c r b (Some (AField o f)) h x e g k = record { node = tt }

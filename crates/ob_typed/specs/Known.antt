@@ -1,5 +1,5 @@
 -- What the rules know around a part of a text, as it is in a program.
-use Rattle.std.specs.Prelude.{◌≡◌, ℕ, ◌<◌, ◌^◌, List, length, Option, Some, None, Bool, true, false, is_some, bytes_eq, codes}
+use Rattle.std.specs.Prelude.{◌≡◌, ℕ, ◌<◌, ◌^◌, List, length, Option, Some, None, true, false, bytes_eq, codes}
 use Rattle.std.specs.List.{AllByRecursion}
 use Rattle.ob_tree.specs.declared.names.QName.{QName}
 use Rattle.ob_types.specs.declared.types.TypeRef.{TypeRef}
@@ -8,8 +8,6 @@ use Rattle.ob_types.specs.declared.value.Value.{Value as Literal}
 use Rattle.ob_types.specs.declared.value.Value.TheVariants as literal
 use Rattle.ob_types.specs.declared.desc.Desc.TheVariants as desc
 use Rattle.ob_types.specs.declared.desc.Method.{Method}
-use Rattle.ob_types.specs.declared.desc.Receiver.TheVariants as receiver
-use Rattle.ob_types.specs.declared.typed.Passing.TheVariants as passing
 use Rattle.ob_tree.specs.declared.ident.Mark.{Mark}
 use Rattle.ob_types.specs.declared.typed.Width.TheVariants as width
 use Rattle.ob_types.specs.declared.typed.Variable.{Variable}
@@ -22,7 +20,7 @@ use Rattle.ob_relation.specs.Relation.{Sub}
 use Rattle.ob_types.specs.Numbers.{is_in}
 use Rattle.ob_relation.specs.Passed.{IsPassed}
 use Rattle.ob_relation.specs.Typed as typed
-use Rattle.ob_relation.specs.Typed.{AreCharacters, IsRecordType, ReceiverOk, passing_for, result_form}
+use Rattle.ob_relation.specs.Typed.{AreCharacters, IsRecordForm, IsRecordType, ReceiverOk, passing_for, result_form}
 use Rattle.ob_rules.specs.declared.entity.Entity.TheVariants as entity
 use Rattle.ob_rules.specs.declared.entity.Known.{Known}
 use Rattle.ob_rules.specs.declared.entity.Received.{Received}
@@ -32,6 +30,7 @@ use Rattle.ob_rules.specs.Designators.{is_var_record, same_variable}
 pub use Rattle.ob_forms.specs.Formed.{AreParameters, behind}
 use Rattle.ob_typed.specs.Makes.{IfThere}
 use Rattle.ob_typed.specs.Forms.{IsKnown, ResultIs, SignatureIs, Forms}
+use Rattle.ob_typed.specs.Redefined.{AreOfOneKind}
 
 -- a constant is one of LONGINT or of another basic type, NIL, or a string that is no single character
 abbrev pub ConstantIs : Literal → Type 0
@@ -47,15 +46,9 @@ abbrev pub pointee : TypeRef → Option TypeRef → TypeRef
 pointee t None = t
 pointee t (Some u) = u
 
--- a parameter that is passed as a scalar, as a pointer is
-abbrev pub by_scalar : Variable → Bool
-by_scalar (variable.Parameter passing.Scalar x) = true
-by_scalar v = false
-
--- a type of the receiver's variable, perhaps guarded: its record is the receiver's or extends it, and a pointer stays a pointer
+-- a type of the receiver's variable, perhaps guarded: its record is the receiver's or extends it
 pub record ReceiverIs (program : Program) (map : Map) (r : Received) (t : TypeRef) : Type 0 where
   pub below : (q : QName) → record_of map (pointee t (pointed map t)) ≡ Some q → Sub (record_in program q) (record_in program r.owner)
-  pub pointer : by_scalar r.variable ≡ true → is_some (pointed map t) ≡ true
 
 module _ (program : Program) (Has : Formals → QName → Type 0) (unit : List ℕ) (held : List Held) (result : Option TypeRef) where
   -- a variable by its name, of that type
@@ -87,20 +80,19 @@ module _ (program : Program) (Has : Formals → QName → Type 0) (unit : List �
     pub signature : SignatureIs program map m.signature
 
   -- a bound procedure as it is called from a base on: the nearest declaration, whose receiver is of a record that the base extends
-  pub record SuperIs (map : Map) (v : Variable) (b o : QName) (m : Method) : Type 0 where
+  pub record SuperIs (map : Map) (b o : QName) (m : Method) : Type 0 where
     pub name : QName
     pub p : Procedure
     pub base_is : IsRecordType program b
     pub near : nearest program (bases_in program b) (record { owner = o; name = m.name }) ≡ Some name
     pub found : procedure_of program name ≡ Some p
     pub t : QName
-    pub type_is : IsRecordType program t
+    pub type_is : IsRecordForm (record_in program t)
     pub receives : ReceiverOk program m.receiver t p.parameters
     pub above : Sub (record_in program b) (record_in program t)
     pub result_is : result_form program p.result ≡ result_form program m.signature.result
     pub parameters : AreParameters program (behind p.parameters) m.signature.params
     pub signature : SignatureIs program map m.signature
-    pub kind : m.receiver ≡ receiver.Pointer → by_scalar v ≡ true
 
   -- what is known around is so in the program: in that module, in a procedure with those variables and that result
   pub record IsScoped (u : Around) : Type 0 where
@@ -119,8 +111,10 @@ module _ (program : Program) (Has : Formals → QName → Type 0) (unit : List �
     -- a module does not import itself
     pub imports : (x : List ℕ) (k : Known) (m : List ℕ) → find_name u.known x ≡ Some k → k.what ≡ entity.Module m → bytes_eq m u.unit ≡ false
     pub methods : (q o : QName) (x : List ℕ) (m : Method) → member (map_of u) q x ≡ Some (AMethod o m) → MethodIs (map_of u) o m × Sub (record_in program q) (record_in program o)
-    -- the receiver of the procedure at hand, and what a super call reaches
+    pub names : (q o : QName) (x : List ℕ) (m : Method) → member (map_of u) q x ≡ Some (AMethod o m) → m.name ≡ x
+    pub kinds : AreOfOneKind program (map_of u)
+    -- the receiver of the procedure at hand, and what a super call reaches: the bound procedure of a base
     pub receivers : (r : Received) (v : Variable) (t : TypeRef) → u.receiver ≡ Some r → same_variable v r.variable ≡ true → VariableIs (map_of u) v t → ReceiverIs program (map_of u) r t
-    pub supers : (r : Received) (b o : QName) (x : List ℕ) (m : Method) → u.receiver ≡ Some r → base_record (map_of u) r.owner ≡ Some b → member (map_of u) b x ≡ Some (AMethod o m) → SuperIs (map_of u) r.variable b o m × Sub (record_in program r.owner) (record_in program b)
+    pub supers : (q b o : QName) (x : List ℕ) (m : Method) → base_record (map_of u) q ≡ Some b → member (map_of u) b x ≡ Some (AMethod o m) → SuperIs (map_of u) b o m × Sub (record_in program q) (record_in program b)
     -- the module is not Out
     pub outside : bytes_eq (codes "Out") u.unit ≡ false

@@ -1,5 +1,6 @@
 pub mod Makes
 pub mod Forms
+pub mod Redefined
 pub mod Known
 pub mod Kept
 pub mod Meant

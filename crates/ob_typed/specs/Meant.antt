@@ -7,7 +7,7 @@ use Rattle.ob_meaning.specs.Values.{Program, record_in, Formals, Held}
 use Rattle.ob_relation.specs.Relation.{Sub}
 use Rattle.ob_relation.specs.Passed.{IsUnguarded}
 use Rattle.ob_relation.specs.Typed as typed
-use Rattle.ob_types.specs.declared.typed.Variable.{Variable}
+use Rattle.ob_types.specs.declared.desc.Method.{Method}
 use Rattle.ob_rules.specs.declared.entity.Received.{Received}
 use Rattle.ob_rules.specs.declared.values.Place.{Place}
 use Rattle.ob_rules.specs.Designators.{same_variable}
@@ -46,7 +46,14 @@ module _ (program : Program) (Has : Formals → QName → Type 0) (unit : List �
   -- what a call of a bound procedure reaches: by the record that it is selected of, or from a base on
   abbrev pub CallsAt : Map → Chosen → Option QName → Type 0
   CallsAt map c None = (x : List ℕ) × (member map c.owner x ≡ Some (AMethod c.introduced c.method))
-  CallsAt map c (Some b) = (v : Variable) × SuperIs program Has unit held result map v b c.introduced c.method × Sub (record_in program c.owner) (record_in program b)
+  CallsAt map c (Some b) = SuperIs program Has unit held result map b c.introduced c.method × Sub (record_in program c.owner) (record_in program b)
+
+  -- the record has a bound procedure of that name, with a receiver of that kind
+  pub record IsNamed (map : Map) (c : Chosen) : Type 0 where
+    pub introduced : QName
+    pub method : Method
+    pub there : member map c.owner c.method.name ≡ Some (AMethod introduced method)
+    pub kind : method.receiver ≡ c.method.receiver
 
   -- a bound procedure that is selected of a variable: of its record, or of what it points to
   pub record ChosenIs (map : Map) (o : Option Received) (c : Chosen) : Type 0 where
@@ -56,6 +63,7 @@ module _ (program : Program) (Has : Formals → QName → Type 0) (unit : List �
     pub held_is : (t : TypeRef) → c.pointed ≡ Some t → is_held map t ≡ true
     pub owner_is : record_of map (pointee c.receiver.of c.pointed) ≡ Some c.owner
     pub by_pointer : c.method.receiver ≡ receiving.Pointer → is_some c.pointed ≡ true
+    pub named : IsNamed map c
     pub calls : CallsAt map c c.base
 
   abbrev pub MeantIs : Map → Option Received → Where → Meant → Type 0

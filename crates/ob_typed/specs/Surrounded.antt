@@ -6,22 +6,20 @@ use Rattle.ob_types.specs.declared.types.TypeRef.{TypeRef}
 use Rattle.ob_types.specs.declared.types.Signature.{Signature}
 use Rattle.ob_types.specs.declared.value.Value.{Value as Literal}
 use Rattle.ob_types.specs.declared.desc.Desc.TheVariants as desc
-use Rattle.ob_types.specs.declared.desc.Method.{Method}
 use Rattle.ob_types.specs.declared.typed.Variable.{Variable}
 use Rattle.ob_types.specs.AssigningTests.{is_value}
 use Rattle.ob_types.specs.Relations.{IsGrounded}
-use Rattle.ob_meaning.specs.Values.{Program, Formals, record_in, formals_in, Held}
-use Rattle.ob_relation.specs.Relation.{Sub}
+use Rattle.ob_meaning.specs.Values.{Program, Formals, formals_in, Held}
 use Rattle.ob_rules.specs.declared.entity.Entity.TheVariants as entity
 use Rattle.ob_rules.specs.declared.entity.Known.{Known}
 use Rattle.ob_rules.specs.declared.entity.Received.{Received}
-use Rattle.ob_rules.specs.Shapes.{AMethod, member, base_record}
 use Rattle.ob_rules.specs.Names.{Around, map_of, find_name, is_enclosing}
 use Rattle.ob_rules.specs.Designators.{same_variable}
 use Rattle.ob_forms.specs.Formed.{Formed, IsProcedureOf}
 use Rattle.ob_typed.specs.Makes.{IfThere}
 use Rattle.ob_typed.specs.Forms.{IsKnown, ResultIs, SignatureIs}
-use Rattle.ob_typed.specs.Known.{ConstantIs, VariableIs, ProcedureIs, ReceiverIs, SuperIs}
+use Rattle.ob_typed.specs.Known.{ConstantIs, VariableIs, ProcedureIs, ReceiverIs}
+use Rattle.ob_typed.specs.Redefined.{AreRedefined, AreOfOneKind}
 
 -- What is known around is so in the program: the map of types by `Formed`, and the names that are declared one by one.
 pub record IsSurrounded (program : Program) (Has : Formals → QName → Type 0) (unit : List ℕ) (held : List Held) (result : Option TypeRef) (u : Around) : Type 0 where
@@ -43,6 +41,8 @@ pub record IsSurrounded (program : Program) (Has : Formals → QName → Type 0)
   pub result_is : u.result ≡ result
   pub result_plain : ResultIs program result
   pub receivers : (r : Received) (v : Variable) (t : TypeRef) → u.receiver ≡ Some r → same_variable v r.variable ≡ true → VariableIs program Has unit held result (map_of u) v t → ReceiverIs program (map_of u) r t
-  pub supers : (r : Received) (b o : QName) (x : List ℕ) (m : Method) → u.receiver ≡ Some r → base_record (map_of u) r.owner ≡ Some b → member (map_of u) b x ≡ Some (AMethod o m) → SuperIs program Has unit held result (map_of u) r.variable b o m × Sub (record_in program r.owner) (record_in program b)
+  -- bound procedures
+  pub redefined : AreRedefined program
+  pub kinds : AreOfOneKind program (map_of u)
   -- the module is not Out
   pub outside : bytes_eq (codes "Out") u.unit ≡ false
