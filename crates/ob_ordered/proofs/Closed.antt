@@ -9,7 +9,7 @@ use Rattle.ob_types.specs.declared.types.TypeRef.TheVariants as ref
 use Rattle.ob_types.specs.declared.desc.Desc.{Desc}
 use Rattle.ob_types.specs.declared.desc.Desc.TheVariants as desc
 use Rattle.ob_types.specs.declared.typed.TypedVariable.{TypedVariable}
-use Rattle.ob_types.specs.Maps.{is_type, listed, named_by, signature_types, IsHeld}
+use Rattle.ob_types.specs.Maps.{is_type, named_by, IsHeld}
 use Rattle.ob_types.specs.Relations.{StandsFor, itself, equated, Is, is_alias, is_open, IsGrounded}
 use Rattle.ob_meaning.specs.Values.{Program, description}
 use Rattle.ob_layout.specs.LaidOut.{type_named, is_own}

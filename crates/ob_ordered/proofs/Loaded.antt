@@ -1,5 +1,5 @@
 -- The modules of builds that are loaded together stand in order.
-use Rattle.std.proofs.Common.{◌≡◌, ◌≢◌, ℕ, Bool, true, false, List, [], ◌∷◌, ◌++◌, map as each, Option, Some, None, refl, sym, ap, subst, ◌∙◌, inl, inr, append_assoc}
+use Rattle.std.proofs.Common.{◌≡◌, ◌≢◌, ℕ, Bool, true, false, List, [], ◌∷◌, ◌++◌, map as each, Option, refl, sym, ap, subst, ◌∙◌, inl, inr, append_assoc}
 use Rattle.std.proofs.lemmas.Bool.{false≢true}
 use Rattle.std.specs.Prelude.{◌||◌, Contains, cond, codes, MatchOption, IsTrue}
 use Rattle.std.specs.List.{AllByRecursion}
@@ -12,13 +12,11 @@ use Rattle.ob_types.specs.declared.typed.TypedVariable.{TypedVariable}
 use Rattle.ob_types.specs.Maps.{is_type, IsHeld}
 use Rattle.ob_types.specs.Relations.{Is, is_open}
 use Rattle.ob_types.specs.TypedSyntax.{Module}
-use Rattle.ob_types.specs.TypedView.{module_view}
 use Rattle.ob_meaning.specs.Values.{Program, description}
-use Rattle.ob_layout.specs.LaidOut.{type_named, is_own, viewed}
+use Rattle.ob_layout.specs.LaidOut.{type_named, is_own}
 use Rattle.ob_env.specs.Faces.{Face, described, text_in}
 use Rattle.ob_rules.specs.Names.{is_out}
 use Rattle.ob_uses.specs.Made.{face_of_laid}
-use Rattle.ob_uses.specs.Objects.{objects_of}
 use Rattle.ob_distinct.proofs.Blocks.{not_out}
 use Rattle.ob_local.specs.Laws.{AreSpelled, HaveNoOut}
 use Rattle.ob_declares.specs.Near.{core}

@@ -1,10 +1,8 @@
 -- Programs of builds that are loaded together: their types are sound, and their variables can have first values.
-use Rattle.std.proofs.Common.{◌≡◌, List, [], ◌∷◌, ◌++◌, Some, ap, subst, inl, inr, refl, sym}
-use Rattle.std.specs.Prelude.{ℕ, Bool, true, false, bytes_eq, Contains, if◌then◌else◌}
+use Rattle.std.proofs.Common.{◌≡◌, List, [], ◌∷◌, ◌++◌, Some, subst, inl, inr}
+use Rattle.std.specs.Prelude.{Bool, true, false, bytes_eq, if◌then◌else◌}
 use Rattle.std.specs.List.{AllByRecursion}
 use Rattle.ob_tree.specs.declared.names.QName.{QName}
-use Rattle.ob_tree.specs.declared.ident.Mark.{Mark}
-use Rattle.ob_types.specs.declared.types.TypeRef.{TypeRef}
 use Rattle.ob_types.specs.declared.desc.Desc.{Desc}
 use Rattle.ob_types.specs.declared.desc.Desc.TheVariants as desc
 use Rattle.ob_types.specs.TypedSyntax.{Module}
@@ -12,13 +10,13 @@ use Rattle.ob_meaning.specs.Values.{type_named, description}
 use Rattle.ob_forms.proofs.Modules.{of_all}
 use Rattle.ob_declares.proofs.Sounds.{sound_in_order}
 use Rattle.ob_declares.proofs.Views.{type_found}
-use Rattle.ob_ages.specs.Builds.{Text, Build, tree_of}
+use Rattle.ob_ages.specs.Builds.{Build, tree_of}
 use Rattle.ob_ages.specs.Laws.{AreTogether}
 use Rattle.ob_ages.proofs.Members.{In, to_in}
 use Rattle.ob_joining.specs.Builds.{program_of}
 use Rattle.ob_sized.proofs.Fields.{fields_have_names, nothing_of_out}
-use Rattle.ob_ordered.specs.Loaded.{HasLength, BuildsAreRuled, LoadedAreSound, LoadedVariables}
-use Rattle.ob_ordered.proofs.Sound.{variables_have_forms}
+use Rattle.ob_ordered.specs.Loaded.{HasLength, BuildsAreRuled, LoadedAreSound, LoadedVariables, LoadedDescribe}
+use Rattle.ob_ordered.proofs.Sound.{variables_have_forms, ordered_describe}
 use Rattle.ob_ordered.proofs.Loaded.{valid_of, in_order, kept_in}
 use Rattle.ob_ages.specs.Laws.{BuildsAreWritten}
 
@@ -52,3 +50,6 @@ pub loaded_variables : LoadedVariables
 loaded_variables written ruled bound bs l b i =
     let k = kept_in written ruled bs l.together in
     variables_have_forms (program_of bs) (loaded_are_sound written ruled bound bs l) (tree_of b) (one_of _ bs b (to_in bs b i) k.held) (one_of _ bs b (to_in bs b i) k.closed)
+
+pub loaded_describe : LoadedDescribe
+loaded_describe written ruled bound whole laid bs l = ordered_describe (program_of bs) (loaded_are_sound written ruled bound bs l) (whole bs l) (laid bs l)

@@ -1,6 +1,6 @@
 -- What types are stays where one more module is behind modules in order.
 use Rattle.std.proofs.Common.{◌≡◌, ◌⊎◌, inl, inr, ℕ, suc, ◌+◌, List, [], ◌∷◌, ◌++◌, map as each, length, length-append, Option, Some, None, refl, sym, ap, subst, ◌∙◌}
-use Rattle.std.specs.Prelude.{Bool, true, false, bytes_eq, if◌then◌else◌, MatchOption, IsTrue, Contains}
+use Rattle.std.specs.Prelude.{Bool, true, false, bytes_eq, if◌then◌else◌, MatchOption, IsTrue}
 use Rattle.std.specs.List.{AllByRecursion}
 use Rattle.ob_tree.specs.declared.names.QName.{QName}
 use Rattle.ob_types.specs.declared.types.TypeRef.{TypeRef}
@@ -20,7 +20,7 @@ use Rattle.ob_forms.proofs.Chains.{no_longer}
 use Rattle.ob_forms.proofs.Staying.{form_stays, more_described, more_types}
 use Rattle.ob_declares.proofs.Ordered.{AreSound, program_sound}
 use Rattle.ob_ages.proofs.Members.{In, to_in}
-use Rattle.ob_ordered.specs.Staying.{AreVariablesHeld, OrderedStay}
+use Rattle.ob_ordered.specs.Staying.{OrderedStay}
 
 -- ---- the names of a program's types
 

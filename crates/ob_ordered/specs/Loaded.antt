@@ -18,7 +18,10 @@ use Rattle.ob_distinct.specs.Distinct.{AreDistinct}
 use Rattle.ob_local.specs.Agreeing.{Map, IsNear, On}
 use Rattle.ob_forms.specs.Formed.{IsMethodOf}
 use Rattle.ob_forms.specs.Said.{IsSound}
+use Rattle.ob_forms.specs.Whole.{IsWhole}
 use Rattle.ob_declares.specs.Ordered.{StandInOrder}
+use Rattle.ob_declares.specs.Words.{AreLaidInOrder}
+use Rattle.ob_standing.specs.Described.{IsDescribed}
 use Rattle.ob_valued.specs.Valued.{values}
 use Rattle.ob_compile.specs.Compiling.{Compiled}
 use Rattle.ob_ages.specs.Builds.{Text, Build, IsValid, tree_of}
@@ -78,3 +81,15 @@ LoadedAreSound = BuildsAreWritten → BuildsAreRuled → BoundAreThere → (bs :
 -- variables of modules can have first values
 abbrev pub LoadedVariables : Type 0
 LoadedVariables = BuildsAreWritten → BuildsAreRuled → BoundAreThere → (bs : List Build) → AreLoaded bs → (b : Build) → Contains bs b → OwnFormsOk (program_of bs) (module_held (program_of bs) (tree_of b))
+
+-- each module declares different names, and parameters are passed as their types ask for
+abbrev pub LoadedAreWhole : Type 0
+LoadedAreWhole = (bs : List Build) → AreLoaded bs → IsWhole (program_of bs)
+
+-- the records of each module are laid out over those before it
+abbrev pub LoadedAreLaid : Type 0
+LoadedAreLaid = (bs : List Build) → AreLoaded bs → AreLaidInOrder [] (program_of bs)
+
+-- the declarations of a program say the words, places and elements that its types have
+abbrev pub LoadedDescribe : Type 0
+LoadedDescribe = BuildsAreWritten → BuildsAreRuled → BoundAreThere → LoadedAreWhole → LoadedAreLaid → (bs : List Build) → AreLoaded bs → IsDescribed (description (program_of bs)) (program_of bs)

@@ -2,7 +2,7 @@
 //! them with one more behind.
 #![tactic(auto)]
 
-ghost use Rattle.ob_ordered.specs.Loaded.{LoadedAreSound, LoadedFormsStay, LoadedStand, LoadedValuesStay, LoadedVariables};
+ghost use Rattle.ob_ordered.specs.Loaded.{LoadedAreSound, LoadedDescribe, LoadedFormsStay, LoadedStand, LoadedValuesStay, LoadedVariables};
 ghost use Rattle.ob_ordered.specs.Sound.{OrderedDescribe, VariablesHaveForms};
 ghost use Rattle.ob_ordered.specs.Staying.{OrderedStay};
 
@@ -26,10 +26,12 @@ pub fn loaded_stay()
 /// A law, with nothing to run. Where the bound procedures that records introduce are there
 /// (`BoundAreThere`), the types of builds that are loaded together are sound, and the variables of
 /// their modules can have first values, in the words of `Owed`. And the declarations of a sound
-/// program whose modules are laid out in order describe its types (`IsDescribed` of ob_standing).
+/// program whose modules are whole and laid out in order describe its types (`IsDescribed` of
+/// ob_standing): so it is of builds that are loaded together, where their modules are.
 pub fn loaded_are_sound()
     ensures sound { LoadedAreSound }
     ensures forms { VariablesHaveForms }
     ensures variables { LoadedVariables }
-    ensures described { OrderedDescribe }
+    ensures ordered { OrderedDescribe }
+    ensures described { LoadedDescribe }
 {}
