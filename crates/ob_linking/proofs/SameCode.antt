@@ -5,6 +5,7 @@ use Rattle.std.specs.List.{AllByRecursion}
 use Rattle.ob_tree.specs.declared.pos.Pos.{Pos}
 use Rattle.ob_tree.specs.declared.names.QName.{QName}
 use Rattle.ob_types.specs.declared.types.TypeRef.{TypeRef}
+use Rattle.ob_types.specs.declared.value.Value.TheVariants as literal
 use Rattle.ob_types.specs.declared.desc.Desc.{Desc}
 use Rattle.ob_types.specs.declared.desc.Receiver.TheVariants as receiver
 use Rattle.ob_types.specs.declared.typed.Passing.{Passing}
@@ -109,13 +110,86 @@ module _ (a b : QName → Option Desc) where
     call_same (callee.Super base f r) es p s = ap (λ n. placed_two op.CallS (type_operand second base) (count n) p) s
     call_same (callee.Out o) es p s = refl
 
-    wanted_same : (how : Passing) (t : TypeRef) → PassedSame a b how t → wanted (words first) how t ≡ wanted (words second) how t
-    wanted_same passing.Scalar t s = refl
-    wanted_same passing.Structure t s = ap want.Room s
-    wanted_same passing.OpenArray t s = refl
-    wanted_same passing.Variable t s = refl
-    wanted_same passing.VariableRecord t s = refl
-    wanted_same passing.VariableOpenArray t s = refl
+    -- how many words there are room for is taken by strings alone
+    room_end : (k l : ℕ) (d : Desig) (pc : ℕ) → end_desig second (want.Room k) d pc ≡ end_desig second (want.Room l) d pc
+    room_end k l (OfVariable (variable.Module m x) t) pc = refl
+    room_end k l (OfVariable (variable.Local x) t) pc = refl
+    room_end k l (OfVariable (variable.Parameter passing.Scalar x) t) pc = refl
+    room_end k l (OfVariable (variable.Parameter passing.Structure x) t) pc = refl
+    room_end k l (OfVariable (variable.Parameter passing.OpenArray x) t) pc = refl
+    room_end k l (OfVariable (variable.Parameter passing.Variable x) t) pc = refl
+    room_end k l (OfVariable (variable.Parameter passing.VariableRecord x) t) pc = refl
+    room_end k l (OfVariable (variable.Parameter passing.VariableOpenArray x) t) pc = refl
+    room_end k l (Field d owner name t) pc = refl
+    room_end k l (Index d i e at t) pc = refl
+    room_end k l (Deref d at t) pc = refl
+    room_end k l (Guard d guarded.Pointer target at t) pc = refl
+    room_end k l (Guard d guarded.Record target at t) pc = refl
+
+    room_code : (k l : ℕ) (d : Desig) (pc : ℕ) → desig_code second (want.Room k) d pc ≡ desig_code second (want.Room l) d pc
+    room_code k l (OfVariable (variable.Module m x) t) pc = refl
+    room_code k l (OfVariable (variable.Local x) t) pc = refl
+    room_code k l (OfVariable (variable.Parameter passing.Scalar x) t) pc = refl
+    room_code k l (OfVariable (variable.Parameter passing.Structure x) t) pc = refl
+    room_code k l (OfVariable (variable.Parameter passing.OpenArray x) t) pc = refl
+    room_code k l (OfVariable (variable.Parameter passing.Variable x) t) pc = refl
+    room_code k l (OfVariable (variable.Parameter passing.VariableRecord x) t) pc = refl
+    room_code k l (OfVariable (variable.Parameter passing.VariableOpenArray x) t) pc = refl
+    room_code k l (Field d owner name t) pc = refl
+    room_code k l (Index d i e at t) pc = refl
+    room_code k l (Deref d at t) pc = refl
+    room_code k l (Guard d guarded.Pointer target at t) pc = refl
+    room_code k l (Guard d guarded.Record target at t) pc = refl
+
+    wanted_end : (how : Passing) (e : Expr) (t : TypeRef) (pc : ℕ) → PassedSame a b how e t → end_expr second (wanted (words first) how t) e pc ≡ end_expr second (wanted (words second) how t) e pc
+    wanted_end passing.Scalar e t pc s = refl
+    wanted_end passing.OpenArray e t pc s = refl
+    wanted_end passing.Variable e t pc s = refl
+    wanted_end passing.VariableRecord e t pc s = refl
+    wanted_end passing.VariableOpenArray e t pc s = refl
+    wanted_end passing.Structure (Constant (literal.Str text)) t pc s = refl
+    wanted_end passing.Structure (Constant (literal.Bool b)) t pc s = refl
+    wanted_end passing.Structure (Constant (literal.Char b)) t pc s = refl
+    wanted_end passing.Structure (Constant (literal.Int b)) t pc s = refl
+    wanted_end passing.Structure (Constant (literal.Set b)) t pc s = refl
+    wanted_end passing.Structure (Constant literal.Nil) t pc s = refl
+    wanted_end passing.Structure (ValueOf d) t pc s = room_end (words first t) (words second t) d pc
+    wanted_end passing.Structure (ProcedureValue q sg) t pc s = refl
+    wanted_end passing.Structure (Monadic o x at) t pc s = refl
+    wanted_end passing.Structure (Dyadic o x y at) t pc s = refl
+    wanted_end passing.Structure (Logical connective.And x y) t pc s = refl
+    wanted_end passing.Structure (Logical connective.Or x y) t pc s = refl
+    wanted_end passing.Structure (CompareTexts r x y at) t pc s = refl
+    wanted_end passing.Structure (IsPointer x q) t pc s = refl
+    wanted_end passing.Structure (IsRecord d q) t pc s = refl
+    wanted_end passing.Structure (Length d) t pc s = refl
+    wanted_end passing.Structure (Call x es at r) t pc s = refl
+    wanted_end passing.Structure (CallVariable d es at r) t pc s = refl
+
+    wanted_code : (how : Passing) (e : Expr) (t : TypeRef) (pc : ℕ) → PassedSame a b how e t → expr_code second (wanted (words first) how t) e pc ≡ expr_code second (wanted (words second) how t) e pc
+    wanted_code passing.Scalar e t pc s = refl
+    wanted_code passing.OpenArray e t pc s = refl
+    wanted_code passing.Variable e t pc s = refl
+    wanted_code passing.VariableRecord e t pc s = refl
+    wanted_code passing.VariableOpenArray e t pc s = refl
+    wanted_code passing.Structure (Constant (literal.Str text)) t pc s = ap (λ n. expr_code second (want.Room n) (Constant (literal.Str text)) pc) s
+    wanted_code passing.Structure (Constant (literal.Bool b)) t pc s = refl
+    wanted_code passing.Structure (Constant (literal.Char b)) t pc s = refl
+    wanted_code passing.Structure (Constant (literal.Int b)) t pc s = refl
+    wanted_code passing.Structure (Constant (literal.Set b)) t pc s = refl
+    wanted_code passing.Structure (Constant literal.Nil) t pc s = refl
+    wanted_code passing.Structure (ValueOf d) t pc s = room_code (words first t) (words second t) d pc
+    wanted_code passing.Structure (ProcedureValue q sg) t pc s = refl
+    wanted_code passing.Structure (Monadic o x at) t pc s = refl
+    wanted_code passing.Structure (Dyadic o x y at) t pc s = refl
+    wanted_code passing.Structure (Logical connective.And x y) t pc s = refl
+    wanted_code passing.Structure (Logical connective.Or x y) t pc s = refl
+    wanted_code passing.Structure (CompareTexts r x y at) t pc s = refl
+    wanted_code passing.Structure (IsPointer x q) t pc s = refl
+    wanted_code passing.Structure (IsRecord d q) t pc s = refl
+    wanted_code passing.Structure (Length d) t pc s = refl
+    wanted_code passing.Structure (Call x es at r) t pc s = refl
+    wanted_code passing.Structure (CallVariable d es at r) t pc s = refl
 
     -- ENDS
 
@@ -146,7 +220,7 @@ module _ (a b : QName → Option Desc) where
 
       pub actuals_end : (es : Actuals) (pc : ℕ) → ActualsSame a b es → end_actuals first es pc ≡ end_actuals second es pc
       actuals_end NoActual pc s = refl
-      actuals_end (AnActual how t e rest) pc s = actuals_end rest (end_expr first (wanted (words first) how t) e pc) s.1.1 ∙ ap (end_actuals second rest) (ap (λ w. end_expr first w e pc) (wanted_same how t s.0) ∙ expr_end (wanted (words second) how t) e pc s.1.0)
+      actuals_end (AnActual how t e rest) pc s = actuals_end rest (end_expr first (wanted (words first) how t) e pc) s.1.1 ∙ ap (end_actuals second rest) (expr_end (wanted (words first) how t) e pc s.1.0 ∙ wanted_end how e t pc s.0)
 
     -- CODE
 
@@ -192,6 +266,4 @@ module _ (a b : QName → Option Desc) where
 
       pub actuals_same : (es : Actuals) (pc : ℕ) → ActualsSame a b es → actuals_code first es pc ≡ actuals_code second es pc
       actuals_same NoActual pc s = refl
-      actuals_same (AnActual how t e rest) pc s =
-          let w = wanted_same how t s.0 in
-          both _ _ _ _ (ap (λ v. expr_code first v e pc) w ∙ expr_same (wanted (words second) how t) e pc s.1.0) (actuals_same rest _ s.1.1 ∙ ap (actuals_code second rest) (ap (λ v. end_expr first v e pc) w ∙ expr_end (wanted (words second) how t) e pc s.1.0))
+      actuals_same (AnActual how t e rest) pc s = both _ _ _ _ (expr_same (wanted (words first) how t) e pc s.1.0 ∙ wanted_code how e t pc s.0) (actuals_same rest _ s.1.1 ∙ ap (actuals_code second rest) (expr_end (wanted (words first) how t) e pc s.1.0 ∙ wanted_end how e t pc s.0))

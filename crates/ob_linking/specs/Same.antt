@@ -4,6 +4,7 @@ use Rattle.std.specs.List.{AllByRecursion}
 use Rattle.ob_tree.specs.declared.names.QName.{QName}
 use Rattle.ob_types.specs.declared.types.TypeRef.{TypeRef}
 use Rattle.ob_types.specs.declared.types.TypeRef.TheVariants as ref
+use Rattle.ob_types.specs.declared.value.Value.TheVariants as literal
 use Rattle.ob_types.specs.declared.desc.Desc.{Desc}
 use Rattle.ob_types.specs.declared.desc.Desc.TheVariants as desc
 use Rattle.ob_types.specs.declared.face.Use.{Use}
@@ -34,10 +35,10 @@ module _ (a b : QName → Option Desc) where
   abbrev pub IsSameSize : TypeRef → Type 0
   IsSameSize t = words_of a t ≡ words_of b t
 
-  -- of a parameter's type what its way of passing takes
-  abbrev pub PassedSame : Passing → TypeRef → Type 0
-  PassedSame passing.Structure t = IsSameSize t
-  PassedSame how t = Unit {0}
+  -- of a parameter's type what passing takes: where a string is passed to an array by value, the words of the array
+  abbrev pub PassedSame : Passing → Expr → TypeRef → Type 0
+  PassedSame passing.Structure (Constant (literal.Str text)) t = IsSameSize t
+  PassedSame how e t = Unit {0}
 
   abbrev pub ParameterSame : Passing → TypeRef → Type 0
   ParameterSame passing.Structure t = IsSameSize t
@@ -80,7 +81,7 @@ module _ (a b : QName → Option Desc) where
 
     pub ActualsSame : Actuals → Type 0
     ActualsSame NoActual = Unit {0}
-    ActualsSame (AnActual how t e rest) = PassedSame how t × (ExprSame e × ActualsSame rest)
+    ActualsSame (AnActual how t e rest) = PassedSame how e t × (ExprSame e × ActualsSame rest)
 
   abbrev pub ResultSame : Option Expr → Type 0
   ResultSame None = Unit {0}
