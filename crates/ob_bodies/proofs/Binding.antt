@@ -1,5 +1,5 @@
 -- What is bound leaves the names of types, and each is described.
-use Rattle.std.proofs.Common.{◌≡◌, ℕ, Bool, true, false, List, [], ◌∷◌, Option, Some, None, refl, ap, ◌∙◌, inl, inr, sym}
+use Rattle.std.proofs.Common.{◌≡◌, ℕ, Bool, true, false, List, [], ◌∷◌, Option, Some, None, refl, ap, ◌∙◌, inl, inr, sym, subst}
 use Rattle.std.specs.Prelude.{bytes_eq}
 use Rattle.std.specs.List.{AllByRecursion, filter}
 use Rattle.ob_tree.specs.declared.names.QName.{QName}
@@ -14,21 +14,34 @@ use Rattle.ob_rules.specs.Shapes.{Map, Member, AField, AMethod, member}
 use Rattle.ob_rules.specs.Names.{Around, map_of}
 use Rattle.ob_rules.specs.Headings.{Head, BoundAs, Binding, counted, change_desc, changed_if, change_type, with_method, new_method, redefined, bind_method, bind_by, bind_one, bind_all, of_record, bind_records, reversed}
 use Rattle.ob_rules.specs.Declarations.{binding_at}
+use Rattle.ob_forms.specs.Said.{IsOneOf}
 use Rattle.ob_bodies.specs.Knows.{Grows, LengthIs, IsDescribed}
+use Rattle.ob_bodies.specs.Judged.{HasMore}
+use Rattle.ob_bodies.proofs.More.{more_same, more_then}
 use Rattle.ob_bodies.proofs.Standing.{grows_same, grows_then}
 
 module _ (IsConstant : Value → Type 0) where
+  -- types of one name have one description
+  abbrev pub AreOne : List TypedType → Type 0
+  AreOne ts = (a b : TypedType) → IsOneOf ts a → IsOneOf ts b → a.name ≡ b.name → a.desc ≡ b.desc
+
+  -- it is one of these types, perhaps with more bound procedures
+  abbrev pub IsFrom : List TypedType → TypedType → Type 0
+  IsFrom ts b = (t : TypedType) × (IsOneOf ts t × ((t.name ≡ b.name) × HasMore t.desc b.desc))
+
   -- described as types still, and no name is lost
   pub record Changes (own more : List TypedType) : Type 0 where
     pub described : AllByRecursion (IsDescribed IsConstant) own → AllByRecursion (IsDescribed IsConstant) more
     pub grows : Grows own more
     pub back : Grows more own
+    pub from : (b : TypedType) → IsOneOf more b → IsFrom own b
+    pub one : AreOne own → AreOne more
 
   pub changes_none : (own : List TypedType) → Changes own own
-  changes_none own = record { described = λ h. h; grows = grows_same own; back = grows_same own }
+  changes_none own = record { described = λ h. h; grows = grows_same own; back = grows_same own; from = λ b i. (b, (i, (refl, more_same b.desc b.desc refl))); one = λ h. h }
 
   changes_then : (a b c : List TypedType) → Changes a b → Changes b c → Changes a c
-  changes_then a b c f g = record { described = λ h. g.described (f.described h); grows = grows_then a b c f.grows g.grows; back = grows_then c b a g.back f.back }
+  changes_then a b c f g = record { described = λ h. g.described (f.described h); grows = grows_then a b c f.grows g.grows; back = grows_then c b a g.back f.back; from = λ y i. let k = g.from y i in let j = f.from k.0 k.1.0 in (j.0, (j.1.0, (j.1.1.0 ∙ k.1.1.0, more_then j.0.desc k.0.desc y.desc j.1.1.1 k.1.1.1))); one = λ h. g.one (f.one h) }
 
   desc_changed : (f : RecordDesc → RecordDesc) (d : Desc) → (is_type d ≡ true) × LengthIs IsConstant d → (is_type (change_desc f d) ≡ true) × LengthIs IsConstant (change_desc f d)
   desc_changed f (desc.Const v) h = h
@@ -49,9 +62,34 @@ module _ (IsConstant : Value → Type 0) where
   if_name true f t = refl
   if_name false f t = refl
 
-  type_changed : (x : List ℕ) (f : RecordDesc → RecordDesc) (ts : List TypedType) → Changes ts (change_type x f ts)
-  type_changed x f ts = record { described = all_changed ts; grows = all_grow ts; back = all_back ts }
+  if_more : (b : Bool) (m : Method) (t : TypedType) → HasMore t.desc (changed_if b (λ r. with_method r m) t).desc
+  if_more true m t = (m ∷ [], refl)
+  if_more false m t = more_same t.desc t.desc refl
+
+  if_same : (f : RecordDesc → RecordDesc) (b c : Bool) (t s : TypedType) → b ≡ c → t.desc ≡ s.desc → (changed_if b f t).desc ≡ (changed_if c f s).desc
+  if_same f true true t s e g = ap (change_desc f) g
+  if_same f true false t s e g = absurd cc
+  if_same f false true t s e g = absurd cc
+  if_same f false false t s e g = g
+
+  changed_from : (x : List ℕ) (f : RecordDesc → RecordDesc) (ts : List TypedType) (b : TypedType) → IsOneOf (change_type x f ts) b → (t : TypedType) × (IsOneOf ts t × (changed_if (bytes_eq t.name x) f t ≡ b))
+  changed_from x f [] b h = absurd h
+  changed_from x f (t ∷ ts) b (inl e) = (t, (inl refl, e))
+  changed_from x f (t ∷ ts) b (inr i) = let r = changed_from x f ts b i in (r.0, (inr r.1.0, r.1.1))
+
+  changed_one : (x : List ℕ) (f : RecordDesc → RecordDesc) (ts : List TypedType) → AreOne ts → AreOne (change_type x f ts)
+  changed_one x f ts h a b i j e =
+      let t = changed_from x f ts a i in
+      let s = changed_from x f ts b j in
+      let n : t.0.name ≡ s.0.name = sym (if_name (bytes_eq t.0.name x) f t.0) ∙ ap (λ (r : TypedType). r.name) t.1.1 ∙ e ∙ sym (ap (λ (r : TypedType). r.name) s.1.1) ∙ if_name (bytes_eq s.0.name x) f s.0 in
+      sym (ap (λ (r : TypedType). r.desc) t.1.1) ∙ if_same f (bytes_eq t.0.name x) (bytes_eq s.0.name x) t.0 s.0 (ap (λ (y : List ℕ). bytes_eq y x) n) (h t.0 s.0 t.1.0 s.1.0 n) ∙ ap (λ (r : TypedType). r.desc) s.1.1
+
+  type_changed : (x : List ℕ) (m : Method) (ts : List TypedType) → Changes ts (change_type x (λ r. with_method r m) ts)
+  type_changed x m ts = record { described = all_changed ts; grows = all_grow ts; back = all_back ts; from = λ b i. let r = changed_from x f ts b i in (r.0, (r.1.0, (sym (if_name (bytes_eq r.0.name x) f r.0) ∙ ap (λ (s : TypedType). s.name) r.1.1, subst (λ (s : TypedType). HasMore r.0.desc s.desc) r.1.1 (if_more (bytes_eq r.0.name x) m r.0)))); one = changed_one x f ts }
     where
+      f : RecordDesc → RecordDesc
+      f r = with_method r m
+
       all_changed : (ts : List TypedType) → AllByRecursion (IsDescribed IsConstant) ts → AllByRecursion (IsDescribed IsConstant) (change_type x f ts)
       all_changed [] h = tt
       all_changed (t ∷ ts) h = (if_changed (bytes_eq t.name x) f t h.0, all_changed ts h.1)
@@ -75,7 +113,7 @@ module _ (IsConstant : Value → Type 0) where
   method_changes false u types s h a owner m = redefined_changes _ s h a
 
   by_changes : (u : Around) (types : Map) (s : Binding) (h : Head) (a : BoundAs) (o : Option Member) → Changes s.own (bind_by u types s h a o).own
-  by_changes u types s h a None = type_changed a.owner.object (λ r. with_method r (new_method h a)) s.own
+  by_changes u types s h a None = type_changed a.owner.object (new_method h a) s.own
   by_changes u types s h a (Some (AField owner f)) = changes_none s.own
   by_changes u types s h a (Some (AMethod owner m)) = method_changes _ u types s h a owner m
 

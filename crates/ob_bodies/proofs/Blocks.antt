@@ -33,7 +33,7 @@ use Rattle.ob_bodies.proofs.Standing.{Lies, lies_same, lies_front, lies_behind, 
 use Rattle.ob_bodies.proofs.Heads.{self_is, InsideEntity, SignatureStands, HeadStands, all_parameters}
 use Rattle.ob_bodies.proofs.Receivers.{received_as}
 use Rattle.ob_bodies.proofs.Headings.{Aligned, IsUnbroken, AreGoodHeadings}
-use Rattle.ob_bodies.proofs.Levels.{Level, AtModule, Within, frame, IsPlaced, IsVariableAt, Included, IsFull, none_full, both_full, first_included, second_included, BlockAt, not_module, outer_name}
+use Rattle.ob_bodies.proofs.Levels.{Level, AtModule, Within, frame, IsPlaced, IsVariableAt, Included, IsFull, none_full, both_full, first_included, second_included, BlockAt, IsOpened, BoundStands, not_module, outer_name}
 
 -- ---- lists
 
@@ -53,7 +53,7 @@ no_nothing (x ∷ xs) y ys = refl
 pub all_empty : {A : Type 0} (P : A → Type 0) (xs : List A) → xs ≡ [] → AllByRecursion P xs
 all_empty P xs e = subst (AllByRecursion P) (sym e) tt
 
-two_empty : {A : Type 0} (xs ys : List A) → xs ≡ [] → ys ≡ [] → xs ++ ys ≡ []
+pub two_empty : {A : Type 0} (xs ys : List A) → xs ≡ [] → ys ≡ [] → xs ++ ys ≡ []
 two_empty xs ys e f = ap (λ l. l ++ ys) e ∙ f
 
 pub at_most : (n : ℕ) → n ≤ n
@@ -120,9 +120,10 @@ module _ (IsConstant : Value → Type 0) (shown : QName → Option Desc) (m : Ty
     pub body : IsJudged IsConstant shown m content (frame l) c.body
     pub placed : IsPlaced l body.u
     pub full : IsFull IsConstant shown m content c
+    pub bound : BoundStands IsConstant shown m content l c
 
   abbrev pub IsBlock : (Around → Part) → Type 0
-  IsBlock f = (l : Level) (u : Around) → B l u → (f u).notes.broken ≡ [] → I l (f u).contents → PartIs l (f u).contents
+  IsBlock f = (l : Level) (u : Around) → B l u → IsOpened IsConstant shown m content l u → (f u).notes.broken ≡ [] → I l (f u).contents → PartIs l (f u).contents
 
   pub record IsProcedure (p : Written_procedure) : Type 0 where
     pub heading : AreGoodHeadings IsConstant m.name shown out (p ∷ [])
@@ -294,7 +295,7 @@ module _ (IsConstant : Value → Type 0) (shown : QName → Option Desc) (m : Ty
       let f = framed types h h.parameters c in
       let own = typed_procedure types h h.parameters c in
       let quiet = second_empty (closing_judged h.name p.closing).broken _ (second_empty h.notes.broken _ n) in
-      let r = g.inside (Within f) (around_body u h) (inside_block l u b h s o k types c) quiet (record { variables = λ x j. framed_variables types h h.parameters c x j; procedures = λ q j. i.procedures q (one_right own c.procedures q j); types = grows_then c.types (types_of_head h.parameters ++ c.types) m.types (grows_front (types_of_head h.parameters) c.types) i.types; made = λ t j. i.made t (one_right (types_of_head h.parameters) c.types t j); bound = tt }) in
+      let r = g.inside (Within f) (around_body u h) (inside_block l u b h s o k types c) tt quiet (record { variables = λ x j. framed_variables types h h.parameters c x j; procedures = λ q j. i.procedures q (one_right own c.procedures q j); types = grows_then c.types (types_of_head h.parameters ++ c.types) m.types (grows_front (types_of_head h.parameters) c.types) i.types; made = λ t j. i.made t (one_right (types_of_head h.parameters) c.types t j); bound = tt }) in
       record {
         procedures = all_both (ProcedureIsJudged IsConstant shown m content) own c.procedures (framed_judged u.own b.grown types h s.self h.parameters c s.signature r.body) r.procedures;
         full = record { constants = tt; types = all_both (IsDescribed IsConstant) (types_of_head h.parameters) c.types (head_made h.parameters s.made) r.full.types; bound = tt };
@@ -310,6 +311,15 @@ module _ (IsConstant : Value → Type 0) (shown : QName → Option Desc) (m : Ty
       let x = procedure_is l u b p g.0 h s.0 r.0 k.0 p.forward (first_empty one _ n) (first_included IsConstant shown m content l a c i) in
       let y = procedures_are l u b ps g.1 hs s.1 r.1 k.1 (second_empty one _ n) (second_included IsConstant shown m content l a c i) in
       record { procedures = all_both (ProcedureIsJudged IsConstant shown m content) a.procedures c.procedures x.procedures y.procedures; full = both_full IsConstant shown m content a c x.full y.full }
+
+  judged_bound : (u : Around) (p : Written_procedure) (h : Head) (forward : Bool) → (procedure_judged u p h forward).contents.bound ≡ []
+  judged_bound u p h true = refl
+  judged_bound u p h false = refl
+
+  pub procedures_bound : (u : Around) (ps : List Written_procedure) (hs : List Head) → (procedures_judged u ps hs).contents.bound ≡ []
+  procedures_bound u [] hs = refl
+  procedures_bound u (p ∷ ps) [] = refl
+  procedures_bound u (p ∷ ps) (h ∷ hs) = two_empty (procedure_judged u p h p.forward).contents.bound (procedures_judged u ps hs).contents.bound (judged_bound u p h p.forward) (procedures_bound u ps hs)
 
   -- headings against which nothing is said, and the types that they make
   head_unbroken : (u : Around) (p : Written_procedure) (h : Head) (forward : Bool) → (procedure_judged u p h forward).notes.broken ≡ [] → IsUnbroken h

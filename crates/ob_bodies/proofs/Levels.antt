@@ -1,5 +1,5 @@
 -- What stands around a sequence of declarations, at the level of the module or in a procedure.
-use Rattle.std.proofs.Common.{◌≡◌, ⊎_elim, refl, ℕ, suc, ◌≤◌, ◌<◌, true, false, List, [], ◌∷◌, ◌++◌, Option, Some, None, arith}
+use Rattle.std.proofs.Common.{◌≡◌, ⊎_elim, refl, subst, ℕ, suc, ◌≤◌, ◌<◌, true, false, List, [], ◌∷◌, ◌++◌, Option, Some, None, arith}
 use Rattle.std.specs.Prelude.{nat_lt}
 use Rattle.std.specs.List.{AllByRecursion}
 use Rattle.std.proofs.lemmas.Bool.Decides.{nat_tests}
@@ -25,7 +25,8 @@ use Rattle.ob_forms.specs.Said.{IsOneOf}
 use Rattle.ob_bodies.specs.Knows.{Grows, Stands, IsDescribed, EntityStands, Knows}
 use Rattle.ob_bodies.specs.Judged.{IsMade, IsWithin, ReceiverStands, IsInside, result_of, NameIs}
 use Rattle.ob_bodies.proofs.Lists.{one_left, one_right, one_joined, all_of, all_both, there_of}
-use Rattle.ob_bodies.proofs.Standing.{grows_front, grows_behind, grows_then, grows_both, stands_grown, with_types_known}
+use Rattle.ob_bodies.proofs.Binding.{AreOne, IsFrom, Changes}
+use Rattle.ob_bodies.proofs.Standing.{Lies, grows_front, grows_behind, grows_then, grows_both, stands_grown, with_types_known}
 
 -- in the module, or in a procedure, whose heading may break a rule
 pub data Level : Type 0 where
@@ -58,13 +59,41 @@ module _ (IsConstant : Value → Type 0) (shown : QName → Option Desc) (m : Ty
   IsBoundAt AtModule c = (t : TypedType) → IsOneOf c.bound t → IsMade content t
   IsBoundAt (Within p) c = Unit {0}
 
+  -- at the level of the module what is known before is made by it
+  abbrev pub IsOpened : Level → Around → Type 0
+  IsOpened AtModule u = Lies u.own content.types
+  IsOpened (Within p) u = Unit {0}
+
+  -- what is bound are types of the module, perhaps with more bound procedures
+  pub record IsBoundFrom (c : Contents) : Type 0 where
+    pub from : (b : TypedType) → IsOneOf c.bound b → IsFrom IsConstant content.types b
+    pub one : AreOne IsConstant content.types → AreOne IsConstant c.bound
+
+  abbrev pub BoundStands : Level → Contents → Type 0
+  BoundStands AtModule c = IsBoundFrom c
+  BoundStands (Within p) c = Unit {0}
+
+  pub bound_same : (c d : Contents) → d.bound ≡ c.bound → IsBoundFrom c → IsBoundFrom d
+  bound_same c d e h = record { from = λ b i. h.from b (subst (λ ts. IsOneOf ts b) e i); one = λ k a b i j. h.one k a b (subst (λ ts. IsOneOf ts a) e i) (subst (λ ts. IsOneOf ts b) e j) }
+
+  pub bound_none : (l : Level) (c : Contents) → c.bound ≡ [] → BoundStands l c
+  bound_none AtModule c e = record { from = λ b i. absurd (subst (λ ts. IsOneOf ts b) e i); one = λ k a b i j. absurd (subst (λ ts. IsOneOf ts a) e i) }
+  bound_none (Within p) c e = tt
+
+  pub bound_changed : (l : Level) (start : Around) → IsOpened l start → (early own : List TypedType) → Changes IsConstant early own → (Lies start.own content.types → Lies early content.types) → (c : Contents) → c.bound ≡ own → BoundStands l c
+  bound_changed AtModule start o early own ch k c e = record {
+    from = λ b i. let x = ch.from b (subst (λ ts. IsOneOf ts b) e i) in (x.0, (k o x.0 x.1.0, x.1.1));
+    one = λ h a b i j. ch.one (λ y z p q. h y z (k o y p) (k o z q)) a b (subst (λ ts. IsOneOf ts a) e i) (subst (λ ts. IsOneOf ts b) e j);
+  }
+  bound_changed (Within p) start o early own ch k c e = tt
+
   -- what a part adds is in the module
   pub record Included (l : Level) (c : Contents) : Type 0 where
     pub variables : (x : TypedVariable) → IsOneOf c.variables x → IsVariableAt l x
     pub procedures : (p : TypedProcedure) → IsOneOf c.procedures p → IsOneOf m.procedures p
     -- by their names
     pub types : Grows c.types m.types
-    pub made : (t : TypedType) → IsOneOf c.types t → IsMade content t
+    pub made : Lies c.types content.types
     pub bound : IsBoundAt l c
 
   -- the constants of a part are constants, and its types are described

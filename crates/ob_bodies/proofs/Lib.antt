@@ -5,6 +5,7 @@ pub mod Typings
 pub mod Sections
 pub mod Written
 pub mod Heads
+pub mod More
 pub mod Binding
 pub mod Headings
 pub mod Receivers

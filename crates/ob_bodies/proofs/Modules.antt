@@ -1,6 +1,6 @@
 -- Modules: the bodies of a checked module are judged where what is known is as the module has it.
-use Rattle.std.proofs.Common.{◌≡◌, refl, sym, ap, ◌∙◌, subst, ℕ, ◌≤◌, Bool, true, false, List, [], ◌∷◌, ◌++◌, map, Option, Some, None, arith, inl, inr}
-use Rattle.std.specs.Prelude.{bytes_eq, ◌&&◌, ◌||◌}
+use Rattle.std.proofs.Common.{◌≡◌, ◌⊎◌, ⊎_elim, refl, sym, ap, ◌∙◌, subst, ℕ, ◌≤◌, Bool, true, false, List, [], ◌∷◌, ◌++◌, map, Option, Some, None, arith, inl, inr}
+use Rattle.std.specs.Prelude.{◌≢◌, cond, bytes_eq, ◌&&◌, ◌||◌}
 use Rattle.std.specs.List.{AllByRecursion, cons_option, filter_map, find}
 use Rattle.ob_tree.specs.declared.pos.Pos.{Pos}
 use Rattle.ob_tree.specs.declared.names.QName.{QName}
@@ -29,14 +29,21 @@ use Rattle.ob_rules.specs.Declarations.{Contents, no_contents, together, Part, D
 use Rattle.ob_typed.specs.Makes.{IfThere}
 use Rattle.ob_typed.specs.Spelled.{all_true, is_spelled}
 use Rattle.ob_typed.specs.Bodies.{stmt_spelled}
-use Rattle.ob_relation.proofs.Names.{and_both}
+use Rattle.ob_relation.proofs.Names.{and_both, bytes_true, bytes_same}
+use Rattle.ob_forms.specs.Said.{IsOneOf}
+use Rattle.ob_forms.specs.Whole.{Different}
+use Rattle.ob_forms.proofs.Members.{found}
 use Rattle.ob_bodies.specs.Spelled.{parameters_spelled, decl_layer, decl_spelled, tree_spelled}
 use Rattle.ob_bodies.specs.Knows.{Grows, IsDescribed, EntityStands}
-use Rattle.ob_bodies.specs.Judged.{NameIs, BodiesAreJudged, ProcedureIsJudged}
-use Rattle.ob_bodies.proofs.Lists.{all_both, find_has, first_empty, second_empty}
+use Rattle.ob_bodies.specs.Judged.{HasMore, IsTold, NameIs, BodiesAreJudged, ProcedureIsJudged}
+use Rattle.ob_bodies.proofs.Held.{one_mapped}
+use Rattle.ob_bodies.proofs.More.{more_same}
+use Rattle.ob_bodies.proofs.Binding.{AreOne, IsFrom}
+use Rattle.ob_bodies.proofs.Standing.{Lies, lies_same}
+use Rattle.ob_bodies.proofs.Lists.{one_joined, one_all, all_one, all_both, find_has, first_empty, second_empty}
 use Rattle.ob_bodies.proofs.Typings.{ConstantPhrase}
 use Rattle.ob_bodies.proofs.Written.{written_good, written_parameters_good}
-use Rattle.ob_bodies.proofs.Levels.{Level, AtModule, Within, frame, IsPlaced, Included, none_full, both_full, first_included, second_included, BlockAt, block_declared as name_declared}
+use Rattle.ob_bodies.proofs.Levels.{Level, AtModule, Within, frame, IsPlaced, IsOpened, bound_same, bound_none, declared_own, Included, none_full, both_full, first_included, second_included, BlockAt, block_declared as name_declared}
 use Rattle.ob_bodies.proofs.Plain.{IsPlain, constant_plain, type_plain, variables_declared_plain, order_plain}
 use Rattle.ob_bodies.proofs.Blocks.{all_empty, PartIs, IsBlock, IsProcedure, stands_at}
 use Rattle.ob_bodies.proofs.Sequences.{block_is}
@@ -83,8 +90,12 @@ module _ (IsConstant : Value → Type 0) (truths : (b : Bool) → IsConstant (li
   later_placed AtModule u xs h = h
   later_placed (Within p) u xs h = h
 
+  later_opened : (l : Level) (u : Around) (xs : List (List ℕ)) → IsOpened IsConstant shown m content l u → IsOpened IsConstant shown m content l (record u { later_types = xs })
+  later_opened AtModule u xs h = h
+  later_opened (Within p) u xs h = h
+
   block_good : (ds : List Declaration) → AreGood ds → (xs : List Stmt) → all_true (map stmt_spelled xs) ≡ true → IsBlock IsConstant shown m content out (block ds (map judging xs))
-  block_good ds g xs e l u b n i =
+  block_good ds g xs e l u b o n i =
       let names = filter_map type_name_of ds in
       let v : Around = record u { later_types = names } in
       let ps = filter_map procedure_of ds in
@@ -102,7 +113,7 @@ module _ (IsConstant : Value → Type 0) (truths : (b : Bool) → IsConstant (li
         receiver = b.receiver;
       } in
       let r = order_plain IsConstant shown m content out (filter_map plain_of ds) (kept_all GoodDeclaration (IsPlain IsConstant shown m content out) plain_of plain_good ds g) l v c (first_included IsConstant shown m content l d.part.contents _ i) in
-      block_is IsConstant shown m content out l ps (kept_all GoodDeclaration (IsProcedure IsConstant shown m content out) procedure_of procedure_good ds g) xs e u b.placed d r n i
+      block_is IsConstant shown m content out l ps (kept_all GoodDeclaration (IsProcedure IsConstant shown m content out) procedure_of procedure_good ds g) xs e u b.placed v (later_opened l u names o) d r n i
 
   -- BY INDUCTION OVER DECLARATIONS
 
@@ -123,7 +134,7 @@ module _ (IsConstant : Value → Type 0) (truths : (b : Bool) → IsConstant (li
   layer x h e = subst GoodDeclaration (sym (fold-roll-Decl Declaration decl_rule x)) (h (sym (fold-roll-Decl Bool decl_layer x) ∙ e))
 
   no_block : IsBlock IsConstant shown m content out (λ u. record { notes = Rattle.ob_rules.specs.Judged.no_notes; contents = no_contents })
-  no_block l u b n i = record { procedures = tt; body = record { u = u; xs = []; is = refl; spelled = refl; stands = stands_at IsConstant shown m content out l u b }; placed = b.placed; full = none_full IsConstant shown m content }
+  no_block l u b o n i = record { procedures = tt; body = record { u = u; xs = []; is = refl; spelled = refl; stands = stands_at IsConstant shown m content out l u b }; placed = b.placed; full = none_full IsConstant shown m content; bound = bound_none IsConstant shown m content l no_contents refl }
 
   decl_cases : (y : Decl-F SD) → PD (roll-Decl (map-Decl SD Decl (λ x. x.0) y))
   decl_cases (Decl-F.Constant d x) = layer (Decl-F.Constant d x) (λ e. constant_plain IsConstant shown m content out d (phrase_of x) (constants x e))
@@ -161,6 +172,8 @@ module _ (IsConstant : Value → Type 0) (truths : (b : Bool) → IsConstant (li
     procedures = refl;
     body = refl;
     full = none_full IsConstant shown m content;
+    lies = subst (λ own. Lies own u.own) (sym (declared_own IsConstant shown m content u i.ident (import_entity (is_system t.name) t))) (lies_same u.own);
+    bound = refl;
   }
 
   imports_plain : (is : List Import) → AllByRecursion (λ (i : Import). bytes_eq (target_of i).name m.name ≡ false) is → AllByRecursion (IsPlain IsConstant shown m content out) (map (λ i. import_declared i (target_of i)) is)
@@ -198,12 +211,14 @@ module _ (IsConstant : Value → Type 0) (truths : (b : Bool) → IsConstant (li
       let r = order_plain IsConstant shown m content out (map (λ i. import_declared i (target_of i)) imports) (imports_plain imports o) AtModule u (module_around name.name ds e) (first_included IsConstant shown m content AtModule d.part.contents c j) in
       let inner = (block ds (map judging xs) d.around).notes.broken in
       let quiet : inner ≡ [] = second_empty d.part.notes.broken inner (second_empty _ (d.part.notes.broken ++ inner) n) in
-      let p = block_good ds g xs s AtModule d.around r.around quiet (second_included IsConstant shown m content AtModule d.part.contents c j) in
+      let opened : Lies d.around.own content.types = λ t k. ⊎_elim (λ y. (first_included IsConstant shown m content AtModule d.part.contents c j).made t y) (λ y. absurd y) (one_joined d.part.contents.types [] t (r.lies t k)) in
+      let p = block_good ds g xs s AtModule d.around r.around opened quiet (second_included IsConstant shown m content AtModule d.part.contents c j) in
       record {
         procedures = all_both (ProcedureIsJudged IsConstant shown m content) d.part.contents.procedures c.procedures (all_empty (ProcedureIsJudged IsConstant shown m content) d.part.contents.procedures r.procedures) p.procedures;
         body = record { u = p.body.u; xs = p.body.xs; is = ◌∙◌ {c = stmts_in (in_turn (map judging p.body.xs) p.body.u).node} (ap (λ l. l ++ c.body) r.body) p.body.is; spelled = p.body.spelled; stands = p.body.stands };
         placed = p.placed;
         full = both_full IsConstant shown m content no_contents (together d.part.contents c) (none_full IsConstant shown m content) (both_full IsConstant shown m content d.part.contents c r.full p.full);
+        bound = bound_same IsConstant shown m content c (together no_contents (together d.part.contents c)) (ap (λ ts. ts ++ c.bound) r.bound) p.bound;
       }
 
 -- ---- the checked module
@@ -220,6 +235,62 @@ module _ (IsConstant : Value → Type 0) where
   all_described_are : (bound : List TypedType) → AllByRecursion (IsDescribed IsConstant) bound → (ts : List TypedType) → AllByRecursion (IsDescribed IsConstant) ts → AllByRecursion (IsDescribed IsConstant) (all_described bound ts)
   all_described_are bound h [] k = tt
   all_described_are bound h (t ∷ ts) k = (described_is (find (λ b. bytes_eq b.name t.name) bound) t (find_has (IsDescribed IsConstant) (λ b. bytes_eq b.name t.name) bound h) k.0, all_described_are bound h ts k.1)
+
+module _ (IsConstant : Value → Type 0) (types bound : List TypedType) (from : (b : TypedType) → IsOneOf bound b → IsFrom IsConstant types b) (one : AreOne IsConstant types → AreOne IsConstant bound) (differ : Different (λ (t : TypedType). t.name) (all_described bound types)) where
+  abbrev for_name : TypedType → Option TypedType
+  for_name t = find (λ b. bytes_eq b.name t.name) bound
+
+  name_is : (t : TypedType) → (described (for_name t) t).name ≡ t.name
+  name_is t = same_named (for_name t) t
+
+  there : (ts : List TypedType) (t : TypedType) → IsOneOf ts t → IsOneOf (all_described bound ts) (described (for_name t) t)
+  there ts t i = one_mapped (λ t. described (find (λ b. bytes_eq b.name t.name) bound) t) ts t i
+
+  -- types of one name are one
+  same_of : (ts : List TypedType) → Different (λ (t : TypedType). t.name) (all_described bound ts) → (a b : TypedType) → IsOneOf ts a → IsOneOf ts b → a.name ≡ b.name → a ≡ b
+  same_of [] d a b i j e = absurd i
+  same_of (t ∷ ts) d a b (inl i) (inl j) e = sym i ∙ j
+  same_of (t ∷ ts) d a b (inl i) (inr j) e = absurd (one_all (λ (y : TypedType). y.name ≢ (described (for_name t) t).name) (all_described bound ts) (described (for_name b) b) d.0 (there ts b j) (name_is b ∙ sym e ∙ sym (ap (λ (y : TypedType). y.name) i) ∙ sym (name_is t)))
+  same_of (t ∷ ts) d a b (inr i) (inl j) e = absurd (one_all (λ (y : TypedType). y.name ≢ (described (for_name t) t).name) (all_described bound ts) (described (for_name a) a) d.0 (there ts a i) (name_is a ∙ e ∙ sym (ap (λ (y : TypedType). y.name) j) ∙ sym (name_is t)))
+  same_of (t ∷ ts) d a b (inr i) (inr j) e = same_of ts d.1 a b i j e
+
+  one_type : AreOne IsConstant types
+  one_type a b i j e = ap (λ (t : TypedType). t.desc) (same_of types differ a b i j e)
+
+  found_bound : (t b : TypedType) → for_name t ≡ Some b → IsOneOf bound b × (b.name ≡ t.name)
+  found_bound t b e = let r = found (IsOneOf bound) (λ (b : TypedType). bytes_eq b.name t.name) bound b (all_one (IsOneOf bound) bound (λ x i. i)) e in (r.0, bytes_true b.name t.name r.1)
+
+  not_found : (bs : List TypedType) (x : List ℕ) (b : TypedType) → IsOneOf bs b → b.name ≡ x → find (λ b. bytes_eq b.name x) bs ≡ None → ⊥
+  not_found [] x b i e f = absurd i
+  not_found (c ∷ bs) x b i e f = by (bytes_eq c.name x) refl f (λ j g. not_found bs x b j e g)
+    where
+      by : (k : Bool) → bytes_eq c.name x ≡ k → cond k (Some c) (find (λ b. bytes_eq b.name x) bs) ≡ None → (IsOneOf bs b → find (λ b. bytes_eq b.name x) bs ≡ None → ⊥) → ⊥
+      by true g f r = absurd cc
+      by false g f r = ⊎_elim (λ j. let bad : true ≡ false = sym (bytes_same x) ∙ ap (λ (y : List ℕ). bytes_eq y x) (sym (ap (λ (t : TypedType). t.name) j ∙ e)) ∙ g in absurd cc) (λ j. r j f) i
+
+  -- a type, which has perhaps more procedures in the module
+  type_told : (t : TypedType) → IsOneOf types t → IsTold (all_described bound types) t
+  type_told t i = (described (for_name t) t, (there types t i, (name_is t, by (for_name t) refl)))
+    where
+      by : (o : Option TypedType) → for_name t ≡ o → HasMore t.desc (described o t).desc
+      by None e = more_same t.desc t.desc refl
+      by (Some b) e =
+          let f = found_bound t b e in
+          let r = from b f.0 in
+          subst (λ (y : TypedType). HasMore y.desc b.desc) (same_of types differ r.0 t r.1.0 i (r.1.1.0 ∙ f.1)) r.1.1.1
+
+  -- what is bound, as it is in the module
+  bound_told : (b : TypedType) → IsOneOf bound b → IsTold (all_described bound types) b
+  bound_told b i =
+      let r = from b i in
+      (described (for_name r.0) r.0, (there types r.0 r.1.0, (name_is r.0 ∙ r.1.1.0, by r.0 r.1.1.0 (for_name r.0) refl)))
+    where
+      by : (t : TypedType) → t.name ≡ b.name → (o : Option TypedType) → for_name t ≡ o → HasMore b.desc (described o t).desc
+      by t n None e = absurd (not_found bound t.name b i (sym n) e)
+      by t n (Some c) e = let f = found_bound t c e in more_same b.desc c.desc (sym (one one_type c b f.0 i (f.1 ∙ n)))
+
+  all_told : (t : TypedType) → IsOneOf types t ⊎ IsOneOf bound t → IsTold (all_described bound types) t
+  all_told t h = ⊎_elim (λ i. type_told t i) (λ i. bound_told t i) h
 
 module _ (IsConstant : Value → Type 0) (truths : (b : Bool) → IsConstant (literal.Bool b)) (shown : QName → Option Desc) (tree : Tree) where
   abbrev pub parts : Part
@@ -243,8 +314,8 @@ module _ (IsConstant : Value → Type 0) (truths : (b : Bool) → IsConstant (li
   whole_is : parts.notes.broken ≡ [] → (out : is_out whole.name ≡ false) → ((x : Expr) → is_spelled x ≡ true → ConstantPhrase IsConstant whole.name shown out (phrase_of x)) → tree_spelled tree ≡ true → AllByRecursion (λ (i : Import). bytes_eq (target_of i).name tree.name.name ≡ false) tree.imports → BodiesAreJudged IsConstant shown whole
   whole_is quiet out constants s o =
       let e = and_both (all_true (map decl_spelled tree.decls)) (all_true (map stmt_spelled tree.body)) s in
-      let p = module_is IsConstant truths shown whole parts.contents out constants tree.name refl tree.imports o (map declaration tree.decls) (decls_good IsConstant truths shown whole parts.contents out constants tree.decls e.0) tree.body e.1 tree.closing quiet (record { variables = λ x i. i; procedures = λ p i. i; types = names_kept parts.contents.bound parts.contents.types; made = λ t i. inl i; bound = λ t i. inr i }) in
-      record { content = parts.contents; types_are = refl; procedures = p.procedures; body = p.body; scope = p.placed.1.0; receiver = p.placed.1.1.1; name = out; constants = p.full.constants; types = all_described_are IsConstant parts.contents.bound p.full.bound parts.contents.types p.full.types }
+      let p = module_is IsConstant truths shown whole parts.contents out constants tree.name refl tree.imports o (map declaration tree.decls) (decls_good IsConstant truths shown whole parts.contents out constants tree.decls e.0) tree.body e.1 tree.closing quiet (record { variables = λ x i. i; procedures = λ p i. i; types = names_kept parts.contents.bound parts.contents.types; made = λ t i. i; bound = λ t i. inr i }) in
+      record { content = parts.contents; told = λ d. all_told IsConstant parts.contents.types parts.contents.bound p.bound.from p.bound.one d; procedures = p.procedures; body = p.body; scope = p.placed.1.0; receiver = p.placed.1.1.1; name = out; constants = p.full.constants; types = all_described_are IsConstant parts.contents.bound p.full.bound parts.contents.types p.full.types }
 
   pub bodies_judged : (m : TypedModule) → checked shown tree ≡ Some m → ((out : is_out tree.name.name ≡ false) (x : Expr) → is_spelled x ≡ true → ConstantPhrase IsConstant tree.name.name shown out (phrase_of x)) → tree_spelled tree ≡ true → AllByRecursion (λ (i : Import). bytes_eq (target_of i).name tree.name.name ≡ false) tree.imports → BodiesAreJudged IsConstant shown m
   bodies_judged m e constants s o =

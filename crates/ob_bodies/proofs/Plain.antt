@@ -29,6 +29,7 @@ use Rattle.ob_described.proofs.Nodes.{Has, then_has, second_has}
 use Rattle.ob_typed.specs.Makes.{IfThere}
 use Rattle.ob_bodies.specs.Knows.{Stands, IsDescribed, EntityStands, Knows}
 use Rattle.ob_bodies.specs.Judged.{IsInside, VariableStands, NameIs}
+use Rattle.ob_bodies.proofs.Standing.{Lies, lies_same, lies_front, lies_on}
 use Rattle.ob_bodies.proofs.Typings.{TypingIs, ConstantPhrase, IsGood, typed_is}
 use Rattle.ob_bodies.proofs.Levels.{Level, AtModule, Within, frame, IsVariableAt, Included, IsFull, none_full, both_full, first_included, second_included, BlockAt, block_typed, block_declared, declared_own, not_outer, not_module}
 
@@ -46,14 +47,16 @@ module _ (IsConstant : Value → Type 0) (shown : QName → Option Desc) (m : Ty
   T own t = TypingIs IsConstant m.name shown out own t
 
   -- a declaration: what stands around what follows it, and that it adds no procedure and no statement
-  pub record DeclaredIs (l : Level) (d : Declared) : Type 0 where
+  pub record DeclaredIs (l : Level) (start : Around) (d : Declared) : Type 0 where
     pub around : B l d.around
     pub procedures : d.part.contents.procedures ≡ []
     pub body : d.part.contents.body ≡ []
     pub full : IsFull IsConstant shown m content d.part.contents
+    pub lies : Lies d.around.own (d.part.contents.types ++ start.own)
+    pub bound : d.part.contents.bound ≡ []
 
   abbrev pub IsPlain : (Around → Declared) → Type 0
-  IsPlain f = (l : Level) (u : Around) → B l u → I l (f u).part.contents → DeclaredIs l (f u)
+  IsPlain f = (l : Level) (u : Around) → B l u → I l (f u).part.contents → DeclaredIs l u (f u)
 
   -- CONSTANTS
 
@@ -78,6 +81,11 @@ module _ (IsConstant : Value → Type 0) (shown : QName → Option Desc) (m : Ty
   constant_adds true x (Some p) = (refl, refl)
   constant_adds false x o = (refl, refl)
 
+  constant_bound : (b : Bool) (x : Ident) (o : Option (Mark × Value)) → (constant_contents b x o).bound ≡ []
+  constant_bound true x None = refl
+  constant_bound true x (Some p) = refl
+  constant_bound false x o = refl
+
   constant_full : (b : Bool) (x : Ident) (o : Option (Mark × Value)) → IfThere (λ (p : Mark × Value). Unit {0} × IsConstant p.1) o → IsFull IsConstant shown m content (constant_contents b x o)
   constant_full true x None h = none_full IsConstant shown m content
   constant_full true x (Some p) h = record { constants = (h.1, tt); types = tt; bound = tt }
@@ -94,6 +102,8 @@ module _ (IsConstant : Value → Type 0) (shown : QName → Option Desc) (m : Ty
         procedures = a.0;
         body = a.1;
         full = constant_full (is_module_level u) d.ident o h;
+        lies = subst (λ own. Lies own ((constant_contents (is_module_level u) d.ident o).types ++ u.own)) (sym (declared_own IsConstant shown m content u d.ident (constant_entity o))) (lies_front (constant_contents (is_module_level u) d.ident o).types u.own);
+        bound = constant_bound (is_module_level u) d.ident o;
       }
 
   -- TYPES
@@ -122,10 +132,12 @@ module _ (IsConstant : Value → Type 0) (shown : QName → Option Desc) (m : Ty
       let h = second_has (T u.own) k t (as_good u b.knows (u.path ++ d.ident.name) (mark_or_hidden k.node) w g w.name) in
       let v = with_types u (types_made o) in
       record {
-        around = block_declared IsConstant shown m content l v (block_typed IsConstant shown m content l u b (types_made o) (type_made u.own o h) i.types i.made) d.ident (type_entity o) (type_stands u.own o h) (type_name v.own (frame l) u.level u.scope o);
+        around = block_declared IsConstant shown m content l v (block_typed IsConstant shown m content l u b (types_made o) (type_made u.own o h) i.types (λ y j. inl (i.made y j))) d.ident (type_entity o) (type_stands u.own o h) (type_name v.own (frame l) u.level u.scope o);
         procedures = refl;
         body = refl;
         full = record { constants = tt; types = type_made u.own o h; bound = tt };
+        lies = subst (λ own. Lies own (types_made o ++ u.own)) (sym (declared_own IsConstant shown m content v d.ident (type_entity o))) (lies_same (types_made o ++ u.own));
+        bound = refl;
       }
 
   -- VARIABLES
@@ -161,6 +173,10 @@ module _ (IsConstant : Value → Type 0) (shown : QName → Option Desc) (m : Ty
   variable_adds x None = (refl, refl)
   variable_adds x (Some p) = (refl, refl)
 
+  variable_bound : (x : Ident) (o : Option (Mark × Typing)) → (variable_contents x o).bound ≡ []
+  variable_bound x None = refl
+  variable_bound x (Some p) = refl
+
   variable_full : (x : Ident) (o : Option (Mark × Typing)) → IsFull IsConstant shown m content (variable_contents x o)
   variable_full x None = none_full IsConstant shown m content
   variable_full x (Some p) = record { constants = tt; types = tt; bound = tt }
@@ -168,8 +184,8 @@ module _ (IsConstant : Value → Type 0) (shown : QName → Option Desc) (m : Ty
   pub two_empty : {A : Type 0} (xs ys : List A) → xs ≡ [] → ys ≡ [] → xs ++ ys ≡ []
   two_empty xs ys e f = ap (λ l. l ++ ys) e ∙ f
 
-  variables_plain : (ds : List IdentDef) (t : Option Typing) (l : Level) (u : Around) → B l u → IfThere (λ t. S u.own t.of) t → I l (variables_with ds t u).part.contents → DeclaredIs l (variables_with ds t u)
-  variables_plain [] t l u b h i = record { around = b; procedures = refl; body = refl; full = none_full IsConstant shown m content }
+  variables_plain : (ds : List IdentDef) (t : Option Typing) (l : Level) (u : Around) → B l u → IfThere (λ t. S u.own t.of) t → I l (variables_with ds t u).part.contents → DeclaredIs l u (variables_with ds t u)
+  variables_plain [] t l u b h i = record { around = b; procedures = refl; body = refl; full = none_full IsConstant shown m content; lies = lies_same u.own; bound = refl }
   variables_plain (d ∷ ds) t l u b h i =
       let k = (marked u true d).node in
       let o = paired_typing k t in
@@ -180,7 +196,8 @@ module _ (IsConstant : Value → Type 0) (shown : QName → Option Desc) (m : Ty
       let c = block_declared IsConstant shown m content l u b d.ident e (unsound_name u d.ident o) (variable_name l u b d.ident k t h (first_included IsConstant shown m content l mine rest i)) in
       let r = variables_plain ds t l v c (subst (λ own. IfThere (λ t. S own t.of) t) (sym (declared_own IsConstant shown m content u d.ident e)) h) (second_included IsConstant shown m content l mine rest i) in
       let a = variable_adds d.ident o in
-      record { around = r.around; procedures = two_empty mine.procedures rest.procedures a.0 r.procedures; body = two_empty mine.body rest.body a.1 r.body; full = both_full IsConstant shown m content mine rest (variable_full d.ident o) r.full }
+      let r_own = (variables_with ds t v).around.own in
+      record { around = r.around; procedures = two_empty mine.procedures rest.procedures a.0 r.procedures; body = two_empty mine.body rest.body a.1 r.body; full = both_full IsConstant shown m content mine rest (variable_full d.ident o) r.full; lies = lies_on mine.types rest.types u.own v.own r_own (subst (λ own. Lies own (mine.types ++ u.own)) (sym (declared_own IsConstant shown m content u d.ident e)) (lies_front mine.types u.own)) r.lies; bound = two_empty mine.bound rest.bound (variable_bound d.ident o) r.bound }
 
   in_made : (own : List TypedType) (o : Option Typing) → IfThere (T own) o → AllByRecursion (IsDescribed IsConstant) (made_in o)
   in_made own None h = tt
@@ -196,16 +213,16 @@ module _ (IsConstant : Value → Type 0) (shown : QName → Option Desc) (m : Ty
       let h : Has (T u.own) t = g u b.knows (u.path ++ first_name ds ++ codes ":") mark.Hidden false in
       let v = with_types u (made_in t.node) in
       let mine : Contents = record no_contents { types = made_in t.node } in
-      let r = variables_plain ds t.node l v (block_typed IsConstant shown m content l u b (made_in t.node) (in_made u.own t.node h) (first_included IsConstant shown m content l mine (variables_with ds t.node v).part.contents i).types (first_included IsConstant shown m content l mine (variables_with ds t.node v).part.contents i).made) (in_stands u.own t.node h) (second_included IsConstant shown m content l mine (variables_with ds t.node v).part.contents i) in
-      record { around = r.around; procedures = r.procedures; body = r.body; full = both_full IsConstant shown m content mine (variables_with ds t.node v).part.contents (record { constants = tt; types = in_made u.own t.node h; bound = tt }) r.full }
+      let r = variables_plain ds t.node l v (block_typed IsConstant shown m content l u b (made_in t.node) (in_made u.own t.node h) (first_included IsConstant shown m content l mine (variables_with ds t.node v).part.contents i).types (λ y j. inl ((first_included IsConstant shown m content l mine (variables_with ds t.node v).part.contents i).made y j))) (in_stands u.own t.node h) (second_included IsConstant shown m content l mine (variables_with ds t.node v).part.contents i) in
+      record { around = r.around; procedures = r.procedures; body = r.body; full = both_full IsConstant shown m content mine (variables_with ds t.node v).part.contents (record { constants = tt; types = in_made u.own t.node h; bound = tt }) r.full; lies = lies_on (made_in t.node) (variables_with ds t.node v).part.contents.types u.own v.own (variables_with ds t.node v).around.own (lies_same v.own) r.lies; bound = r.bound }
 
   -- IN ORDER
 
   pub order_plain : (fs : List (Around → Declared)) → AllByRecursion IsPlain fs → IsPlain (in_order fs)
-  order_plain [] g l u b i = record { around = b; procedures = refl; body = refl; full = none_full IsConstant shown m content }
+  order_plain [] g l u b i = record { around = b; procedures = refl; body = refl; full = none_full IsConstant shown m content; lies = lies_same u.own; bound = refl }
   order_plain (f ∷ fs) g l u b i =
       let d = f u in
       let rest = in_order fs d.around in
       let a = g.0 l u b (first_included IsConstant shown m content l d.part.contents rest.part.contents i) in
       let r = order_plain fs g.1 l d.around a.around (second_included IsConstant shown m content l d.part.contents rest.part.contents i) in
-      record { around = r.around; procedures = two_empty d.part.contents.procedures rest.part.contents.procedures a.procedures r.procedures; body = two_empty d.part.contents.body rest.part.contents.body a.body r.body; full = both_full IsConstant shown m content d.part.contents rest.part.contents a.full r.full }
+      record { around = r.around; procedures = two_empty d.part.contents.procedures rest.part.contents.procedures a.procedures r.procedures; body = two_empty d.part.contents.body rest.part.contents.body a.body r.body; full = both_full IsConstant shown m content d.part.contents rest.part.contents a.full r.full; lies = lies_on d.part.contents.types rest.part.contents.types u.own d.around.own rest.around.own a.lies r.lies; bound = two_empty d.part.contents.bound rest.part.contents.bound a.bound r.bound }

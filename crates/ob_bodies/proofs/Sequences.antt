@@ -1,5 +1,5 @@
 -- A sequence of declarations with its statements: the bodies of its procedures and its own are judged where what is known is as the module has it.
-use Rattle.std.proofs.Common.{◌≡◌, ⊎_elim, refl, sym, ap, ◌∙◌, subst, ℕ, ◌≤◌, Bool, true, false, List, [], ◌++◌, map, Option, Some, None}
+use Rattle.std.proofs.Common.{◌≡◌, ⊎_elim, refl, sym, ap, ◌∙◌, subst, ℕ, ◌≤◌, Bool, true, false, List, [], ◌++◌, map, Option, Some, None, inl}
 use Rattle.std.specs.List.{AllByRecursion}
 use Rattle.ob_tree.specs.declared.names.QName.{QName}
 use Rattle.ob_tree.specs.declared.stmt.Stmt.{Stmt}
@@ -25,10 +25,11 @@ use Rattle.ob_bodies.proofs.Lists.{one_joined, one_all, there_of, all_of, all_bo
 use Rattle.ob_bodies.proofs.Standing.{Lies, lies_same, grows_as, grows_same, grows_then, grows_both, entity_grown}
 use Rattle.ob_bodies.proofs.Heads.{SignatureStands, HeadStands, head_grown}
 use Rattle.ob_bodies.proofs.Headings.{Aligned, IsUnbroken, types_of_all, lies_in_order, types_lie, named_at, aligned_in_order, names_in_order, HeadsStand, named_fine, stand_in_order}
+use Rattle.ob_bodies.proofs.More.{append_none}
 use Rattle.ob_bodies.proofs.Binding.{binding_changes}
-use Rattle.ob_bodies.proofs.Levels.{Level, AtModule, Within, frame, IsPlaced, IsBoundAt, Included, none_full, both_full, first_included, second_included, BlockAt, name_grown}
+use Rattle.ob_bodies.proofs.Levels.{Level, AtModule, Within, frame, IsPlaced, IsBoundAt, IsOpened, bound_none, bound_changed, Included, none_full, both_full, first_included, second_included, BlockAt, name_grown}
 use Rattle.ob_bodies.proofs.Plain.{DeclaredIs}
-use Rattle.ob_bodies.proofs.Blocks.{one_reversed, all_reversed, all_empty, at_most, procedures_body, PartIs, AreProcedures, headings_good, stands_at, KnownBehind, IsBoundWithin, HeadBound, procedures_are, heads_unbroken, types_there, HasProcedure, heading_there}
+use Rattle.ob_bodies.proofs.Blocks.{one_reversed, all_reversed, all_empty, at_most, two_empty, procedures_body, procedures_bound, PartIs, AreProcedures, headings_good, stands_at, KnownBehind, IsBoundWithin, HeadBound, procedures_are, heads_unbroken, types_there, HasProcedure, heading_there}
 
 module _ (IsConstant : Value → Type 0) (shown : QName → Option Desc) (m : TypedModule) (content : Contents) (out : is_out m.name ≡ false) where
   abbrev B : Level → Around → Type 0
@@ -147,6 +148,7 @@ module _ (IsConstant : Value → Type 0) (shown : QName → Option Desc) (m : Ty
               body = record { u = w; xs = xs; is = ap (λ l. l ++ s.body) (procedures_body w ps heads); spelled = spelled; stands = stands_at IsConstant shown m content out l w around };
               placed = around.placed;
               full = both_full IsConstant shown m content c s a.full (record { constants = tt; types = tt; bound = tt });
+              bound = bound_none IsConstant shown m content l inside.contents (two_empty c.bound s.bound (procedures_bound IsConstant shown m content out w ps heads) refl);
             }
 
   -- what is known where procedures are bound is made by the module
@@ -155,8 +157,8 @@ module _ (IsConstant : Value → Type 0) (shown : QName → Option Desc) (m : Ty
   binding_made (Within f) outer p v ks k c e i t h = k t (subst (λ x. IsOneOf (binding_at x v ks).own t) p.0 h)
 
   -- with what is bound, and the declarations before
-  pub block_is : (l : Level) (ps : List Written_procedure) → AreProcedures IsConstant shown m content out ps → (xs : List Stmt) → all_true (map stmt_spelled xs) ≡ true → (outer : Around) → IsPlaced l outer → (d : Declared) → DeclaredIs IsConstant shown m content out l d → (block_declared outer ps (map judging xs) d).notes.broken ≡ [] → I l (block_declared outer ps (map judging xs) d).contents → PartIs IsConstant shown m content out l (block_declared outer ps (map judging xs) d).contents
-  block_is l ps good xs spelled outer placed d g n i =
+  pub block_is : (l : Level) (ps : List Written_procedure) → AreProcedures IsConstant shown m content out ps → (xs : List Stmt) → all_true (map stmt_spelled xs) ≡ true → (outer : Around) → IsPlaced l outer → (start : Around) → IsOpened IsConstant shown m content l start → (d : Declared) → DeclaredIs IsConstant shown m content out l start d → (block_declared outer ps (map judging xs) d).notes.broken ≡ [] → I l (block_declared outer ps (map judging xs) d).contents → PartIs IsConstant shown m content out l (block_declared outer ps (map judging xs) d).contents
+  block_is l ps good xs spelled outer placed start opened d g n i =
       let base = d.around in
       let h = hs l base g.around ps good xs spelled in
       let all = reversed h.before in
@@ -178,7 +180,9 @@ module _ (IsConstant : Value → Type 0) (shown : QName → Option Desc) (m : Ty
       let behind : Lies h.around.own (types_of_all h.before ++ base.own) = lies_in_order base.own ps (record { around = base; before = [] }) unbroken (lies_same base.own) in
       let made_grown : Grows (types_of_all h.before) m.types = grows_then (types_of_all h.before) judged.contents.types m.types (grows_as (types_of_all h.before) judged.contents.types made) inner_included.types in
       let grown : Grows bind.own m.types = grows_then bind.own h.around.own m.types ch.back (grows_then h.around.own (types_of_all h.before ++ base.own) m.types (grows_as h.around.own (types_of_all h.before ++ base.own) behind) (grows_both (types_of_all h.before) base.own m.types made_grown g.around.grown)) in
-      let heads_made : (t : TypedType) → IsOneOf h.around.own t → IsMade content t = λ t k. ⊎_elim (λ y. inner_included.made t (made t y)) (λ y. g.around.within.own t y) (one_joined (types_of_all h.before) base.own t (behind t k)) in
+      let heads_made : (t : TypedType) → IsOneOf h.around.own t → IsMade content t = λ t k. ⊎_elim (λ y. inl (inner_included.made t (made t y))) (λ y. g.around.within.own t y) (one_joined (types_of_all h.before) base.own t (behind t k)) in
+      let heads_lie : Lies start.own content.types → Lies h.around.own content.types = λ f t k. ⊎_elim (λ y. inner_included.made t (made t y)) (λ y. ⊎_elim (λ z. (first_included IsConstant shown m content l d.part.contents (together no_contents (together bound c)) i).made t z) (λ z. f t z) (one_joined d.part.contents.types start.own t (g.lies t y))) (one_joined (types_of_all h.before) base.own t (behind t k)) in
+      let only_bound : (block_declared outer ps (map judging xs) d).contents.bound ≡ bind.own = ap (λ ts. ts ++ (bind.own ++ c.bound)) g.bound ∙ ap (λ ts. bind.own ++ ts) (two_empty judged.contents.bound [] (procedures_bound IsConstant shown m content out u ps all) refl) ∙ append_none bind.own in
       let rest_included = second_included IsConstant shown m content l no_contents (together bound c) (second_included IsConstant shown m content l d.part.contents (together no_contents (together bound c)) i) in
       let bound_made : (t : TypedType) → IsOneOf bind.own t → IsMade content t = binding_made l outer placed h.around all heads_made bound refl (first_included IsConstant shown m content l bound c rest_included).bound in
       let heads_bound : AllByRecursion (HeadBound IsConstant shown m content out) h.before =
@@ -193,4 +197,5 @@ module _ (IsConstant : Value → Type 0) (shown : QName → Option Desc) (m : Ty
         body = record { u = p.body.u; xs = p.body.xs; is = ◌∙◌ {c = stmts_in (in_turn (map judging p.body.xs) p.body.u).node} (ap (λ l. l ++ c.body) g.body) p.body.is; spelled = p.body.spelled; stands = p.body.stands };
         placed = p.placed;
         full = both_full IsConstant shown m content d.part.contents (together no_contents (together bound c)) g.full (both_full IsConstant shown m content no_contents (together bound c) (none_full IsConstant shown m content) (both_full IsConstant shown m content bound c (record { constants = tt; types = tt; bound = ch.described s.knows.own }) p.full));
+        bound = bound_changed IsConstant shown m content l start opened h.around.own bind.own ch heads_lie (block_declared outer ps (map judging xs) d).contents only_bound;
       }

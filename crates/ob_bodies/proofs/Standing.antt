@@ -37,6 +37,10 @@ lies_then a b c f g t h = g t (f t h)
 pub lies_both : (a b c : List TypedType) → Lies a c → Lies b c → Lies (a ++ b) c
 lies_both a b c f g t h = ⊎_elim (λ i. f t i) (λ i. g t i) (one_joined a b t h)
 
+-- behind one another
+pub lies_on : (a b start middle own : List TypedType) → Lies middle (a ++ start) → Lies own (b ++ middle) → Lies own ((a ++ b) ++ start)
+lies_on a b start middle own f g t h = ⊎_elim (λ i. one_left (a ++ b) start t (one_right a b t i)) (λ i. ⊎_elim (λ j. one_left (a ++ b) start t (one_left a b t j)) (λ j. one_right (a ++ b) start t j) (one_joined a start t (f t i))) (one_joined b middle t (g t h))
+
 pub grows_as : (a b : List TypedType) → Lies a b → Grows a b
 grows_as a b f x h = (h.0, (f h.0 h.1.0, h.1.1))
 

@@ -1,5 +1,5 @@
 -- Where the bodies of a checked module are judged: what is known there is as the module has it.
-use Rattle.std.specs.Prelude.{◌≡◌, ◌⊎◌, ℕ, ◌≤◌, true, false, nat_lt, List, [], ◌∷◌, Option, Some, None, map}
+use Rattle.std.specs.Prelude.{◌≡◌, ◌⊎◌, ℕ, ◌≤◌, true, false, nat_lt, List, [], ◌∷◌, ◌++◌, Option, Some, None, map}
 use Rattle.std.specs.List.{AllByRecursion}
 use Rattle.ob_tree.specs.declared.names.QName.{QName}
 use Rattle.ob_tree.specs.declared.stmt.Stmt.{Stmt}
@@ -25,8 +25,11 @@ use Rattle.ob_rules.specs.declared.entity.Entity.TheVariants as entity
 use Rattle.ob_rules.specs.declared.entity.Received.{Received}
 use Rattle.ob_rules.specs.Shapes.{Map, record_of, pointed_record}
 use Rattle.ob_rules.specs.Names.{Around, map_of, is_out}
+use Rattle.ob_types.specs.declared.desc.Method.{Method}
+use Rattle.ob_rules.specs.Headings.{change_desc}
+use Rattle.ob_forms.specs.Whole.{Different}
 use Rattle.ob_rules.specs.Statements.{judging, in_turn}
-use Rattle.ob_rules.specs.Declarations.{Contents, all_described, stmts_in}
+use Rattle.ob_rules.specs.Declarations.{Contents, stmts_in}
 use Rattle.ob_forms.specs.Said.{IsOneOf}
 use Rattle.ob_typed.specs.Makes.{IfThere}
 use Rattle.ob_typed.specs.Spelled.{all_true}
@@ -73,6 +76,17 @@ result_of (Some p) = p.result
 -- a type that the module makes, or with the procedures that are bound to it
 abbrev pub IsMade : Contents → TypedType → Type 0
 IsMade c t = IsOneOf c.types t ⊎ IsOneOf c.bound t
+
+-- a description with these bound procedures more, if it is of a record
+abbrev pub with_methods : List Method → Desc → Desc
+with_methods ms d = change_desc (λ r. record r { methods = r.methods ++ ms }) d
+
+abbrev pub HasMore : Desc → Desc → Type 0
+HasMore d e = (ms : List Method) × (e ≡ with_methods ms d)
+
+-- one of these types, before more procedures are bound to it
+abbrev pub IsTold : List TypedType → TypedType → Type 0
+IsTold ts t = (s : TypedType) × (IsOneOf ts s × ((s.name ≡ t.name) × HasMore t.desc s.desc))
 
 -- a receiver: of the record by VAR, or of a pointer to it by value
 abbrev pub IsReceivedAs : Map → Passing → TypeRef → QName → Type 0
@@ -158,7 +172,8 @@ module _ (IsConstant : Value → Type 0) (shown : QName → Option Desc) (m : Ty
   pub record BodiesAreJudged : Type 0 where
     -- what the parts of the module make
     pub content : Contents
-    pub types_are : m.types ≡ all_described content.bound content.types
+    -- it is in the module, which has perhaps more procedures bound to it
+    pub told : Different (λ t. t.name) m.types → (t : TypedType) → IsMade content t → IsTold m.types t
     pub procedures : AllByRecursion (ProcedureIsJudged IsConstant shown m content) m.procedures
     pub body : IsJudged IsConstant shown m content None m.body
     -- in the scope of the module, and of no procedure

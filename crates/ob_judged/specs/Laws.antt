@@ -1,16 +1,20 @@
 -- The laws of programs whose modules were judged.
 use Rattle.std.specs.Prelude.{List}
+use Rattle.std.specs.List.{AllByRecursion}
+use Rattle.ob_types.specs.TypedSyntax.{Module}
 use Rattle.ob_tree.specs.declared.print.Print.{Print}
 use Rattle.ob_meaning.specs.Values.{Program}
 use Rattle.ob_env.specs.Faces.{Face}
 use Rattle.ob_env.specs.Shown.{shown}
 use Rattle.ob_declares.specs.Ages.{AreShown}
+use Rattle.ob_declares.specs.Views.{FieldsDiffer}
+use Rattle.ob_forms.specs.Said.{IsOneOf, IsSound}
 use Rattle.ob_forms.specs.Whole.{IsWhole}
 use Rattle.ob_typed.specs.Laws.{Having}
-use Rattle.ob_surrounded.specs.Left.{AreConstantsShown, HasProcedures}
+use Rattle.ob_surrounded.specs.Left.{AreConstantsShown, HasProcedures, AreFormed}
 use Rattle.ob_valued.specs.Laws.{AreProceduresTyped}
 use Rattle.ob_valued.specs.Valued.{values}
-use Rattle.ob_judged.specs.Judged.{AreJudgedModules}
+use Rattle.ob_judged.specs.Judged.{IsJudgedModule, AreJudgedModules}
 
 -- The types of the parameters and the results of procedures are types of the program.
 abbrev pub ProceduresTyped : Type 0
@@ -19,6 +23,12 @@ ProceduresTyped = (program : Program) → IsWhole program → AreJudgedModules p
 -- What interfaces show as constants are constants.
 abbrev pub ConstantsShown : Type 0
 ConstantsShown = (program : Program) → AreJudgedModules program → (faces : List (Face Print)) → AreShown program faces → AreConstantsShown (shown faces)
+
+-- Wherever types are known in a module of a sound program, whose records have different fields, the map says what the program has.
+abbrev pub MapsFormed : Type 0
+MapsFormed =
+    (program : Program) → IsSound program → IsWhole program → (m : Module) → IsOneOf program m → (j : IsJudgedModule program m) → AllByRecursion (λ t. FieldsDiffer t.desc) j.checked.types
+    → AreFormed program (shown j.faces) j.checked j.bodies.content
 
 -- Procedures that may be values are those of the procedure types of their signatures.
 abbrev pub ValuesHad : Type 0

@@ -94,10 +94,7 @@ module _ (program : Program) (has : Formals → QName → Bool) (shown : QName �
   heading : (p : TypedProcedure) → IsOneOf checked.procedures p → HeadingOk program (procedure_view p)
   heading p i = one_all (HeadingOk program) m.procedures (procedure_view p) (own program whole m is.there).headings (viewed_there p i)
 
-  module _ (held : List Held) (result : Option TypeRef) (content : Contents) (p : Option TypedProcedure) (u : Around) (around : StandsAround ConstantIs shown checked content p u) (left : IsLeft program Has shown checked content held result u) (receivers : (r : Received) (v : Variable) (t : TypeRef) → u.receiver ≡ Some r → same_variable v r.variable ≡ true → VariableIs program Has checked.name held result (map_of u) v t → ReceiverIs program (map_of u) r t) (inside : (scope : ℕ) (v : Variable) (t : TypeRef) → scope ≤ u.scope → nat_lt 1 scope ≡ true → IsInside (StandsIn ConstantIs shown checked content u.own) p v t → VariableIs program Has checked.name held result (map_of u) v t) where
-    formed : Formed (map_of u) program
-    formed = left.formed u around.within
-
+  module _ (held : List Held) (result : Option TypeRef) (content : Contents) (p : Option TypedProcedure) (u : Around) (around : StandsAround ConstantIs shown checked content p u) (formed : Formed (map_of u) program) (left : IsLeft program Has checked.name held result u) (receivers : (r : Received) (v : Variable) (t : TypeRef) → u.receiver ≡ Some r → same_variable v r.variable ≡ true → VariableIs program Has checked.name held result (map_of u) v t → ReceiverIs program (map_of u) r t) (inside : (scope : ℕ) (v : Variable) (t : TypeRef) → scope ≤ u.scope → nat_lt 1 scope ≡ true → IsInside (StandsIn ConstantIs shown checked content u.own) p v t → VariableIs program Has checked.name held result (map_of u) v t) where
     known : (t : TypeRef) → StandsIn ConstantIs shown checked content u.own t → IsKnown (map_of u) t
     known t h = known_is ConstantIs checked.name shown u around.knows t h
 
@@ -184,14 +181,14 @@ module _ (program : Program) (has : Formals → QName → Bool) (shown : QName �
     }
 
 pub procedures_surrounded : ProceduresSurrounded
-procedures_surrounded program has shown checked m whole is out constants values redefined p i different forms content u around left =
+procedures_surrounded program has shown checked m whole is out constants values redefined p i different forms content all_formed u around left =
     let v = procedure_view p in
     let held = static_held program v in
     let h = heading program has shown checked m whole is out constants values redefined p i in
-    let formed = left.formed u around.within in
+    let formed = all_formed u around.within in
     let received : (r : Received) → u.receiver ≡ Some r → IsReceived ConstantIs shown checked content p r = λ r e. subst (ReceiverStands ConstantIs shown checked content (Some p)) e around.receiver in
-    surrounded program has shown checked m whole is out constants values redefined held p.result content (Some p) u around left
-    (λ r w t e s k. let x = received r e in receiver_is program whole (Having has) checked.name p.result (map_of u) formed left.grounded v different x.x x.there (one_all (λ (y : TypedParameter). IsPassed program y) p.parameters x.x h.0 x.there) r x.is (map_of x.w) (left.formed x.w x.within) x.record_is w t s k)
+    surrounded program has shown checked m whole is out constants values redefined held p.result content (Some p) u around formed left
+    (λ r w t e s k. let x = received r e in receiver_is program whole (Having has) checked.name p.result (map_of u) formed left.grounded v different x.x x.there (one_all (λ (y : TypedParameter). IsPassed program y) p.parameters x.x h.0 x.there) r x.is (map_of x.w) (all_formed x.w x.within) x.record_is w t s k)
     (λ scope w t b e g.
     let k = known_is ConstantIs checked.name shown u around.knows t g.1 in
     ⊎_elim
@@ -205,4 +202,4 @@ no_scope : (k n : ℕ) → k ≤ n → n ≡ 1 → nat_lt 1 k ≡ true → ⊥
 no_scope k n h e f = grind (arith, nat_tests)
 
 pub modules_surrounded : ModulesSurrounded
-modules_surrounded program has shown checked m whole is out constants values redefined held content u around one none left = surrounded program has shown checked m whole is out constants values redefined held None content None u around left (λ r v t e s k. let bad : None ≡ Some r = sym none ∙ e in absurd cc) (λ scope v t b e g. absurd (no_scope scope u.scope b one e)) tt around.result
+modules_surrounded program has shown checked m whole is out constants values redefined held content all_formed u around one none left = surrounded program has shown checked m whole is out constants values redefined held None content None u around (all_formed u around.within) left (λ r v t e s k. let bad : None ≡ Some r = sym none ∙ e in absurd cc) (λ scope v t b e g. absurd (no_scope scope u.scope b one e)) tt around.result

@@ -21,7 +21,7 @@ use Rattle.ob_typed.specs.Laws.{Having}
 use Rattle.ob_typed.specs.Redefined.{AreRedefined}
 use Rattle.ob_typed.specs.Surrounded.{IsSurrounded}
 use Rattle.ob_bodies.specs.Judged.{StandsAround, IsJudged}
-use Rattle.ob_surrounded.specs.Left.{IsModuleOf, AreConstantsShown, HasProcedures, IsLeft}
+use Rattle.ob_surrounded.specs.Left.{IsModuleOf, AreConstantsShown, HasProcedures, AreFormed, IsLeft}
 
 -- Around the body of a procedure, whose variables have different names and can be built; constants that are shown are constants,
 -- procedures may be values, and redefinitions are alike.
@@ -29,14 +29,14 @@ abbrev pub ProceduresSurrounded : Type 0
 ProceduresSurrounded =
     (program : Program) (has : Formals → QName → Bool) (shown : QName → Option Desc) (checked : TypedModule) (m : Module) → IsWhole program → IsModuleOf program checked m → is_out checked.name ≡ false → AreConstantsShown shown → HasProcedures program (Having has) → AreRedefined program
     → (p : TypedProcedure) → IsOneOf checked.procedures p → AreDifferent (static_held program (procedure_view p)) → AllByRecursion (λ v. FormOk program (form_in program v.of)) p.locals
-    → (content : Contents) (u : Around) → StandsAround ConstantIs shown checked content (Some p) u → IsLeft program (Having has) shown checked content (static_held program (procedure_view p)) p.result u
+    → (content : Contents) → AreFormed program shown checked content → (u : Around) → StandsAround ConstantIs shown checked content (Some p) u → IsLeft program (Having has) checked.name (static_held program (procedure_view p)) p.result u
     → IsSurrounded program (Having has) checked.name (static_held program (procedure_view p)) p.result u
 
 -- Around the body of the module, which has no variables of its own but those that FOR and CASE keep.
 abbrev pub ModulesSurrounded : Type 0
 ModulesSurrounded =
     (program : Program) (has : Formals → QName → Bool) (shown : QName → Option Desc) (checked : TypedModule) (m : Module) → IsWhole program → IsModuleOf program checked m → is_out checked.name ≡ false → AreConstantsShown shown → HasProcedures program (Having has) → AreRedefined program
-    → (held : List Held) (content : Contents) (u : Around) → StandsAround ConstantIs shown checked content None u → u.scope ≡ 1 → u.receiver ≡ None → IsLeft program (Having has) shown checked content held None u
+    → (held : List Held) (content : Contents) → AreFormed program shown checked content → (u : Around) → StandsAround ConstantIs shown checked content None u → u.scope ≡ 1 → u.receiver ≡ None → IsLeft program (Having has) checked.name held None u
     → IsSurrounded program (Having has) checked.name held None u
 
 -- A body that is judged in such surroundings is well typed, where its variables have different names.

@@ -42,10 +42,13 @@ AreConstantsShown shown = (q : QName) (v : Literal) → shown q ≡ Some (desc.C
 abbrev pub HasProcedures : Program → (Formals → QName → Type 0) → Type 0
 HasProcedures program Has = (q : QName) (s : Signature) → IsProcedureOf program q s → is_value q ≡ true → Has (formals_in program s) q
 
--- What is left to ask around a body: of the map of types, there and in the headings; of procedures that are known by forward declarations
--- alone; and of bound procedures.
-pub record IsLeft (program : Program) (Has : Formals → QName → Type 0) (shown : QName → Option Desc) (checked : TypedModule) (content : Contents) (held : List Held) (result : Option TypeRef) (u : Around) : Type 0 where
-  pub formed : (w : Around) → IsWithin ConstantIs shown checked content w → Formed (map_of w) program
+-- wherever types are known in a module, the map says what the program has
+abbrev pub AreFormed : Program → (QName → Option Desc) → TypedModule → Contents → Type 0
+AreFormed program shown checked content = (w : Around) → IsWithin ConstantIs shown checked content w → Formed (map_of w) program
+
+-- What is left to ask around a body: of the chains of its types; of procedures that are known by forward declarations alone; and of bound
+-- procedures of one name.
+pub record IsLeft (program : Program) (Has : Formals → QName → Type 0) (unit : List ℕ) (held : List Held) (result : Option TypeRef) (u : Around) : Type 0 where
   pub grounded : IsGrounded (map_of u)
-  pub forwards : (x : List ℕ) (k : Known) (q : QName) (s : Signature) → find_name u.known x ≡ Some k → k.what ≡ entity.Forward q s → ProcedureIs program Has checked.name held result (map_of u) q s
+  pub forwards : (x : List ℕ) (k : Known) (q : QName) (s : Signature) → find_name u.known x ≡ Some k → k.what ≡ entity.Forward q s → ProcedureIs program Has unit held result (map_of u) q s
   pub kinds : AreOfOneKind program (map_of u)

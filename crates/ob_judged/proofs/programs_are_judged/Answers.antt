@@ -1,5 +1,6 @@
 -- What a program of judged modules has.
 use Rattle.ob_judged.proofs.Full.{constants_shown}
+use Rattle.ob_judged.proofs.Formed.{maps_formed}
 use Rattle.ob_judged.proofs.Typed.{procedures_typed, values_had}
 use Rattle.ob_judged.proofs.programs_are_judged.Goals as goal
 
@@ -11,3 +12,6 @@ returns-clause-constants c = constants_shown
 
 pub returns-clause-values : goal.returns-clause-values
 returns-clause-values c = values_had
+
+pub returns-clause-maps : goal.returns-clause-maps
+returns-clause-maps c = maps_formed
