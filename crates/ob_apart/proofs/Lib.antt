@@ -1,0 +1,3 @@
+pub mod Unbound
+pub mod Keys
+pub mod Plain

@@ -1,0 +1,4 @@
+pub mod Phrases
+pub mod Counts
+pub mod Words
+pub mod Reading
