@@ -1,3 +1,5 @@
 pub mod Unbound
 pub mod Keys
 pub mod Plain
+pub mod Judged
+pub mod Meets
