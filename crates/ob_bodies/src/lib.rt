@@ -7,7 +7,10 @@ ghost use Rattle.ob_bodies.specs.Laws.{BodiesJudged, ImportsAreOthers, HiddenSta
 /// judged in surroundings (`specs/Judged.antt`: `StandsAround`) where each known variable that may be
 /// named is one of the module, or one of the procedure at hand or its parameters; each known procedure
 /// is one of the module, of that signature; and each type is one that the module declared before or an
-/// imported module shows. No guard stands around a body, and its result is the procedure's. The module
+/// imported module shows. Each type that is known there is the module's by name and description,
+/// perhaps before procedures are bound to it, where the module's types differ in name; and so where
+/// the heading of a bound procedure names the type of its receiver, which is of the record that the
+/// procedure is bound to. No guard stands around a body, and its result is the procedure's. The module
 /// imports others than itself, and its constant expressions come to constants.
 pub fn bodies_are_known()
     ensures bodies { BodiesJudged }

@@ -41,6 +41,7 @@ use Rattle.ob_typed.specs.Laws.{Having}
 use Rattle.ob_typed.specs.Redefined.{AreRedefined}
 use Rattle.ob_typed.specs.Surrounded.{IsSurrounded}
 use Rattle.ob_bodies.specs.Knows.{EntityStands}
+use Rattle.ob_surrounded.proofs.Introduced.{of_one_kind}
 use Rattle.ob_surrounded.proofs.Receivers.{receiver_is}
 use Rattle.ob_bodies.specs.Judged.{IsReceived, ReceiverStands, mode_of, AreOf, IsGlobal, IsInside, StandsIn, IsProcedureIn, VariableStands, NameIs, StandsAround}
 use Rattle.ob_bodies.proofs.Lists.{one_all, find_has}
@@ -176,7 +177,7 @@ module _ (program : Program) (has : Formals → QName → Bool) (shown : QName �
       result_plain = plain;
       receivers = receivers;
       redefined = redefined;
-      kinds = left.kinds;
+      kinds = of_one_kind (map_of u) program formed left.introduced;
       outside = bytes_sym (codes "Out") u.unit ∙ ap (λ (n : List ℕ). bytes_eq n (codes "Out")) around.knows.unit_is ∙ out;
     }
 

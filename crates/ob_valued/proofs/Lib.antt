@@ -4,3 +4,4 @@ pub mod Stays
 pub mod Equal
 pub mod Matching
 pub mod Around
+pub mod Redefined

@@ -1,6 +1,7 @@
 //! Which procedures may be values of variables of a procedure type, and what such values are.
 #![tactic(auto)]
 
+ghost use Rattle.ob_valued.specs.Families.{FamiliesRedefined};
 ghost use Rattle.ob_valued.specs.Around.{ValuesAround};
 ghost use Rattle.ob_valued.specs.Laws.{EqualAreForms, MatchingAreAlike, MatchingIsHaving, RedefinitionsAreAlike, ValuesAreMade, ValuesFit, ValuesStay};
 
@@ -34,4 +35,11 @@ pub fn values_stay()
 /// program; and so they are of each procedure type whose signature matches theirs.
 pub fn values_around()
     ensures { ValuesAround }
+{}
+
+/// A law, with nothing to run: where each record type that extends one with a bound procedure has a
+/// procedure of that family, alike but for its receiver, redefinitions are as the law of well typed
+/// trees asks for (`IsSurrounded` of ob_typed: `redefined`).
+pub fn families_are_redefined()
+    ensures { FamiliesRedefined }
 {}
