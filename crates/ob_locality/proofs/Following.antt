@@ -1,9 +1,10 @@
 -- Locality, where the rules look at nothing but what counts.
-use Rattle.std.proofs.Common.{◌≡◌, List, Bool, true, false, map as each, refl, sym, ap, ◌∙◌, subst, Some, None, Ok}
+use Rattle.std.proofs.Common.{◌≡◌, List, Bool, true, false, map as each, refl, sym, ap, ◌∙◌, subst, Some, None, Ok, ⊎_elim}
 use Rattle.std.specs.Option.{option_map}
 use Rattle.std.specs.Cmp.Lexicographic.{bytes_decides}
 use Rattle.ob_format.specs.Format.{◌>>=◌}
 use Rattle.std.specs.List.{AllByRecursion}
+use Rattle.std.proofs.lemmas.Bool.{false≢true}
 use Rattle.ob_tree.specs.declared.names.QName.{QName}
 use Rattle.ob_tree.specs.declared.decl.Module.{Module as Tree}
 use Rattle.ob_types.specs.declared.typed.TypedModule.{TypedModule}
@@ -19,6 +20,7 @@ use Rattle.ob_reading.specs.Reading.{reading}
 use Rattle.ob_compile.specs.Compiling.{Compiled, texts, made, of_break, by_rules, object_by, exports_of}
 use Rattle.ob_ages.specs.Builds.{Text, Build, IsValid, IsSpelled}
 use Rattle.ob_ages.specs.Laws.{AreAsWanted, IsSame, AreAround}
+use Rattle.ob_local.specs.Agreeing.{IsNear}
 use Rattle.ob_local.specs.Laws.{AreSpelled, HaveNoOut, AreMet, over, view}
 use Rattle.ob_local.specs.Laws as local
 use Rattle.ob_local.specs.Checked.{IsChecked}
@@ -88,11 +90,14 @@ module _ (rules : RulesAreLocal) (are_tied : BuildsAreTied) (b : Build) (c : Com
   none_there h = around.other (contains (each (λ (f : Face Text). f.«module») faces) c.shows.«module» (subst (λ n. Has n (each (λ (f : Face Text). f.«module») faces)) (sym (ap (λ (x : Compiled Text). x.shows.«module») is)) h))
 
   alike : ShowAlike c.against faces t
-  alike q near = go (is_own T q) refl
+  alike q kind = go (is_own T q) refl
     where
       go : (k : Bool) → is_own T q ≡ k → shown faces q ≡ shown c.against q
       go true own = own_none faces q none_there own ∙ sym (own_none c.against q none_here own)
-      go false own = shapes_are_told c.against faces T spelled around.spelled no_out around.out tied.held met q near own
+      go false own = ⊎_elim
+          (λ (near : IsNear (view c.against T) (over c.against T) q). shapes_are_told c.against faces T spelled around.spelled no_out around.out tied.held met q near own)
+          (λ (is : is_own T q ≡ true). absurd (false≢true (sym own ∙ is)))
+          kind
 
   ruled : (checked (shown faces) m ≡ Some t) × (first_break (shown faces) m ≡ None)
   ruled = rules b c m t valid read (comes_of b c m valid read).tree_is (comes_of b c m valid read).unbroken tied faces no_out around.out alike

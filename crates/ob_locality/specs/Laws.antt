@@ -1,5 +1,5 @@
 -- Locality: a valid build is the same against all interfaces that have the texts of its uses.
-use Rattle.std.specs.Prelude.{◌≡◌, List, true, Some, None, IsSome, Ok}
+use Rattle.std.specs.Prelude.{◌≡◌, ◌⊎◌, List, true, Some, None, IsSome, Ok}
 use Rattle.ob_tree.specs.declared.names.QName.{QName}
 use Rattle.ob_tree.specs.declared.decl.Module.{Module as Tree}
 use Rattle.ob_types.specs.declared.typed.TypedModule.{TypedModule}
@@ -7,6 +7,7 @@ use Rattle.ob_types.specs.TypedSyntax.{Module}
 use Rattle.ob_types.specs.TypedView.{module_view}
 use Rattle.ob_rules.specs.Declarations.{first_break, checked}
 use Rattle.ob_distinct.specs.Distinct.{AreDistinct}
+use Rattle.ob_layout.specs.LaidOut.{is_own}
 use Rattle.ob_env.specs.Faces.{Face, described}
 use Rattle.ob_env.specs.Shown.{shown}
 use Rattle.ob_uses.specs.Uses.{is_imported}
@@ -19,9 +20,9 @@ use Rattle.ob_local.specs.Laws.{HaveNoOut, over, view}
 use Rattle.ob_local.specs.Tied.{ModuleTied}
 use Rattle.ob_local.specs.Checked.{IsChecked}
 
--- other interfaces show the same of all that counts for the uses of a module
+-- other interfaces show the same of all that counts for the uses of a module, and of its own names
 abbrev pub ShowAlike : List (Face Text) → List (Face Text) → TypedModule → Type 0
-ShowAlike faces others t = (q : QName) → IsNear (view faces (module_view t)) (over faces (module_view t)) q → shown others q ≡ shown faces q
+ShowAlike faces others t = (q : QName) → IsNear (view faces (module_view t)) (over faces (module_view t)) q ⊎ (is_own (module_view t) q ≡ true) → shown others q ≡ shown faces q
 
 -- THE RULES look at nothing else: a tree that keeps them against some interfaces is the same checked module against others that show
 -- alike.
