@@ -133,9 +133,9 @@ module _ (faces : List (Face Text)) (t : TypedModule) where
   -- ---- the view
 
   -- the first type of that name is laid out as this one
-  record LaidOf (x : List ℕ) (s : TypedType) (us : List TypedType) : Type 0 where
-    q : QName
-    is : type_named us x ≡ Some (laid_desc (words_in (described faces) M) (procedures_in (described faces) M) q s.desc)
+  pub record LaidOf (x : List ℕ) (s : TypedType) (us : List TypedType) : Type 0 where
+    pub q : QName
+    pub is : type_named us x ≡ Some (laid_desc (words_in (described faces) M) (procedures_in (described faces) M) q s.desc)
 
   abbrev laid : TypedType → TypedType
   laid s = laid_type (described faces) M s
@@ -179,7 +179,7 @@ module _ (faces : List (Face Text)) (t : TypedModule) where
         let words = words_in (described faces) M in
         let procedures = procedures_in (described faces) M in
         let e : V owner ≡ Some (laid_desc words procedures l.q (desc.Record r)) =
-            ap (λ b. cond b (type_named (each laid t.types) owner.object) (described faces owner)) i ∙ l.is ∙ ap (λ z. Some (laid_desc words procedures l.q z)) d in
+        ap (λ b. cond b (type_named (each laid t.types) owner.object) (described faces owner)) i ∙ l.is ∙ ap (λ z. Some (laid_desc words procedures l.q z)) d in
         let n = found_numbered x (base_of procedures r.base) r.methods m f in
         record { k = n.k; is = method_there V owner x (laid_record words procedures l.q r) n.k e n.is; same = n.same }
 

@@ -114,7 +114,7 @@ module _ (shown : QName → Option Desc) (tree : Tree) where
   made = imports.part.contents.types ++ whole.contents.types
 
   all_held : AreHeld shown tree.name.name Anywhere
-  all_held = record { own = λ x. anywhere _; exports = λ q d e. (anywhere q, all_anywhere (named_by d)); out = anywhere _ }
+  all_held = record { own = λ x. tt; exports = λ q d e. (tt, all_anywhere (named_by d)); out = tt }
 
   says_shown : (ts : List TypedType) → SaysShown (map_by tree.name.name ts shown) tree.name.name shown
   says_shown ts q d e i = (d, (ap (λ b. cond b (own_desc (find (λ t. bytes_eq t.name q.object) ts)) (shown q)) e ∙ i, refl))

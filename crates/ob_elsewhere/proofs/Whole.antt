@@ -1,5 +1,5 @@
 -- The rules look at nothing of other modules but what counts.
-use Rattle.std.proofs.Common.{◌≡◌, ℕ, List, [], ◌∷◌, ◌++◌, Bool, true, false, Option, Some, None, map, refl, sym, ap, ◌∙◌, subst, Ok}
+use Rattle.std.proofs.Common.{◌≡◌, ℕ, List, [], ◌∷◌, ◌++◌, Bool, true, false, cond, Option, Some, None, map, refl, sym, ap, ◌∙◌, subst, Ok}
 use Rattle.std.specs.Prelude.{bytes_eq, codes}
 use Rattle.std.specs.List.{AllByRecursion, find, filter_map}
 use Rattle.std.proofs.lemmas.Bool.{false≢true}
@@ -71,7 +71,7 @@ found_front : {A : Type 0} (f : A → Bool) (xs ys : List A) (y : A) → find f 
 found_front f [] ys y e = absurd cc
 found_front f (x ∷ xs) ys y e = go (f x) (λ i. found_front f xs ys y i) e
   where
-    go : (b : Bool) → (find f xs ≡ Some y → find f (xs ++ ys) ≡ Some y) → (if b then Some x else find f xs) ≡ Some y → (if b then Some x else find f (xs ++ ys)) ≡ Some y
+    go : (b : Bool) → (find f xs ≡ Some y → find f (xs ++ ys) ≡ Some y) → cond b (Some x) (find f xs) ≡ Some y → cond b (Some x) (find f (xs ++ ys)) ≡ Some y
     go true h e = e
     go false h e = h e
 
@@ -191,8 +191,7 @@ module _ (P : QName → Type 0) (s : QName → Option Desc) (leaves : LeavesIn P
 
 -- ---- a module against interfaces, and others that show alike what counts for it
 
-module _ (faces others : List (Face Text)) (tree : Tree) (t : TypedModule) (is : checked (shown faces) tree ≡ Some t) (differ : AreDistinct (λ t. t.name) t.types) (apart : AreApart faces tree)
-(plain : all_true (map is_named_plainly tree.decls) ≡ true) (there : all_true (map declares_variables tree.decls) ≡ true) where
+module _ (faces others : List (Face Text)) (tree : Tree) (t : TypedModule) (is : checked (shown faces) tree ≡ Some t) (differ : AreDistinct (λ t. t.name) t.types) (apart : AreApart faces tree) (plain : all_true (map is_named_plainly tree.decls) ≡ true) (there : all_true (map declares_variables tree.decls) ≡ true) where
   abbrev P : QName → Type 0
   P q = CountsFor faces (module_view t) q
 
@@ -302,10 +301,10 @@ module _ (faces others : List (Face Text)) (tree : Tree) (t : TypedModule) (is :
       let nothing_D = imports_bound tree.imports u in
       let nothing_d = order_bound fs are_plain v in
       let rest = T.contents.bound ++ [] in
-      let names_b : AllByRecursion (λ y. has_name (made (shown faces) tree) y.name ≡ true) b.own = all_left (λ y. has_name (made (shown faces) tree) y.name ≡ true) b.own rest (all_right (λ y. has_name (made (shown faces) tree) y.name ≡ true) d.part.contents.bound (b.own ++ rest) names_W) in
+      let names_b : AllByRecursion (λ (y : TypedType). has_name (made (shown faces) tree) y.name ≡ true) b.own = all_left (λ (y : TypedType). has_name (made (shown faces) tree) y.name ≡ true) b.own rest (all_right (λ (y : TypedType). has_name (made (shown faces) tree) y.name ≡ true) d.part.contents.bound (b.own ++ rest) names_W) in
       let laid : AreLaid faces t b.own = laid_types faces t (D.part.contents.bound ++ W.contents.bound) (made (shown faces) tree) b.own types_are (λ x y f. (
-        ap (λ (zs : List TypedType). find (λ s. bytes_eq s.name x) (zs ++ W.contents.bound)) nothing_D ∙ ap (λ (zs : List TypedType). find (λ s. bytes_eq s.name x) (zs ++ (b.own ++ rest))) nothing_d ∙ found_front (λ s. bytes_eq s.name x) b.own rest y f,
-        found_named (made (shown faces) tree) x y (find (λ s. bytes_eq s.name x) b.own) f (found_has (λ y. has_name (made (shown faces) tree) y.name ≡ true) (λ s. bytes_eq s.name x) b.own names_b),
+        ap (λ (zs : List TypedType). find (λ (s : TypedType). bytes_eq s.name x) (zs ++ W.contents.bound)) nothing_D ∙ ap (λ (zs : List TypedType). find (λ (s : TypedType). bytes_eq s.name x) (zs ++ (b.own ++ rest))) nothing_d ∙ found_front (λ (s : TypedType). bytes_eq s.name x) b.own rest y f,
+        found_named (made (shown faces) tree) x y (find (λ (s : TypedType). bytes_eq s.name x) b.own) f (found_has (λ (y : TypedType). has_name (made (shown faces) tree) y.name ≡ true) (λ (s : TypedType). bytes_eq s.name x) b.own names_b),
       )) in
       let all_in = all_redefine faces t w b unit_w shown_w laid (counted R) judged counting in
       let owned = subst (λ m. AllByRecursion (λ (h : Head). IsOwned m h.bound) hs.before) (sym ok.0.unit_is) (heads_are_owned d.around ps) in
