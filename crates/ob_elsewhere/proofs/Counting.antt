@@ -1,6 +1,6 @@
 -- What a module mentions, and what is shown of it, is among what counts for it.
 use Rattle.std.proofs.Common.{◌≡◌, ℕ, List, [], ◌∷◌, ◌++◌, Bool, true, false, cond, Option, Some, None, map as each, refl, sym, ap, ◌∙◌, subst, inl, inr}
-use Rattle.std.specs.Prelude.{◌⊎◌, bytes_eq, codes}
+use Rattle.std.specs.Prelude.{bytes_eq}
 use Rattle.std.specs.List.{AllByRecursion, flat_map}
 use Rattle.std.specs.Option.{option_map}
 use Rattle.std.proofs.lemmas.Slice.Eq.{bytes_eq-Decides}
@@ -10,14 +10,13 @@ use Rattle.ob_types.specs.declared.types.TypeRef.{TypeRef}
 use Rattle.ob_types.specs.declared.types.TypeRef.TheVariants as ref
 use Rattle.ob_types.specs.declared.desc.Desc.{Desc}
 use Rattle.ob_types.specs.declared.desc.Desc.TheVariants as desc
-use Rattle.ob_types.specs.declared.typed.TypedType.{TypedType}
 use Rattle.ob_types.specs.declared.typed.TypedModule.{TypedModule}
-use Rattle.ob_types.specs.TypedSyntax.{Module, Procedure}
+use Rattle.ob_types.specs.TypedSyntax.{Module}
 use Rattle.ob_types.specs.TypedView.{stmts_view, procedure_view, module_view}
 use Rattle.ob_layout.specs.LaidOut.{is_own, type_named, laid_type}
 use Rattle.ob_env.specs.Faces.{Face, described, face_named, object_named}
 use Rattle.ob_env.specs.Shown.{blank, shown}
-use Rattle.ob_counts.specs.Counts.{Count, counts_of_all, counts_of_type, counts_of_variable, counts_of_procedure, counts_of_mentioned, counts_of_module}
+use Rattle.ob_counts.specs.Counts.{counts_of_all, counts_of_type, counts_of_variable, counts_of_procedure, counts_of_mentioned, counts_of_module}
 use Rattle.ob_counts.specs.Noted.{names_of, shape_starts}
 use Rattle.ob_uses.specs.declared.way.Way.TheVariants as way
 use Rattle.ob_uses.specs.Uses.{near_types}
@@ -25,13 +24,12 @@ use Rattle.ob_uses.specs.Closed.{is_among, of_found}
 use Rattle.ob_uses.specs.Ways.{desc_leads}
 use Rattle.ob_uses.specs.Reaching.{first, onward}
 use Rattle.ob_uses.proofs.Searching.{itself, left_of, in_back}
-use Rattle.ob_rules.specs.Names.{is_out}
-use Rattle.ob_mentions.specs.Agreement.{IsIn, AreIn, DescIn}
+use Rattle.ob_mentions.specs.Agreement.{AreIn, DescIn}
 use Rattle.ob_mentions.specs.Said.{CountsIn, ModuleIn}
 use Rattle.ob_mentions.proofs.Mentioned.{counts_left, counts_right}
 use Rattle.ob_mentions.proofs.Counted.{starts_in, module_in}
 use Rattle.ob_local.specs.Laws.{Text, HaveNoOut, over, view}
-use Rattle.ob_local.proofs.Agreed.{named_none, out_none}
+use Rattle.ob_local.proofs.Agreed.{out_none}
 use Rattle.ob_blocks.specs.Laws.{ShowSame}
 use Rattle.ob_elsewhere.specs.Laws.{CountsFor, ShowAlike}
 

@@ -14,7 +14,7 @@ use Rattle.ob_layout.specs.Lists.{or_else}
 use Rattle.ob_layout.specs.LaidOut.{numbered}
 use Rattle.ob_layout.specs.Members.{method_named, from_base, nearest_in, nearest, method_in_record, method_in}
 use Rattle.ob_env.specs.Shown.{unnumbered, blank}
-use Rattle.ob_rules.specs.Shapes.{Map, Member, AField, AMethod, field_or, own_member, base_record, or_in_base, member_within}
+use Rattle.ob_rules.specs.Shapes.{Map, Member, AMethod, field_or, own_member, base_record, or_in_base, member_within}
 
 -- ---- what the rules find
 

@@ -23,10 +23,10 @@ use Rattle.ob_counts.specs.Counts.{shapes, counts_of_all, counts_of_variable, co
 use Rattle.ob_rules.specs.Shapes.{AMethod, member, same_name}
 use Rattle.ob_rules.specs.Names.{Around, map_of, own_desc, type_desc, out_string}
 use Rattle.ob_rules.specs.Types.{Parameters, with_types}
-use Rattle.ob_rules.specs.Headings.{BoundAs, Head, Heads, Binding, head_of, name_twice, declared_head, known_behind, types_of, add_heading}
+use Rattle.ob_rules.specs.Headings.{BoundAs, Head, Heads, Binding, head_of, name_twice, declared_head, known_behind, types_of}
 use Rattle.ob_rules.specs.Declarations.{Contents, Written_procedure, around_body, self_parameters, binding_of, bound_to, typed_procedure, procedure_judged, procedures_judged, with_bound, described as described_by, all_described}
 use Rattle.ob_said.proofs.Judges.{Has}
-use Rattle.ob_mentions.specs.Agreement.{IsIn, AreIn, DescIn, Agree}
+use Rattle.ob_mentions.specs.Agreement.{DescIn, Agree}
 use Rattle.ob_mentions.specs.Said.{CountsIn, SignatureIn}
 use Rattle.ob_mentions.proofs.Following.{all_left, all_right}
 use Rattle.ob_mentions.proofs.Mentioned.{counts_left, counts_right, shapes_in}
@@ -36,7 +36,7 @@ use Rattle.ob_redefined.specs.Laws.{with_own, RedefinesIn}
 use Rattle.ob_blocks.proofs.Heads.{heads_of}
 use Rattle.ob_blocks.proofs.Bound.{IsJudged}
 use Rattle.ob_elsewhere.specs.Laws.{CountsFor}
-use Rattle.ob_elsewhere.proofs.Members.{HasMethod, member_at, found_name, HasNamed, found_numbered, found_unnumbered, method_there, shown_of}
+use Rattle.ob_elsewhere.proofs.Members.{HasMethod, member_at, found_name, found_numbered, found_unnumbered, method_there, shown_of}
 use Rattle.ob_elsewhere.proofs.Types.{has_name, described_name, Anywhere, anywhere, all_anywhere}
 use Rattle.ob_uses.specs.Uses.{near_types}
 

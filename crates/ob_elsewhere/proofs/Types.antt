@@ -1,10 +1,9 @@
 -- Each type that bound procedures are bound to has the name of a type that the module makes.
-use Rattle.std.proofs.Common.{◌≡◌, ℕ, Bool, true, false, List, [], ◌∷◌, ◌++◌, map, Option, Some, None, refl, sym, ap, ◌∙◌, subst, cond}
+use Rattle.std.proofs.Common.{◌≡◌, ℕ, Bool, true, false, List, [], ◌∷◌, ◌++◌, map, Option, Some, None, refl, sym, ap, ◌∙◌, cond}
 use Rattle.std.specs.Prelude.{◌≢◌, ◌||◌, bytes_eq}
 use Rattle.std.specs.List.{AllByRecursion, find, list_any}
 use Rattle.std.proofs.lemmas.Slice.Eq.{bytes_eq-Decides}
 use Rattle.ob_tree.specs.declared.names.QName.{QName}
-use Rattle.ob_tree.specs.declared.ident.Import.{Import}
 use Rattle.ob_tree.specs.declared.decl.Module.{Module as Tree}
 use Rattle.ob_types.specs.declared.types.TypeRef.{TypeRef}
 use Rattle.ob_types.specs.declared.types.TypeRef.TheVariants as ref
@@ -14,15 +13,15 @@ use Rattle.ob_types.specs.Maps.{named_by}
 use Rattle.ob_rules.specs.Shapes.{Map}
 use Rattle.ob_rules.specs.Names.{Around, own_desc, predeclared}
 use Rattle.ob_rules.specs.Statements.{judging}
-use Rattle.ob_rules.specs.Declarations.{Part, Declared, declaration, in_order, import_declared, target_of, imports_declared, around_module, block, described, all_described}
+use Rattle.ob_rules.specs.Declarations.{Part, Declared, declaration, import_declared, target_of, imports_declared, around_module, block, described, all_described}
 use Rattle.ob_distinct.specs.Distinct.{AreDistinct}
 use Rattle.ob_mentions.specs.Agreement.{IsIn, AreIn}
 use Rattle.ob_mentions.proofs.Following.{all_left, all_right}
 use Rattle.ob_tied.proofs.Bodies.{stmts_ok}
-use Rattle.ob_held.specs.Held.{AreHeld, IsThere, SaysShown}
+use Rattle.ob_held.specs.Held.{AreHeld, SaysShown}
 use Rattle.ob_held.proofs.Around.{Given, AreKnown, Fine, there}
 use Rattle.ob_held.proofs.Heads.{There, AreThere}
-use Rattle.ob_held.proofs.Blocks.{PartOk, order_good, imports_good, decls_good, block_ok}
+use Rattle.ob_held.proofs.Blocks.{order_good, imports_good, decls_good, block_ok}
 
 -- ---- the first type of each name
 

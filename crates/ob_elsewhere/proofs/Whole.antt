@@ -1,5 +1,5 @@
 -- The rules look at nothing of other modules but what counts.
-use Rattle.std.proofs.Common.{◌≡◌, ℕ, List, [], ◌∷◌, ◌++◌, Bool, true, false, cond, Option, Some, None, map, refl, sym, ap, ◌∙◌, subst, Ok}
+use Rattle.std.proofs.Common.{◌≡◌, ℕ, List, [], ◌∷◌, ◌++◌, Bool, true, false, cond, Option, Some, None, map, refl, sym, ap, ◌∙◌, subst}
 use Rattle.std.specs.Prelude.{bytes_eq, codes}
 use Rattle.std.specs.List.{AllByRecursion, find, filter_map}
 use Rattle.std.proofs.lemmas.Bool.{false≢true}
@@ -28,10 +28,9 @@ use Rattle.ob_rules.specs.Names.{Around, map_of, predeclared, found_in_scope}
 use Rattle.ob_rules.specs.Expressions.{phrase_of, constant_value}
 use Rattle.ob_rules.specs.Types.{Typing, written, is_module_level, marked, with_types}
 use Rattle.ob_rules.specs.Statements.{judging, in_turn}
-use Rattle.ob_rules.specs.Headings.{Head, Heads, Binding, forwards_judged, counts, counted, bindings, reversed, add_heading, head_of, name_twice, known_behind, knows_procedure, types_of}
-use Rattle.ob_rules.specs.Declarations.{Part, Declared, Declaration, Plain, Procedure, plain_of, type_name_of, procedure_of, Written_procedure, in_order, headings_in_order, declare_if, pointers_judged, field_judged, all_judged, nothing_later, heads_later, procedures_judged, body_part, only_notes, with_bound, binding_at, declaration, is_system, import_entity, import_declared, imports_declared, target_of, around_module, name_judged, block, module_part, typed_module, if_unbroken, checked, all_described, constant_contents, no_nil, first_name, made_in, paired_typing, variable_contents, variable_marked, variables_with}
+use Rattle.ob_rules.specs.Headings.{Head, Heads, forwards_judged, counts, counted, reversed, add_heading, head_of, name_twice, known_behind, knows_procedure, types_of}
+use Rattle.ob_rules.specs.Declarations.{Part, Declared, Declaration, Plain, Procedure, plain_of, type_name_of, procedure_of, Written_procedure, in_order, headings_in_order, declare_if, pointers_judged, field_judged, all_judged, nothing_later, heads_later, procedures_judged, body_part, only_notes, with_bound, binding_at, declaration, is_system, import_entity, import_declared, imports_declared, target_of, around_module, name_judged, module_part, typed_module, if_unbroken, checked, all_described, constant_contents, no_nil, first_name, made_in, paired_typing, variable_contents, variable_marked, variables_with}
 use Rattle.ob_distinct.specs.Distinct.{AreDistinct}
-use Rattle.ob_reading.specs.Reading.{reading}
 use Rattle.ob_said.specs.Procedures.{ShowBases, all_true, is_named_plainly}
 use Rattle.ob_said.proofs.Judges.{Has, front_empty, rest_empty}
 use Rattle.ob_said.proofs.Knowing.{AreKnown, all_from}
@@ -49,7 +48,7 @@ use Rattle.ob_blocks.specs.Laws.{LeavesIn, declares_variables, module_heads, IsS
 use Rattle.ob_blocks.proofs.Steady.{AllHeld, Start, declared_based, Names, order_named}
 use Rattle.ob_blocks.proofs.Heads.{HeadsAre, HeadOk, GoodHeading, heads_of, heads_are, heads_are_ok}
 use Rattle.ob_blocks.proofs.Bound.{Signed, counted_judged}
-use Rattle.ob_blocks.proofs.Blocks.{GoodProcedure, GoodDeclaration, AreGood}
+use Rattle.ob_blocks.proofs.Blocks.{AreGood}
 use Rattle.ob_blocks.proofs.Modules.{decls_good, agree_on}
 use Rattle.ob_later.proofs.Orders.{leaves_in}
 use Rattle.ob_listed.proofs.Texts.{readings_declare}
@@ -63,7 +62,7 @@ use Rattle.ob_elsewhere.specs.Laws.{CountsFor, ShowAlike, AreApart, RulesAreLoca
 use Rattle.ob_elsewhere.proofs.Counting.{not_there, mentions, procedures_count, shows}
 use Rattle.ob_elsewhere.proofs.Types.{has_name, whole, made, distinct_back, bound_named}
 use Rattle.ob_elsewhere.proofs.Redefining.{each_counted, HeadCounts, heads_count, AreLaid, laid_types, all_redefine}
-use mathlib.Core.Logic.{inl, inr}
+use mathlib.Core.Logic.{inr}
 
 -- ---- lists
 
