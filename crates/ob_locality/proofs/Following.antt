@@ -29,12 +29,18 @@ use Rattle.ob_local.proofs.Agreed.{named_none}
 use Rattle.ob_local.proofs.Whole.{modules_are_local}
 use Rattle.ob_local.proofs.Bridged.{counts_are_enough}
 use Rattle.ob_local.proofs.Blanked.{shapes_are_told}
-use Rattle.ob_locality.specs.Laws.{ShowAlike, RulesAreLocal, BuildsAreTied, LocalityFollows}
+use Rattle.ob_linked.specs.Types.{ReadTypesDiffer}
+use Rattle.ob_distinct.specs.Distinct.{AreDistinct}
+use Rattle.ob_tying.proofs.Over.{modules_tie}
+use Rattle.ob_sized.proofs.Grounded.{against_is_grounded}
+use Rattle.ob_elsewhere.specs.Laws.{ShowAlike}
+use Rattle.ob_elsewhere.proofs.Whole.{rules_are_local}
+use Rattle.ob_locality.specs.Laws.{LocalityFollows}
 use Rattle.ob_locality.proofs.Named.{found_all}
 use Rattle.ob_locality.proofs.Walked.{have_none, have_no_root}
-use Rattle.ob_locality.proofs.Compiled.{ComesOf, comes_of, checked_name}
+use Rattle.ob_locality.proofs.Compiled.{ComesOf, comes_of, checked_name, apart_of}
 
-module _ (rules : RulesAreLocal) (are_tied : BuildsAreTied) (b : Build) (c : Compiled Text) (m : Tree) (valid : IsValid b c) (read : reading b.source ≡ Ok m) (faces : List (Face Text)) (around : AreAround c.shows.«module» faces) (wanted : AreAsWanted faces c.shows.uses) where
+module _ (types_differ : ReadTypesDiffer) (b : Build) (c : Compiled Text) (m : Tree) (valid : IsValid b c) (read : reading b.source ≡ Ok m) (faces : List (Face Text)) (around : AreAround c.shows.«module» faces) (wanted : AreAsWanted faces c.shows.uses) where
   from : ComesOf m c
   from = comes_of b c m valid read
 
@@ -59,13 +65,16 @@ module _ (rules : RulesAreLocal) (are_tied : BuildsAreTied) (b : Build) (c : Com
   no_out : HaveNoOut c.against
   no_out = have_none m.name.name c.against (comes_of b c m valid read).clean
 
+  differ : AreDistinct (λ t. t.name) (comes_of b c m valid read).t.types
+  differ = types_differ b.source m (shown c.against) t read (comes_of b c m valid read).tree_is
+
   tied : IsChecked c.against T
   tied =
-      let k = are_tied b c m t valid read (comes_of b c m valid read).tree_is (comes_of b c m valid read).unbroken in
+      let k = modules_tie c.against m t (comes_of b c m valid read).tree_is (against_is_grounded b c valid) differ in
       record {
         tied = k.tied;
         held = k.held;
-        types = found_all t.types k.names;
+        types = found_all t.types differ;
       }
 
   met : AreMet faces (face_from text_in c.against T).uses
@@ -89,7 +98,7 @@ module _ (rules : RulesAreLocal) (are_tied : BuildsAreTied) (b : Build) (c : Com
   none_there : Has T.name (each (λ f. f.«module») faces) → ⊥
   none_there h = around.other (contains (each (λ (f : Face Text). f.«module») faces) c.shows.«module» (subst (λ n. Has n (each (λ (f : Face Text). f.«module») faces)) (sym (ap (λ (x : Compiled Text). x.shows.«module») is)) h))
 
-  alike : ShowAlike c.against faces t
+  alike : ShowAlike c.against faces T
   alike q kind = go (is_own T q) refl
     where
       go : (k : Bool) → is_own T q ≡ k → shown faces q ≡ shown c.against q
@@ -100,7 +109,7 @@ module _ (rules : RulesAreLocal) (are_tied : BuildsAreTied) (b : Build) (c : Com
           kind
 
   ruled : (checked (shown faces) m ≡ Some t) × (first_break (shown faces) m ≡ None)
-  ruled = rules b c m t valid read (comes_of b c m valid read).tree_is (comes_of b c m valid read).unbroken tied faces no_out around.out alike
+  ruled = rules_are_local c.against faces b.source m t read (comes_of b c m valid read).tree_is differ (apart_of c m (comes_of b c m valid read)) around.out alike
 
   rules_give : by_rules texts faces m ≡ Ok second
   rules_give = ap (λ o. of_break texts faces o (first_break (shown faces) m)) ruled.0 ∙ ap (of_break texts faces (Some t)) ruled.1
@@ -125,4 +134,4 @@ module _ (rules : RulesAreLocal) (are_tied : BuildsAreTied) (b : Build) (c : Com
   )
 
 pub locality_follows : LocalityFollows
-locality_follows rules are_tied b c m valid read faces around wanted = follows rules are_tied b c m valid read faces around wanted
+locality_follows types_differ b c m valid read faces around wanted = follows types_differ b c m valid read faces around wanted

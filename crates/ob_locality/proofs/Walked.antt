@@ -1,6 +1,6 @@
 -- No walk leaves an interface of Out, or of the module at its root.
 use Rattle.std.proofs.Common.{◌≡◌, ℕ, zero, suc, List, [], ◌∷◌, ◌++◌, Bool, true, false, cond, Some, refl, sym, ap, ◌∙◌, inl, inr}
-use Rattle.std.specs.Prelude.{◌||◌, bytes_eq, nat_le, length, ◌+◌, codes, map as each}
+use Rattle.std.specs.Prelude.{◌⊎◌, ◌||◌, bytes_eq, nat_le, length, ◌+◌, codes, map as each}
 use Rattle.std.specs.List.{AllByRecursion, list_any}
 use Rattle.std.specs.Cmp.Lexicographic.{bytes_decides}
 use Rattle.ob_env.specs.Faces.{Face, face_named}
@@ -88,6 +88,57 @@ module _ (root : List ℕ) where
 
   pub walk_below : (find : List ℕ → Entry Text) → AreNamed find → (imports : List (List ℕ)) → LeavesBelow (walk find root imports)
   walk_below find named imports = through_below (visit find 257 (root ∷ [])) (λ m left c. visit_below find named 257 (root ∷ []) (ap (λ b. b || false) ((bytes_decides root root).1 refl)) m left c) imports [] tt
+
+-- ---- what a walk that leaves interfaces starts from
+
+-- one of the names that no file has
+abbrev pub is_built_in : List ℕ → Bool
+is_built_in m = bytes_eq m (codes "Out") || bytes_eq m (codes "SYSTEM")
+
+-- not the root, where it is not built in
+abbrev pub IsNoRoot : List ℕ → List ℕ → Type 0
+IsNoRoot root m = is_built_in m ≡ false → bytes_eq m root ≡ false
+
+second : (a b : Bool) → (a || b) ≡ true → a ≡ false → b ≡ true
+second true b e f = absurd cc
+second false b e f = e
+
+module _ (root : List ℕ) (find : List ℕ → Entry Text) (named : AreNamed find) where
+  any_other : (m : List ℕ) (left : List (Face Text)) → AllByRecursion (IsBelow root) left → list_any (λ f. bytes_eq m f.«module») left ≡ true → bytes_eq m root ≡ false
+  any_other m [] h e = absurd cc
+  any_other m (f ∷ fs) h e = go (bytes_eq m f.«module») refl e (any_other m fs h.1)
+    where
+      go : (b : Bool) → bytes_eq m f.«module» ≡ b → (b || list_any (λ f. bytes_eq m f.«module») fs) ≡ true → (list_any (λ f. bytes_eq m f.«module») fs ≡ true → bytes_eq m root ≡ false) → bytes_eq m root ≡ false
+      go true i e rest = ap (λ x. bytes_eq x root) ((bytes_decides m f.«module»).0 i) ∙ h.0.other
+      go false i e rest = rest e
+
+  either_way : (p o : Bool) (path : List (List ℕ)) (left more : List (Face Text)) (enter : Unit {0} → Walked Text) → at_module p o path left enter ≡ Left more → (p ≡ true) ⊎ (o ≡ false)
+  either_way true o path left more enter e = inl refl
+  either_way false true path left more enter e = absurd cc
+  either_way false false path left more enter e = inr refl
+
+  step_other : (n : ℕ) (path : List (List ℕ)) → is_among root path ≡ true → (m : List ℕ) (left more : List (Face Text)) → AllByRecursion (IsBelow root) left → visit find n path m left ≡ Left more → IsNoRoot root m
+  unfolding visit
+  step_other zero path r m left more h e = absurd cc
+  step_other (suc n) path r m left more h e = go (either_way (is_passed_over m left) (is_among m path) path left more _ e)
+    where
+      go : (is_passed_over m left ≡ true) ⊎ (is_among m path ≡ false) → IsNoRoot root m
+      go (inl p) = λ b. any_other m left h (second (is_built_in m) (list_any (λ f. bytes_eq m f.«module») left) p b)
+      go (inr o) = λ b. off_path root m path r o
+
+  through_other : (n : ℕ) (path : List (List ℕ)) → is_among root path ≡ true → (ms : List (List ℕ)) (left more : List (Face Text)) → AllByRecursion (IsBelow root) left → through (visit find n path) ms left ≡ Left more → AllByRecursion (IsNoRoot root) ms
+  through_other n path r [] left more h e = tt
+  through_other n path r (m ∷ ms) left more h e = go (visit find n path m left) refl (visit_below root find named n path r m left h) e (λ l a k. through_other n path r ms l more a k)
+    where
+      go : (w : Walked Text) → visit find n path m left ≡ w → LeavesBelow root w → go_on w (λ l. through (visit find n path) ms l) ≡ Left more → ((l : List (Face Text)) → AllByRecursion (IsBelow root) l → through (visit find n path) ms l ≡ Left more → AllByRecursion (IsNoRoot root) ms) → AllByRecursion (IsNoRoot root) (m ∷ ms)
+      go (Left l) i a e rest = (step_other n path r m left l h i, rest l a e)
+      go (NoInterface x) i a e rest = absurd cc
+      go (Damaged x) i a e rest = absurd cc
+      go (Cycle x) i a e rest = absurd cc
+      go TooMany i a e rest = absurd cc
+
+  pub walk_other : (imports : List (List ℕ)) (more : List (Face Text)) → walk find root imports ≡ Left more → AllByRecursion (IsNoRoot root) imports
+  walk_other imports more e = through_other 257 (root ∷ []) (ap (λ b. b || false) ((bytes_decides root root).1 refl)) imports [] more tt e
 
 -- ---- the interfaces of a build by name
 

@@ -3,10 +3,9 @@
 
 ghost use Rattle.ob_locality.specs.Laws.{LocalityFollows};
 
-/// A law, with nothing to run. Where the rules look at nothing of other modules but what counts for
-/// the uses, and see to it that the checked module is tied to the types that it names, a valid build
-/// whose uses have the same texts in other interfaces keeps the rules against those too, with the
-/// same checked module, interface, uses and code.
+/// A law, with nothing to run. Where the types of each module that is read and keeps the rules differ
+/// in name, a valid build whose uses have the same texts in other interfaces keeps the rules against
+/// those too, with the same checked module, interface, uses and code.
 pub fn locality_follows()
     ensures { LocalityFollows }
 {}
