@@ -1,0 +1,2 @@
+//! That the types of a sequence of declarations differ in name.
+#![tactic(auto)]
