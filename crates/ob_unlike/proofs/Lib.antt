@@ -1,2 +1,4 @@
 pub mod Items
 pub mod Unique
+pub mod Steady
+pub mod Heads
