@@ -2,3 +2,5 @@ pub mod Items
 pub mod Unique
 pub mod Steady
 pub mod Heads
+pub mod Once
+pub mod Order
