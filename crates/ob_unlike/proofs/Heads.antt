@@ -1,11 +1,10 @@
 -- A heading: what it is bound to, and the types that it makes.
-use Rattle.std.proofs.Common.{◌≡◌, ◌⊎◌, inl, inr, ℕ, ◌+◌, ◌<◌, ◌^◌, Bool, true, false, List, [], ◌∷◌, ◌++◌, map as each, Option, Some, None, refl, sym, ap, subst, ◌∙◌, append_assoc}
-use Rattle.std.specs.Prelude.{◌==◌, ◌||◌, ◌&&◌, not, cond, is_some, bytes_eq, decimal}
-use Rattle.std.specs.List.{AllByRecursion, cons_option, filter_map, find, list_any}
+use Rattle.std.proofs.Common.{◌≡◌, inl, inr, ℕ, Bool, true, false, List, [], ◌∷◌, ◌++◌, map as each, Option, Some, None, refl, sym, ap, subst, ◌∙◌, append_assoc}
+use Rattle.std.specs.Prelude.{◌==◌, ◌||◌, ◌&&◌, not, cond, is_some, bytes_eq}
+use Rattle.std.specs.List.{AllByRecursion, cons_option, filter_map, list_any}
 use Rattle.std.proofs.lemmas.Bool.{and_parts}
 use Rattle.std.proofs.lemmas.Slice.Eq.{bytes_eq-Decides}
 use Rattle.ob_tree.specs.declared.names.QName.{QName}
-use Rattle.ob_tree.specs.declared.ident.IdentDef.{IdentDef}
 use Rattle.ob_tree.specs.declared.ident.Mark.{Mark}
 use Rattle.ob_tree.specs.declared.decl.Receiver.{Receiver as RawReceiver}
 use Rattle.ob_tree.specs.declared.decl.Decl.{Decl, roll-Decl, map-Decl}
@@ -17,15 +16,15 @@ use Rattle.ob_types.specs.declared.desc.Desc.{Desc}
 use Rattle.ob_types.specs.declared.desc.Desc.TheVariants as desc
 use Rattle.ob_types.specs.declared.desc.RecordDesc.{RecordDesc}
 use Rattle.ob_types.specs.declared.typed.TypedType.{TypedType}
-use Rattle.ob_types.specs.Tests.{target, shape_at, pointer_of}
-use Rattle.ob_rules.specs.Judged.{Judged, sound, if_sound, paired, both}
-use Rattle.ob_rules.specs.Shapes.{Map, same_name, record_at, record_of, record_if, pointed, pointed_record}
+use Rattle.ob_types.specs.Tests.{target, shape_at}
+use Rattle.ob_rules.specs.Judged.{sound, if_sound, paired, both}
+use Rattle.ob_rules.specs.Shapes.{Map, same_name, record_at, record_of, record_if, pointed}
 use Rattle.ob_rules.specs.Names.{Around, own_desc, out_string, type_desc, map_of, type_named}
-use Rattle.ob_rules.specs.Types.{Parameters, marked, nothing, is_module_level, parameters_in, inner, written_parameters}
-use Rattle.ob_rules.specs.Headings.{WrittenHeading, heading_of, Head, BoundAs, received_record, is_own, if_own, own_record, silent_base, bound_to, owner_of, owner_if, bound_in, path_by, forward_name, as_parameters, knows_receiver, head_of}
+use Rattle.ob_rules.specs.Types.{Parameters, marked, nothing, is_module_level, parameters_in, inner}
+use Rattle.ob_rules.specs.Headings.{WrittenHeading, Head, BoundAs, received_record, is_own, if_own, own_record, silent_base, bound_to, owner_of, owner_if, bound_in, path_by, forward_name, as_parameters, knows_receiver, head_of}
 use Rattle.ob_rules.specs.Declarations.{Written_procedure, Declaration, Plain, Procedure, procedure_of, decl_rule, declaration}
 use Rattle.ob_distinct.specs.Parts.{IsWord, IsInScope}
-use Rattle.ob_distinct.specs.Named.{is_word, all_true, are_words, type_named as node_named, parameters_named, decl_layer, decl_named}
+use Rattle.ob_distinct.specs.Named.{is_word, all_true, parameters_named, decl_layer, decl_named}
 use Rattle.ob_distinct.proofs.Quiet.{IfThere, Any, any_quiet, both_quiet}
 use Rattle.ob_distinct.proofs.Typings.{IsOfSection, ParametersIn}
 use Rattle.ob_distinct.proofs.Written.{words_are}

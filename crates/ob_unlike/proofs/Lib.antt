@@ -4,3 +4,4 @@ pub mod Steady
 pub mod Heads
 pub mod Once
 pub mod Order
+pub mod Blocks

@@ -1,6 +1,6 @@
 -- Headings that make types differ in what they are bound to, in their name, or in being forward.
 use Rattle.std.proofs.Common.{◌≡◌, ℕ, Bool, true, false, List, [], ◌∷◌, ◌++◌, Option, Some, None, refl, sym, ap, subst, ◌∙◌, inl, inr, ◌⊎◌}
-use Rattle.std.specs.Prelude.{cond, bytes_eq, not, ◌&&◌, ◌||◌}
+use Rattle.std.specs.Prelude.{cond, bytes_eq, not, ◌&&◌}
 use Rattle.std.specs.List.{AllByRecursion}
 use Rattle.std.proofs.lemmas.Bool.{and_from, and_parts, or_parts}
 use Rattle.std.proofs.lemmas.Slice.Eq.{bytes_eq-Decides}
@@ -8,7 +8,7 @@ use Rattle.ob_rules.specs.Names.{Around}
 use Rattle.ob_rules.specs.Types.{Parameters}
 use Rattle.ob_rules.specs.Headings.{Head, BoundAs, head_twice, reversed}
 use Rattle.ob_distinct.proofs.Fresh.{all_both, all_from, is_known}
-use Rattle.ob_apart.specs.Once.{AreOnce, plain_before, IsPlainOnce, ArePlainOnce}
+use Rattle.ob_apart.specs.Once.{AreOnce, plain_before, ArePlainOnce}
 use Rattle.ob_apart.proofs.Keys.{once_differ}
 use Rattle.ob_unlike.proofs.Items.{IsAmong, all_at, all_of, in_either, in_front, in_back}
 

@@ -1,5 +1,5 @@
 -- Headings in their order: what each is bound to is there behind them, and all types that are there are of before, or of one of them.
-use Rattle.std.proofs.Common.{◌≡◌, ◌⊎◌, inl, inr, ℕ, Bool, true, false, List, [], ◌∷◌, ◌++◌, Option, Some, None, refl, sym, ap, subst, ◌∙◌}
+use Rattle.std.proofs.Common.{◌≡◌, ◌⊎◌, inl, inr, Bool, true, false, List, [], ◌∷◌, ◌++◌, Option, Some, None, refl, sym, ap, subst, ◌∙◌}
 use Rattle.std.specs.Prelude.{bytes_eq}
 use Rattle.std.specs.List.{AllByRecursion}
 use Rattle.ob_types.specs.declared.typed.TypedType.{TypedType}
@@ -16,7 +16,7 @@ use Rattle.ob_nested.specs.Nested.{AreNested}
 use Rattle.ob_apart.specs.Once.{AreQuiet}
 use Rattle.ob_apart.proofs.Keys.{before_quiet}
 use Rattle.ob_unlike.proofs.Items.{IsAmong, in_either, in_back}
-use Rattle.ob_unlike.proofs.Heads.{IsWellWritten, HoldsRecord, IsOwner, IsBound, IsPlain, IsSound, bound_sound, head_sound, head_nested, head_parameters}
+use Rattle.ob_unlike.proofs.Heads.{IsWellWritten, IsBound, IsSound, bound_sound, head_sound, head_nested, head_parameters}
 
 -- what is so of a heading, with what stands around
 pub record HasFacts (w : Around) (h : Head) : Type 0 where

@@ -1,5 +1,5 @@
 -- Declarations that are no procedures: they add to the types that are known no others than they make, and leave the scope without forward declarations.
-use Rattle.std.proofs.Common.{◌≡◌, ◌⊎◌, inl, inr, ℕ, Bool, true, false, List, [], ◌∷◌, ◌++◌, map, Option, Some, None, refl, sym, subst, ◌∙◌}
+use Rattle.std.proofs.Common.{◌≡◌, ◌⊎◌, inl, inr, Bool, true, false, List, [], ◌∷◌, ◌++◌, map, Option, Some, None, refl, sym, subst, ◌∙◌}
 use Rattle.std.specs.Prelude.{codes, cond}
 use Rattle.std.specs.List.{AllByRecursion, cons_option, filter_map}
 use Rattle.ob_tree.specs.declared.ident.Ident.{Ident}
@@ -17,7 +17,7 @@ use Rattle.ob_rules.specs.Judged.{Judged, both, ◌▷◌}
 use Rattle.ob_rules.specs.Names.{Around, in_scope, found_in_scope}
 use Rattle.ob_rules.specs.Expressions.{phrase_of, constant_value}
 use Rattle.ob_rules.specs.Phrases.{Phrase}
-use Rattle.ob_rules.specs.Types.{Typing, Written, written, is_module_level, marked, with_types}
+use Rattle.ob_rules.specs.Types.{Typing, Written, written, marked, with_types}
 use Rattle.ob_rules.specs.Headings.{leaves_room, mark_or_hidden}
 use Rattle.ob_rules.specs.Declarations.{Part, Declared, declare_if, declare, constant_entity, no_nil, constant_declared, typing_as, types_made, type_entity, type_declared, variable_entity, variable_with, variables_with, paired_typing, made_in, first_name, variables_declared, Declaration, Plain, Procedure, plain_of, in_order, decl_rule, declaration, then_declared}
 use Rattle.ob_apart.specs.Once.{HasNoForward}

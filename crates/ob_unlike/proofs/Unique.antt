@@ -1,15 +1,15 @@
 -- The types of a sequence and of headings differ in name, by the length of their names, and by that of the names of headings.
-use Rattle.std.proofs.Common.{◌≡◌, ◌⊎◌, inl, inr, ℕ, zero, suc, ◌+◌, ◌<◌, ◌≤◌, Bool, true, false, List, [], ◌∷◌, ◌++◌, length, Option, Some, None, refl, sym, ap, subst, ◌∙◌, append_assoc, length-append, arith}
+use Rattle.std.proofs.Common.{◌≡◌, ◌⊎◌, inl, inr, ℕ, zero, suc, ◌+◌, ◌<◌, Bool, true, false, List, [], ◌∷◌, ◌++◌, length, Option, Some, None, refl, sym, ap, subst, ◌∙◌, append_assoc, length-append, arith}
 use Rattle.std.specs.Prelude.{◌≢◌, ◌==◌}
 use Rattle.std.specs.List.{AllByRecursion}
 use Rattle.std.proofs.lemmas.List.{append-nil}
 use Rattle.ob_types.specs.declared.typed.TypedType.{TypedType}
 use Rattle.ob_distinct.specs.Distinct.{AreDistinct}
-use Rattle.ob_distinct.specs.Parts.{is_mark, IsWord, IsTail, IsInScope, IsPart}
+use Rattle.ob_distinct.specs.Parts.{IsWord, IsTail, IsPart}
 use Rattle.ob_distinct.proofs.Fresh.{all_both}
 use Rattle.ob_distinct.proofs.Parts.{word_scope}
 use Rattle.ob_nested.specs.Nested.{HasField, IsBehind, AreNested}
-use Rattle.ob_apart.proofs.Meets.{GoesOn, Meeting, meets, word_front}
+use Rattle.ob_apart.proofs.Meets.{Meeting, meets, word_front}
 use Rattle.ob_unlike.specs.Unlike.{IsWithin}
 use Rattle.ob_unlike.proofs.Items.{Item, stem_by, stem, hat, Behind, IsAmong, all_at, all_of, in_either, distinct_same, distinct_joined, cancel, words_front, hat_tail, hats_same, joined_tail, all_scope, shorter, behind_longer, behind_on, behind_part, behind_stop, behind_path}
 
@@ -58,6 +58,14 @@ KeysDiffer (a ∷ its) = AllByRecursion (λ b. SameKey a b → ⊥) its × KeysD
 abbrev pub made_by : List Item → List TypedType
 made_by [] = []
 made_by (a ∷ its) = a.made ++ made_by its
+
+pub made_from : (js : List Item) (t : TypedType) → IsAmong t (made_by js) → (a : Item) × IsAmong a js × IsAmong t a.made
+made_from [] t i = absurd i
+made_from (a ∷ js) t i = by (in_either a.made (made_by js) t i) (λ j. made_from js t j)
+  where
+    by : IsAmong t a.made ⊎ IsAmong t (made_by js) → (IsAmong t (made_by js) → (b : Item) × IsAmong b js × IsAmong t b.made) → (b : Item) × IsAmong b (a ∷ js) × IsAmong t b.made
+    by (inl j) g = (a, inl refl, j)
+    by (inr j) g = let h = g j in (h.0, inr h.1, h.2)
 
 same_item : (its : List Item) → KeysDiffer its → (a b : Item) → IsAmong a its → IsAmong b its → SameKey a b → a ≡ b
 same_item [] d a b i j s = absurd i
@@ -293,26 +301,18 @@ module _ (path : List ℕ) (known : List ℕ → Bool) (ss : List TypedType) (it
 
   -- ---- all differ
 
-  made_in : (js : List Item) (t : TypedType) → IsAmong t (made_by js) → (a : Item) × IsAmong a js × IsAmong t a.made
-  made_in [] t i = absurd i
-  made_in (a ∷ js) t i = by (in_either a.made (made_by js) t i) (λ j. made_in js t j)
-    where
-      by : IsAmong t a.made ⊎ IsAmong t (made_by js) → (IsAmong t (made_by js) → (b : Item) × IsAmong b js × IsAmong t b.made) → (b : Item) × IsAmong b (a ∷ js) × IsAmong t b.made
-      by (inl j) g = (a, inl refl, j)
-      by (inr j) g = let h = g j in (h.0, inr h.1, h.2)
-
   made_differ : (js : List Item) → ((a : Item) → IsAmong a js → IsAmong a its) → KeysDiffer js → AreDistinct (λ t. t.name) (made_by js)
   made_differ [] f d = tt
   made_differ (a ∷ js) f d = distinct_joined a.made (made_by js) (good a (f a (inl refl))).differ (made_differ js (λ b i. f b (inr i)) d.1) other
     where
       other : (t s : TypedType) → IsAmong t a.made → IsAmong s (made_by js) → s.name ≢ t.name
       other t s i j e =
-          let m = made_in js s j in
+          let m = made_from js s j in
           let same = of_one a m.0 (f a (inl refl)) (f m.0 (inr m.1)) t s i m.2 (sym e) (unique (length t.name)) in
           all_at (λ b. SameKey a b → ⊥) js d.0 m.0 m.1 (subst (λ b. SameKey a b) same (refl, refl, refl))
 
   pub all_differ : AreDistinct (λ t. t.name) (ss ++ made_by its)
-  all_differ = distinct_joined ss (made_by its) differ (made_differ its (λ a i. i) keys) (λ t s i j e. let m = made_in its s j in not_both m.0 m.1 t s i m.2 (sym e) (unique (length t.name)))
+  all_differ = distinct_joined ss (made_by its) differ (made_differ its (λ a i. i) keys) (λ t s i j e. let m = made_from its s j in not_both m.0 m.1 t s i m.2 (sym e) (unique (length t.name)))
 
   pub all_within : AllByRecursion (λ t. IsWithin path t.name) (ss ++ made_by its)
-  all_within = all_both (λ t. IsWithin path t.name) ss (made_by its) (all_of (λ t. IsWithin path t.name) ss seq_within) (all_of (λ t. IsWithin path t.name) (made_by its) (λ t i. let m = made_in its t i in makes_within m.0 m.1 t m.2))
+  all_within = all_both (λ t. IsWithin path t.name) ss (made_by its) (all_of (λ t. IsWithin path t.name) ss seq_within) (all_of (λ t. IsWithin path t.name) (made_by its) (λ t i. let m = made_from its t i in makes_within m.0 m.1 t m.2))
