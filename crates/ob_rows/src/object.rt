@@ -1,6 +1,6 @@
 //! The module of the small codes.
 
-use crate::assembly::{Misspelt, Module, Procedure, RecordType, assemble};
+use ob_codes::{Misspelt, Module, Procedure, RecordType, assemble};
 use ob_instr::Param;
 use std::alloc::Global;
 

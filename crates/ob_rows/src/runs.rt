@@ -1,17 +1,15 @@
-//! Runs codes, and compares how they end.
+//! Runs of codes, and how they end.
 
 ghost use Rattle.std.specs.Prelude.{◌≡◌};
 ghost use Rattle.ob_machine.specs.Machine.{IsEntry};
 
-use crate::alone::{machine_of, stands_alone};
 use crate::object::object_file;
+use ob_codes::{machine_of, stands_alone};
 use ob_io::MemSink;
 use ob_machine::{Machine, Outcome};
 use ob_obj::read_obj;
 use ob_tree::{Pos, ProcRef};
 use std::alloc::{AllocError, Global};
-use std::process::Abort;
-use std::test::Fail;
 
 /// How often a code is run, one run after the other on the same machine.
 #[derive(Clone, Copy, PartialEq, Eq)]
@@ -62,13 +60,13 @@ fn end_of(
     turns: u32,
     times: Times,
     out: &mut MemSink,
-) -> Result<Outcome, Fail> {
+) -> anyhow::Result<Outcome> {
     let bytes = object_file(alloc, code)?;
     let Ok(file) = read_obj(alloc, &bytes) else {
-        return Err("no object file".into());
+        anyhow::bail!("no object file");
     };
     if !stands_alone(&file) {
-        return Err("a file with links".into());
+        anyhow::bail!("a file with links");
     }
     let mut machine = machine_of(alloc, 12, file)?;
     if times == Times::Twice {
@@ -77,33 +75,12 @@ fn end_of(
     Ok(run_body(&mut machine, turns, out))
 }
 
-// A code with its end and what all its runs wrote, as a row of a table says it.
-fn found(alloc: Global, code: &str, turns: u32, times: Times) -> Result<String, Fail> {
+/// A code with its end and what all its runs wrote.
+pub fn row(alloc: Global, code: &str, turns: u32, times: Times) -> anyhow::Result<String> {
     let mut out = MemSink::new(alloc, 1 << 12, Vec::new(alloc))?;
     let outcome = end_of(alloc, code, turns, times, &mut out)?;
     let end = text_of(alloc, outcome)?;
-    let Ok(written) = str::from_utf8(out.bytes()) else {
-        return Err("no text".into());
-    };
-    let written = written.replace(alloc, "\n", "\\n")?;
-    Ok(format!(in alloc; "{code} | {end} | {written}")?)
-}
-
-/// Runs the code of each row, with so many turns for a run, and compares. A row is a code, how the last run
-/// ends, and what all runs wrote.
-pub fn expect_all(
-    rt: &impl Abort,
-    alloc: Global,
-    turns: u32,
-    times: Times,
-    rows: &str,
-) -> Result<(), Fail> {
-    for row in rows.trim().lines() {
-        let Some((code, _)) = row.split_once(" | ") else {
-            return Err("no row".into());
-        };
-        let is = found(alloc, code, turns, times)?;
-        assert_eq!(rt; is.trim_end(), row);
-    }
-    Ok(())
+    let written = str::from_utf8(out.bytes())?.replace(alloc, "\n", "\\n")?;
+    let row = format!(in alloc; "{code} | {end} | {written}")?;
+    Ok(String::from_str(alloc, row.trim_end())?)
 }
