@@ -5,9 +5,7 @@ ghost use Rattle.ob_short.specs.Lengths.{capped, desig_lines, expr_lines, actual
 
 use crate::pieces::{more, pointed_size};
 use ob_code::Want;
-use ob_ends::{
-    between, constant_size, guard_size, joined, place_size, unary_size, variable_size,
-};
+use ob_ends::{between, constant_size, guard_size, joined, place_size, unary_size, variable_size};
 use ob_gcode::{want_for_guard, want_for_index};
 use ob_need::want_for_actual;
 use ob_types::{Actual, Designator, TypedExpr, Types};
@@ -73,7 +71,10 @@ pub fn lines_of_expr<T: Types>(types: &T, want: Want, e: &TypedExpr) -> usize
         } => {
             let first = lines_of_expr(types, Want::Value, left.get());
             let second = lines_of_expr(types, Want::Value, right.get());
-            more(first, more(second, between(*connective) + joined(*connective)))
+            more(
+                first,
+                more(second, between(*connective) + joined(*connective)),
+            )
         }
         TypedExpr::CompareTexts { left, right, .. } => {
             let first = lines_of_expr(types, Want::PlaceAndLength, left.get());

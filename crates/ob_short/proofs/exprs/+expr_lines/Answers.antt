@@ -9,8 +9,8 @@ pub lines_of_actuals-actuals-preserved : goal.lines_of_actuals-actuals-preserved
 lines_of_actuals-actuals-preserved g t c =
     let types = g.T.Types.types c.args.types.now in (
       actuals_turn types c.args.actuals.now c.actuals.actual-index c.actual-item.result c.actuals.lines c.lines_of_actual.result c.more-lines.result _ c.actuals-test.true
-      (subst (λ y. c.lines_of_actual.result ≡ capped (expr_lines types (passed y.passing) (expr_view y.value))) c.actual-item.is c.lines_of_actual.ensures)
-      c.more-lines.ensures c.actuals.invariant.0,
+          (subst (λ y. c.lines_of_actual.result ≡ capped (expr_lines types (passed y.passing) (expr_view y.value))) c.actual-item.is c.lines_of_actual.ensures)
+          c.more-lines.ensures c.actuals.invariant.0,
       omega arith,
     )
 

@@ -8,8 +8,8 @@ pub procedures-preserved : goal.procedures-preserved
 procedures-preserved g c =
     let types = g.T.Types.types c.args.types.now in (
       procedures_turn types c.args.procedures.now c.procedures.procedure-index c.procedure-item.result c.procedures.lines c.lines_of_body.result c.more-lines.result _ c.procedures-test.true
-      (c.lines_of_body.ensures ∙ ap (λ l. capped (stmts_lines types (stmts_view l) + 1)) c.as_slice.ensures ∙ ap (λ p. capped (stmts_lines types (stmts_view p.body) + 1)) c.procedure-item.is)
-      c.more-lines.ensures c.procedures.invariant.0,
+          (c.lines_of_body.ensures ∙ ap (λ l. capped (stmts_lines types (stmts_view l) + 1)) c.as_slice.ensures ∙ ap (λ p. capped (stmts_lines types (stmts_view p.body) + 1)) c.procedure-item.is)
+          c.more-lines.ensures c.procedures.invariant.0,
       omega arith,
     )
 

@@ -9,8 +9,8 @@ pub lines_of_stmts-statements-preserved : goal.lines_of_stmts-statements-preserv
 lines_of_stmts-statements-preserved g t c =
     let types = g.T.Types.types c.args.types.now in (
       stmts_turn types c.args.body.now c.statements.s-index c.s-item.result c.statements.lines c.lines_of_stmt.result c.more-lines.result _ c.statements-test.true
-      (subst (λ y. c.lines_of_stmt.result ≡ capped (stmt_lines types (stmt_view y))) c.s-item.is c.lines_of_stmt.ensures)
-      c.more-lines.ensures c.statements.invariant.0,
+          (subst (λ y. c.lines_of_stmt.result ≡ capped (stmt_lines types (stmt_view y))) c.s-item.is c.lines_of_stmt.ensures)
+          c.more-lines.ensures c.statements.invariant.0,
       omega arith,
     )
 
@@ -22,8 +22,8 @@ pub lines_of_branches-branches-preserved : goal.lines_of_branches-branches-prese
 lines_of_branches-branches-preserved g t c =
     let types = g.T.Types.types c.args.types.now in (
       branches_turn types c.args.branches.now c.branches.branch-index c.branch-item.result c.branches.lines c.lines_of_branch.result c.more-lines.result _ c.branches-test.true
-      (subst (λ y. c.lines_of_branch.result ≡ capped (expr_lines types want.Value (expr_view y.test) + (stmts_lines types (stmts_view y.body) + 2))) c.branch-item.is c.lines_of_branch.ensures)
-      c.more-lines.ensures c.branches.invariant.0,
+          (subst (λ y. c.lines_of_branch.result ≡ capped (expr_lines types want.Value (expr_view y.test) + (stmts_lines types (stmts_view y.body) + 2))) c.branch-item.is c.lines_of_branch.ensures)
+          c.more-lines.ensures c.branches.invariant.0,
       omega arith,
     )
 
@@ -35,8 +35,8 @@ pub lines_of_cases-cases-preserved : goal.lines_of_cases-cases-preserved
 lines_of_cases-cases-preserved g t c =
     let types = g.T.Types.types c.args.types.now in (
       cases_turn types c.args.cases.now c.cases.labelled-index c.labelled-item.result c.cases.lines c.lines_of_case.result c.more-lines.result _ c.cases-test.true
-      (subst (λ y. c.lines_of_case.result ≡ capped (11 * length y.labels + (stmts_lines types (stmts_view y.body) + 2))) c.labelled-item.is c.lines_of_case.ensures)
-      c.more-lines.ensures c.cases.invariant.0,
+          (subst (λ y. c.lines_of_case.result ≡ capped (11 * length y.labels + (stmts_lines types (stmts_view y.body) + 2))) c.labelled-item.is c.lines_of_case.ensures)
+          c.more-lines.ensures c.cases.invariant.0,
       omega arith,
     )
 
