@@ -1,6 +1,6 @@
 -- Limits, one behind the other.
 use Rattle.std.proofs.Common.{◌≡◌, ℕ, Bool, true, false, length, Option, Some, None, Result, Err, refl, sym, ap, subst, ◌∙◌}
-use Rattle.std.specs.Prelude.{nat_le}
+use Rattle.std.specs.Prelude.{nat_le, IsErrOf}
 use Rattle.ob_tree.specs.declared.print.Print.{Print}
 use Rattle.ob_tree.specs.declared.which.Which.{Which}
 use Rattle.ob_tree.specs.declared.which.Which.TheVariants as which
@@ -33,6 +33,10 @@ then_more c o more r e h = subst (λ (p : Option Which). Makes (within c (or_fir
 
 pub object_is : (c : Compiled Print) (i : Interface) (f : ObjFile) → i ≡ interface_by prints c → f ≡ object_with c i → f ≡ object_by prints c
 object_is c i f same is = is ∙ ap (object_with c) same
+
+-- the same fault, whatever was wanted
+pub same_err : {A B E : Type 0} (f g : E) → IsErrOf {T = A} (Err f) g → IsErrOf {T = B} (Err f) g
+same_err f g h = let k : f ≡ g = cc in ap Err k
 
 -- an object file has as many instructions as its module has lines
 code_is : (c : Compiled Print) → nat_le (length (object_by prints c).body.code) most_code ≡ short_code c

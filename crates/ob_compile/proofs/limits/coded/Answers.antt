@@ -1,3 +1,5 @@
+use Rattle.std.proofs.Common.{Err, ap, ◌∙◌}
+use Rattle.ob_gcode.specs.declared.fault.GenFault.TheVariants as fault
 use Rattle.ob_compile.specs.Steps.{compiled_of}
 use Rattle.ob_compile.proofs.Facing.{as_shown, have_prints}
 use Rattle.ob_compile.proofs.Limited.{object_is, long_code, brief_code}
@@ -21,4 +23,5 @@ pub returns-in-Err-Limit-Code : goal.returns-in-Err-Limit-Code
 returns-in-Err-Limit-Code c =
     let is = c.args.view.now.env.now in
     let m = c.args.view.now.«module».now in
-    long_code (compiled_of is m) c.over_limit.result (c.in-Err-Limit-Code.ensures.long c.in-Err-Limit-Code.is) c.over_limit.ensures
+    let which = rw c.in-Err-Limit-Code.field-0-is at c.in-Err-Limit-Code.field-0-0-is in
+    long_code (compiled_of is m) c.over_limit.result (c.in-Err-Limit-Code.ensures.long (ap Err (c.in-Err-Limit-Code.field-0-is ∙ ap fault.Limit which))) c.over_limit.ensures
