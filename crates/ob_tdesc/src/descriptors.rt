@@ -96,13 +96,13 @@ impl Descriptors {
 
     /// Makes room for so many more descriptors and bound procedures that their types define. After a
     /// refusal nothing is changed.
-    pub fn reserve(&mut self, types: u32, methods: u32) -> Result<(), AllocError>
+    pub fn reserve(&mut self, types: u32, methods: usize) -> Result<(), AllocError>
         requires few { length self.old.list + types < 2 ^ 32 }
         ensures ok { OnOk result (self.new ≡ record self.old { types_room = max self.old.types_room types; methods_room = max self.old.methods_room methods }) }
         ensures err { OnErr result (self.new ≡ self.old) }
     {
         let types_room = self.types_room.max(types as usize);
-        let methods_room = self.methods_room.max(methods as usize);
+        let methods_room = self.methods_room.max(methods);
         self.entries.reserve(types_room)?;
         self.methods.reserve(methods_room)?;
         self.types_room = types_room;
