@@ -1,6 +1,6 @@
 ghost use Rattle.std.specs.Prelude.{◌≡◌, ◌<◌, ◌^◌, IfOk, IfSome};
 ghost use Rattle.ob_obj.specs.Images.{base_number};
-ghost use Rattle.ob_image.specs.Declared.{own_methods, declaration_of};
+ghost use Rattle.ob_image.specs.Declaring.{own_methods, declaration_of};
 
 use ob_obj::{Base, Definition, RecordType};
 use ob_tdesc::{Declaration, OwnMethod};

@@ -3,7 +3,7 @@ ghost use Rattle.std.specs.List.Sorted.{IsStrictlySortedBy};
 ghost use Rattle.ob_tdesc.specs.Tables.{by_number as by_method, declared};
 ghost use Rattle.ob_obj.specs.Grammar.{by_number};
 ghost use Rattle.ob_obj.specs.Images.{linked_type, or_zero, with_types, base_number, descriptor_of};
-ghost use Rattle.ob_image.specs.Declared.{DefinitionsRise};
+ghost use Rattle.ob_image.specs.Declaring.{DefinitionsRise};
 ghost use Rattle.ob_image.specs.Names.{names_in};
 ghost use Rattle.ob_image.specs.Cut.{types_of};
 ghost use Rattle.ob_image.specs.Standing.{BasesStand};

@@ -1,5 +1,5 @@
 use Rattle.std.proofs.Common.{◌≡◌, ◌++◌, length}
-use Rattle.ob_image.specs.Declared.{own_methods}
+use Rattle.ob_image.specs.Declaring.{own_methods}
 use Rattle.ob_image.proofs.describing.own_methods.Given as goal
 
 abbrev pub invariant-loop-rest : goal.invariant-loop-rest

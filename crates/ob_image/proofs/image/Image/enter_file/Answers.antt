@@ -2,7 +2,7 @@ use Rattle.std.proofs.Common.{◌≡◌, ◌+◌, ◌<◌, ◌++◌, ◌∷◌, 
 use Rattle.ob_obj.specs.Images.{linked_type, or_zero, module_of, type_links, with_types, global_words}
 use Rattle.ob_image.proofs.Fits.{sound, few_types}
 use Rattle.ob_image.proofs.Standing.{bases_there}
-use Rattle.ob_image.proofs.Declared.{definitions_rise}
+use Rattle.ob_image.proofs.Declaring.{definitions_rise}
 use Rattle.ob_image.specs.Whole.{IsImage}
 use Rattle.ob_image.proofs.Whole.{entered_image}
 use Rattle.ob_image.proofs.Entering.{pushed, entered_is}

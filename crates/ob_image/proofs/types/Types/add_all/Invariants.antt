@@ -1,7 +1,7 @@
 use Rattle.std.proofs.Common.{◌≡◌, ◌+◌, ◌≤◌, length, take}
 use Rattle.ob_obj.specs.Images.{with_types}
 use Rattle.ob_image.specs.Standing.{BasesStand}
-use Rattle.ob_image.specs.Declared.{DefinitionsRise}
+use Rattle.ob_image.specs.Declaring.{DefinitionsRise}
 use Rattle.ob_image.proofs.types.Types.add_all.Given as goal
 
 abbrev pub invariant-loop-rest : goal.invariant-loop-rest

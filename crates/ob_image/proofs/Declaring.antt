@@ -13,7 +13,7 @@ use Rattle.ob_obj.specs.declared.parts.RecordType.{RecordType}
 use Rattle.ob_obj.specs.declared.file.ObjFile.{ObjFile}
 use Rattle.ob_obj.specs.Grammar.{by_number, record_type, record_parts, body, file}
 use Rattle.ob_obj.specs.Images.{base_number, methods_in, base_methods, with_own, descriptor_of}
-use Rattle.ob_image.specs.Declared.{own_methods, declaration_of, DefinitionsRise}
+use Rattle.ob_image.specs.Declaring.{own_methods, declaration_of, DefinitionsRise}
 
 -- THE SAME TABLES
 
