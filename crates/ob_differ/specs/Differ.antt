@@ -1,0 +1,15 @@
+-- The types of a checked module.
+use Rattle.std.specs.Prelude.{◌≡◌, true, Option, Some}
+use Rattle.ob_tree.specs.declared.names.QName.{QName}
+use Rattle.ob_tree.specs.declared.decl.Module.{Module as Tree}
+use Rattle.ob_types.specs.declared.desc.Desc.{Desc}
+use Rattle.ob_types.specs.declared.typed.TypedModule.{TypedModule}
+use Rattle.ob_rules.specs.Declarations.{checked}
+use Rattle.ob_distinct.specs.Distinct.{AreDistinct}
+use Rattle.ob_distinct.specs.Named.{tree_named}
+use Rattle.ob_said.specs.Procedures.{ShowBases}
+
+-- They have different names, where names that are declared are words. What imported modules show as a pointer's base has to be shown: nothing
+-- is said of a receiver of a pointer type whose base is not, and its procedure is named as one that is not bound.
+abbrev pub TypesDiffer : Type 0
+TypesDiffer = (shown : QName → Option Desc) (tree : Tree) (m : TypedModule) → ShowBases shown tree.name.name → tree_named tree ≡ true → checked shown tree ≡ Some m → AreDistinct (λ t. t.name) m.types
