@@ -1,2 +1,4 @@
 pub mod Past
 pub mod Stand
+pub mod Strokes
+pub mod Modules
