@@ -29,6 +29,7 @@ use Rattle.ob_distinct.proofs.Written.{words_are}
 use Rattle.ob_distinct.proofs.FieldHeads.{reversed_good}
 use Rattle.ob_apart.specs.Once.{AreQuiet}
 use Rattle.ob_apart.proofs.Judged.{headings_quiet}
+use Rattle.ob_worded.proofs.Reading.{readings_are_worded}
 use Rattle.ob_said.specs.Procedures.{ShowBases}
 use Rattle.ob_said.proofs.Knowing.{AreKnown}
 use Rattle.ob_said.proofs.Points.{front_covers, PointsWell, points_alike}
@@ -38,7 +39,7 @@ use Rattle.ob_said.proofs.Headings.{AreBased}
 use Rattle.ob_said.proofs.Sequences.{GoodHeads}
 use Rattle.ob_said.proofs.Blocks.{Begins}
 use Rattle.ob_unlike.specs.Unlike.{plain_in, types_of_heads, IsWithin, IsStart, BlocksDiffer}
-use Rattle.ob_differ.specs.Differ.{TypesDiffer}
+use Rattle.ob_differ.specs.Differ.{TypesDiffer, ReadTypesDiffer}
 use Rattle.ob_differ.proofs.Past.{ArePast, none_forward, more_past, order_past, decls_past, imports_past, IsInner, ArePastHeads, headings_past}
 use Rattle.ob_differ.proofs.Stand.{heads_from, heads_are, word_plain, Stands, AllStand, IsWellHeading, heads_stand}
 use Rattle.ob_differ.proofs.Strokes.{Differ, AreUnlike, differ_join, differ_front, differ_back, differ_cross, front_all, back_all, IsStem, BlockIs, inner_types, AreInside, covered, heading_rest, procedures_unlike}
@@ -140,8 +141,10 @@ module _ (unlike : BlocksDiffer) where
       let quiet : (procedures_judged w ps (heads_from ps start)).notes.broken ≡ [] = subst (λ hs. (procedures_judged w ps hs).notes.broken ≡ []) same third in
       let o : OrderIs names v d = order_good ds g v k first in
       let good = procedures_kept ds g in
-      let stand : AllStand u.path [] ps (heads_from ps start) = heads_stand u.path ps (all_from GoodProcedure IsWellHeading (λ p i. i.heading) ps good) start (based_behind names u d s o) (ap (λ (z : Around). z.path) o.around) (headings_quiet w ps (heads_from ps start) (as_many ps start) quiet) in
-      let past : ArePastHeads u.scope hs = headings_past u.scope ps start (record { scope = ap (λ (z : Around). z.scope) o.around; known = more_past u.scope d.around.known (order_past (filter_map plain_of ds) (decls_past xs) u.scope v l); before = tt }) in
+      let paths : d.around.path ≡ u.path = ap (λ (z : Around). z.path) o.around in
+      let scopes : d.around.scope ≡ u.scope = ap (λ (z : Around). z.scope) o.around in
+      let stand : AllStand u.path [] ps (heads_from ps start) = heads_stand u.path ps (all_from GoodProcedure IsWellHeading (λ p i. i.heading) ps good) start (based_behind names u d s o) paths (headings_quiet w ps (heads_from ps start) (as_many ps start) quiet) in
+      let past : ArePastHeads u.scope hs = headings_past u.scope ps start (record { scope = scopes; known = more_past u.scope d.around.known (order_past (filter_map plain_of ds) (decls_past xs) u.scope v l); before = tt }) in
       let inner : AllByRecursion (IsInner u.scope) (heads_from ps start) = subst (AllByRecursion (IsInner u.scope)) same (reversed_good (IsInner u.scope) hs.before past.before) in
       let inside : AreInside w ps (heads_from ps start) = all_inside w u.path [] ps (heads_from ps start) good stand (subst (λ m. AllByRecursion (IsInner m) (heads_from ps start)) (sym past.scope) inner) quiet in
       let two = unlike xs named body u (record { forward = none_forward u l; own = λ i. (s i).0 }) e in
@@ -252,3 +255,7 @@ module _ (unlike : BlocksDiffer) where
       let p = module_of shown tree.name tree.imports (map declaration tree.decls) (map judging tree.body) tree.closing in
       let u = unbroken_is p.notes.broken (typed_module shown tree.name tree.imports (map declaration tree.decls) p) m e in
       subst (λ (x : TypedModule). Differ x.types) u.1 (described_differ p.contents.bound p.contents.types (module_good shown tree.name tree.imports tree.decls named (map judging tree.body) tree.closing s u.0))
+
+  -- SO DO THOSE OF WHAT IS READ
+  pub read_types_differ_from : ReadTypesDiffer
+  read_types_differ_from text tree shown m few bases read e = types_differ_from shown tree m bases (readings_are_worded text tree few read) e

@@ -1,10 +1,11 @@
 -- The types of a checked module.
-use Rattle.std.specs.Prelude.{◌≡◌, true, Option, Some}
+use Rattle.std.specs.Prelude.{◌≡◌, ℕ, ◌<◌, true, List, length, Option, Some, Ok}
 use Rattle.ob_tree.specs.declared.names.QName.{QName}
 use Rattle.ob_tree.specs.declared.decl.Module.{Module as Tree}
 use Rattle.ob_types.specs.declared.desc.Desc.{Desc}
 use Rattle.ob_types.specs.declared.typed.TypedModule.{TypedModule}
 use Rattle.ob_rules.specs.Declarations.{checked}
+use Rattle.ob_reading.specs.Reading.{reading}
 use Rattle.ob_distinct.specs.Distinct.{AreDistinct}
 use Rattle.ob_distinct.specs.Named.{tree_named}
 use Rattle.ob_said.specs.Procedures.{ShowBases}
@@ -13,3 +14,7 @@ use Rattle.ob_said.specs.Procedures.{ShowBases}
 -- is said of a receiver of a pointer type whose base is not, and its procedure is named as one that is not bound.
 abbrev pub TypesDiffer : Type 0
 TypesDiffer = (shown : QName → Option Desc) (tree : Tree) (m : TypedModule) → ShowBases shown tree.name.name → tree_named tree ≡ true → checked shown tree ≡ Some m → AreDistinct (λ t. t.name) m.types
+
+-- So it is of what is read of a text, where 32 bits count its bytes.
+abbrev pub ReadTypesDiffer : Type 0
+ReadTypesDiffer = (text : List ℕ) (tree : Tree) (shown : QName → Option Desc) (m : TypedModule) → length text < 4294967295 → ShowBases shown tree.name.name → reading text ≡ Ok tree → checked shown tree ≡ Some m → AreDistinct (λ t. t.name) m.types

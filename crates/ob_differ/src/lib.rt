@@ -1,10 +1,12 @@
 //! That the types of a checked module have different names.
 #![tactic(auto)]
 
-ghost use Rattle.ob_differ.specs.Differ.{TypesDiffer};
+ghost use Rattle.ob_differ.specs.Differ.{ReadTypesDiffer, TypesDiffer};
 
 /// A law, with nothing to run: the types of a checked module whose declarations are named by words
-/// have different names, where what imported modules show as a pointer's base is shown.
+/// have different names, where what imported modules show as a pointer's base is shown; and so do
+/// those of each module that is read of a text of fewer than 4,294,967,295 characters.
 pub fn types_differ()
-    ensures { TypesDiffer }
+    ensures rules { TypesDiffer }
+    ensures read { ReadTypesDiffer }
 {}
