@@ -1,5 +1,6 @@
 -- The types of a checked module.
 use Rattle.ob_differ.proofs.Modules.{types_differ, read_types_differ}
+use Rattle.ob_differ.proofs.Compiled.{compiled_types_differ}
 use Rattle.ob_differ.proofs.types_differ.Goals as goal
 
 pub returns-clause-rules : goal.returns-clause-rules
@@ -7,3 +8,6 @@ returns-clause-rules c = types_differ
 
 pub returns-clause-read : goal.returns-clause-read
 returns-clause-read c = read_types_differ
+
+pub returns-clause-compiled : goal.returns-clause-compiled
+returns-clause-compiled c = compiled_types_differ
