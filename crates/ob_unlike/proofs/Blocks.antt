@@ -2,7 +2,7 @@
 use Rattle.std.proofs.Common.{◌≡◌, ◌⊎◌, inl, inr, ℕ, ◌+◌, ◌<◌, Bool, true, false, List, [], ◌∷◌, ◌++◌, length, map as each, Option, Some, None, refl, sym, ap, subst, ◌∙◌, append_assoc, length-append, arith}
 use Rattle.std.specs.Prelude.{◌==◌, cond, bytes_eq, is_some, not, decimal}
 use Rattle.std.specs.List.{AllByRecursion, filter_map, find}
-use Rattle.std.proofs.lemmas.Bool.{and_parts}
+use Rattle.std.proofs.lemmas.Bool.{and_parts, not-true}
 use Rattle.std.proofs.lemmas.Slice.Eq.{bytes_eq-Decides}
 use Rattle.ob_tree.specs.declared.decl.Decl.{Decl}
 use Rattle.ob_types.specs.declared.desc.Desc.TheVariants as desc
@@ -174,10 +174,6 @@ answer_parts true true (Some a) None x y f e c i = absurd cc
 answer_parts true false a b x y f e c i = absurd cc
 answer_parts false q a b x y f e c i = absurd cc
 
-not_true : (b : Bool) → not b ≡ true → b ≡ false
-not_true true e = absurd cc
-not_true false e = refl
-
 -- ---- no field of that name
 
 found_is : (ts : List TypedType) (x : List ℕ) (r : TypedType) → IsAmong r ts → r.name ≡ x → (t : TypedType) × IsAmong t ts × (t.name ≡ x) × (found ts x ≡ Some t)
@@ -325,7 +321,7 @@ module _ (xs : List Decl) (named : all_true (each decl_named xs) ≡ true) (body
           let k = answered (map_of hs.around) all h f (all_answered (map_of hs.around) all all quiet_forwards h i) in
           let t = and_parts (not k.0.forward) (answers_by h.is_bound k.0.is_bound h.bound k.0.bound h.name k.0.name) k.2 in
           let r = answer_parts h.is_bound k.0.is_bound h.bound k.0.bound h.name k.0.name ((facts h i).bound a e).flag t.1 a e in
-          ap (λ x. field_at hs.around.own x h.name) r.3 ∙ ap (λ x. field_at hs.around.own r.0.owner.object x) r.4 ∙ of_bound k.0 k.1 r.0 r.2 (not_true k.0.forward t.0)
+          ap (λ x. field_at hs.around.own x h.name) r.3 ∙ ap (λ x. field_at hs.around.own r.0.owner.object x) r.4 ∙ of_bound k.0 k.1 r.0 r.2 (not-true k.0.forward t.0)
 
   -- its record has no field of its name, where shorter names are each of one type
   owner_of : (h : Head) → IsAmong h all → (a : BoundAs) → h.bound ≡ Some a → (l : ℕ) → AreUnique ss its l → length a.owner.object < l → HasOwner ss its a.owner.object h.name

@@ -1,8 +1,8 @@
 -- A heading: what it is bound to, and the types that it makes.
 use Rattle.std.proofs.Common.{◌≡◌, inl, inr, ℕ, Bool, true, false, List, [], ◌∷◌, ◌++◌, map as each, Option, Some, None, refl, sym, ap, subst, ◌∙◌, append_assoc}
-use Rattle.std.specs.Prelude.{◌==◌, ◌||◌, ◌&&◌, not, cond, is_some, bytes_eq}
+use Rattle.std.specs.Prelude.{◌==◌, ◌&&◌, not, cond, is_some, bytes_eq}
 use Rattle.std.specs.List.{AllByRecursion, cons_option, filter_map, list_any}
-use Rattle.std.proofs.lemmas.Bool.{and_parts}
+use Rattle.std.proofs.lemmas.Bool.{and_parts, or_parts, not-true}
 use Rattle.std.proofs.lemmas.Slice.Eq.{bytes_eq-Decides}
 use Rattle.ob_tree.specs.declared.names.QName.{QName}
 use Rattle.ob_tree.specs.declared.ident.Mark.{Mark}
@@ -145,17 +145,9 @@ no_path : (x : List ℕ) → nothing x ≡ true → x ≡ []
 no_path [] e = refl
 no_path (c ∷ x) e = absurd cc
 
-or_false : (a b : Bool) → (a || b) ≡ false → (a ≡ false) × (b ≡ false)
-or_false true b e = absurd cc
-or_false false b e = (refl, e)
-
 no_slash : (x : List ℕ) → list_any (λ c. c == 47) x ≡ false → IsInScope x
 no_slash [] e = tt
-no_slash (c ∷ x) e = let h = or_false (c == 47) (list_any (λ c. c == 47) x) e in (h.0, no_slash x h.1)
-
-not_true : (b : Bool) → not b ≡ true → b ≡ false
-not_true true e = absurd cc
-not_true false e = refl
+no_slash (c ∷ x) e = let h = or_parts (c == 47) (list_any (λ c. c == 47) x) e in (h.0, no_slash x h.1)
 
 owner_is : (w : Around) (var : Bool) (t : TypeRef) (q : QName) → own_record w (received_record (map_of w) var t) ≡ Some q → IsOwner w q
 owner_is w var t q e =
@@ -164,7 +156,7 @@ owner_is w var t q e =
     let r = received (map_of w) var t q h.2 in
     record {
       path = no_path w.path h.1;
-      scope = no_slash q.object (not_true (list_any (λ c. c == 47) q.object) k.1);
+      scope = no_slash q.object (not-true (list_any (λ c. c == 47) q.object) k.1);
       unit = k.0;
       holds = found_record w.own q.object r.0 (subst (λ b. type_desc b (same_name q out_string) w q ≡ Some (desc.Record r.0)) k.0 r.1);
     }

@@ -2,7 +2,7 @@
 use Rattle.std.proofs.Common.{◌≡◌, ℕ, Bool, true, false, List, [], ◌∷◌, ◌++◌, Option, Some, None, refl, sym, ap, subst, ◌∙◌, inl, inr, ◌⊎◌}
 use Rattle.std.specs.Prelude.{cond, bytes_eq, not, ◌&&◌}
 use Rattle.std.specs.List.{AllByRecursion}
-use Rattle.std.proofs.lemmas.Bool.{and_from, and_parts, or_parts}
+use Rattle.std.proofs.lemmas.Bool.{and_from, and_parts, or_parts, not-true, not-false}
 use Rattle.std.proofs.lemmas.Slice.Eq.{bytes_eq-Decides}
 use Rattle.ob_rules.specs.Names.{Around}
 use Rattle.ob_rules.specs.Types.{Parameters}
@@ -60,14 +60,6 @@ forward_twice : (o : Option Head) → head_twice true o ≡ false → o ≡ None
 forward_twice None e = refl
 forward_twice (Some h) e = absurd cc
 
-true_not : (b : Bool) → not b ≡ true → b ≡ false
-true_not true e = absurd cc
-true_not false e = refl
-
-false_not : (b : Bool) → not b ≡ false → b ≡ true
-false_not true e = refl
-false_not false e = absurd cc
-
 not_like : (v : Around) (x : List ℕ) (f : Bool) (hs : List Head) → head_twice f (plain_before hs x) ≡ false → ArePlainOnce v hs → AllByRecursion (λ k. IsLike x f k → ⊥) hs
 not_like v x f [] e once = tt
 not_like v x f (k ∷ hs) e once = by (not k.is_bound && bytes_eq k.name x) refl e (λ i. not_like v x f hs i once.1)
@@ -76,8 +68,8 @@ not_like v x f (k ∷ hs) e once = by (not k.is_bound && bytes_eq k.name x) refl
     by true i e r =
         let p = or_parts f (not k.forward) e in
         let q = and_parts (not k.is_bound) (bytes_eq k.name x) i in
-        let forward : k.forward ≡ true = false_not k.forward p.1 in
-        let mine = (once.0 (true_not k.is_bound q.0)).once in
+        let forward : k.forward ≡ true = not-false k.forward p.1 in
+        let mine = (once.0 (not-true k.is_bound q.0)).once in
         let none : plain_before hs k.name ≡ None = forward_twice (plain_before hs k.name) (subst (λ g. head_twice g (plain_before hs k.name) ≡ false) forward mine) in (
           (λ l. let bad : true ≡ false = sym forward ∙ l.2 ∙ p.0 in absurd cc),
           none_like x f hs (subst (λ y. plain_before hs y ≡ None) ((bytes_eq-Decides k.name x).0 q.1) none),
