@@ -5,12 +5,10 @@ use Rattle.std.specs.List.{AllByRecursion, find, filter_map, list_all}
 use Rattle.std.proofs.lemmas.Bool.{false≢true, and_parts}
 use Rattle.ob_tree.specs.declared.names.QName.{QName}
 use Rattle.ob_tree.specs.declared.ident.Ident.{Ident}
-use Rattle.ob_tree.specs.declared.ident.IdentDef.{IdentDef}
 use Rattle.ob_tree.specs.declared.ident.Import.{Import}
 use Rattle.ob_tree.specs.declared.decl.Decl.{Decl, roll-Decl, map-Decl}
 use Rattle.ob_tree.specs.declared.decl.Decl.TheOpen.{Decl-F}
 use Rattle.ob_tree.specs.declared.decl.Decl.TheFolds.{ind-Decl, fold-roll-Decl}
-use Rattle.ob_tree.specs.declared.decl.Module.{Module as Tree}
 use Rattle.ob_types.specs.declared.desc.Desc.{Desc}
 use Rattle.ob_types.specs.declared.typed.TypedType.{TypedType}
 use Rattle.ob_types.specs.declared.typed.TypedModule.{TypedModule}
@@ -22,12 +20,11 @@ use Rattle.ob_rules.specs.Types.{written, is_module_level, nothing, with_types}
 use Rattle.ob_rules.specs.Statements.{Judging, judging, in_turn}
 use Rattle.ob_rules.specs.Headings.{Head, Heads, forwards_judged, leaves_room, reversed}
 use Rattle.ob_rules.specs.Declarations.{Declared, Declaration, Plain, Procedure, plain_of, procedure_of, type_name_of, in_order, headings_in_order, Written_procedure, around_body, closing_judged, procedure_judged, procedures_judged, body_part, with_bound, binding_at, all_judged, field_judged, heads_later, pointers_judged, block, decl_rule, declaration, target_of, import_declared, imports_declared, around_module, module_of, name_judged, described, all_described, typed_module}
-use Rattle.ob_distinct.specs.Named.{is_word, all_true, are_words, type_named, parameters_named, decl_layer, decl_named}
+use Rattle.ob_distinct.specs.Named.{is_word, all_true, parameters_named, decl_layer, decl_named}
 use Rattle.ob_distinct.proofs.Fresh.{front_empty, back_empty, all_both, all_from}
 use Rattle.ob_distinct.proofs.Blocks.{unbroken_is}
 use Rattle.ob_distinct.proofs.Written.{words_are}
 use Rattle.ob_distinct.proofs.FieldHeads.{reversed_good}
-use Rattle.ob_apart.specs.Once.{AreQuiet}
 use Rattle.ob_apart.proofs.Judged.{headings_quiet}
 use Rattle.ob_worded.proofs.Reading.{readings_are_worded}
 use Rattle.ob_said.specs.Procedures.{ShowBases}
@@ -42,8 +39,8 @@ use Rattle.ob_unlike.specs.Unlike.{types_of_heads, IsWithin}
 use Rattle.ob_unlike.proofs.Blocks.{blocks_differ}
 use Rattle.ob_differ.specs.Differ.{TypesDiffer, ReadTypesDiffer}
 use Rattle.ob_differ.proofs.Past.{ArePast, none_forward, more_past, order_past, decls_past, imports_past, IsInner, ArePastHeads, headings_past}
-use Rattle.ob_differ.proofs.Stand.{heads_from, heads_are, word_plain, Stands, AllStand, IsWellHeading, heads_stand}
-use Rattle.ob_differ.proofs.Strokes.{Differ, AreUnlike, differ_join, differ_front, differ_back, differ_cross, front_all, back_all, IsStem, BlockIs, inner_types, AreInside, covered, heading_rest, procedures_unlike}
+use Rattle.ob_differ.proofs.Stand.{heads_from, heads_are, word_plain, AllStand, IsWellHeading, heads_stand}
+use Rattle.ob_differ.proofs.Strokes.{Differ, differ_join, differ_front, differ_back, differ_cross, front_all, back_all, BlockIs, inner_types, AreInside, covered, heading_rest, procedures_unlike}
 
 pub record GoodProcedure (p : Written_procedure) : Type 0 where
   pub heading : IsWellHeading p

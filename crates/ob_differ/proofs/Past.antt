@@ -1,6 +1,6 @@
 -- Forward declarations stand in outer scopes, where a sequence of declarations begins.
-use Rattle.std.proofs.Common.{◌≡◌, ℕ, suc, ◌+◌, ◌<◌, Bool, true, false, List, [], ◌∷◌, ◌++◌, length, map, Option, Some, None, refl, sym, ap, subst, ◌∙◌, cond, arith}
-use Rattle.std.specs.Prelude.{nat_eq, nat_lt, bytes_eq, ◌&&◌}
+use Rattle.std.proofs.Common.{◌≡◌, ℕ, suc, ◌+◌, ◌<◌, Bool, true, false, List, [], ◌∷◌, ◌++◌, length, map, Option, Some, None, refl, sym, subst, ◌∙◌, cond, arith}
+use Rattle.std.specs.Prelude.{nat_eq, nat_lt, bytes_eq}
 use Rattle.std.specs.List.{AllByRecursion, cons_option, find, filter, filter_map}
 use Rattle.std.proofs.lemmas.Bool.{eqb-true, and_parts}
 use Rattle.ob_tree.specs.declared.ident.Ident.{Ident}
@@ -15,14 +15,13 @@ use Rattle.ob_tree.specs.declared.decl.Decl.TheFolds.{ind-Decl, fold-roll-Decl}
 use Rattle.ob_types.specs.declared.types.Mode.{Mode}
 use Rattle.ob_types.specs.declared.value.Value.{Value}
 use Rattle.ob_rules.specs.declared.entity.Entity.{Entity}
-use Rattle.ob_rules.specs.declared.entity.Entity.TheVariants as entity
 use Rattle.ob_rules.specs.declared.entity.Known.{Known}
 use Rattle.ob_rules.specs.Judged.{both, ◌▷◌}
 use Rattle.ob_rules.specs.Names.{Around, in_scope, found_in_scope}
 use Rattle.ob_rules.specs.Phrases.{Phrase}
 use Rattle.ob_rules.specs.Expressions.{phrase_of, constant_value}
-use Rattle.ob_rules.specs.Types.{Typing, Written, WrittenSection, WrittenParameters, Parameters, written, with_types, marked, inner, mode_of, parameter_as, declare_all, with_made, section_name, sections, parameters_in}
-use Rattle.ob_rules.specs.Headings.{BoundAs, WrittenHeading, Head, Heads, owner_if, knows_receiver, of_scope, heading_parameters, head_of, head_entity, leaves_room, name_twice, declared_head, knows_procedure, known_behind, types_of, add_heading, mark_or_hidden}
+use Rattle.ob_rules.specs.Types.{Typing, Written, WrittenSection, written, with_types, marked, inner, mode_of, parameter_as, declare_all, with_made, section_name, sections}
+use Rattle.ob_rules.specs.Headings.{BoundAs, WrittenHeading, Head, Heads, owner_if, knows_receiver, heading_parameters, head_of, leaves_room, name_twice, declared_head, knows_procedure, known_behind, types_of, add_heading, mark_or_hidden}
 use Rattle.ob_rules.specs.Declarations.{Declared, declare_if, no_nil, constant_entity, constant_declared, typing_as, type_entity, types_made, type_declared, variable_entity, paired_typing, variable_marked, variables_with, made_in, first_name, variables_declared, Written_procedure, Declaration, Plain, Procedure, plain_of, in_order, headings_in_order, decl_rule, declaration, is_system, import_entity, import_declared, target_of}
 use Rattle.std.specs.Prelude.{codes}
 use Rattle.ob_distinct.proofs.Fresh.{all_both, all_from}

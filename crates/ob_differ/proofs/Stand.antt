@@ -4,7 +4,7 @@ use Rattle.std.specs.Prelude.{◌==◌}
 use Rattle.std.specs.List.{AllByRecursion}
 use Rattle.std.proofs.lemmas.Bool.{false≢true}
 use Rattle.ob_rules.specs.Names.{Around}
-use Rattle.ob_rules.specs.Types.{Parameters, with_types}
+use Rattle.ob_rules.specs.Types.{with_types}
 use Rattle.ob_rules.specs.Headings.{BoundAs, Head, Heads, head_of, path_by, name_twice, declared_head, knows_procedure, known_behind, types_of, add_heading, reversed}
 use Rattle.ob_rules.specs.Declarations.{Written_procedure, headings_in_order}
 use Rattle.ob_distinct.specs.Parts.{is_mark, IsWord}
@@ -88,8 +88,7 @@ module _ (path : List ℕ) (x : Written_procedure) (ps : List Written_procedure)
       let i : IsHead hs.around d = head_good hs.around x.heading x.forward well.sections well.plain g.known g.based q.0 in
       let typed : GoodHeads (record { around = v; before = hs.before }) = typed_good hs (types_of d.parameters) (types_pointed hs.around d.parameters i.parameters) g in
       let has : Has (λ p. Unit {0}) d.parameters = has_more (λ p. Points hs.around p.made) (λ p. Unit {0}) d.parameters (λ p h. tt) i.parameters in
-      let next : GoodHeads (record { around = known_behind v false d; before = h ∷ hs.before }) = added (record { around = v; before = hs.before }) typed d i.plain has i.bound n h refl refl refl in
-      (
+      let next : GoodHeads (record { around = known_behind v false d; before = h ∷ hs.before }) = added (record { around = v; before = hs.before }) typed d i.plain has i.bound n h refl refl refl in (
         (
           refl,
           record {

@@ -1,6 +1,5 @@
 -- Types inside procedures have a stroke behind the key of their procedure, and so differ from all others of a sequence.
 use Rattle.std.proofs.Common.{◌≡◌, ◌≢◌, ℕ, Bool, true, false, List, [], ◌∷◌, ◌++◌, refl, sym, ap, subst, ◌∙◌, codes, append_assoc, append-nil}
-use Rattle.std.specs.Prelude.{◌==◌}
 use Rattle.std.specs.List.{AllByRecursion}
 use Rattle.std.proofs.lemmas.Bool.{false≢true}
 use Rattle.ob_types.specs.declared.typed.TypedType.{TypedType}
@@ -136,8 +135,8 @@ module _ (u : Around) (path : List ℕ) where
   inner_rest before h stands f ps hs stand inside w [] b = tt
   inner_rest before h stands f ps hs stand inside w (t ∷ ts) b = (
     covered (λ (y : TypedType). y.name ≢ t.name) (h ∷ before) ps hs stand inside
-    (all_from (λ (y : TypedType). IsWithin path y.name) (λ (y : TypedType). y.name ≢ t.name) (λ y i. stem_apart path before y.name t.name i (inner_stem path before h stands t b.0)) (types_of_heads hs) w)
-    (λ y s e. stems_apart path (key_of h) b.0.0 before h t.name y.name refl stands.lacks f (inner_is path (key_of h) h.path t.name b.0.0 stands.path_is b.0.1) s (sym e)),
+        (all_from (λ (y : TypedType). IsWithin path y.name) (λ (y : TypedType). y.name ≢ t.name) (λ y i. stem_apart path before y.name t.name i (inner_stem path before h stands t b.0)) (types_of_heads hs) w)
+        (λ y s e. stems_apart path (key_of h) b.0.0 before h t.name y.name refl stands.lacks f (inner_is path (key_of h) h.path t.name b.0.0 stands.path_is b.0.1) s (sym e)),
     inner_rest before h stands f ps hs stand inside w ts b.1,
   )
 
