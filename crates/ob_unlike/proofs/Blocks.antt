@@ -247,10 +247,10 @@ module _ (xs : List Decl) (named : all_true (each decl_named xs) ≡ true) (body
   binding = binding_at (is_module_level u) hs.around all
 
   quiet_plain : plain.part.notes.broken ≡ []
-  quiet_plain = front_empty plain.part.notes.broken (pointers_judged v plain.part.notes.later).broken (front_empty (plain.part.notes.broken ++ (pointers_judged v plain.part.notes.later).broken) _ quiet)
+  quiet_plain = front_empty plain.part.notes.broken (pointers_judged hs.around (plain.part.notes.later ++ heads_later hs.before)).broken (front_empty (plain.part.notes.broken ++ (pointers_judged hs.around (plain.part.notes.later ++ heads_later hs.before)).broken) _ quiet)
 
   quiet_headed : (block_headed u plain.part.notes.later ps body hs).notes.broken ≡ []
-  quiet_headed = back_empty (plain.part.notes.broken ++ (pointers_judged v plain.part.notes.later).broken) _ quiet
+  quiet_headed = back_empty (plain.part.notes.broken ++ (pointers_judged hs.around (plain.part.notes.later ++ heads_later hs.before)).broken) _ quiet
 
   quiet_binding : binding.notes.broken ≡ []
   quiet_binding = front_empty binding.notes.broken _ (front_empty (binding.notes.broken ++ _) _ quiet_headed)
