@@ -1,0 +1,2 @@
+//! The statements of modules that are read.
+#![tactic(auto)]
