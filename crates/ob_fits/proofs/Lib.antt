@@ -6,3 +6,4 @@ pub mod Calls
 pub mod Functions
 pub mod Designators
 pub mod Expressions
+pub mod Statements
