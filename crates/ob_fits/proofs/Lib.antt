@@ -7,3 +7,8 @@ pub mod Functions
 pub mod Designators
 pub mod Expressions
 pub mod Statements
+pub mod Bodies
+pub mod Heads
+pub mod Modules
+pub mod Views
+pub mod Texts

@@ -160,5 +160,5 @@ variables_are xs x = ap decl_fits (sym (d.rolls-Variables xs x)) ∙ fold-roll-D
 pub procedure_decl_is : (h : Heading) (ds : List Decl) (ss : List Stmt) (c : Ident) → decl_fits (d.Procedure h ds ss c) ≡ pos_fits h.name.ident.pos && (all_true (map decl_fits ds) && all_true (map stmt_fits ss))
 procedure_decl_is h ds ss c = ap decl_fits (sym (d.rolls-Procedure h ds ss c)) ∙ fold-roll-Decl Bool decl_layer (Decl-F.Procedure h ds ss c)
 
-pub forward_is : (h : Heading) → decl_fits (d.Forward h) ≡ true
+pub forward_is : (h : Heading) → decl_fits (d.Forward h) ≡ pos_fits h.name.ident.pos
 forward_is h = ap decl_fits (sym (d.rolls-Forward h)) ∙ fold-roll-Decl Bool decl_layer (Decl-F.Forward h)

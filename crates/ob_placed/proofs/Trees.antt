@@ -351,7 +351,7 @@ heading_ok : (x : Heading) → H de.heading x → pos_fits x.name.ident.pos ≡ 
 heading_ok x h = subst (λ (x : Heading). pos_fits x.name.ident.pos ≡ true) h.1 (def_ok h.0.1.0 h.2.1.0)
 
 forward_ok : (x : Decl) → H de.forward x → IsDecl x
-forward_ok x h = subst IsDecl h.1 (forward_is h.0.1)
+forward_ok x h = subst IsDecl h.1 (forward_is h.0.1 ∙ heading_ok h.0.1 h.2.1)
 
 abbrev Decls : List Decl → Type 0
 Decls ds = All decl_fits ds

@@ -132,7 +132,7 @@ decl_layer (Decl-F.Constant d x) = expr_fits x
 decl_layer (Decl-F.NamedType d n) = true
 decl_layer (Decl-F.Variables ds n) = true
 decl_layer (Decl-F.Procedure h ds body closing) = pos_fits h.name.ident.pos && (all_true ds && all_true (map stmt_fits body))
-decl_layer (Decl-F.Forward h) = true
+decl_layer (Decl-F.Forward h) = pos_fits h.name.ident.pos
 
 abbrev pub decl_fits : Decl → Bool
 decl_fits = fold-Decl Bool decl_layer
