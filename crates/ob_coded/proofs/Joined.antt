@@ -1,12 +1,9 @@
 -- Names of other modules that have a spelling, and all else that fits: what statements say is coded.
-use Rattle.std.proofs.Common.{◌≡◌, false, List, [], ◌∷◌, ◌++◌, Option, Some, None}
-use Rattle.std.specs.Prelude.{ℕ, Bool, true, IfSome}
-use Rattle.std.specs.List.{AllByRecursion}
-use Rattle.ob_tree.specs.declared.pos.Pos.{Pos}
+use Rattle.std.proofs.Common.{List, [], ◌∷◌, ◌++◌, Some, None}
+use Rattle.std.specs.Prelude.{ℕ, Bool, true}
 use Rattle.ob_tree.specs.declared.names.QName.{QName}
 use Rattle.ob_types.specs.declared.types.TypeRef.{TypeRef}
 use Rattle.ob_types.specs.declared.types.TypeRef.TheVariants as ref
-use Rattle.ob_types.specs.declared.value.Value.{Value}
 use Rattle.ob_types.specs.declared.value.Value.TheVariants as literal
 use Rattle.ob_types.specs.declared.typed.Passing.{Passing}
 use Rattle.ob_types.specs.declared.typed.Passing.TheVariants as passing
@@ -20,14 +17,14 @@ use Rattle.ob_types.specs.declared.typed.Made.{Made}
 use Rattle.ob_types.specs.declared.typed.Made.TheVariants as made
 use Rattle.ob_types.specs.TypedSyntax.{Desig, OfVariable, Field, Index, Deref, Guard, Expr, Constant, ValueOf, ProcedureValue, Monadic, Dyadic, Logical, CompareTexts, IsPointer, IsRecord, Length, Call, CallVariable, Actuals, NoActual, AnActual, Stmt, Assign, CallProper, Updated, Copy, New, NewOpenArray, Assert, Halt, If, Case, While, Repeat, For, Loop, Exit, Return, With, Stmts, Nothing, Then, Branches, NoBranch, Branch, Cases, NoCase, OneCase, Otherwise, NoElse, Else}
 use Rattle.ob_format.specs.Names.{name}
-use Rattle.ob_counts.specs.Counts.{Count, Shapes, Layouts, both, counts_of_call, counts_of_held_call, counts_of_designator, counts_of_expr, counts_of_actuals, target_counts, made_counts, counts_of, counts_of_all, counts_of_branches, counts_of_cases, counts_of_else}
-use Rattle.ob_code.specs.Context.{Context, words, is_own}
+use Rattle.ob_counts.specs.Counts.{Count, Shapes, Layouts, both, counts_of_call, counts_of_held_call, counts_of_designator, counts_of_expr, counts_of_actuals, made_counts, counts_of, counts_of_all, counts_of_branches, counts_of_cases, counts_of_else}
+use Rattle.ob_code.specs.Context.{Context, words}
 use Rattle.ob_mentions.specs.Agreement.{IsIn}
 use Rattle.ob_mentions.specs.Said.{CountsIn}
 use Rattle.ob_named.specs.Mentions.{Any}
-use Rattle.ob_named.specs.Trees.{VariableNamed, CalleeNamed, DesigNamed, ExprNamed, ActualsNamed, ResultNamed, StmtNamed, StmtsNamed, BranchesNamed, CasesNamed, ElseNamed}
-use Rattle.ob_recorded.specs.Trees.{IsRecordType, CalleeRecorded, DesigRecorded, ExprRecorded, ActualsRecorded, AssignedRecorded, MadeRecorded, ResultRecorded, StmtRecorded, StmtsRecorded, BranchesRecorded, CasesRecorded, ElseRecorded}
-use Rattle.ob_written.specs.Coded.{ProcedureIsCoded, VariableIsCoded, RecordIsCoded, TypeIsCoded, CalleeIsCoded, PassedIsCoded, DesigIsCoded, ExprIsCoded, ActualsAreCoded, AssignedIsCoded, MadeIsCoded, StmtIsCoded, StmtsAreCoded, BranchesAreCoded, CasesAreCoded, ElseIsCoded}
+use Rattle.ob_named.specs.Trees.{VariableNamed, CalleeNamed, DesigNamed, ExprNamed, ActualsNamed, StmtNamed, StmtsNamed, BranchesNamed, CasesNamed, ElseNamed}
+use Rattle.ob_recorded.specs.Trees.{IsRecordType, CalleeRecorded, DesigRecorded, ExprRecorded, ActualsRecorded, AssignedRecorded, MadeRecorded, StmtRecorded, StmtsRecorded, BranchesRecorded, CasesRecorded, ElseRecorded}
+use Rattle.ob_written.specs.Coded.{VariableIsCoded, RecordIsCoded, TypeIsCoded, CalleeIsCoded, PassedIsCoded, DesigIsCoded, ExprIsCoded, ActualsAreCoded, AssignedIsCoded, MadeIsCoded, StmtIsCoded, StmtsAreCoded, BranchesAreCoded, CasesAreCoded, ElseIsCoded}
 use Rattle.ob_coded.specs.Fits.{PassedFits, DesigFits, ExprFits, ActualsFit, StmtFits, StmtsFit, BranchesFit, CasesFit, ElseFits}
 
 pub counts_front : (P : QName → Type 0) (xs ys : List Count) → CountsIn P (xs ++ ys) → CountsIn P xs

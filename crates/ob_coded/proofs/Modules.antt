@@ -1,6 +1,6 @@
 -- The names in the statements of a checked module.
 use Rattle.std.proofs.Common.{◌≡◌, ℕ, zero, suc, arith, List, [], ◌∷◌, Bool, true, false, cond, Option, Some, None, map as each, refl, sym, ap, ◌∙◌, subst}
-use Rattle.std.specs.Prelude.{bytes_eq, ◌&&◌, codes}
+use Rattle.std.specs.Prelude.{bytes_eq, codes}
 use Rattle.std.specs.List.{AllByRecursion, list_all}
 use Rattle.std.specs.Option.{option_map}
 use Rattle.std.proofs.lemmas.Bool.{false≢true, and_parts}
@@ -24,13 +24,11 @@ use Rattle.ob_layout.specs.LaidOut.{is_own, type_named, laid_type, laid_out, vie
 use Rattle.ob_env.specs.Faces.{Face, described}
 use Rattle.ob_env.specs.Fit.{first_unfit, is_held, steps_of}
 use Rattle.ob_env.specs.Shown.{blank, shown}
-use Rattle.ob_counts.specs.Counts.{own_name, counts_of_all}
+use Rattle.ob_counts.specs.Counts.{own_name}
 use Rattle.ob_uses.specs.Closed.{is_among}
 use Rattle.ob_uses.proofs.Searching.{itself, left_of, in_back}
-use Rattle.ob_code.specs.Context.{Context}
 use Rattle.ob_code.specs.Descriptions.{name_in}
 use Rattle.ob_code.specs.Procedures.{body_of, within}
-use Rattle.ob_rules.specs.Names.{out_string}
 use Rattle.ob_rules.specs.Declarations.{checked}
 use Rattle.ob_distinct.specs.Distinct.{AreDistinct}
 use Rattle.ob_mentions.specs.Agreement.{IsIn, AreIn}
@@ -46,7 +44,7 @@ use Rattle.ob_recorded.specs.Trees.{IsRecordType, StmtsRecorded, ModuleRecorded}
 use Rattle.ob_recorded.specs.Told.{IsTold}
 use Rattle.ob_recorded.specs.Told as told
 use Rattle.ob_recorded.proofs.Modules.{modules_recorded}
-use Rattle.ob_written.specs.Coded.{BodyIsCoded, RecordIsCoded, TypeIsCoded}
+use Rattle.ob_written.specs.Coded.{BodyIsCoded, RecordIsCoded}
 use Rattle.ob_written.specs.Laws.{Text, IsSpelled}
 use Rattle.ob_written.proofs.Names.{described_fits}
 use Rattle.ob_written.proofs.Fit.{described_fit}

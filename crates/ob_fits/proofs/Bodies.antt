@@ -13,11 +13,9 @@ use Rattle.ob_rules.specs.Statements.{Judging, Conditional, Labelled, GuardedBod
 use Rattle.std.specs.Prelude.{◌&&◌}
 use Rattle.ob_tree.specs.declared.ident.Ident.{Ident}
 use Rattle.ob_tree.specs.declared.expr.Element.{Element}
-use Rattle.ob_tree.specs.declared.ident.Qualident.{Qualident}
 use Rattle.ob_tree.specs.declared.stmt.Guard.{Guard}
 use Rattle.ob_relation.proofs.Names.{and_both}
 use Rattle.ob_typed.specs.Spelled.{all_true}
-use Rattle.ob_typed.specs.Bodies.{all_if}
 use Rattle.ob_written.specs.Coded.{PosFits}
 use Rattle.ob_placed.specs.Placed.{pos_fits, expr_fits, designator_fits, element_fits, fits_if, qualifier_fits, name_fits, stmt_layer, branch_layer, case_layer, guarded_layer, stmt_fits, branch_fits, case_fits, guarded_fits}
 use Rattle.ob_fits.proofs.Setting.{Setting, IfThere}

@@ -1,6 +1,6 @@
 -- Actual parameters and calls fit where their parts do.
-use Rattle.std.proofs.Common.{◌≡◌, Bool, true, false, List, [], ◌∷◌, length, map, Option, Some, None, refl, sym, ap, subst, ◌∙◌}
-use Rattle.std.specs.Prelude.{is_some, not, ◌||◌}
+use Rattle.std.proofs.Common.{Bool, true, false, List, [], ◌∷◌, length, map, Option, Some, None, sym, subst}
+use Rattle.std.specs.Prelude.{is_some}
 use Rattle.std.specs.List.{AllByRecursion}
 use Rattle.ob_tree.specs.declared.pos.Pos.{Pos}
 use Rattle.ob_tree.specs.declared.names.QName.{QName}
@@ -20,10 +20,8 @@ use Rattle.ob_types.specs.declared.typed.Actual.{Actual}
 use Rattle.ob_types.specs.declared.typed.Designator.TheFolds.{fold-roll-Actual}
 use Rattle.ob_types.specs.declared.typed.TypedExpr.{TypedExpr}
 use Rattle.ob_types.specs.declared.typed.TypedExpr.TheVariants as e
-use Rattle.ob_types.specs.Tests.{target, shape_at, type_eq, same_at}
-use Rattle.ob_types.specs.TypedKinds.{result_type, variable_type}
-use Rattle.ob_types.proofs.Sameness.{type_eq_decides}
-use Rattle.ob_types.specs.TypedSyntax.{Desig, Deref, Expr, ValueOf, Call, CallVariable, Actuals}
+use Rattle.ob_types.specs.TypedKinds.{result_type}
+use Rattle.ob_types.specs.TypedSyntax.{Desig, Deref, Expr, ValueOf, Call, CallVariable}
 use Rattle.ob_types.specs.TypedView.{OneActual, designator_layer, expr_layer, actual_layer, designator_view, expr_view, actual_view, actuals_view}
 use Rattle.ob_types.proofs.TypedViews.{view_value_of, view_deref, view_call, view_call_variable}
 use Rattle.ob_rules.specs.declared.values.Place.{Place}
@@ -33,11 +31,11 @@ use Rattle.ob_rules.specs.declared.meant.Meant.{Meant}
 use Rattle.ob_rules.specs.declared.meant.Meant.TheVariants as means
 use Rattle.ob_rules.specs.declared.meant.Where.{Where}
 use Rattle.ob_rules.specs.Judged.{Judged, sound, both, also, wants}
-use Rattle.ob_rules.specs.Shapes.{Map, record_at, record_of, open_element, is_array, by_value, by_var, is_open, is_record, is_structured, passing_of}
+use Rattle.ob_rules.specs.Shapes.{Map, open_element, is_array, by_var, is_open, is_record, passing_of}
 use Rattle.ob_rules.specs.Names.{Around, map_of}
 use Rattle.ob_rules.specs.Values.{computed}
 use Rattle.ob_rules.specs.Phrases.{Phrase, record_receiver, receiver_place}
-use Rattle.ob_rules.specs.Calls.{both_records, takes_variable, actual_of, unless_guarded, unless_read_only, variable_actual, meant_actual, var_actual, tree_for, value_actual, actual, actuals, misplaced, called_with, called, call_procedure, call_variable, out_signature, call_out, bound_callee, receiver_actual, nearest_sound, where_from, call_bound_sound, call_bound, takes_value}
+use Rattle.ob_rules.specs.Calls.{actual_of, unless_guarded, unless_read_only, variable_actual, meant_actual, var_actual, tree_for, value_actual, actual, actuals, misplaced, called_with, called, call_procedure, call_variable, out_signature, call_out, bound_callee, receiver_actual, nearest_sound, where_from, call_bound_sound, call_bound, takes_value}
 use Rattle.ob_written.specs.Coded.{PosFits}
 use Rattle.ob_coded.specs.Fits.{PassedFits, ExprFits, ActualsFit}
 use Rattle.ob_fits.proofs.Setting.{Setting, E, PlaceOk, NodeOk, ValuedOk, ChosenOk, MeantOk, Anything, Keeps, any_keeps, then_keeps, both_keep, wants_keeps, wants_so, also_keeps, named_e, node_e, named_d, tree_ok}

@@ -1,7 +1,7 @@
 -- The chains of aliases of all types end, in the view of a module whose own chains end, against interfaces that fit together.
 use Rattle.std.proofs.Common.{◌≡◌, ℕ, zero, suc, Bool, true, false, cond, List, [], ◌∷◌, Option, Some, None, refl, sym, ap, subst, ◌∙◌}
-use Rattle.std.specs.Prelude.{bytes_eq, ◌&&◌, ◌||◌, not}
-use Rattle.std.specs.List.{AllByRecursion, list_all}
+use Rattle.std.specs.Prelude.{bytes_eq}
+use Rattle.std.specs.List.{AllByRecursion}
 use Rattle.std.proofs.lemmas.Bool.{false≢true, and_parts}
 use Rattle.std.proofs.lemmas.Slice.Eq.{bytes_eq-Decides}
 use Rattle.ob_tree.specs.declared.names.QName.{QName}
@@ -50,13 +50,13 @@ module _ (map : QName → Option Desc) where
   within_ends (suc n) (ref.Named q) h = chain_ends n (map q) h (λ u i. within_ends n u i)
 
   -- an object that keeps the second condition
-  kept_ends : (q : QName) (d : Desc) → map q ≡ Some d → stands map 201 q d ≡ true → ends map 201 (ref.Named q) ≡ true
-  kept_ends q d i h = by d i h
+  kept_ends : (steps : ℕ) (q : QName) (d : Desc) → map q ≡ Some d → stands map steps q d ≡ true → ends map 201 (ref.Named q) ≡ true
+  kept_ends steps q d i h = by d i h
     where
       none : (d : Desc) → map q ≡ Some d → target_of (Some d) ≡ None → ends map 201 (ref.Named q) ≡ true
       none d i e = ap (λ o. ends_at (ends map 200) (target_of o)) i ∙ ap (ends_at (ends map 200)) e
 
-      by : (d : Desc) → map q ≡ Some d → stands map 201 q d ≡ true → ends map 201 (ref.Named q) ≡ true
+      by : (d : Desc) → map q ≡ Some d → stands map steps q d ≡ true → ends map 201 (ref.Named q) ≡ true
       by (desc.Alias m u) i h = within_ends 201 (ref.Named q) h
       by (desc.Const v) i h = none (desc.Const v) i refl
       by (desc.Var m t) i h = none (desc.Var m t) i refl
@@ -77,4 +77,58 @@ module _ (faces : List (Face Text)) (fit : first_unfit faces ≡ None) (m : Modu
   own_is : (q : QName) → is_own m q ≡ true → V q ≡ type_named m.types q.object
   own_is q e = ap (λ b. cond b (type_named m.types q.object) (described faces q)) e
 
-  -- what an alias of another module stands for is of no module's own
+  -- what an alias of another module stands for is none of the module's own
+  held_other : (r : QName) (o : Option Desc) → described faces r ≡ o → is_described is_type o ≡ true → is_own m r ≡ false
+  held_other r None i h = absurd (false≢true h)
+  held_other r (Some d) i h = apart r d i
+
+  alias_other : (q r : QName) (d : Desc) → described faces q ≡ Some d → target_of (Some d) ≡ Some (ref.Named r) → is_own m r ≡ false
+  alias_other q r (desc.Alias a u) i e =
+      let same : u ≡ ref.Named r = cc in
+      let k = and_parts (names_types (described faces) (steps_of faces) (desc.Alias a u)) _ (described_fit faces fit q (desc.Alias a u) i) in
+      let held = and_parts (is_held (described faces) (steps_of faces) u) true k.0 in
+      held_other r (described faces r) refl (subst (λ t. is_held (described faces) (steps_of faces) t ≡ true) same held.0)
+  alias_other q r (desc.Const v) i e = absurd cc
+  alias_other q r (desc.Var a t) i e = absurd cc
+  alias_other q r (desc.Proc s) i e = absurd cc
+  alias_other q r (desc.Array a k t) i e = absurd cc
+  alias_other q r (desc.OpenArray a t) i e = absurd cc
+  alias_other q r (desc.Pointer a t) i e = absurd cc
+  alias_other q r (desc.ProcType a s) i e = absurd cc
+  alias_other q r (desc.Record d) i e = absurd cc
+
+  next_other : (q r : QName) (o : Option Desc) → described faces q ≡ o → target_of o ≡ Some (ref.Named r) → is_own m r ≡ false
+  next_other q r None i e = absurd cc
+  next_other q r (Some d) i e = alias_other q r d i e
+
+  -- a chain of other modules' types
+  other_ends : (n : ℕ) (q : QName) → is_own m q ≡ false → ends (described faces) n (ref.Named q) ≡ true → ends V n (ref.Named q) ≡ true
+  other_ends zero q e h = h
+  other_ends (suc n) q e h = ap (λ o. ends_at (ends V n) (target_of o)) (other_is q e) ∙ by (target_of (described faces q)) refl h (λ r i j. other_ends n r i j)
+    where
+      by : (o : Option TypeRef) → target_of (described faces q) ≡ o → ends_at (ends (described faces) n) o ≡ true → ((r : QName) → is_own m r ≡ false → ends (described faces) n (ref.Named r) ≡ true → ends V n (ref.Named r) ≡ true) → ends_at (ends V n) o ≡ true
+      by None i h more = refl
+      by (Some (ref.Basic b)) i h more = refl
+      by (Some (ref.Named r)) i h more = more r (next_other q r (described faces q) refl i) h
+
+  other_type : (q : QName) → is_own m q ≡ false → (o : Option Desc) → described faces q ≡ o → ends V 201 (ref.Named q) ≡ true
+  other_type q e None i = ap (λ o. ends_at (ends V 200) (target_of o)) (other_is q e ∙ i)
+  other_type q e (Some d) i =
+      let k = and_parts (names_types (described faces) (steps_of faces) d) _ (described_fit faces fit q d i) in
+      let s = and_parts (stands (described faces) (steps_of faces) q d) _ k.1 in
+      other_ends 201 q e (kept_ends (described faces) (steps_of faces) q d i s.0)
+
+  own_type : (q : QName) → is_own m q ≡ true → (o : Option Desc) → type_named m.types q.object ≡ o → ends V 201 (ref.Named q) ≡ true
+  own_type q e None i = ap (λ o. ends_at (ends V 200) (target_of o)) (own_is q e ∙ i)
+  own_type q e (Some d) i =
+      let t = type_has (λ (t : TypedType). is_within V 200 (ref.Named (record { «module» = m.name; object = t.name })) ≡ true) m.types grounded q.object d i in
+      let same : (let p : QName = record { «module» = m.name; object = t.0.name } in p) ≡ q = ap (λ y. let p : QName = record { «module» = m.name; object = y } in p) t.1.0 ∙ ap (λ y. let p : QName = record { «module» = y; object = q.object } in p) (sym ((bytes_eq-Decides q.«module» m.name).0 e)) in
+      within_ends V 201 (ref.Named q) (more_within V 200 (ref.Named q) (subst (λ (p : QName). is_within V 200 (ref.Named p) ≡ true) same t.1.1.1))
+
+  pub all_end : (t : TypeRef) → ends V 201 t ≡ true
+  all_end (ref.Basic b) = refl
+  all_end (ref.Named q) = by (is_own m q) refl
+    where
+      by : (b : Bool) → is_own m q ≡ b → ends V 201 (ref.Named q) ≡ true
+      by true e = own_type q e (type_named m.types q.object) refl
+      by false e = other_type q e (described faces q) refl

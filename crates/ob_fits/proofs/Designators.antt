@@ -1,7 +1,7 @@
 -- Designators fit where their parts do.
-use Rattle.std.proofs.Common.{◌≡◌, ℕ, Bool, true, false, List, [], ◌∷◌, map, Option, Some, None, refl, sym, subst, ◌<◌, ◌^◌, ap, ◌∙◌}
+use Rattle.std.proofs.Common.{◌≡◌, ℕ, Bool, true, false, List, [], ◌∷◌, map, Option, Some, None, refl, ◌<◌, ◌^◌, ap}
 use Rattle.std.specs.Prelude.{bytes_eq, is_some, not, ◌&&◌, IfSome}
-use Rattle.std.specs.List.{AllByRecursion, find}
+use Rattle.std.specs.List.{AllByRecursion}
 use Rattle.ob_tree.specs.declared.pos.Pos.{Pos}
 use Rattle.ob_tree.specs.declared.names.QName.{QName}
 use Rattle.ob_tree.specs.declared.ident.Ident.{Ident}
@@ -16,11 +16,8 @@ use Rattle.ob_types.specs.declared.desc.Receiver.TheVariants as receiver
 use Rattle.ob_types.specs.declared.typed.Variable.{Variable}
 use Rattle.ob_types.specs.declared.typed.Variable.TheVariants as variable
 use Rattle.ob_types.specs.declared.typed.Guarded.{Guarded}
-use Rattle.ob_types.specs.declared.typed.Guarded.TheVariants as guarded
 use Rattle.ob_types.specs.declared.typed.OutProcedure.{OutProcedure}
 use Rattle.ob_types.specs.TypedSyntax.{OfVariable, Field as AField_, Index as AnIndex, Deref, Guard}
-use Rattle.ob_types.specs.TypedKinds.{variable_type}
-use Rattle.ob_types.specs.TypedSyntax.{Desig}
 use Rattle.ob_types.specs.TypedView.{designator_view, expr_view}
 use Rattle.ob_types.proofs.TypedViews.{view_variable, view_field, view_index, view_deref, view_guard}
 use Rattle.ob_rules.specs.declared.entity.Entity.{Entity}
@@ -33,18 +30,18 @@ use Rattle.ob_rules.specs.declared.meant.Meant.{Meant}
 use Rattle.ob_rules.specs.declared.meant.Meant.TheVariants as means
 use Rattle.ob_rules.specs.declared.meant.Where.{Where}
 use Rattle.ob_rules.specs.Judged.{Judged, sound, found_or, made}
-use Rattle.ob_rules.specs.Shapes.{Map, Member, AField, AMethod, member, pointed, pointed_record, record_of, array_of, is_array, is_held, signature_at, base_record}
+use Rattle.ob_rules.specs.Shapes.{Map, Member, AField, AMethod, member, pointed, record_of, array_of, is_array, is_held, signature_at, base_record}
 use Rattle.ob_rules.specs.Names.{Around, map_of, named, exported, is_out, out_procedure, type_named, unless_hidden, record_unless_hidden, shown_of, export_known, variable_known, entity_known, name_known, find_name, is_enclosing}
 use Rattle.ob_rules.specs.Values.{is_integer, tree}
-use Rattle.ob_rules.specs.Phrases.{dereferenced, record_receiver, Phrase, Behind, Dot, Index, Up, Round}
+use Rattle.ob_rules.specs.Phrases.{dereferenced, Phrase, Behind, Dot, Index, Up, Round}
 use Rattle.ob_rules.specs.Calls.{call_procedure, call_variable, call_out, call_bound}
-use Rattle.ob_rules.specs.Designators.{variable_at, if_so, if_extends, on_record, guard_kind, guard_of, guarded_by, with_guard, guard_if, guard_same, same_variable, with_guards, variable_named, guard, if_so_held, dereference_of, dereference, through_if, implicitly, indexed, index_into, index_if, index, field_of, chosen, with_receiver, not_there, comes, member_found, member_of, select_of, select, super_of, super_in, super_if, super, type_in_round, as_call, place_round, call_meant, takes_type, is_callable, is_guardable, other_round, step_dot, step_index, step_up, step_round, step, where_of, nothing_behind, go_on_with, go_on, through, of_variable, exported_meant, out_meant, in_module, dot_of, module_front, front_of, is_module, behind, front, from_front_with, designates}
+use Rattle.ob_rules.specs.Designators.{variable_at, guard_of, guarded_by, with_guard, guard_if, guard_same, same_variable, with_guards, variable_named, guard, if_so_held, dereference_of, dereference, through_if, implicitly, indexed, index_into, index_if, index, field_of, chosen, with_receiver, not_there, comes, member_found, member_of, select_of, select, super_of, super_in, super_if, super, type_in_round, as_call, place_round, call_meant, takes_type, is_callable, is_guardable, other_round, step_dot, step_index, step_up, step_round, step, where_of, nothing_behind, go_on_with, through, of_variable, exported_meant, out_meant, in_module, dot_of, module_front, front_of, is_module, behind, front, from_front_with, designates}
 use Rattle.ob_tree.specs.declared.ident.Mark.{Mark}
 use Rattle.ob_tree.specs.declared.ident.Mark.TheVariants as mark
 use Rattle.ob_types.specs.declared.desc.Desc.TheVariants as desc
 use Rattle.ob_rules.specs.declared.entity.Known.{Known}
 use Rattle.ob_written.specs.Coded.{PosFits}
-use Rattle.ob_fits.proofs.Setting.{Con, EntityOk, Setting, PlaceOk, ValuedOk, ChosenOk, MeantOk, IfThere, Anything, Keeps, any_keeps, then_keeps, made_keeps, wants_keeps, found_keeps, named_d, tree_ok, find_has, sure}
+use Rattle.ob_fits.proofs.Setting.{EntityOk, Setting, PlaceOk, ValuedOk, ChosenOk, MeantOk, IfThere, Anything, Keeps, any_keeps, then_keeps, made_keeps, wants_keeps, named_d, tree_ok, find_has}
 use Rattle.ob_fits.proofs.Calls.{PhraseOk, ArePhrases, call_procedure_keeps, call_variable_keeps, call_out_keeps, call_bound_keeps}
 use Rattle.ob_fits.proofs.Functions.{predeclared_keeps}
 

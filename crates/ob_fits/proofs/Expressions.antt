@@ -29,16 +29,15 @@ use Rattle.ob_rules.specs.declared.meant.Meant.{Meant}
 use Rattle.ob_rules.specs.declared.meant.Meant.TheVariants as means
 use Rattle.ob_rules.specs.declared.meant.Where.{Where}
 use Rattle.ob_rules.specs.declared.meant.Where.TheVariants.{InExpression}
-use Rattle.ob_rules.specs.Judged.{Judged, sound, made, also, breaks, both, each_sound, ◌▷◌, is_quiet}
+use Rattle.ob_rules.specs.Judged.{Judged, sound, made, breaks, both, each_sound, ◌▷◌, is_quiet}
 use Rattle.ob_rules.specs.Shapes.{Map, pointed_record}
 use Rattle.ob_rules.specs.Names.{Around, map_of, type_named}
 use Rattle.ob_rules.specs.Values.{computed, type_in, tree, type, place_in, constant, constant_in}
 use Rattle.ob_rules.specs.Operators.{combined, opposite, signed, related, element, set_of}
 use Rattle.ob_rules.specs.Designators.{guard_of, if_extends}
-use Rattle.ob_rules.specs.Phrases.{Phrase, Behind, Dot, Index, Up, Round}
+use Rattle.ob_rules.specs.Phrases.{Phrase, Behind, Index}
 use Rattle.ob_rules.specs.Expressions.{procedure_value, value_meant, Named, meant_by, designator_phrase, testable, record_if, record_test, pointer_test, test_record, test_of, test, untestable, is_test, Tailed, combine_all, bracketed, Ranged, value_if, element_value, relation_of, expr_rule, selector_rule, designator_rule, element_rule, tail_rule, phrase_of, named_of, ranged_of, tailed_of, behind_of, integer_literal, integer_text, char_literal, marked, constant_of, constant_if, constant_value, phrase}
 use Rattle.std.proofs.lemmas.Bool.Decides.{nat_tests}
-use Rattle.ob_types.specs.declared.value.Value.{Value}
 use Rattle.ob_types.specs.declared.value.Value.TheVariants as literal
 use Rattle.ob_rules.specs.Constants.{text_value}
 use Rattle.ob_relation.proofs.Names.{and_both}

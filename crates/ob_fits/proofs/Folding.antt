@@ -1,6 +1,6 @@
 -- What constants come to is a constant, and no string.
-use Rattle.std.proofs.Common.{◌≡◌, ℕ, zero, suc, ◌<◌, ◌^◌, Bool, true, false, List, [], ◌∷◌, length, Option, Some, None, refl, arith}
-use Rattle.std.specs.Prelude.{ℤ, pos, negsuc, neg_ℤ, ◌+ℤ◌, ◌-ℤ◌, ◌*ℤ◌, unsigned_abs, ◌&&◌, nat_lt, nat_le}
+use Rattle.std.proofs.Common.{◌≡◌, ℕ, suc, ◌<◌, ◌^◌, Bool, true, false, List, [], ◌∷◌, length, Option, Some, None, refl, arith}
+use Rattle.std.specs.Prelude.{ℤ, pos, negsuc, neg_ℤ, ◌+ℤ◌, ◌-ℤ◌, ◌*ℤ◌, unsigned_abs, nat_lt, nat_le}
 use Rattle.ob_types.specs.declared.types.Basic.{Basic}
 use Rattle.ob_types.specs.declared.types.Basic.TheVariants as basic
 use Rattle.ob_types.specs.declared.value.Value.{Value}
@@ -13,8 +13,8 @@ use Rattle.ob_types.specs.declared.typed.Binary.TheVariants as binary
 use Rattle.ob_types.specs.declared.typed.Connective.{Connective}
 use Rattle.ob_types.specs.declared.typed.Connective.TheVariants as connective
 use Rattle.ob_types.specs.Assigning.{characters}
-use Rattle.ob_types.specs.Numbers.{is_positive, quotient, remainder, shifted, has_bit, element_in}
-use Rattle.ob_rules.specs.Constants.{when, integer, long, bounded_shift, shift_down, ash, of_nat, of_nats, elements, byte_of, and_so, integer_in, set_in, char_in, truth_in, truth, fold_one, divided, related, on_integers, on_sets, fold_two, texts_related, fold_texts, on_truths, fold_logical, text_value}
+use Rattle.ob_types.specs.Numbers.{is_positive, shifted, has_bit, element_in}
+use Rattle.ob_rules.specs.Constants.{when, long, bounded_shift, shift_down, ash, of_nat, of_nats, elements, byte_of, and_so, integer_in, set_in, char_in, truth_in, fold_one, divided, related, on_integers, on_sets, fold_two, texts_related, fold_texts, fold_logical, text_value}
 use Rattle.ob_rules.specs.Predeclared.{extreme}
 use Rattle.ob_relation.proofs.Names.{and_both}
 use Rattle.ob_relation.specs.Typed.{AreCharacters}

@@ -31,7 +31,7 @@ use Rattle.ob_rules.specs.declared.meant.Where.{Where}
 use Rattle.ob_rules.specs.declared.broken.Predeclared.{Predeclared}
 use Rattle.ob_rules.specs.declared.broken.Predeclared.TheVariants as pre
 use Rattle.ob_rules.specs.Judged.{Judged, sound, each_sound}
-use Rattle.ob_rules.specs.Shapes.{Map, array_of, record_of, record_if, pointed, is_held}
+use Rattle.ob_rules.specs.Shapes.{Map, array_of, record_of, pointed, is_held}
 use Rattle.ob_rules.specs.Names.{Around, map_of}
 use Rattle.ob_rules.specs.Values.{value_at, is, width as width_of, is_integer, is_chars, text_tree, tree, constant_in, place_in}
 use Rattle.ob_rules.specs.Operators.{monadic, dyadic, only_value, and_so}
@@ -42,7 +42,7 @@ use Rattle.ob_types.specs.declared.value.Value.{Value}
 use Rattle.ob_types.specs.declared.value.Value.TheVariants as literal
 use Rattle.ob_written.specs.Coded.{PosFits}
 use Rattle.ob_coded.specs.Fits.{StmtFits}
-use Rattle.ob_fits.proofs.Setting.{Con, below, int_fits, small_fits, Setting, E, S, PlaceOk, ValuedOk, MeantOk, IfThere, Anything, Keeps, any_keeps, then_keeps, made_keeps, each_keep, unless_keeps, wants_keeps, also_keeps, named_e, node_e, tree_ok}
+use Rattle.ob_fits.proofs.Setting.{Con, below, int_fits, small_fits, Setting, S, PlaceOk, ValuedOk, MeantOk, IfThere, Anything, Keeps, any_keeps, then_keeps, made_keeps, each_keep, unless_keeps, wants_keeps, also_keeps, node_e, tree_ok}
 use Rattle.ob_fits.proofs.Folding.{extreme_con}
 use Rattle.ob_fits.proofs.Values.{monadic_keeps, dyadic_keeps, text_tree_ok, only_ok}
 use Rattle.ob_fits.proofs.Calls.{MeantKeeps, PhraseOk, ArePhrases}

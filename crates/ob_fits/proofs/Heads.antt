@@ -1,26 +1,20 @@
 -- Headings: what is known in them, and the types that they make.
-use Rattle.std.proofs.Common.{◌≡◌, ℕ, ◌+◌, Bool, true, false, List, [], ◌∷◌, ◌++◌, length, Option, Some, None, refl, sym, subst, arith, map, cond}
-use Rattle.std.specs.Prelude.{◌&&◌, not, ◌==◌, bytes_eq}
-use Rattle.std.specs.List.{AllByRecursion, filter, list_any}
-use Rattle.std.proofs.lemmas.List.{length-append}
-use Rattle.ob_tree.specs.declared.pos.Pos.{Pos}
+use Rattle.std.proofs.Common.{◌≡◌, ℕ, ◌+◌, Bool, true, false, List, [], ◌∷◌, ◌++◌, length, Option, Some, None, refl, sym, subst, map, cond}
+use Rattle.std.specs.Prelude.{bytes_eq}
+use Rattle.std.specs.List.{AllByRecursion, filter}
 use Rattle.ob_tree.specs.declared.names.QName.{QName}
 use Rattle.ob_tree.specs.declared.ident.Ident.{Ident}
-use Rattle.ob_tree.specs.declared.ident.Mark.{Mark}
 use Rattle.ob_tree.specs.declared.decl.Receiver.{Receiver as RawReceiver}
-use Rattle.ob_tree.specs.declared.decl.Heading.{Heading}
-use Rattle.ob_types.specs.declared.types.TypeRef.{TypeRef}
 use Rattle.ob_types.specs.declared.desc.Desc.{Desc}
 use Rattle.ob_types.specs.declared.desc.Desc.TheVariants as desc
 use Rattle.ob_types.specs.declared.desc.Method.{Method}
 use Rattle.ob_types.specs.declared.typed.TypedType.{TypedType}
-use Rattle.ob_rules.specs.declared.entity.Received.{Received}
-use Rattle.ob_rules.specs.Judged.{broken_at, both}
-use Rattle.ob_rules.specs.Shapes.{Map, Member, AField, AMethod, member, pointed}
-use Rattle.ob_rules.specs.Names.{Around, map_of, type_named, in_unit}
-use Rattle.ob_rules.specs.Types.{Parameters, written_parameters, is_module_level, marked, inner, with_types, Typing, WrittenSection, knows, parameter_as, declare_all, with_made, sections, section_name, mode_of}
-use Rattle.ob_rules.specs.Headings.{heading_of, Head, Heads, BoundAs, Binding, is_own, if_own, own_record, received_record, silent_base, bound_to, owner_of, owner_if, bound_in, as_parameters, head_of, heading_parameters, knows_receiver, declared_head, knows_procedure, known_behind, name_twice, types_of, add_heading, counted, change_desc, changed_if, change_type, with_method, new_method, redefined, bind_method, bind_by, bind_one, bind_all, of_record, bind_records, reversed, WrittenHeading, head_entity, entity_as}
-use Rattle.ob_rules.specs.Declarations.{Written_procedure, headings_in_order, received_by, binding_at}
+use Rattle.ob_rules.specs.Judged.{broken_at}
+use Rattle.ob_rules.specs.Shapes.{Map, Member, AField, AMethod, member}
+use Rattle.ob_rules.specs.Names.{Around, map_of, in_unit}
+use Rattle.ob_rules.specs.Types.{Parameters, inner, with_types, Typing, WrittenSection, knows, parameter_as, declare_all, with_made, sections, section_name, mode_of}
+use Rattle.ob_rules.specs.Headings.{Head, Heads, BoundAs, Binding, owner_if, head_of, heading_parameters, knows_receiver, declared_head, knows_procedure, known_behind, name_twice, types_of, add_heading, counted, change_desc, changed_if, change_type, with_method, new_method, redefined, bind_method, bind_by, bind_one, bind_all, of_record, bind_records, reversed, WrittenHeading, head_entity, entity_as}
+use Rattle.ob_rules.specs.Declarations.{Written_procedure, headings_in_order, binding_at}
 use Rattle.ob_tree.specs.declared.expr.Expr.{Expr}
 use Rattle.ob_tree.specs.declared.stmt.Stmt.{Stmt}
 use Rattle.ob_types.specs.declared.types.Mode.{Mode}

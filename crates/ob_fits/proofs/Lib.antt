@@ -12,3 +12,5 @@ pub mod Heads
 pub mod Modules
 pub mod Views
 pub mod Texts
+pub mod Chains
+pub mod Whole

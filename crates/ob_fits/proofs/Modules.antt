@@ -1,27 +1,20 @@
 -- Declarations, procedures and modules: what their parts add.
-use Rattle.std.proofs.Common.{◌≡◌, ◌≢◌, ℕ, Bool, true, false, List, [], ◌∷◌, ◌++◌, length, map, Option, Some, None, refl, sym, ap, subst, ◌∙◌, inl, inr, cond, arith}
-use Rattle.std.specs.Prelude.{◌⊎◌, bytes_eq, ◌&&◌}
-use Rattle.std.specs.List.{AllByRecursion, filter_map, find}
-use Rattle.std.proofs.lemmas.Slice.Eq.{bytes_eq-Decides}
+use Rattle.std.proofs.Common.{◌≡◌, ℕ, Bool, true, false, List, [], ◌∷◌, ◌++◌, length, map, Option, Some, None, refl, sym, subst, ◌∙◌, arith}
+use Rattle.std.specs.Prelude.{◌&&◌}
+use Rattle.std.specs.List.{AllByRecursion, filter_map}
 use Rattle.ob_tree.specs.declared.names.QName.{QName}
 use Rattle.ob_tree.specs.declared.ident.Ident.{Ident}
 use Rattle.ob_tree.specs.declared.ident.IdentDef.{IdentDef}
 use Rattle.ob_tree.specs.declared.ident.Import.{Import}
 use Rattle.ob_tree.specs.declared.ident.Mark.{Mark}
-use Rattle.ob_tree.specs.declared.ident.Mark.TheVariants as mark
-use Rattle.ob_tree.specs.declared.ident.Qualident.{Qualident}
 use Rattle.ob_tree.specs.declared.decl.Module.{Module as Tree}
 use Rattle.ob_tree.specs.declared.decl.Decl.{Decl, roll-Decl, map-Decl}
 use Rattle.ob_tree.specs.declared.decl.Decl.TheOpen.{Decl-F}
 use Rattle.ob_tree.specs.declared.decl.Decl.TheFolds.{ind-Decl, fold-roll-Decl}
 use Rattle.ob_types.specs.declared.value.Value.{Value}
 use Rattle.ob_types.specs.declared.desc.Desc.{Desc}
-use Rattle.ob_types.specs.declared.desc.Desc.TheVariants as desc
-use Rattle.ob_types.specs.declared.typed.TypedType.{TypedType}
 use Rattle.ob_types.specs.declared.typed.TypedProcedure.{TypedProcedure}
-use Rattle.ob_types.specs.declared.typed.TypedModule.{TypedModule}
 use Rattle.ob_types.specs.declared.typed.TypedStmt.{TypedStmt}
-use Rattle.ob_types.specs.TypedView.{stmts_view}
 use Rattle.ob_rules.specs.declared.broken.Broken.{Broken}
 use Rattle.ob_rules.specs.declared.entity.Entity.{Entity}
 use Rattle.ob_rules.specs.declared.entity.Known.{Known}
@@ -29,19 +22,15 @@ use Rattle.ob_rules.specs.Judged.{Judged, joined, both, ◌▷◌}
 use Rattle.ob_rules.specs.Shapes.{Map}
 use Rattle.ob_rules.specs.Names.{Around, map_of, found_in_scope, predeclared}
 use Rattle.ob_rules.specs.Expressions.{phrase_of, constant_value}
-use Rattle.ob_rules.specs.Phrases.{Phrase}
 use Rattle.ob_rules.specs.Types.{Typing, Written, written, Parameters, with_types, is_module_level, marked}
-use Rattle.ob_rules.specs.Statements.{Judging, judging, in_turn}
+use Rattle.ob_rules.specs.Statements.{judging, in_turn}
 use Rattle.ob_rules.specs.Headings.{Head, Heads, forwards_judged, reversed, mark_or_hidden, types_of}
-use Rattle.ob_rules.specs.Declarations.{import_entity, is_system, Contents, no_contents, together, Declared, declare_if, constant_contents, constant_entity, constant_declared, no_nil, equated, typing_as, type_entity, types_made, type_declared, variable_entity, variable_contents, paired_typing, variable_marked, variables_with, made_in, first_name, variables_typed, Written_procedure, Declaration, Plain, Procedure, plain_of, procedure_of, type_name_of, in_order, headings_in_order, around_body, types_of_head, procedure_contents, closing_judged, procedure_judged, procedures_judged, body_part, stmts_in, with_bound, binding_at, all_judged, field_judged, heads_later, block, pointers_judged, decl_rule, declaration, import_declared, target_of, imports_declared, around_module, module_of, name_judged, described, all_described, typed_module, if_unbroken}
-use Rattle.std.specs.Prelude.{codes, ◌&&◌}
-use Rattle.ob_distinct.specs.Distinct.{AreDistinct}
+use Rattle.ob_rules.specs.Declarations.{import_entity, is_system, Contents, no_contents, together, Declared, declare_if, constant_contents, constant_entity, constant_declared, no_nil, typing_as, type_entity, types_made, type_declared, variable_entity, variable_contents, paired_typing, variable_marked, variables_with, made_in, variables_typed, Written_procedure, Declaration, Plain, Procedure, plain_of, procedure_of, type_name_of, in_order, headings_in_order, around_body, types_of_head, procedure_contents, closing_judged, procedure_judged, procedures_judged, body_part, stmts_in, with_bound, binding_at, all_judged, field_judged, heads_later, block, pointers_judged, decl_rule, declaration, import_declared, target_of, imports_declared, around_module, module_of, name_judged}
+use Rattle.std.specs.Prelude.{◌&&◌}
 use Rattle.ob_tree.specs.declared.pos.Pos.{Pos}
 use Rattle.ob_tree.specs.declared.expr.Expr.{Expr}
 use Rattle.ob_tree.specs.declared.stmt.Stmt.{Stmt}
 use Rattle.ob_types.specs.declared.value.Value.TheVariants as literal
-use Rattle.ob_rules.specs.declared.entity.Entity.TheVariants as entity
-use Rattle.ob_recorded.specs.Told.{core}
 use Rattle.ob_recorded.proofs.Typings.{all_front, all_rest}
 use Rattle.ob_recorded.proofs.Heads.{front_empty, back_empty, reversed_all, reversed_back, as_many}
 use Rattle.ob_relation.proofs.Names.{and_both}

@@ -1,7 +1,6 @@
 -- A string that is passed by value leaves room for its 0X.
-use Rattle.std.proofs.Common.{◌≡◌, ◌<◌, ℕ, zero, suc, List, [], ◌∷◌, Option, Some, None, Bool, true, false, refl, sym, ap, ◌∙◌, subst, inl, inr}
-use Rattle.std.specs.Prelude.{◌⊎◌, ◌&&◌, ◌||◌, not, nat_eq, nat_lt, length, is_some}
-use Rattle.ob_tree.specs.declared.ident.Mark.{Mark}
+use Rattle.std.proofs.Common.{◌≡◌, ◌<◌, ℕ, List, [], ◌∷◌, Option, Some, None, Bool, true, false, refl, sym, ap, ◌∙◌, subst, inl, inr}
+use Rattle.std.specs.Prelude.{◌⊎◌, ◌&&◌, ◌||◌, not, nat_eq, length, is_some}
 use Rattle.ob_tree.specs.declared.names.QName.{QName}
 use Rattle.ob_types.specs.declared.types.Basic.{Basic}
 use Rattle.ob_types.specs.declared.types.Basic.TheVariants as basic
@@ -10,18 +9,16 @@ use Rattle.ob_types.specs.declared.types.TypeRef.{TypeRef}
 use Rattle.ob_types.specs.declared.types.TypeRef.TheVariants as ref
 use Rattle.ob_types.specs.declared.value.Value.{Value}
 use Rattle.ob_types.specs.declared.value.Value.TheVariants as literal
-use Rattle.ob_types.specs.declared.desc.Desc.{Desc}
-use Rattle.ob_types.specs.declared.desc.Desc.TheVariants as desc
 use Rattle.ob_types.specs.declared.typed.Passing.{Passing}
 use Rattle.ob_types.specs.declared.typed.Passing.TheVariants as passing
 use Rattle.ob_types.specs.declared.typed.TypedExpr.TheVariants as e
 use Rattle.ob_types.specs.TypedSyntax.{Expr, Constant}
 use Rattle.ob_types.specs.TypedView.{expr_view}
 use Rattle.ob_types.proofs.TypedViews.{view_constant, view_value_of}
-use Rattle.ob_types.specs.Relations.{is_record as is_record_desc, is_open as is_open_desc}
+use Rattle.ob_types.specs.Relations.{is_open as is_open_desc}
 use Rattle.ob_types.specs.Assigning.{is_extensible}
-use Rattle.ob_types.specs.Tests.{target, target_of, follow, shape_at, same_at, type_eq, climbs, extends_at, both, pointer_of}
-use Rattle.ob_types.specs.AssigningTests.{is_at, widens, takes_type, takes_text, has_room, takes_constant}
+use Rattle.ob_types.specs.Tests.{target, shape_at, same_at, type_eq, climbs, extends_at, both, pointer_of}
+use Rattle.ob_types.specs.AssigningTests.{is_at, widens, takes_type, takes_text, takes_constant}
 use Rattle.ob_rules.specs.declared.values.Valued.{Valued}
 use Rattle.ob_rules.specs.declared.values.Valued.TheVariants as valued
 use Rattle.ob_rules.specs.Shapes.{Map, record_at, array_at, open_element, is_open, is_structured, by_value, passing_of}

@@ -1,6 +1,6 @@
 -- Statements fit where their parts do.
-use Rattle.std.proofs.Common.{◌≡◌, Bool, true, false, List, [], ◌∷◌, ◌++◌, map, Option, Some, None, refl, sym, subst, ℕ, arith}
-use Rattle.std.specs.Prelude.{ℤ, ◌&&◌, is_some, FitsSigned, pos, negsuc}
+use Rattle.std.proofs.Common.{◌≡◌, Bool, true, false, List, [], ◌∷◌, ◌++◌, map, Option, Some, None, refl, sym, subst, arith}
+use Rattle.std.specs.Prelude.{ℤ, FitsSigned, pos}
 use Rattle.std.specs.List.{AllByRecursion}
 use Rattle.ob_tree.specs.declared.pos.Pos.{Pos}
 use Rattle.ob_tree.specs.declared.names.QName.{QName}
@@ -19,8 +19,7 @@ use Rattle.ob_types.specs.declared.typed.TypedStmt.TheVariants as stmt
 use Rattle.ob_types.specs.declared.typed.TypedStmt.TheFolds.{fold-roll-TypedBranch, fold-roll-TypedCase}
 use Rattle.ob_types.specs.declared.typed.TypedBranch.{TypedBranch}
 use Rattle.ob_types.specs.declared.typed.TypedCase.{TypedCase}
-use Rattle.ob_types.specs.TypedSyntax.{Desig, Stmt, Assign, CallProper, If, Case, While, Repeat, Loop, Exit, Return, With, NoElse, Else, ValueOf, IsPointer, IsRecord}
-use Rattle.ob_types.specs.TypedKinds.{variable_type}
+use Rattle.ob_types.specs.TypedSyntax.{Stmt, Assign, CallProper, If, Case, While, Repeat, Loop, Exit, Return, With, NoElse, Else, ValueOf, IsPointer, IsRecord}
 use Rattle.ob_types.specs.TypedView.{OneBranch, LabelledBody, stmt_layer, branch_layer, case_layer, designator_view, expr_view, branch_view, case_view, stmts_view, branches_view, cases_view}
 use Rattle.ob_types.proofs.TypedViews.{view_value_of, view_is_pointer, view_is_record, view_assign, view_call_proper, view_if, view_case_none, view_case_some, view_while, view_repeat, view_for, view_loop, view_exit, view_return, view_with_none, view_with_some}
 use Rattle.ob_rules.specs.declared.entity.Entity.{Entity}
@@ -33,16 +32,16 @@ use Rattle.ob_rules.specs.declared.meant.Meant.TheVariants as means
 use Rattle.ob_rules.specs.declared.meant.Selects.{Selects}
 use Rattle.ob_rules.specs.declared.meant.Where.TheVariants.{InExpression, AsStatement, Elsewhere}
 use Rattle.ob_rules.specs.Judged.{Judged, sound, both, made, ◌▷◌}
-use Rattle.ob_rules.specs.Shapes.{Map, signature_at, record_of, is_array}
+use Rattle.ob_rules.specs.Shapes.{Map, signature_at, is_array}
 use Rattle.ob_rules.specs.Names.{Around, map_of, named, find_name, type_named}
-use Rattle.ob_rules.specs.Values.{text_of, tree, fits}
+use Rattle.ob_rules.specs.Values.{tree, fits}
 use Rattle.ob_rules.specs.Phrases.{Phrase, Dot}
 use Rattle.ob_rules.specs.Calls.{call_variable}
 use Rattle.ob_rules.specs.Designators.{variable_named, call_meant, guard_of}
 use Rattle.ob_rules.specs.Expressions.{Named, meant_by, Ranged, constant_value}
 use Rattle.ob_rules.specs.Types.{first_of}
 use Rattle.ob_rules.specs.Statements as rules
-use Rattle.ob_rules.specs.Statements.{Judging, in_turn, in_turn_if, target, assigned_as, assignment_of, assigned_tree, assigns, assignment, call_value, done, place_called, called, condition, branch_of, empty_if_none, Labelled, labels, case_of, cases, selects_if, case_value, case_judged, for_variable, integer_place, for_bound, bound_if, for_with, for_step, returned, return_none, with_module, with_named, with_qualified_by, with_qualified, with_meant, with_place, with_guard, guard_test, variable_meant, guarded_around, type_if, guarded_body, GuardedBody, tested, with_variable, with_test, with_branch, Conditional, in_loop, conditional, conditionals, with_branches, if_statement, while_statement, repeat_statement, loop_statement, with_statement, call_statement, label_value, label_if, label_of, label_as, label_both, label_ranged, range_if, both_ends, high_if, label, step_of, step_value}
+use Rattle.ob_rules.specs.Statements.{Judging, in_turn, in_turn_if, target, assignment_of, assigned_tree, assigns, assignment, call_value, done, place_called, called, condition, branch_of, empty_if_none, Labelled, labels, case_of, cases, selects_if, case_value, case_judged, for_variable, integer_place, for_bound, bound_if, for_with, for_step, returned, return_none, with_module, with_named, with_qualified_by, with_qualified, with_meant, with_place, with_guard, guard_test, variable_meant, guarded_around, type_if, guarded_body, GuardedBody, tested, with_variable, with_test, with_branch, Conditional, in_loop, conditional, conditionals, with_branches, if_statement, while_statement, repeat_statement, loop_statement, with_statement, call_statement, label_value, label_if, label_of, label_as, range_if, both_ends, high_if, label, step_value}
 use Rattle.std.specs.Int.{w32}
 use Rattle.ob_types.specs.declared.value.Value.{Value}
 use Rattle.ob_types.specs.declared.value.Value.TheVariants as literal

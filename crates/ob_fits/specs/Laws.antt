@@ -1,5 +1,5 @@
 -- The law: the statements of a module that is read and keeps the rules fit, where what interfaces show is in range and chains end.
-use Rattle.std.specs.Prelude.{◌≡◌, ℕ, ◌<◌, ◌^◌, List, length, Option, Some, None, Ok, true, false, pos, bytes_eq}
+use Rattle.std.specs.Prelude.{◌≡◌, ℕ, ◌<◌, ◌^◌, List, length, Option, Some, None, Ok, true, false, bytes_eq}
 use Rattle.std.specs.List.{AllByRecursion}
 use Rattle.ob_tree.specs.declared.names.QName.{QName}
 use Rattle.ob_tree.specs.declared.ident.Mark.{Mark}

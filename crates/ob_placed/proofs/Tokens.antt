@@ -1,6 +1,6 @@
 -- The places of tokens are numbers of 32 bits, and strings are short.
-use Rattle.std.proofs.Common.{◌≡◌, ℕ, zero, suc, ◌<◌, ◌≤◌, ◌^◌, Bool, true, false, cond, [], ◌∷◌, length, take, drop, Option, Some, None, Result, Err, refl, arith}
-use Rattle.std.specs.Prelude.{◌+◌, ◌-◌, ◌&&◌, ◌==◌, nat_lt}
+use Rattle.std.proofs.Common.{◌≡◌, ℕ, zero, suc, ◌<◌, ◌≤◌, ◌^◌, Bool, true, false, cond, [], ◌∷◌, length, take, drop, Option, Some, None, Result, Err, arith}
+use Rattle.std.specs.Prelude.{◌+◌, ◌-◌, ◌==◌, nat_lt}
 use Rattle.std.specs.List.{AllByRecursion}
 use Rattle.std.proofs.lemmas.List.{length-take, length-drop}
 use Rattle.ob_tree.specs.declared.symbol.Symbol.{Symbol}

@@ -38,7 +38,7 @@ use Rattle.ob_written.proofs.Phrases.{Holds, holds}
 use Rattle.ob_typed.specs.Spelled.{all_true}
 use Rattle.ob_strings.proofs.Folds.{both_true, All, all_of, all_join, all_joined, mapped}
 use Rattle.ob_strings.proofs.Marks.{is_str, tokens_spelled}
-use Rattle.ob_placed.specs.Placed.{pos_fits, text_fits, expr_fits, designator_fits, element_fits, tail_fits, selector_fits, fits_if, qualifier_fits, name_fits, stmt_fits, branch_fits, case_fits, guarded_fits, decl_fits, tree_fits}
+use Rattle.ob_placed.specs.Placed.{pos_fits, text_fits, expr_fits, designator_fits, element_fits, tail_fits, selector_fits, fits_if, name_fits, stmt_fits, branch_fits, case_fits, guarded_fits, decl_fits, tree_fits}
 use Rattle.ob_placed.specs.Laws.{ReadingsArePlaced}
 use Rattle.ob_placed.proofs.Tokens.{IsToken, Room, tokens_placed, both_all, string_fits}
 use Rattle.ob_placed.proofs.Folds.{designator_expr, int_is, char_is, str_is, nil_is, set_is, paren_is, not_is, signed_is, chain_is, relate_is, field_is, index_is, deref_is, call_is, designator_is, element_is, tail_is, else_fits, empty_is, call_stmt_is, assign_is, if_is, case_stmt_is, while_is, repeat_is, for_is, loop_is, exit_is, return_is, with_is, branch_is, case_is, guarded_is, constant_is, type_is, variables_are, procedure_decl_is, forward_is}

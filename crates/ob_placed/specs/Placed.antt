@@ -10,7 +10,6 @@ use Rattle.ob_tree.specs.declared.expr.Selector.{Selector}
 use Rattle.ob_tree.specs.declared.expr.Expr.TheOpen.{Expr-F, Tail-F, Element-F, Designator-F, Selector-F}
 use Rattle.ob_tree.specs.declared.expr.Expr.TheFolds.{fold-Expr, fold-Designator, fold-Element, fold-Tail, fold-Selector}
 use Rattle.ob_tree.specs.declared.ident.Qualident.{Qualident}
-use Rattle.ob_tree.specs.declared.stmt.Guard.{Guard}
 use Rattle.ob_tree.specs.declared.stmt.Stmt.{Stmt}
 use Rattle.ob_tree.specs.declared.stmt.Branch.{Branch}
 use Rattle.ob_tree.specs.declared.stmt.Case.{Case}
