@@ -1,0 +1,2 @@
+//! What the rules see to of each build.
+#![tactic(auto)]
