@@ -1,2 +1,3 @@
 pub mod Shut
 pub mod Written
+pub mod Plain
