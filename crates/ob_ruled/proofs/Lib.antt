@@ -1,3 +1,4 @@
 pub mod Shut
 pub mod Written
 pub mod Plain
+pub mod Modules
