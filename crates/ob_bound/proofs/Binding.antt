@@ -16,7 +16,7 @@ use Rattle.ob_rules.specs.Names.{Around, map_of}
 use Rattle.ob_rules.specs.Headings.{Head, BoundAs, Binding, answers, forward_broken, forward_if, forwards_judged, counts_if, counts, counted, change_desc, changed_if, change_type, with_method, new_method, redefined, bind_method, bind_by, bind_one, bind_all, of_record, bind_records, reversed, bindings}
 use Rattle.ob_forms.specs.Said.{IsOneOf}
 use Rattle.ob_bodies.proofs.Lists.{all_both, all_of, first_empty, second_empty}
-use Rattle.ob_bound.specs.Bound.{methods_of}
+use Rattle.ob_bound.specs.Bound.{methods_of, HasElements}
 use Rattle.ob_bound.proofs.Typings.{AreRaw}
 
 -- ---- the headings that count
@@ -69,17 +69,17 @@ module _ (cs : List Head) where
     pub name : x ≡ b.owner.object
 
   abbrev pub TypeNew : TypedType → Type 0
-  TypeNew t = AllByRecursion (IsNew t.name) (methods_of t.desc)
+  TypeNew t = AllByRecursion (IsNew t.name) (methods_of t.desc) × HasElements t.desc
 
   abbrev pub AreNew : List TypedType → Type 0
   AreNew ts = AllByRecursion TypeNew ts
 
   pub raw_new : (ts : List TypedType) → AreRaw ts → AreNew ts
   raw_new [] h = tt
-  raw_new (t ∷ ts) h = (subst (AllByRecursion (IsNew t.name)) (sym h.0) tt, raw_new ts h.1)
+  raw_new (t ∷ ts) h = ((subst (AllByRecursion (IsNew t.name)) (sym h.0.0) tt, h.0.1), raw_new ts h.1)
 
-  desc_new : (x : List ℕ) (m : Method) → IsNew x m → (d : Desc) → AllByRecursion (IsNew x) (methods_of d) → AllByRecursion (IsNew x) (methods_of (change_desc (λ r. with_method r m) d))
-  desc_new x m n (desc.Record r) h = all_both (IsNew x) r.methods (m ∷ []) h (n, tt)
+  desc_new : (x : List ℕ) (m : Method) → IsNew x m → (d : Desc) → AllByRecursion (IsNew x) (methods_of d) × HasElements d → AllByRecursion (IsNew x) (methods_of (change_desc (λ r. with_method r m) d)) × HasElements (change_desc (λ r. with_method r m) d)
+  desc_new x m n (desc.Record r) h = (all_both (IsNew x) r.methods (m ∷ []) h.0 (n, tt), tt)
   desc_new x m n (desc.Const v) h = h
   desc_new x m n (desc.Var k t) h = h
   desc_new x m n (desc.Proc s) h = h

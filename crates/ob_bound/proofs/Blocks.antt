@@ -23,13 +23,12 @@ use Rattle.ob_rules.specs.Statements.{Judging, judging}
 use Rattle.ob_rules.specs.Headings.{Head, Heads, add_heading, reversed, mark_or_hidden}
 use Rattle.ob_rules.specs.Declarations.{Contents, no_contents, together, Declared, declare_if, declare, constant_contents, no_nil, constant_declared, equated, typing_as, types_made, type_declared, variable_contents, paired_typing, variables_with, made_in, variables_typed, variables_declared, Written_procedure, Declaration, Plain, Procedure, plain_of, procedure_of, type_name_of, in_order, headings_in_order, around_body, types_of_head, procedure_judged, procedures_judged, block_headed, block_declared, block, decl_rule, declaration, import_declared, target_of}
 use Rattle.ob_described.proofs.Nodes.{IfThere, Has, all_both, then_has, second_has}
-use Rattle.ob_bound.specs.Bound.{methods_of}
-use Rattle.ob_bound.proofs.Typings.{AreRaw, IsGood, AreGoodSections, MakesRaw, MakeRaw}
+use Rattle.ob_bound.proofs.Typings.{IsRaw, AreRaw, IsGood, AreGoodSections, MakesRaw, MakeRaw}
 use Rattle.ob_bound.proofs.Written.{written_good, written_parameters_good}
 use Rattle.ob_bound.proofs.Heads.{GoodHead, AreGoodHeads, GoodHeads, add_good, add_raw}
 
 both_raw : (xs ys : List TypedType) → AreRaw xs → AreRaw ys → AreRaw (xs ++ ys)
-both_raw xs ys h k = all_both (λ (t : TypedType). methods_of t.desc ≡ []) xs ys h k
+both_raw xs ys h k = all_both IsRaw xs ys h k
 
 -- ---- a declaration
 
@@ -72,7 +71,7 @@ constant_good d x u =
 -- ---- types
 
 as_good : (u : Around) (name : List ℕ) (m : Mark) (w : Written) → IsGood w → (o : Option Qualident) → Has MakesRaw (typing_as u name m w o)
-as_good u name m w g (Some q) = then_has MakesRaw MakesRaw (w.typing u name m false) (λ t. sound (equated u name m t)) (g u name m false) (λ t h. (refl, h))
+as_good u name m w g (Some q) = then_has MakesRaw MakesRaw (w.typing u name m false) (λ t. sound (equated u name m t)) (g u name m false) (λ t h. ((refl, tt), h))
 as_good u name m w g None = g u name m false
 
 made_good : (o : Option (Mark × Typing)) → IfThere (λ p. Unit {0} × MakesRaw p.1) o → AreRaw (types_made o)

@@ -3,14 +3,12 @@ use Rattle.std.proofs.Common.{◌≡◌, refl, sym, ap, ◌∙◌, subst, ℕ, B
 use Rattle.std.specs.Prelude.{codes}
 use Rattle.std.specs.List.{AllByRecursion}
 use Rattle.ob_tree.specs.declared.ident.Mark.{Mark}
-use Rattle.ob_types.specs.declared.typed.TypedType.{TypedType}
 use Rattle.ob_rules.specs.Judged.{both}
 use Rattle.ob_rules.specs.Names.{Around}
 use Rattle.ob_rules.specs.Types.{Parameters, with_types, marked, inner}
 use Rattle.ob_rules.specs.Headings.{WrittenHeading, Head, BoundAs, Heads, path_by, bound_in, as_parameters, owner_if, heading_parameters, knows_receiver, head_of, declared_head, knows_procedure, known_behind, name_twice, types_of, add_heading}
 use Rattle.ob_described.proofs.Nodes.{IfThere, all_both, second_has}
-use Rattle.ob_bound.specs.Bound.{methods_of}
-use Rattle.ob_bound.proofs.Typings.{AreRaw, AreGoodSections, MakeRaw, parameters_good}
+use Rattle.ob_bound.proofs.Typings.{IsRaw, AreRaw, AreGoodSections, MakeRaw, parameters_good}
 
 -- in a scope whose names begin so
 pub record GoodHead (path : List ℕ) (h : Head) : Type 0 where
@@ -85,4 +83,4 @@ pub add_raw : (hs : Heads) (h : WrittenHeading) → AreGoodSections h.parameters
 add_raw hs h s forward r =
     let d = head_of hs.around h forward in
     let u = with_types hs.around (types_of d.parameters) in
-    subst AreRaw (sym (behind_own u (name_twice u hs.before d) d)) (all_both (λ (t : TypedType). methods_of t.desc ≡ []) (types_of d.parameters) hs.around.own (types_raw d.parameters (head_good hs.around h forward s).parameters) r)
+    subst AreRaw (sym (behind_own u (name_twice u hs.before d) d)) (all_both IsRaw (types_of d.parameters) hs.around.own (types_raw d.parameters (head_good hs.around h forward s).parameters) r)

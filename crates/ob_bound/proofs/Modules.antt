@@ -25,8 +25,8 @@ use Rattle.ob_bodies.proofs.Lists.{one_left, one_right, one_all, all_both, all_o
 use Rattle.ob_bodies.proofs.Headings.{Aligned, aligned_in_order}
 use Rattle.ob_bodies.proofs.Blocks.{procedures_bound, heading_there}
 use Rattle.ob_bodies.proofs.Modules.{unbroken_is}
-use Rattle.ob_bound.specs.Bound.{methods_of, HasProcedure, IsThere, MethodsAreThere}
-use Rattle.ob_bound.proofs.Typings.{AreRaw, MakeRaw}
+use Rattle.ob_bound.specs.Bound.{methods_of, HasElements, HasProcedure, IsThere, MethodsAreThere, ArraysHaveElements}
+use Rattle.ob_bound.proofs.Typings.{IsRaw, AreRaw, MakeRaw}
 use Rattle.ob_bound.proofs.Heads.{GoodHead, GoodHeads}
 use Rattle.ob_bound.proofs.Binding.{one_filtered, counted_whole, IsNew, TypeNew, AreNew, bindings_new}
 use Rattle.ob_bound.proofs.Blocks.{GoodDeclared, order_good, imports_good, plains_good, all_procedures, decls_good, headings_good, headings_raw, reversed_good, block_good}
@@ -104,7 +104,7 @@ module _ (shown : QName → Option Desc) (tree : Tree) (out : is_out (M shown tr
       (subst (λ bs. AreNew (counted heads) (bs ++ [])) (sym (procedures_bound (λ v. Unit {0}) shown made no_contents out w ps heads)) tt)))
 
   all_types : AreRaw whole.contents.types
-  all_types = all_both (λ (t : TypedType). methods_of t.desc ≡ []) imports.part.contents.types _ imports_are.types (block_good (map declaration tree.decls) (decls_good tree.decls) (map judging tree.body) imports.around)
+  all_types = all_both IsRaw imports.part.contents.types _ imports_are.types (block_good (map declaration tree.decls) (decls_good tree.decls) (map judging tree.body) imports.around)
 
   module _ (quiet : whole.notes.broken ≡ []) where
     forwards_quiet : (forwards_judged (map_of hs.around) heads heads).broken ≡ []
@@ -141,14 +141,14 @@ module _ (shown : QName → Option Desc) (tree : Tree) (out : is_out (M shown tr
             })
 
     abbrev Good : TypedType → Type 0
-    Good t = AllByRecursion (IsThere made.procedures t) (methods_of t.desc)
+    Good t = AllByRecursion (IsThere made.procedures t) (methods_of t.desc) × HasElements t.desc
 
-    found_there : (t : TypedType) → methods_of t.desc ≡ [] → (o : Option TypedType) → IfThere (λ b. TypeNew (counted heads) b × (bytes_eq b.name t.name ≡ true)) o → Good (described o t)
-    found_there t e None h = subst (AllByRecursion (IsThere made.procedures t)) (sym e) tt
+    found_there : (t : TypedType) → IsRaw t → (o : Option TypedType) → IfThere (λ b. TypeNew (counted heads) b × (bytes_eq b.name t.name ≡ true)) o → Good (described o t)
+    found_there t e None h = (subst (AllByRecursion (IsThere made.procedures t)) (sym e.0) tt, e.1)
     found_there t e (Some b) h =
         let same : b.name ≡ t.name = (bytes_eq-Decides b.name t.name).0 h.1 in
-        all_of (IsNew (counted heads) b.name) (IsThere made.procedures (record { name = t.name; desc = b.desc })) (methods_of b.desc)
-        (λ k n. from_head (record { name = t.name; desc = b.desc }) k (subst (λ x. IsNew (counted heads) x k) same n)) h.0
+        (all_of (IsNew (counted heads) b.name) (IsThere made.procedures (record { name = t.name; desc = b.desc })) (methods_of b.desc)
+        (λ k n. from_head (record { name = t.name; desc = b.desc }) k (subst (λ x. IsNew (counted heads) x k) same n)) h.0.0, h.0.1)
 
     first_if : (b : Bool) (P : TypedType → Type 0) (test : TypedType → Bool) (x : TypedType) (o : Option TypedType) → test x ≡ b → P x → IfThere (λ x. P x × (test x ≡ true)) o → IfThere (λ x. P x × (test x ≡ true)) (cond b (Some x) o)
     first_if true P test x o e h k = (h, e)
@@ -169,4 +169,10 @@ pub methods_there : MethodsAreThere
 methods_there shown tree m e =
     let k = unbroken_is (parts shown tree).notes.broken (M shown tree) m e in
     let out : is_out (M shown tree).name ≡ false = ap (λ (x : TypedModule). is_out x.name) k.1 ∙ not_out shown tree m e in
-    subst (λ (x : TypedModule). AllByRecursion (λ t. AllByRecursion (IsThere x.procedures t) (methods_of t.desc)) x.types) k.1 (methods_good shown tree out k.0)
+    subst (λ (x : TypedModule). AllByRecursion (λ t. AllByRecursion (IsThere x.procedures t) (methods_of t.desc)) x.types) k.1 (all_of (Good shown tree out k.0) (λ t. AllByRecursion (IsThere (M shown tree).procedures t) (methods_of t.desc)) (M shown tree).types (λ t g. g.0) (methods_good shown tree out k.0))
+
+pub arrays_have : ArraysHaveElements
+arrays_have shown tree m e =
+    let k = unbroken_is (parts shown tree).notes.broken (M shown tree) m e in
+    let out : is_out (M shown tree).name ≡ false = ap (λ (x : TypedModule). is_out x.name) k.1 ∙ not_out shown tree m e in
+    subst (λ (x : TypedModule). AllByRecursion (λ t. HasElements t.desc) x.types) k.1 (all_of (Good shown tree out k.0) (λ t. HasElements t.desc) (M shown tree).types (λ t g. g.1) (methods_good shown tree out k.0))
