@@ -2,3 +2,4 @@ pub mod Shut
 pub mod Written
 pub mod Plain
 pub mod Modules
+pub mod Near
