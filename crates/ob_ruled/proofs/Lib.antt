@@ -3,3 +3,5 @@ pub mod Written
 pub mod Plain
 pub mod Modules
 pub mod Near
+pub mod Closed
+pub mod Builds

@@ -169,10 +169,10 @@ module _ (shown : QName → Option Desc) (tree : Tree) (out : is_out (module_is 
         no_one : (xs : List TypedType) → xs ≡ [] → IsOneOf xs b → IsOneOf B.own b
         no_one xs e j = absurd (subst (λ ys. IsOneOf ys b) e j)
 
-    judged_variables : (u : Around) (ps : List Written_procedure) (hs : List Head) → (procedures_judged u ps hs).contents.variables ≡ []
-    judged_variables u [] hs = refl
-    judged_variables u (p ∷ ps) [] = refl
-    judged_variables u (p ∷ ps) (h ∷ hs) = ap (λ l. l ++ (procedures_judged u ps hs).contents.variables) (one p h p.forward) ∙ judged_variables u ps hs
+    judged_variables : (u : Around) (qs : List Written_procedure) (gs : List Head) → (procedures_judged u qs gs).contents.variables ≡ []
+    judged_variables u [] gs = refl
+    judged_variables u (p ∷ qs) [] = refl
+    judged_variables u (p ∷ qs) (h ∷ gs) = ap (λ l. l ++ (procedures_judged u qs gs).contents.variables) (one p h p.forward) ∙ judged_variables u qs gs
       where
         one : (p : Written_procedure) (h : Head) (f : Bool) → (procedure_judged u p h f).contents.variables ≡ []
         one p h true = refl
