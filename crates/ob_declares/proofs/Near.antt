@@ -328,5 +328,5 @@ users_stand before m types near names described g used = record {
 
 -- what it sees of a type that it uses
 pub used_seen : (before : Program) (m : Module) (types : QName → Option Desc) (near : QName → Bool) (names : AllByRecursion (λ k. k.name ≢ m.name) before) (described : AllByRecursion (λ t. is_type t.desc ≡ true) m.types) (g : IsGrounded (viewed types m)) (used : AreUsed before m types near) → (q : QName) (e : Desc) → near q ≡ true → description before q ≡ Some e → (users_stand before m types near names described g used).others q ≡ Some (bare e)
-unfolding others kept_if
+unfolding others kept_if users_stand
 used_seen before m types near names described g used q e n h = ap (λ b. kept_if b (description before q)) n ∙ ap (kept_if true) h

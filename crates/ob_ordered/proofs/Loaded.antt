@@ -226,6 +226,7 @@ module _ (written : BuildsAreWritten) (ruled : BuildsAreRuled) where
 
     -- what it uses, and stands over
     pub uses : Uses before b
+    unfolding stands
     uses =
         let r = ruled b (of b) (valid_of b x v) in
         let found = found_all (tree_of b).types r.names in

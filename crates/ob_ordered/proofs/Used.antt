@@ -292,15 +292,15 @@ module _ (c : Compiled Text) (ruled : IsRuled c) (found : AllByRecursion (λ t. 
     pub are_used : AreUsed before c.tree (described c.against) near
     are_used = record { own = own_near; others = used_at }
 
+    reached_at : (q : QName) → near q ≡ true → is_among reached q ≡ true
+    unfolding near
+    reached_at q i = (both_true (is_among reached q) (is_described is_type (described c.against q)) (both_true (is_imported c.tree q) (is_among reached q && is_described is_type (described c.against q)) i).1).0
+
     pub shown_now : (q : QName) → is_own c.tree q ≡ false → near q ≡ true → ShownNow before others c.tree near q
     shown_now q own i =
         let u = used_at q own i in
         by u (described others q) refl (sym (shapes_met c.against others c.tree spelled spelled_too no_out no_out_too (subst (λ (f : Face Text). AreMet others f.uses) shows_is met) q (is_near q (reached_at q i)) (λ j. subst IsSome (sym u.of) refl) own) ∙ ap (option_map as_shape) u.of)
       where
-        reached_at : (q : QName) → near q ≡ true → is_among reached q ≡ true
-        unfolding near
-        reached_at q i = (both_true (is_among reached q) (is_described is_type (described c.against q)) (both_true (is_imported c.tree q) (is_among reached q && is_described is_type (described c.against q)) i).1).0
-
         by : (u : IsUsed before c.tree (described c.against) near q) (o : Option Desc) → described others q ≡ o → option_map as_shape o ≡ Some (as_shape u.d) → ShownNow before others c.tree near q
         by u None j h = absurd cc
         by u (Some x) j h =
