@@ -35,6 +35,7 @@ both_raw xs ys h k = all_both IsRaw xs ys h k
 pub record GoodDeclared (u : Around) (d : Declared) : Type 0 where
   pub types : AreRaw d.part.contents.types
   pub bound : d.part.contents.bound ≡ []
+  pub procedures : d.part.contents.procedures ≡ []
   pub own : AreRaw u.own → AreRaw d.around.own
   pub path : d.around.path ≡ u.path
 
@@ -57,16 +58,16 @@ declared_path u x e = if_path (found_in_scope u x.name) u x e
 
 -- ---- constants
 
-constant_types : (b : Bool) (x : Ident) (p : Option (Mark × Value)) → AreRaw (constant_contents b x p).types × ((constant_contents b x p).bound ≡ [])
-constant_types true x None = (tt, refl)
-constant_types true x (Some p) = (tt, refl)
-constant_types false x p = (tt, refl)
+constant_types : (b : Bool) (x : Ident) (p : Option (Mark × Value)) → AreRaw (constant_contents b x p).types × (((constant_contents b x p).bound ≡ []) × ((constant_contents b x p).procedures ≡ []))
+constant_types true x None = (tt, (refl, refl))
+constant_types true x (Some p) = (tt, (refl, refl))
+constant_types false x p = (tt, (refl, refl))
 
 constant_good : (d : IdentDef) (x : Phrase) → GoodPlain (constant_declared d x)
 constant_good d x u =
     let j = both (marked u false d) (constant_value u x ▷ no_nil x.start) in
     let c = constant_types (is_module_level u) d.ident j.node in
-    record { types = c.0; bound = c.1; own = λ h. declared_own u d.ident _ h; path = declared_path u d.ident _ }
+    record { types = c.0; bound = c.1.0; procedures = c.1.1; own = λ h. declared_own u d.ident _ h; path = declared_path u d.ident _ }
 
 -- ---- types
 
@@ -84,19 +85,19 @@ type_good d w g u =
     let t = typing_as u (u.path ++ d.ident.name) (mark_or_hidden m.node) w w.name in
     let ts = types_made (both m t).node in
     let k : AreRaw ts = made_good (both m t).node (second_has MakesRaw m t (as_good u (u.path ++ d.ident.name) (mark_or_hidden m.node) w g w.name)) in
-    record { types = k; bound = refl; own = λ h. declared_own (with_types u ts) d.ident _ (both_raw ts u.own k h); path = declared_path (with_types u ts) d.ident _ }
+    record { types = k; bound = refl; procedures = refl; own = λ h. declared_own (with_types u ts) d.ident _ (both_raw ts u.own k h); path = declared_path (with_types u ts) d.ident _ }
 
 -- ---- variables
 
-variable_types : (x : Ident) (o : Option (Mark × Typing)) → AreRaw (variable_contents x o).types × ((variable_contents x o).bound ≡ [])
-variable_types x None = (tt, refl)
-variable_types x (Some p) = (tt, refl)
+variable_types : (x : Ident) (o : Option (Mark × Typing)) → AreRaw (variable_contents x o).types × (((variable_contents x o).bound ≡ []) × ((variable_contents x o).procedures ≡ []))
+variable_types x None = (tt, (refl, refl))
+variable_types x (Some p) = (tt, (refl, refl))
 
-no_bound : (xs ys : List TypedType) → xs ≡ [] → ys ≡ [] → xs ++ ys ≡ []
+no_bound : {A : Type 0} (xs ys : List A) → xs ≡ [] → ys ≡ [] → xs ++ ys ≡ []
 no_bound xs ys e f = ap (λ l. l ++ ys) e ∙ f
 
 variables_good : (ds : List IdentDef) (t : Option Typing) → GoodPlain (variables_with ds t)
-variables_good [] t u = record { types = tt; bound = refl; own = λ h. h; path = refl }
+variables_good [] t u = record { types = tt; bound = refl; procedures = refl; own = λ h. h; path = refl }
 variables_good (d ∷ ds) t u =
     let c = variable_contents d.ident (paired_typing (marked u true d).node t) in
     let v = declare u d.ident _ in
@@ -104,7 +105,8 @@ variables_good (d ∷ ds) t u =
     let rest = variables_good ds t v in
     record {
       types = both_raw c.types (variables_with ds t v).part.contents.types one.0 rest.types;
-      bound = no_bound c.bound (variables_with ds t v).part.contents.bound one.1 rest.bound;
+      bound = no_bound c.bound (variables_with ds t v).part.contents.bound one.1.0 rest.bound;
+      procedures = no_bound c.procedures (variables_with ds t v).part.contents.procedures one.1.1 rest.procedures;
       own = λ h. rest.own (declared_own u d.ident _ h);
       path = rest.path ∙ declared_path u d.ident _;
     }
@@ -121,6 +123,7 @@ typed_good ds u t h =
     record {
       types = both_raw (made_in t.node) (variables_with ds t.node v).part.contents.types k rest.types;
       bound = rest.bound;
+      procedures = rest.procedures;
       own = λ r. rest.own (both_raw (made_in t.node) u.own k r);
       path = rest.path;
     }
@@ -131,7 +134,7 @@ variables_declared_good ds w g u = typed_good ds u _ (g u _ _ false)
 -- ---- in order
 
 pub order_good : (fs : List (Around → Declared)) → AllByRecursion GoodPlain fs → GoodPlain (in_order fs)
-order_good [] h u = record { types = tt; bound = refl; own = λ h. h; path = refl }
+order_good [] h u = record { types = tt; bound = refl; procedures = refl; own = λ h. h; path = refl }
 order_good (f ∷ fs) h u =
     let a = h.0 u in
     let v = (f u).around in
@@ -139,6 +142,7 @@ order_good (f ∷ fs) h u =
     record {
       types = both_raw (f u).part.contents.types (in_order fs v).part.contents.types a.types b.types;
       bound = no_bound (f u).part.contents.bound (in_order fs v).part.contents.bound a.bound b.bound;
+      procedures = no_bound (f u).part.contents.procedures (in_order fs v).part.contents.procedures a.procedures b.procedures;
       own = λ r. b.own (a.own r);
       path = b.path ∙ a.path;
     }
@@ -257,7 +261,7 @@ decls_good (x ∷ xs) = (decl_good x, decls_good xs)
 -- ---- imports
 
 import_good : (i : Import) (t : Ident) → GoodPlain (import_declared i t)
-import_good i t u = record { types = tt; bound = refl; own = λ h. declared_own u i.ident _ h; path = declared_path u i.ident _ }
+import_good i t u = record { types = tt; bound = refl; procedures = refl; own = λ h. declared_own u i.ident _ h; path = declared_path u i.ident _ }
 
 pub imports_good : (is : List Import) → AllByRecursion GoodPlain (map (λ i. import_declared i (target_of i)) is)
 imports_good [] = tt

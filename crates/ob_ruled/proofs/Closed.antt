@@ -33,10 +33,11 @@ use Rattle.ob_local.specs.Laws.{HaveNoOut}
 use Rattle.ob_local.proofs.Agreed.{out_none}
 use Rattle.ob_forms.specs.Said.{IsOneOf}
 use Rattle.ob_bodies.specs.Knows.{HasName, IsTypeDesc, StandsBy, Stands}
-use Rattle.ob_bodies.specs.Judged.{with_methods, HasMore, IsTold}
+use Rattle.ob_bodies.specs.Judged.{with_methods}
 use Rattle.ob_bodies.proofs.Lists.{one_all}
 use Rattle.ob_tying.proofs.Laid.{all_found, IsFound}
-use Rattle.ob_ruled.specs.Variables.{AliasStands, IsDeclaredWell}
+use Rattle.ob_declares.specs.Near.{core}
+use Rattle.ob_ruled.specs.Variables.{AliasStands, IsSameType, IsDeclaredWell}
 use Rattle.ob_ruled.proofs.Shut.{target_own, open_own}
 
 abbrev Text : Type 0
@@ -66,31 +67,32 @@ blank_type_is (desc.OpenArray m t) = refl
 blank_type_is (desc.Pointer m t) = refl
 blank_type_is (desc.ProcType m s) = refl
 
--- an alias is the same alias, and others are as open
+-- an alias is the same alias, and others are as open, and the same but for the members and the sizes of a record
 pub record SaysAs (d e : Desc) : Type 0 where
+  pub alike : core d ≡ core e
   pub alias : (m : Mark) (t : TypeRef) → e ≡ desc.Alias m t → d ≡ desc.Alias m t
   pub own : is_alias e ≡ false → is_alias d ≡ false
   pub opened : is_open d ≡ is_open e
 
 says_same : (d : Desc) → SaysAs d d
-says_same d = record { alias = λ m t e. e; own = λ e. e; opened = refl }
+says_same d = record { alike = refl; alias = λ m t e. e; own = λ e. e; opened = refl }
 
-laid_says : (w p : TypeRef → ℕ) (q : QName) (ms : List Method) (d : Desc) → SaysAs d (laid_desc w p q (with_methods ms d))
-laid_says w p q ms (desc.Record r) = record { alias = λ m t e. absurd (no m t e); own = λ e. refl; opened = refl }
+laid_says : (w p : TypeRef → ℕ) (q : QName) (ms ks : List Method) (d : Desc) → SaysAs (with_methods ms d) (laid_desc w p q (with_methods ks d))
+laid_says w p q ms ks (desc.Record r) = record { alike = refl; alias = λ m t e. absurd (no m t e); own = λ e. refl; opened = refl }
   where
-    no : (m : Mark) (t : TypeRef) → laid_desc w p q (with_methods ms (desc.Record r)) ≡ desc.Alias m t → ⊥
+    no : (m : Mark) (t : TypeRef) → laid_desc w p q (with_methods ks (desc.Record r)) ≡ desc.Alias m t → ⊥
     no m t e = absurd cc
-laid_says w p q ms (desc.Const v) = says_same (desc.Const v)
-laid_says w p q ms (desc.Var m t) = says_same (desc.Var m t)
-laid_says w p q ms (desc.Proc s) = says_same (desc.Proc s)
-laid_says w p q ms (desc.Alias m t) = says_same (desc.Alias m t)
-laid_says w p q ms (desc.Array m n t) = says_same (desc.Array m n t)
-laid_says w p q ms (desc.OpenArray m t) = says_same (desc.OpenArray m t)
-laid_says w p q ms (desc.Pointer m t) = says_same (desc.Pointer m t)
-laid_says w p q ms (desc.ProcType m s) = says_same (desc.ProcType m s)
+laid_says w p q ms ks (desc.Const v) = says_same (desc.Const v)
+laid_says w p q ms ks (desc.Var m t) = says_same (desc.Var m t)
+laid_says w p q ms ks (desc.Proc s) = says_same (desc.Proc s)
+laid_says w p q ms ks (desc.Alias m t) = says_same (desc.Alias m t)
+laid_says w p q ms ks (desc.Array m n t) = says_same (desc.Array m n t)
+laid_says w p q ms ks (desc.OpenArray m t) = says_same (desc.OpenArray m t)
+laid_says w p q ms ks (desc.Pointer m t) = says_same (desc.Pointer m t)
+laid_says w p q ms ks (desc.ProcType m s) = says_same (desc.ProcType m s)
 
 blank_says : (d : Desc) → SaysAs (blank d) d
-blank_says (desc.Record r) = record { alias = λ m t e. absurd (no m t e); own = λ e. refl; opened = refl }
+blank_says (desc.Record r) = record { alike = refl; alias = λ m t e. absurd (no m t e); own = λ e. refl; opened = refl }
   where
     no : (m : Mark) (t : TypeRef) → desc.Record r ≡ desc.Alias m t → ⊥
     no m t e = absurd cc
@@ -170,7 +172,7 @@ module _ (faces : List (Face Text)) (m : TypedModule) (types_are : AllByRecursio
       by true i = let bad : None ≡ Some d = sym (out_none faces no_out q i) ∙ e in absurd cc
       by false i = ap (λ b. b && bytes_eq q.object out_string.object) i
 
-  module _ (w : Around) (unit_is : w.unit ≡ m.name) (shown_is : w.shown ≡ shown faces) (aliases : AllByRecursion (λ s. AliasStands m.name (shown faces) w.own s.desc) w.own) (told : (t : TypedType) → IsOneOf w.own t → IsTold m.types t) where
+  module _ (w : Around) (unit_is : w.unit ≡ m.name) (shown_is : w.shown ≡ shown faces) (aliases : AllByRecursion (λ s. AliasStands m.name (shown faces) w.own s.desc) w.own) (told : (t : TypedType) → IsOneOf w.own t → IsSameType m.types t) where
     abbrev S : TypeRef → Type 0
     S t = Stands m.name (shown faces) w.own t
 
@@ -187,25 +189,26 @@ module _ (faces : List (Face Text)) (m : TypedModule) (types_are : AllByRecursio
 
     -- ---- a type that stands, where it stands and where the module was compiled
 
-    record Look (q : QName) (e : Desc) : Type 0 where
-      d : Desc
-      there : map_of w q ≡ Some d
-      says : SaysAs d e
-      on : (k : Mark) (t : TypeRef) → e ≡ desc.Alias k t → S t
+    pub record Look (q : QName) (e : Desc) : Type 0 where
+      pub d : Desc
+      pub there : map_of w q ≡ Some d
+      pub says : SaysAs d e
+      pub on : (k : Mark) (t : TypeRef) → e ≡ desc.Alias k t → S t
 
     alias_on : (d : Desc) (k : Mark) (t : TypeRef) → AliasStands m.name (shown faces) w.own d → d ≡ desc.Alias k t → S t
     alias_on d k t h e = subst (AliasStands m.name (shown faces) w.own) e h
 
-    look : (q : QName) (e : Desc) → S (ref.Named q) → V q ≡ Some e → Look q e
+    pub look : (q : QName) (e : Desc) → S (ref.Named q) → V q ≡ Some e → Look q e
     look q e s v = by (bytes_eq q.«module» m.name) refl s.1
       where
         by : (b : Bool) → bytes_eq q.«module» m.name ≡ b → StandsBy b (shown faces) w.own q → Look q e
         by true own h =
             let f = has_found w.own q.object h in
             let r = told f.t f.there in
-            let is : V q ≡ Some (laid_desc words procedures (in_m r.0.name) r.0.desc) = own_found r.0 r.1.0 q own (r.1.1.0 ∙ f.name) in
-            let same : laid_desc words procedures (in_m r.0.name) r.0.desc ≡ e = same_some _ e (sym is ∙ v) in
-            let says : SaysAs f.t.desc e = subst (SaysAs f.t.desc) (ap (λ d. laid_desc words procedures (in_m r.0.name) d) (sym r.1.1.1.1) ∙ same) (laid_says words procedures (in_m r.0.name) r.1.1.1.0 f.t.desc) in
+            let is : V q ≡ Some (laid_desc words procedures (in_m r.s.name) r.s.desc) = own_found r.s r.there q own (r.name ∙ f.name) in
+            let same : laid_desc words procedures (in_m r.s.name) r.s.desc ≡ e = same_some _ e (sym is ∙ v) in
+            let laid_is : SaysAs (with_methods r.here.0 r.d) e = subst (SaysAs (with_methods r.here.0 r.d)) (ap (λ d. laid_desc words procedures (in_m r.s.name) d) (sym r.told.1) ∙ same) (laid_says words procedures (in_m r.s.name) r.here.0 r.told.0 r.d) in
+            let says : SaysAs f.t.desc e = subst (λ d. SaysAs d e) (sym r.here.1) laid_is in
             record {
               d = f.t.desc;
               there = ap (λ b. type_desc b (same_name q out_string) w q) (ap (bytes_eq q.«module») unit_is ∙ own) ∙ ap own_desc f.is;
@@ -268,7 +271,7 @@ module _ (faces : List (Face Text)) (m : TypedModule) (types_are : AllByRecursio
         by (Some d) e h = false≢true (sym shut ∙ open_back 201 t k.0 d k.1.0 e h s i)
 
     -- what stands is a type where the module was compiled
-    held_here : (t : TypeRef) → S t → IsHeld V t
+    pub held_here : (t : TypeRef) → S t → IsHeld V t
     held_here (ref.Basic b) s = tt
     held_here (ref.Named q) s = by (bytes_eq q.«module» m.name) refl s.1
       where
@@ -276,8 +279,8 @@ module _ (faces : List (Face Text)) (m : TypedModule) (types_are : AllByRecursio
         by true own h =
             let f = has_found w.own q.object h in
             let r = told f.t f.there in
-            let is : V q ≡ Some (laid_desc words procedures (in_m r.0.name) r.0.desc) = own_found r.0 r.1.0 q own (r.1.1.0 ∙ f.name) in
-            subst (λ o. MatchOption o ⊥ (λ d. IsTrue (is_type d))) (sym is) (laid_type_is words procedures (in_m r.0.name) r.0.desc ∙ one_all (λ (t : TypedType). is_type t.desc ≡ true) m.types r.0 types_are r.1.0)
+            let is : V q ≡ Some (laid_desc words procedures (in_m r.s.name) r.s.desc) = own_found r.s r.there q own (r.name ∙ f.name) in
+            subst (λ o. MatchOption o ⊥ (λ d. IsTrue (is_type d))) (sym is) (laid_type_is words procedures (in_m r.s.name) r.s.desc ∙ one_all (λ (t : TypedType). is_type t.desc ≡ true) m.types r.s types_are r.there)
         by false own h = subst (λ o. MatchOption o ⊥ (λ d. IsTrue (is_type d))) (sym (foreign q own)) (unblank (described faces q) h)
           where
             unblank : (o : Option Desc) → IsTypeDesc (option_map blank o) → MatchOption o ⊥ (λ d. IsTrue (is_type d))

@@ -69,7 +69,7 @@ found_is x (c ∷ bs) b e = by (bytes_eq c.name x) refl e (found_is x bs b)
     by false i e r = let k = r e in (inr k.0, k.1)
 
 -- a type, which has perhaps more procedures in the module
-told : (types bound : List TypedType) → ((b : TypedType) → IsOneOf bound b → (t : TypedType) × (IsOneOf types t × ((t.name ≡ b.name) × HasMore t.desc b.desc))) → AreDistinct (λ (t : TypedType). t.name) (all_described bound types) → (t : TypedType) → IsOneOf types t → IsTold (all_described bound types) t
+pub told : (types bound : List TypedType) → ((b : TypedType) → IsOneOf bound b → (t : TypedType) × (IsOneOf types t × ((t.name ≡ b.name) × HasMore t.desc b.desc))) → AreDistinct (λ (t : TypedType). t.name) (all_described bound types) → (t : TypedType) → IsOneOf types t → IsTold (all_described bound types) t
 told types bound from differ t i = (described (for_name bound t) t, (there bound types t i, (name_is bound t, by (for_name bound t) refl)))
   where
     by : (o : Option TypedType) → for_name bound t ≡ o → HasMore t.desc (described o t).desc
@@ -81,10 +81,10 @@ told types bound from differ t i = (described (for_name bound t) t, (there bound
 
 -- ---- a module
 
-abbrev parts : (QName → Option Desc) → Tree → Part
+abbrev pub parts : (QName → Option Desc) → Tree → Part
 parts shown tree = module_of shown tree.name tree.imports (map declaration tree.decls) (map judging tree.body) tree.closing
 
-abbrev module_is : (QName → Option Desc) → Tree → TypedModule
+abbrev pub module_is : (QName → Option Desc) → Tree → TypedModule
 module_is shown tree = typed_module shown tree.name tree.imports (map declaration tree.decls) (parts shown tree)
 
 module _ (shown : QName → Option Desc) (tree : Tree) (out : is_out (module_is shown tree).name ≡ false) (quiet : (parts shown tree).notes.broken ≡ []) where
@@ -146,11 +146,11 @@ module _ (shown : QName → Option Desc) (tree : Tree) (out : is_out (module_is 
   judged_lie t i = one_right imports.part.contents.types _ t (one_right plain.part.contents.types _ t (one_left judged.contents.types [] t i))
 
   module _ (spelled : all_true (map decl_spelled tree.decls) ≡ true) (others : AreOthers tree.name.name tree.imports) where
-    imports_are : DeclaredFine tree.name.name shown out all imports
-    imports_are = order_plain tree.name.name shown out all (map (λ i. import_declared i (target_of i)) tree.imports) (imports_plain tree.name.name shown out all tree.imports others) start (start_fine tree.name.name shown out all tree.name.name (map declaration tree.decls) refl) imports_lie
+    imports_are : DeclaredFine tree.name.name shown out all (IsOneOf all) (λ s i. i) imports
+    imports_are = order_plain tree.name.name shown out all (IsOneOf all) (λ s i. i) (map (λ i. import_declared i (target_of i)) tree.imports) (imports_plain tree.name.name shown out all (IsOneOf all) (λ s i. i) tree.imports others) start (start_fine tree.name.name shown out all (IsOneOf all) (λ s i. i) tree.name.name (map declaration tree.decls) refl) imports_lie
 
-    plain_is : DeclaredFine tree.name.name shown out all plain
-    plain_is = order_plain tree.name.name shown out all (filter_map plain_of (map declaration tree.decls)) (decls_plain tree.name.name shown out all tree.decls spelled) base (later_fine tree.name.name shown out all imports.around (filter_map type_name_of (map declaration tree.decls)) imports_are.around) plain_lie
+    plain_is : DeclaredFine tree.name.name shown out all (IsOneOf all) (λ s i. i) plain
+    plain_is = order_plain tree.name.name shown out all (IsOneOf all) (λ s i. i) (filter_map plain_of (map declaration tree.decls)) (decls_plain tree.name.name shown out all (IsOneOf all) (λ s i. i) tree.decls spelled) base (later_fine tree.name.name shown out all (IsOneOf all) (λ s i. i) imports.around (filter_map type_name_of (map declaration tree.decls)) imports_are.around) plain_lie
 
     -- what is bound are types of the module, perhaps with more bound procedures
     heads_lie : Lies hs.around.own all
@@ -160,7 +160,7 @@ module _ (shown : QName → Option Desc) (tree : Tree) (out : is_out (module_is 
         let behind = lies_in_order plain.around.own ps (record { around = plain.around; before = [] }) unbroken (lies_same plain.around.own) in
         ⊎_elim (λ y. judged_lie t (makes t y)) (λ y. plain_is.around.lies t y) (one_joined (types_of_all hs.before) plain.around.own t (behind t i))
 
-    bound_from : (b : TypedType) → IsOneOf whole.contents.bound b → (t : TypedType) × (IsOneOf all t × ((t.name ≡ b.name) × HasMore t.desc b.desc))
+    pub bound_from : (b : TypedType) → IsOneOf whole.contents.bound b → (t : TypedType) × (IsOneOf all t × ((t.name ≡ b.name) × HasMore t.desc b.desc))
     bound_from b i =
         let k : IsOneOf B.own b = ⊎_elim (λ j. no_one imports.part.contents.bound (order_good (map (λ i. import_declared i (target_of i)) tree.imports) (imports_bound tree.imports) start).bound j) (λ j. ⊎_elim (λ j. no_one plain.part.contents.bound (order_good (filter_map plain_of (map declaration tree.decls)) (plains_good (map declaration tree.decls) (decls_good tree.decls)) base).bound j) (λ j. ⊎_elim (λ j. j) (λ j. ⊎_elim (λ j. no_one judged.contents.bound (procedures_bound Any shown made no_contents out w ps heads) j) (λ j. absurd j) (one_joined judged.contents.bound [] b j)) (one_joined B.own _ b j)) (one_joined plain.part.contents.bound _ b j)) (one_joined imports.part.contents.bound _ b i) in
         let r = (binding_changes Any (is_module_level imports.around) hs.around heads).from b k in
@@ -179,23 +179,23 @@ module _ (shown : QName → Option Desc) (tree : Tree) (out : is_out (module_is 
         one p h false = refl
 
     module _ (differ : AreDistinct (λ (t : TypedType). t.name) made.types) where
-      well : (v : TypedVariable) → VariableIn tree.name.name shown out all v → IsDeclaredWell tree.name.name shown made.types v
+      well : (v : TypedVariable) → VariableIn tree.name.name shown out all (IsOneOf all) (λ s i. i) v → IsDeclaredWell tree.name.name shown made.types v
       well v h = record {
         w = h.w;
         unit_is = h.fine.knows.unit_is;
         shown_is = h.fine.knows.shown_is;
         aliases = h.fine.aliases;
-        told = λ t i. told all whole.contents.bound bound_from differ t (h.fine.lies t i);
+        told = λ t i. let k = told all whole.contents.bound bound_from differ t (h.fine.lies t i) in record { s = k.0; there = k.1.0; name = k.1.1.0; d = t.desc; here = more_same t.desc t.desc refl; told = k.1.1.1 };
         stands = h.stands;
         closed = h.closed;
       }
 
       variables_well : AllByRecursion (IsDeclaredWell tree.name.name shown made.types) made.variables
       variables_well =
-          all_of (VariableIn tree.name.name shown out all) (IsDeclaredWell tree.name.name shown made.types) made.variables well
-          (all_both (VariableIn tree.name.name shown out all) imports.part.contents.variables _ imports_are.variables
-          (all_both (VariableIn tree.name.name shown out all) plain.part.contents.variables _ plain_is.variables
-          (subst (λ vs. AllByRecursion (VariableIn tree.name.name shown out all) (vs ++ [])) (sym (judged_variables w ps heads)) tt)))
+          all_of (VariableIn tree.name.name shown out all (IsOneOf all) (λ s i. i)) (IsDeclaredWell tree.name.name shown made.types) made.variables well
+          (all_both (VariableIn tree.name.name shown out all (IsOneOf all) (λ s i. i)) imports.part.contents.variables _ imports_are.variables
+          (all_both (VariableIn tree.name.name shown out all (IsOneOf all) (λ s i. i)) plain.part.contents.variables _ plain_is.variables
+          (subst (λ vs. AllByRecursion (VariableIn tree.name.name shown out all (IsOneOf all) (λ s i. i)) (vs ++ [])) (sym (judged_variables w ps heads)) tt)))
 
 pub variables_declared_well : VariablesAreDeclared
 variables_declared_well shown tree m e spelled others differ =

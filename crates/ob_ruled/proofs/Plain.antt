@@ -1,5 +1,5 @@
 -- Constants, types and variables of a module, in their order: where a variable is declared its type stands, and is no open array.
-use Rattle.std.proofs.Common.{◌≡◌, refl, sym, ap, ◌∙◌, subst, ℕ, Bool, true, false, List, [], ◌∷◌, ◌++◌, map, Option, Some, None, inl, inr}
+use Rattle.std.proofs.Common.{◌≡◌, ⊎_elim, refl, sym, ap, ◌∙◌, subst, ℕ, Bool, true, false, List, [], ◌∷◌, ◌++◌, map, Option, Some, None, inl, inr}
 use Rattle.std.specs.Prelude.{◌&&◌, bytes_eq, codes}
 use Rattle.std.specs.List.{AllByRecursion, filter_map, cons_option}
 use Rattle.ob_tree.specs.declared.names.QName.{QName}
@@ -37,8 +37,8 @@ use Rattle.ob_described.proofs.Nodes.{IfThere, Has, then_has, second_has}
 use Rattle.ob_typed.specs.Spelled.{all_true, is_spelled}
 use Rattle.ob_bodies.specs.Spelled.{parameters_spelled, type_spelled, decl_layer, decl_spelled}
 use Rattle.ob_bodies.specs.Knows.{Grows, Stands, IsDescribed, EntityStands, Knows}
-use Rattle.ob_bodies.proofs.Lists.{one_left, one_right, all_of, all_both}
-use Rattle.ob_bodies.proofs.Standing.{Lies, lies_both, grows_front, stands_grown, with_types_known}
+use Rattle.ob_bodies.proofs.Lists.{one_left, one_right, one_joined, all_of, all_both}
+use Rattle.ob_bodies.proofs.Standing.{Lies, grows_front, stands_grown, with_types_known}
 use Rattle.ob_bodies.proofs.Typings.{TypingIs, typed_is, ConstantPhrase}
 use Rattle.ob_bodies.proofs.Written.{written_good as written_stands}
 use Rattle.ob_ruled.specs.Variables.{AliasStands}
@@ -49,18 +49,18 @@ use Rattle.ob_ruled.proofs.Written.{written_good as written_shut}
 abbrev pub Any : Value → Type 0
 Any v = Unit {0}
 
-module _ (unit : List ℕ) (shown : QName → Option Desc) (out : is_out unit ≡ false) (all : List TypedType) where
+module _ (unit : List ℕ) (shown : QName → Option Desc) (out : is_out unit ≡ false) (all : List TypedType) (Among : TypedType → Type 0) (raw : (s : TypedType) → IsOneOf all s → Among s) where
   abbrev S : List TypedType → TypeRef → Type 0
   S own t = Stands unit shown own t
 
   abbrev pub AliasesStand : List TypedType → List TypedType → Type 0
   AliasesStand own ts = AllByRecursion (λ s. AliasStands unit shown own s.desc) ts
 
-  -- what is known at the level of the module: aliases stand, and its types are among these
+  -- what is known in the module: aliases stand, and its types are among these
   pub record Fine (u : Around) : Type 0 where
     pub knows : Knows Any unit shown u
     pub aliases : AliasesStand u.own u.own
-    pub lies : Lies u.own all
+    pub lies : (s : TypedType) → IsOneOf u.own s → Among s
 
   -- there its type stands, and is no open array
   pub record VariableIn (v : TypedVariable) : Type 0 where
@@ -82,12 +82,12 @@ module _ (unit : List ℕ) (shown : QName → Option Desc) (out : is_out unit �
   if_declared (Some k) u f x e h = f
   if_declared None u f x e h = record { knows = record { unit_is = f.knows.unit_is; shown_is = f.knows.shown_is; own = f.knows.own; known = (h, f.knows.known) }; aliases = f.aliases; lies = f.lies }
 
-  name_declared : (u : Around) → Fine u → (x : Ident) (e : Entity) → EntityStands Any unit shown u.own e → Fine (declare u x e)
+  pub name_declared : (u : Around) → Fine u → (x : Ident) (e : Entity) → EntityStands Any unit shown u.own e → Fine (declare u x e)
   name_declared u f x e h = if_declared (found_in_scope u x.name) u f x e h
 
   -- ---- types
 
-  alias_grown : (own more : List TypedType) → Grows own more → (d : Desc) → AliasStands unit shown own d → AliasStands unit shown more d
+  pub alias_grown : (own more : List TypedType) → Grows own more → (d : Desc) → AliasStands unit shown own d → AliasStands unit shown more d
   alias_grown own more g (desc.Alias m t) h = stands_grown unit shown own more g t h
   alias_grown own more g (desc.Const v) h = tt
   alias_grown own more g (desc.Var m t) h = tt
@@ -98,7 +98,7 @@ module _ (unit : List ℕ) (shown : QName → Option Desc) (out : is_out unit �
   alias_grown own more g (desc.ProcType m s) h = tt
   alias_grown own more g (desc.Record r) h = tt
 
-  aliases_grown : (own more : List TypedType) → Grows own more → (ts : List TypedType) → AliasesStand own ts → AliasesStand more ts
+  pub aliases_grown : (own more : List TypedType) → Grows own more → (ts : List TypedType) → AliasesStand own ts → AliasesStand more ts
   aliases_grown own more g ts h = all_of (λ (s : TypedType). AliasStands unit shown own s.desc) (λ (s : TypedType). AliasStands unit shown more s.desc) ts (λ s. alias_grown own more g s.desc) h
 
   no_alias : (own : List TypedType) (d : Desc) → is_alias d ≡ false → AliasStands unit shown own d
@@ -112,14 +112,14 @@ module _ (unit : List ℕ) (shown : QName → Option Desc) (out : is_out unit �
   no_alias own (desc.ProcType m s) e = tt
   no_alias own (desc.Record r) e = tt
 
-  no_aliases : (own ts : List TypedType) → NoAliases ts → AliasesStand own ts
+  pub no_aliases : (own ts : List TypedType) → NoAliases ts → AliasesStand own ts
   no_aliases own ts h = all_of (λ (s : TypedType). is_alias s.desc ≡ false) (λ (s : TypedType). AliasStands unit shown own s.desc) ts (λ s. no_alias own s.desc) h
 
-  types_fine : (u : Around) → Fine u → (ts : List TypedType) → AllByRecursion (IsDescribed Any) ts → AliasesStand (ts ++ u.own) ts → Lies ts all → Fine (with_types u ts)
+  pub types_fine : (u : Around) → Fine u → (ts : List TypedType) → AllByRecursion (IsDescribed Any) ts → AliasesStand (ts ++ u.own) ts → ((s : TypedType) → IsOneOf ts s → Among s) → Fine (with_types u ts)
   types_fine u f ts h a l = record {
     knows = with_types_known unit shown Any u f.knows ts h;
     aliases = all_both (λ (s : TypedType). AliasStands unit shown (ts ++ u.own) s.desc) ts u.own a (aliases_grown u.own (ts ++ u.own) (grows_front ts u.own) u.own f.aliases);
-    lies = lies_both ts u.own all l f.lies;
+    lies = λ s i. ⊎_elim (λ j. l s j) (λ j. f.lies s j) (one_joined ts u.own s i);
   }
 
   -- a type where it is written
@@ -128,14 +128,14 @@ module _ (unit : List ℕ) (shown : QName → Option Desc) (out : is_out unit �
     pub of : S (t.made ++ own) t.of
     pub aliases : AliasesStand (t.made ++ own) t.made
 
-  constants : (x : Expr) → is_spelled x ≡ true → ConstantPhrase Any unit shown out (phrase_of x)
+  pub constants : (x : Expr) → is_spelled x ≡ true → ConstantPhrase Any unit shown out (phrase_of x)
   constants x e u k = sure (constant_value u (phrase_of x)).node
     where
       sure : (o : Option Value) → IfThere Any o
       sure None = tt
       sure (Some v) = tt
 
-  pairs : {A : Type 0} (P Q R : A → Type 0) → ((x : A) → P x → Q x → R x) → (o : Option A) → IfThere P o → IfThere Q o → IfThere R o
+  pub pairs : {A : Type 0} (P Q R : A → Type 0) → ((x : A) → P x → Q x → R x) → (o : Option A) → IfThere P o → IfThere Q o → IfThere R o
   pairs P Q R f None h k = tt
   pairs P Q R f (Some x) h k = f x h k
 
@@ -159,14 +159,14 @@ module _ (unit : List ℕ) (shown : QName → Option Desc) (out : is_out unit �
   as_fine n e u f name m None = pairs (λ t. TypingFine u.own t × (is_open (map_of (with_types u t.made)) t.of ≡ false)) (λ t. TypingFine u.own t × (is_open (map_of (with_types u t.made)) t.of ≡ false)) (TypingFine u.own) (λ t h k. h.0) ((written n).typing u name m false).node (typing_fine n e u f name m) (typing_fine n e u f name m)
 
   made_fine : (u : Around) → Fine u → (o : Option (Mark × Typing)) → IfThere (λ p. Unit {0} × TypingFine u.own p.1) o → Lies (types_made o) all → Fine (with_types u (types_made o))
-  made_fine u f None h l = types_fine u f [] tt tt l
-  made_fine u f (Some p) h l = types_fine u f p.1.made h.1.made h.1.aliases l
+  made_fine u f None h l = types_fine u f [] tt tt (λ s i. raw s (l s i))
+  made_fine u f (Some p) h l = types_fine u f p.1.made h.1.made h.1.aliases (λ s i. raw s (l s i))
 
   entity_fine : (own : List TypedType) (o : Option (Mark × Typing)) → IfThere (λ p. Unit {0} × TypingFine own p.1) o → EntityStands Any unit shown (types_made o ++ own) (type_entity o)
   entity_fine own None h = tt
   entity_fine own (Some p) h = h.1.of
 
-  type_plain : (d : IdentDef) (n : TypeNode) → type_spelled n ≡ true → IsPlain (type_declared d (written n))
+  pub type_plain : (d : IdentDef) (n : TypeNode) → type_spelled n ≡ true → IsPlain (type_declared d (written n))
   type_plain d n e u f l =
       let k = marked u false d in
       let t = typing_as u (u.path ++ d.ident.name) (mark_or_hidden k.node) (written n) (written n).name in
@@ -185,7 +185,7 @@ module _ (unit : List ℕ) (shown : QName → Option Desc) (out : is_out unit �
   constant_variables true x (Some p) = refl
   constant_variables false x o = refl
 
-  constant_plain : (d : IdentDef) (x : Phrase) → IsPlain (constant_declared d x)
+  pub constant_plain : (d : IdentDef) (x : Phrase) → IsPlain (constant_declared d x)
   constant_plain d x u f l =
       let o = (both (marked u false d) (constant_value u x ▷ no_nil x.start)).node in
       record { around = name_declared u f d.ident (constant_entity o) (constant_known u.own o); variables = subst (AllByRecursion VariableIn) (sym (constant_variables (is_module_level u) d.ident o)) tt }
@@ -218,14 +218,14 @@ module _ (unit : List ℕ) (shown : QName → Option Desc) (out : is_out unit �
   typed_plain ds u f t h l = by t.node h (λ s i. l s (one_left (made_in t.node) (variables_with ds t.node (with_types u (made_in t.node))).part.contents.types s i))
     where
       by : (o : Option Typing) → IfThere (λ t. TypingFine u.own t × (is_open (map_of (with_types u t.made)) t.of ≡ false)) o → Lies (made_in o) all → DeclaredFine (record { part = record { notes = (variables_typed ds u t).part.notes; contents = together (record no_contents { types = made_in o }) (variables_with ds o (with_types u (made_in o))).part.contents }; around = (variables_with ds o (with_types u (made_in o))).around })
-      by None h l = let r = variables_fine ds None tt (with_types u []) (types_fine u f [] tt tt l) in record { around = r.around; variables = r.variables }
+      by None h l = let r = variables_fine ds None tt (with_types u []) (types_fine u f [] tt tt (λ s i. raw s (l s i))) in record { around = r.around; variables = r.variables }
       by (Some s) h l =
           let v = with_types u s.made in
-          let g = types_fine u f s.made h.0.made h.0.aliases l in
+          let g = types_fine u f s.made h.0.made h.0.aliases (λ k i. raw k (l k i)) in
           let r = variables_fine ds (Some s) (λ x m. record { w = v; fine = g; stands = h.0.of; closed = h.1 }) v g in
           record { around = r.around; variables = r.variables }
 
-  variables_plain : (ds : List IdentDef) (n : TypeNode) → type_spelled n ≡ true → IsPlain (variables_declared ds (written n))
+  pub variables_plain : (ds : List IdentDef) (n : TypeNode) → type_spelled n ≡ true → IsPlain (variables_declared ds (written n))
   variables_plain ds n e u f l = typed_plain ds u f _ (typing_fine n e u f (u.path ++ first_name ds ++ codes ":") mark.Hidden) l
 
   -- ---- in order

@@ -15,7 +15,7 @@ use Rattle.ob_distinct.specs.Distinct.{AreDistinct}
 use Rattle.ob_forms.specs.Said.{IsOneOf}
 use Rattle.ob_bodies.specs.Spelled.{tree_spelled}
 use Rattle.ob_bodies.specs.Knows.{Stands}
-use Rattle.ob_bodies.specs.Judged.{IsTold}
+use Rattle.ob_bodies.specs.Judged.{HasMore}
 use Rattle.ob_bodies.specs.Laws.{AreOthers}
 
 -- what an alias is equated to stands
@@ -23,13 +23,22 @@ abbrev pub AliasStands : List ℕ → (QName → Option Desc) → List TypedType
 AliasStands unit shown own (desc.Alias m t) = Stands unit shown own t
 AliasStands unit shown own d = Unit {0}
 
+-- one of these types has the name, and both have perhaps more bound procedures than one description
+pub record IsSameType (types : List TypedType) (t : TypedType) : Type 0 where
+  pub s : TypedType
+  pub there : IsOneOf types s
+  pub name : s.name ≡ t.name
+  pub d : Desc
+  pub here : HasMore d t.desc
+  pub told : HasMore d s.desc
+
 -- Where the variable is declared its type stands and is no open array, and what is known there is told by these types of the module.
 pub record IsDeclaredWell (unit : List ℕ) (shown : QName → Option Desc) (types : List TypedType) (v : TypedVariable) : Type 0 where
   pub w : Around
   pub unit_is : w.unit ≡ unit
   pub shown_is : w.shown ≡ shown
   pub aliases : AllByRecursion (λ s. AliasStands unit shown w.own s.desc) w.own
-  pub told : (t : TypedType) → IsOneOf w.own t → IsTold types t
+  pub told : (t : TypedType) → IsOneOf w.own t → IsSameType types t
   pub stands : Stands unit shown w.own v.of
   pub closed : is_open (map_of w) v.of ≡ false
 

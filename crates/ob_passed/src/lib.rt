@@ -1,0 +1,2 @@
+//! How the parameters of checked modules are passed.
+#![tactic(auto)]
