@@ -10,9 +10,10 @@ use Rattle.ob_types.specs.declared.types.TypeRef.TheVariants as ref
 use Rattle.ob_types.specs.declared.desc.Desc.{Desc}
 use Rattle.ob_types.specs.declared.desc.Desc.TheVariants as desc
 use Rattle.ob_types.specs.declared.typed.TypedVariable.{TypedVariable}
+use Rattle.ob_types.specs.declared.typed.TypedParameter.{TypedParameter}
 use Rattle.ob_types.specs.Maps.{is_type, IsHeld}
 use Rattle.ob_types.specs.Relations.{Is, is_open}
-use Rattle.ob_types.specs.TypedSyntax.{Module}
+use Rattle.ob_types.specs.TypedSyntax.{Procedure, Module}
 use Rattle.ob_meaning.specs.Values.{Program, description}
 use Rattle.ob_layout.specs.LaidOut.{type_named, is_own}
 use Rattle.ob_format.specs.Format.{◌>>=◌}
@@ -21,6 +22,7 @@ use Rattle.ob_env.specs.Faces.{Face, Wanted, face_named, object_named, described
 use Rattle.ob_rules.specs.Names.{is_out}
 use Rattle.ob_uses.specs.Made.{face_of_laid}
 use Rattle.ob_distinct.proofs.Blocks.{not_out}
+use Rattle.ob_local.specs.Agreeing.{IsNear, On}
 use Rattle.ob_local.specs.Laws.{AreSpelled, HaveNoOut}
 use Rattle.ob_declares.specs.Near.{core}
 use Rattle.ob_declares.specs.Near as declares
@@ -47,7 +49,7 @@ use Rattle.ob_ordered.specs.Sound.{AreVariablesClosed}
 use Rattle.ob_ordered.proofs.Closed.{all_closed}
 use Rattle.ob_ordered.proofs.Shown.{Showing, builds_show}
 use Rattle.ob_ordered.proofs.Staying.{record_stays, ordered_stay}
-use Rattle.ob_ordered.proofs.Used.{ShownNow, near, variables_near, are_used, shown_now}
+use Rattle.ob_ordered.proofs.Used.{ShownNow, near, variables_near, held_near, parameters_near, are_used, shown_now}
 
 -- ---- lists
 
@@ -88,12 +90,23 @@ all_more_wanted : (xs ys fs : List (Face Text)) → AllByRecursion (λ f. AreAsW
 all_more_wanted xs ys [] h = tt
 all_more_wanted xs ys (f ∷ fs) h = (wanted_more xs ys f.uses h.0, all_more_wanted xs ys fs h.1)
 
+parameters_from : (P : QName → Type 0) (Q : TypeRef → Type 0) → ((t : TypeRef) → On P t → Q t) → (xs : List TypedParameter) → AllByRecursion (λ x. On P x.of) xs → AllByRecursion (λ x. Q x.of) xs
+parameters_from P Q f [] h = tt
+parameters_from P Q f (x ∷ xs) h = (f x.of h.0, parameters_from P Q f xs h.1)
+
+all_parameters : (P : QName → Type 0) (Q : TypeRef → Type 0) → ((t : TypeRef) → On P t → Q t) → (ps : List Procedure) → AllByRecursion (λ p. AllByRecursion (λ x. On P x.of) p.parameters) ps → AllByRecursion (λ p. AllByRecursion (λ x. Q x.of) p.parameters) ps
+all_parameters P Q f [] h = tt
+all_parameters P Q f (p ∷ ps) h = (parameters_from P Q f p.parameters h.0, all_parameters P Q f ps h.1)
+
 -- the types of other modules that a build uses, as they are there, and as interfaces show them now
 pub record Uses (before : List Build) (b : Build) : Type 0 where
   pub near : QName → Bool
   pub over : StandsOver (program_of before) (tree_of b)
   pub used : declares.AreUsed (program_of before) (tree_of b) (described (of b).against) near
   pub seen : (q : QName) (e : Desc) → near q ≡ true → description (program_of before) q ≡ Some e → over.others q ≡ Some (bare e)
+  pub types : AllByRecursion (λ t. is_type t.desc ≡ true) (tree_of b).types
+  -- the types of the parameters of its procedures are among them
+  pub passed : AllByRecursion (λ p. AllByRecursion (λ x. IsHeld (types_of (of b)) x.of → declares.IsNear (tree_of b) near x.of) p.parameters) (tree_of b).procedures
   pub shown : (q : QName) → is_own (tree_of b) q ≡ false → near q ≡ true → ShownNow (program_of before) (each shows_of before) (tree_of b) near q
 
 none_out : (fs : List (Face Text)) → AllByRecursion IsNotOut fs → In (each (λ (f : Face Text). f.«module») fs) (codes "Out") → ⊥
@@ -236,6 +249,8 @@ module _ (written : BuildsAreWritten) (ruled : BuildsAreRuled) where
           near = near_it;
           over = stands;
           used = used;
+          types = types_are;
+          passed = all_parameters (IsNear (types_of (of b)) (tree_of b)) (λ t. IsHeld (types_of (of b)) t → declares.IsNear (tree_of b) near_it t) (λ t n h. held_near (of b) r found types_are (spelled_here b x v) (no_out_here b x v) (shows_is b x v) t n h) (tree_of b).procedures (parameters_near (of b) r found types_are (spelled_here b x v) (no_out_here b x v) (shows_is b x v));
           seen = λ q e n i. used_seen (program_of before) (tree_of b) (described (of b).against) near_it fresh types_are r.grounded used q e n i;
           shown = λ q own n. shown_now (of b) r found types_are (spelled_here b x v) (no_out_here b x v) (shows_is b x v) (program_of before) (each shows_of before) k.spelled (have_no_out (each shows_of before) k.out) h.uses (builds_show before k.showing) q own n;
         }
@@ -268,6 +283,17 @@ module _ (written : BuildsAreWritten) (ruled : BuildsAreRuled) where
         }
 
   -- ---- all
+
+  -- what the modules before declare stays
+  pub more_all : (before bs : List Build) → Before before → AreTogether before bs → (q : QName) (d : Desc) → description (program_of before) q ≡ Some d → description (program_of (before ++ bs)) q ≡ Some d
+  more_all before [] k h q d e = subst (λ xs. description (program_of xs) q ≡ Some d) (sym (append_none before)) e
+    where
+      append_none : (xs : List Build) → xs ++ [] ≡ xs
+      append_none [] = refl
+      append_none (y ∷ ys) = ap (λ r. y ∷ r) (append_none ys)
+  more_all before (b ∷ bs) k h q d e =
+      subst (λ xs. description (program_of xs) q ≡ Some d) (append_assoc before (b ∷ []) bs)
+      (more_all (before ++ b ∷ []) bs (before_more before b k h.0) h.1 q d (subst (λ p. description p q ≡ Some d) (sym (map_last tree_of before b)) (has_more (program_of before) (tree_of b) (stands before b k h.0) q d e)))
 
   stand_all : (before bs : List Build) → Before before → AreTogether before bs → StandInOrder (program_of before) (program_of bs)
   stand_all before [] k h = tt

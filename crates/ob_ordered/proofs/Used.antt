@@ -4,6 +4,8 @@ use Rattle.std.specs.Prelude.{Bool, true, false, not, ◌&&◌, ◌||◌, bytes_
 use Rattle.std.specs.Option.{option_map}
 use Rattle.std.specs.List.{AllByRecursion, flat_map}
 use Rattle.ob_tree.specs.declared.names.QName.{QName}
+use Rattle.ob_types.specs.declared.types.Mode.{Mode}
+use Rattle.ob_types.specs.declared.types.Mode.TheVariants as mode
 use Rattle.ob_types.specs.declared.types.TypeRef.{TypeRef}
 use Rattle.ob_types.specs.declared.types.TypeRef.TheVariants as ref
 use Rattle.ob_types.specs.declared.desc.Desc.{Desc}
@@ -11,15 +13,16 @@ use Rattle.ob_types.specs.declared.desc.Desc.TheVariants as desc
 use Rattle.ob_types.specs.declared.desc.Field.{Field}
 use Rattle.ob_types.specs.declared.typed.TypedType.{TypedType}
 use Rattle.ob_types.specs.declared.typed.TypedVariable.{TypedVariable}
+use Rattle.ob_types.specs.declared.typed.TypedParameter.{TypedParameter}
 use Rattle.ob_types.specs.AssigningTests.{described as is_described}
 use Rattle.ob_types.specs.Maps.{is_type, listed, named_by, signature_types, IsHeld}
-use Rattle.ob_types.specs.TypedSyntax.{Module}
+use Rattle.ob_types.specs.TypedSyntax.{Procedure, Module}
 use Rattle.ob_meaning.specs.Values.{Program, description}
 use Rattle.ob_relation.proofs.Names.{bytes_same}
 use Rattle.ob_desc.specs.Grammar.{seen}
 use Rattle.ob_layout.specs.LaidOut.{type_named, is_own}
 use Rattle.ob_env.specs.Faces.{Face, described, text_in}
-use Rattle.ob_counts.specs.Counts.{Count, Shapes, Layouts, both, own_name, counts_of_desc, counts_of_type, counts_of_variable, counts_of_procedure, counts_of_all, counts_of_mentioned, counts_of_module}
+use Rattle.ob_counts.specs.Counts.{Count, Shapes, Layouts, shapes, both, mode_of, formal_counts, counts_of_parameter, counts_of_binding, own_name, counts_of_desc, counts_of_type, counts_of_variable, counts_of_procedure, counts_of_all, counts_of_mentioned, counts_of_module}
 use Rattle.ob_counts.specs.Noted.{names_of, shape_starts}
 use Rattle.ob_uses.specs.declared.way.Way.TheVariants as way
 use Rattle.ob_uses.specs.Closed.{is_among, of_found, reached_from}
@@ -187,7 +190,7 @@ module _ (c : Compiled Text) (ruled : IsRuled c) (found : AllByRecursion (λ t. 
               ∙ ap (is_described is_type) e ∙ h
 
   -- what counts and is held is one of the module, or such a one
-  held_near : (t : TypeRef) → On Near t → IsHeld (types_of c) t → declares.IsNear c.tree near t
+  pub held_near : (t : TypeRef) → On Near t → IsHeld (types_of c) t → declares.IsNear c.tree near t
   held_near (ref.Basic b) n h = tt
   held_near (ref.Named q) n h = by (is_own c.tree q) refl
     where
@@ -251,6 +254,28 @@ module _ (c : Compiled Text) (ruled : IsRuled c) (found : AllByRecursion (λ t. 
 
   pub variables_near : AllByRecursion (λ v. declares.IsNear c.tree near v.of) c.tree.variables
   variables_near = near_variables c.tree.variables (variables_count Near c.tree.variables (starts_back Near (c1 ++ c2) c3 counted)) ruled.variables
+
+  -- the types of the parameters of its procedures
+  formal_count : (k : Mode) (t : TypeRef) → AllByRecursion (On Near) (shape_starts (formal_counts (k, t))) → On Near t
+  formal_count mode.Value t h = h.0
+  formal_count mode.Var t h = h.0
+
+  parameters_count : (xs : List TypedParameter) → AllByRecursion (On Near) (shape_starts (flat_map counts_of_parameter xs)) → AllByRecursion (λ x. On Near x.of) xs
+  parameters_count [] h = tt
+  parameters_count (x ∷ xs) h = (formal_count (mode_of x.passing) x.of (starts_front Near (counts_of_parameter x) (flat_map counts_of_parameter xs) h), parameters_count xs (starts_back Near (counts_of_parameter x) (flat_map counts_of_parameter xs) h))
+
+  procedures_count : (ps : List Procedure) → AllByRecursion (On Near) (shape_starts (flat_map (counts_of_procedure (types_of c)) ps)) → AllByRecursion (λ p. AllByRecursion (λ x. On Near x.of) p.parameters) ps
+  procedures_count [] h = tt
+  procedures_count (p ∷ ps) h =
+      let a = flat_map counts_of_parameter p.parameters in
+      let b = shapes (listed p.result) in
+      let k = flat_map counts_of_variable p.locals in
+      let l = counts_of_binding (types_of c) p.binding in
+      let one = starts_front Near (counts_of_procedure (types_of c) p) (flat_map (counts_of_procedure (types_of c)) ps) h in
+      (parameters_count p.parameters (starts_front Near a b (starts_front Near (a ++ b) k (starts_front Near (a ++ b ++ k) l (starts_front Near (a ++ b ++ k ++ l) (counts_of_all p.body) one)))), procedures_count ps (starts_back Near (counts_of_procedure (types_of c) p) (flat_map (counts_of_procedure (types_of c)) ps) h))
+
+  pub parameters_near : AllByRecursion (λ p. AllByRecursion (λ x. On Near x.of) p.parameters) c.tree.procedures
+  parameters_near = procedures_count c.tree.procedures (starts_back Near (c1 ++ c2 ++ c3) c4 (starts_front Near (c1 ++ c2 ++ c3 ++ c4) (counts_of_all c.tree.body) (all_on Near (shape_starts (counts_of_module (types_of c) c.tree)) (λ q i. first i))))
 
   -- ---- over other interfaces, which show what the modules before declare
 

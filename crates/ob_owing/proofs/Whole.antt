@@ -9,6 +9,7 @@ use Rattle.ob_ruled.proofs.Builds.{builds_keep_rules}
 use Rattle.ob_ordered.proofs.Loaded.{loaded_forms_stay, loaded_values_stay}
 use Rattle.ob_ordered.proofs.Owing.{loaded_variables, loaded_describe}
 use Rattle.ob_whole.proofs.Whole.{loaded_whole}
+use Rattle.ob_whole.proofs.Passing.{loaded_passed}
 use Rattle.ob_laying.proofs.Loaded.{loaded_laid}
 use Rattle.ob_owing.specs.Left.{Left, LeftGives, LeftStands}
 
@@ -23,7 +24,7 @@ left_gives l =
       different = modules_differ;
       enterable = loaded_enter l.written l.linked;
       same = l.same;
-      described = loaded_describe l.written r l.bound (loaded_whole r l.passed) (loaded_laid l.written r l.locality);
+      described = loaded_describe l.written r l.bound (loaded_whole r (loaded_passed l.written r l.bound)) (loaded_laid l.written r l.locality);
       rules = l.rules;
       names = names_are_shown;
       words = words_are_counted;

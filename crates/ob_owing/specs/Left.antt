@@ -14,7 +14,6 @@ use Rattle.ob_joining.specs.Builds.{program_of, AreLoaded, IsOf, BuildsStand}
 use Rattle.ob_stand.specs.Owed.{in_program, Owed}
 use Rattle.ob_ruled.specs.Ruled.{BuildsDiffer, BuildsAreGrounded}
 use Rattle.ob_ordered.specs.Loaded.{BoundAreThere}
-use Rattle.ob_whole.specs.Whole.{LoadedArePassed}
 
 pub record Left : Type 0 where
   -- of each build alone
@@ -23,8 +22,7 @@ pub record Left : Type 0 where
   pub differ : BuildsDiffer
   pub grounded : BuildsAreGrounded
   pub locality : Locality
-  -- of builds that are loaded together: parameters are passed as their types ask for, and bound procedures are there
-  pub passed : LoadedArePassed
+  -- of builds that are loaded together: bound procedures are there
   pub bound : BoundAreThere
   -- the descriptions that a module was compiled with say of what it names what its declarations in the program say
   pub same : (bs more : List Build) → AreLoaded (bs ++ more) → (b : Build) → Contains bs b → ModuleSame (viewed (described (of b).against) (tree_of b)) (description (program_of bs)) (tree_of b)

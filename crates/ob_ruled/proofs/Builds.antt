@@ -60,7 +60,7 @@ others_laid : (map : QName → Option Desc) (m : Module) (x : List ℕ) (ts : Li
 others_laid map m x [] h = tt
 others_laid map m x (t ∷ ts) h = (h.0, others_laid map m x ts h.1)
 
-names_laid : (map : QName → Option Desc) (m : Module) (ts : List TypedType) → AreDistinct (λ t. t.name) (each (laid_type map m) ts) → AreDistinct (λ t. t.name) ts
+pub names_laid : (map : QName → Option Desc) (m : Module) (ts : List TypedType) → AreDistinct (λ t. t.name) (each (laid_type map m) ts) → AreDistinct (λ t. t.name) ts
 names_laid map m [] h = tt
 names_laid map m (t ∷ ts) h = (others_laid map m t.name ts h.0, names_laid map m ts h.1)
 
