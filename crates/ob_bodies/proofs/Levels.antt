@@ -7,6 +7,7 @@ use Rattle.ob_tree.specs.declared.names.QName.{QName}
 use Rattle.ob_tree.specs.declared.ident.Ident.{Ident}
 use Rattle.ob_types.specs.declared.types.Mode.{Mode}
 use Rattle.ob_types.specs.declared.types.TypeRef.{TypeRef}
+use Rattle.ob_types.specs.declared.types.Signature.{Signature}
 use Rattle.ob_types.specs.declared.value.Value.{Value}
 use Rattle.ob_types.specs.declared.desc.Desc.{Desc}
 use Rattle.ob_types.specs.declared.typed.Variable.{Variable}
@@ -23,7 +24,7 @@ use Rattle.ob_rules.specs.Types.{with_types, nothing}
 use Rattle.ob_rules.specs.Declarations.{Contents, no_contents, together, declare_if, declare}
 use Rattle.ob_forms.specs.Said.{IsOneOf}
 use Rattle.ob_bodies.specs.Knows.{Grows, Stands, IsDescribed, EntityStands, Knows}
-use Rattle.ob_bodies.specs.Judged.{IsMade, IsWithin, ReceiverStands, IsInside, result_of, NameIs}
+use Rattle.ob_bodies.specs.Judged.{IsMade, IsWithin, ReceiverStands, IsInside, result_of, IsProcedureIn, NameIs}
 use Rattle.ob_bodies.proofs.Lists.{one_left, one_right, one_joined, all_of, all_both, there_of}
 use Rattle.ob_bodies.proofs.Binding.{AreOne, IsFrom, Changes}
 use Rattle.ob_bodies.proofs.Standing.{Lies, grows_front, grows_behind, grows_then, grows_both, stands_grown, with_types_known}
@@ -145,9 +146,8 @@ module _ (IsConstant : Value → Type 0) (shown : QName → Option Desc) (m : Ty
   inside_grown own more g None v t h = tt
   inside_grown own more g (Some p) v t h = (h.0, stands_grown m.name shown own more g t h.1)
 
-  pub name_grown : (own more : List TypedType) → Grows own more → (p : Option TypedProcedure) (level scope : ℕ) (e : Entity) → NameIs IsConstant shown m content own p level scope e → NameIs IsConstant shown m content more p level scope e
-  name_grown own more g p level scope (entity.Variable v t) h = record { outside = λ e. let r = h.outside e in (r.0, stands_grown m.name shown own more g t r.1); inside = λ e f. inside_grown own more g p v t (h.inside e f) }
-  name_grown own more g p level scope (entity.Procedure q s) h = record {
+  procedure_grown : (own more : List TypedType) → Grows own more → (q : QName) (s : Signature) → IsProcedureIn IsConstant shown m content own q s → IsProcedureIn IsConstant shown m content more q s
+  procedure_grown own more g q s h = record {
     p = h.p;
     there = h.there;
     name = h.name;
@@ -156,9 +156,21 @@ module _ (IsConstant : Value → Type 0) (shown : QName → Option Desc) (m : Ty
     params = all_of (λ (k : Mode × TypeRef). S own k.1) (λ (k : Mode × TypeRef). S more k.1) s.params (λ k. stands_grown m.name shown own more g k.1) h.params;
     result_stands = there_of (S own) (S more) s.result (λ t. stands_grown m.name shown own more g t) h.result_stands;
   }
+
+  pub name_grown : (own more : List TypedType) → Grows own more → (p : Option TypedProcedure) (level scope : ℕ) (e : Entity) → NameIs IsConstant shown m content own p level scope e → NameIs IsConstant shown m content more p level scope e
+  name_grown own more g p level scope (entity.Variable v t) h = record { outside = λ e. let r = h.outside e in (r.0, stands_grown m.name shown own more g t r.1); inside = λ e f. inside_grown own more g p v t (h.inside e f) }
+  name_grown own more g p level scope (entity.Procedure q s) h = procedure_grown own more g q s h
   name_grown own more g p level scope (entity.Constant v) h = tt
   name_grown own more g p level scope (entity.TypeName t) h = tt
-  name_grown own more g p level scope (entity.Forward q s) h = tt
+  name_grown own more g p level scope (entity.Forward q s) h = record {
+    t = h.t;
+    procedure = procedure_grown own more g q h.t h.procedure;
+    w = h.w;
+    within = h.within;
+    alike = h.alike;
+    params = all_of (λ (k : Mode × TypeRef). S own k.1) (λ (k : Mode × TypeRef). S more k.1) s.params (λ k. stands_grown m.name shown own more g k.1) h.params;
+    result_stands = there_of (S own) (S more) s.result (λ t. stands_grown m.name shown own more g t) h.result_stands;
+  }
   name_grown own more g p level scope (entity.Module n) h = tt
   name_grown own more g p level scope (entity.Predeclared c) h = tt
   name_grown own more g p level scope entity.LeftOut h = tt
@@ -233,7 +245,7 @@ module _ (IsConstant : Value → Type 0) (shown : QName → Option Desc) (m : Ty
   outer_name own p q level k n below (entity.Procedure r s) h = h
   outer_name own p q level k n below (entity.Constant v) h = tt
   outer_name own p q level k n below (entity.TypeName t) h = tt
-  outer_name own p q level k n below (entity.Forward r s) h = tt
+  outer_name own p q level k n below (entity.Forward r s) h = h
   outer_name own p q level k n below (entity.Module x) h = tt
   outer_name own p q level k n below (entity.Predeclared c) h = tt
   outer_name own p q level k n below entity.LeftOut h = tt

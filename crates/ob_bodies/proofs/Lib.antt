@@ -11,6 +11,8 @@ pub mod Headings
 pub mod Receivers
 pub mod Levels
 pub mod Plain
+pub mod Quiet
+pub mod Forwards
 pub mod Blocks
 pub mod Sequences
 pub mod Modules

@@ -25,6 +25,7 @@ use Rattle.ob_rules.specs.declared.entity.Entity.TheVariants as entity
 use Rattle.ob_rules.specs.declared.entity.Received.{Received}
 use Rattle.ob_rules.specs.Shapes.{Map, record_of, pointed_record}
 use Rattle.ob_rules.specs.Names.{Around, map_of, is_out}
+use Rattle.ob_rules.specs.Operators.{signatures_match}
 use Rattle.ob_types.specs.declared.desc.Method.{Method}
 use Rattle.ob_rules.specs.Headings.{change_desc}
 use Rattle.ob_forms.specs.Whole.{Different}
@@ -130,6 +131,18 @@ module _ (IsConstant : Value → Type 0) (shown : QName → Option Desc) (m : Ty
     pub params : AllByRecursion (λ k. StandsIn own k.1) s.params
     pub result_stands : IfThere (StandsIn own) s.result
 
+  -- What a forward declaration stands for: a procedure of the module of that name, whose signature matches that of the declaration by what
+  -- is known somewhere in the module.
+  pub record IsForwardIn (own : List TypedType) (q : QName) (s : Signature) : Type 0 where
+    pub t : Signature
+    pub procedure : IsProcedureIn own q t
+    pub w : Around
+    pub within : IsWithin w
+    pub alike : signatures_match (map_of w) (Some s) (Some t) ≡ true
+    -- the types of its own signature stand
+    pub params : AllByRecursion (λ k. StandsIn own k.1) s.params
+    pub result_stands : IfThere (StandsIn own) s.result
+
   -- in the scope of that number, where the variables of the scope `level` may be named
   pub record VariableStands (own : List TypedType) (p : Option TypedProcedure) (level scope : ℕ) (v : Variable) (t : TypeRef) : Type 0 where
     pub outside : nat_lt 1 scope ≡ false → IsGlobal m.name m.variables v t × StandsIn own t
@@ -139,6 +152,7 @@ module _ (IsConstant : Value → Type 0) (shown : QName → Option Desc) (m : Ty
   abbrev pub NameIs : List TypedType → Option TypedProcedure → (level scope : ℕ) → Entity → Type 0
   NameIs own p level scope (entity.Variable v t) = VariableStands own p level scope v t
   NameIs own p level scope (entity.Procedure q s) = IsProcedureIn own q s
+  NameIs own p level scope (entity.Forward q s) = IsForwardIn own q s
   NameIs own p level scope e = Unit {0}
 
   -- what stands around the statements of a procedure, or of the module
