@@ -1,5 +1,5 @@
 -- The laws: constant expressions come to constants, and so the bodies of checked modules are judged where constants are.
-use Rattle.std.specs.Prelude.{◌≡◌, ℕ, List, Option, Some, true, pos}
+use Rattle.std.specs.Prelude.{◌≡◌, ℕ, List, map, Option, Some, true, pos}
 use Rattle.ob_tree.specs.declared.names.QName.{QName}
 use Rattle.ob_tree.specs.declared.ident.Mark.{Mark}
 use Rattle.ob_tree.specs.declared.decl.Module.{Module as Tree}
