@@ -33,6 +33,8 @@ use Rattle.ob_bodies.proofs.Standing.{Lies, lies_same, lies_front, lies_behind, 
 use Rattle.ob_bodies.proofs.Heads.{self_is, InsideEntity, SignatureStands, HeadStands, all_parameters}
 use Rattle.ob_bodies.proofs.Receivers.{received_as}
 use Rattle.ob_bodies.proofs.Headings.{Aligned, IsUnbroken, AreGoodHeadings}
+use Rattle.ob_bodies.specs.Order.{IsFresh}
+use Rattle.ob_bodies.proofs.InOrder.{AreFresh}
 use Rattle.ob_bodies.proofs.Quiet.{IsQuiet, IsWellHeading, IsQuietHead, inside_quiet}
 use Rattle.ob_bodies.proofs.Levels.{Level, AtModule, Within, frame, IsPlaced, IsVariableAt, Included, IsFull, none_full, both_full, first_included, second_included, BlockAt, IsOpened, BoundStands, not_module, outer_name}
 
@@ -273,6 +275,10 @@ module _ (IsConstant : Value → Type 0) (shown : QName → Option Desc) (m : Ty
   head_made None h = tt
   head_made (Some p) h = h
 
+  head_fresh : (o : Option Parameters) → IfThere (λ p. AreFresh p.made) o → AreFresh (types_of_head o)
+  head_fresh None h = tt
+  head_fresh (Some p) h = h
+
   framed_variables : (types : Map) (h : Head) (o : Option Parameters) (c : Contents) (x : TypedVariable) → IsOneOf c.variables x → IsVariableAt IsConstant shown m content (Within (framed types h o c)) x
   framed_variables types h None c x i = tt
   framed_variables types h (Some q) c x i = i
@@ -297,7 +303,7 @@ module _ (IsConstant : Value → Type 0) (shown : QName → Option Desc) (m : Ty
       )
 
   procedure_is : (path : List ℕ) (l : Level) (u : Around) → B l u → (p : Written_procedure) → IsProcedure p → (h : Head) → HS u.own u.scope h → HeadBound h → AllByRecursion (KnownBehind l u) h.known → IsQuietHead path h → (forward : Bool) → (procedure_judged u p h forward).notes.broken ≡ [] → I l (procedure_judged u p h forward).contents → Adds (procedure_judged u p h forward).contents
-  procedure_is path l u b p g h s r k quiet_head true n i = record { procedures = tt; full = record { constants = tt; types = head_made h.parameters s.made; bound = tt } }
+  procedure_is path l u b p g h s r k quiet_head true n i = record { procedures = tt; full = record { constants = tt; types = head_made h.parameters s.made; bound = tt; fresh = head_fresh h.parameters s.fresh } }
   procedure_is path l u b p g h s o k quiet_head false n i =
       let c = (p.inside (around_body u h)).contents in
       let types = map_of u in
@@ -307,7 +313,7 @@ module _ (IsConstant : Value → Type 0) (shown : QName → Option Desc) (m : Ty
       let r = g.inside (Within f) (around_body u h) (inside_block l u b h s o k types c) tt (inside_quiet path u h quiet_head) quiet (record { variables = λ x j. framed_variables types h h.parameters c x j; procedures = λ q j. i.procedures q (one_right own c.procedures q j); types = grows_then c.types (types_of_head h.parameters ++ c.types) m.types (grows_front (types_of_head h.parameters) c.types) i.types; made = λ t j. i.made t (one_right (types_of_head h.parameters) c.types t j); bound = tt }) in
       record {
         procedures = all_both (ProcedureIsJudged IsConstant shown m content) own c.procedures (framed_judged u.own b.grown types h s.self h.parameters c s.signature r.body) r.procedures;
-        full = record { constants = tt; types = all_both (IsDescribed IsConstant) (types_of_head h.parameters) c.types (head_made h.parameters s.made) r.full.types; bound = tt };
+        full = record { constants = tt; types = all_both (IsDescribed IsConstant) (types_of_head h.parameters) c.types (head_made h.parameters s.made) r.full.types; bound = tt; fresh = all_both (λ t. IsFresh t.desc) (types_of_head h.parameters) c.types (head_fresh h.parameters s.fresh) r.full.fresh };
       }
 
   pub procedures_are : (path : List ℕ) (l : Level) (u : Around) → B l u → (ps : List Written_procedure) → AreProcedures ps → (hs : List Head) → AllByRecursion (HS u.own u.scope) hs → AllByRecursion HeadBound hs → AllByRecursion (λ (h : Head). AllByRecursion (KnownBehind l u) h.known) hs → AllByRecursion (IsQuietHead path) hs → (procedures_judged u ps hs).notes.broken ≡ [] → I l (procedures_judged u ps hs).contents → Adds (procedures_judged u ps hs).contents

@@ -3,6 +3,7 @@ pub mod Standing
 pub mod Named
 pub mod Typings
 pub mod Sections
+pub mod InOrder
 pub mod Over
 pub mod Written
 pub mod Heads

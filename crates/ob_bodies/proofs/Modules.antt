@@ -42,6 +42,8 @@ use Rattle.ob_bodies.proofs.Binding.{AreOne, IsFrom}
 use Rattle.ob_bodies.proofs.Standing.{Lies, lies_same}
 use Rattle.ob_bodies.proofs.Lists.{one_joined, one_all, all_one, all_both, find_has, first_empty, second_empty}
 use Rattle.ob_bodies.proofs.Typings.{ConstantPhrase}
+use Rattle.ob_bodies.specs.Order.{AreInOrder}
+use Rattle.ob_bodies.proofs.Over.{written_over, written_parameters_over}
 use Rattle.ob_bodies.proofs.Written.{written_good, written_parameters_good}
 use Rattle.ob_bodies.proofs.Levels.{Level, AtModule, Within, frame, IsPlaced, IsOpened, bound_same, bound_none, declared_own, Included, none_full, both_full, first_included, second_included, BlockAt, block_declared as name_declared}
 use Rattle.ob_said.specs.Procedures.{is_plain, ShowBases, heading_layer, is_named_plainly}
@@ -174,18 +176,18 @@ module _ (IsConstant : Value → Type 0) (truths : (b : Bool) → IsConstant (li
 
   decl_cases : (y : Decl-F SD) → PD (roll-Decl (map-Decl SD Decl (λ x. x.0) y))
   decl_cases (Decl-F.Constant d x) = layer (Decl-F.Constant d x) (λ e f. (constant_plain IsConstant shown m content out d (phrase_of x) (constants x e), constant_good d (phrase_of x)))
-  decl_cases (Decl-F.NamedType d n) = layer (Decl-F.NamedType d n) (λ e f. (type_plain IsConstant shown m content out d (written n) (written_good IsConstant m.name shown out constants n e), type_good d (written n) (written_well n)))
-  decl_cases (Decl-F.Variables ds n) = layer (Decl-F.Variables ds n) (λ e f. (variables_declared_plain IsConstant shown m content out ds (written n) (written_good IsConstant m.name shown out constants n e), variables_good ds (written n) (written_well n)))
+  decl_cases (Decl-F.NamedType d n) = layer (Decl-F.NamedType d n) (λ e f. (type_plain IsConstant shown m content out d (written n) (written_good IsConstant m.name shown out constants n e) (written_over IsConstant m.name shown out n), type_good d (written n) (written_well n)))
+  decl_cases (Decl-F.Variables ds n) = layer (Decl-F.Variables ds n) (λ e f. (variables_declared_plain IsConstant shown m content out ds (written n) (written_good IsConstant m.name shown out constants n e) (written_over IsConstant m.name shown out n), variables_good ds (written n) (written_well n)))
   decl_cases (Decl-F.Procedure h ds body closing) = layer (Decl-F.Procedure h (decls_in ds) body closing) (λ e f.
       let p = and_both (parameters_spelled h.parameters) (all_true (map decl_spelled (decls_in ds)) && all_true (map stmt_spelled body)) e in
       let q = and_both (all_true (map decl_spelled (decls_in ds))) (all_true (map stmt_spelled body)) p.1 in
       let r = and_both (is_plain h.name.ident.name) (said.all_true (map is_named_plainly (decls_in ds))) f in
       record {
-        heading = (written_parameters_good IsConstant m.name shown out constants h.parameters p.0, tt);
+        heading = ((written_parameters_good IsConstant m.name shown out constants h.parameters p.0, written_parameters_over IsConstant m.name shown out h.parameters), tt);
         well = record { sections = written_parameters_well h.parameters; plain = plain_from h.name.ident.name r.0 };
         inside = block_good (map declaration (decls_in ds)) (all_in ds q.0 r.1) body q.1;
       })
-  decl_cases (Decl-F.Forward h) = layer (Decl-F.Forward h) (λ e f. record { heading = (written_parameters_good IsConstant m.name shown out constants h.parameters e, tt); well = record { sections = written_parameters_well h.parameters; plain = plain_from h.name.ident.name f }; inside = no_block })
+  decl_cases (Decl-F.Forward h) = layer (Decl-F.Forward h) (λ e f. record { heading = ((written_parameters_good IsConstant m.name shown out constants h.parameters e, written_parameters_over IsConstant m.name shown out h.parameters), tt); well = record { sections = written_parameters_well h.parameters; plain = plain_from h.name.ident.name f }; inside = no_block })
 
   decl_good : (x : Decl) → PD x
   decl_good = ind-Decl PD (λ x y is. subst (λ z. PD (roll-Decl z)) is (decl_cases y))
@@ -215,6 +217,7 @@ module _ (IsConstant : Value → Type 0) (truths : (b : Bool) → IsConstant (li
     full = none_full IsConstant shown m content;
     lies = subst (λ own. Lies own u.own) (sym (declared_own IsConstant shown m content u i.ident (import_entity (is_system t.name) t))) (lies_same u.own);
     bound = refl;
+    order = λ k. subst (AreInOrder m.name shown) (sym (declared_own IsConstant shown m content u i.ident (import_entity (is_system t.name) t))) k;
   }
 
   imports_plain : (is : List Import) → AllByRecursion (λ (i : Import). bytes_eq (target_of i).name m.name ≡ false) is → AllByRecursion (IsPlain IsConstant shown m content out) (map (λ i. import_declared i (target_of i)) is)
@@ -258,7 +261,7 @@ module _ (IsConstant : Value → Type 0) (truths : (b : Bool) → IsConstant (li
       let opened : Lies d.around.own content.types = λ t k. ⊎_elim (λ y. (first_included IsConstant shown m content AtModule d.part.contents c j).made t y) (λ y. absurd y) (one_joined d.part.contents.types [] t (r.lies t k)) in
       let known = imports_good imports u predeclared_known (first_empty d.part.notes.broken inner (second_empty _ (d.part.notes.broken ++ inner) n)) in
       let calm : IsQuiet d.around = subst IsQuiet (sym known.around) (record { known = known.known; begins = λ l. (refl, bases) }) in
-      let p = block_good ds g xs s AtModule d.around r.around opened calm quiet (second_included IsConstant shown m content AtModule d.part.contents c j) in
+      let p = block_good ds g xs s AtModule d.around r.around (opened, r.order tt) calm quiet (second_included IsConstant shown m content AtModule d.part.contents c j) in
       record {
         procedures = all_both (ProcedureIsJudged IsConstant shown m content) d.part.contents.procedures c.procedures (all_empty (ProcedureIsJudged IsConstant shown m content) d.part.contents.procedures r.procedures) p.procedures;
         body = record { u = p.body.u; xs = p.body.xs; is = ◌∙◌ {c = stmts_in (in_turn (map judging p.body.xs) p.body.u).node} (ap (λ l. l ++ c.body) r.body) p.body.is; spelled = p.body.spelled; stands = p.body.stands };
@@ -361,7 +364,7 @@ module _ (IsConstant : Value → Type 0) (truths : (b : Bool) → IsConstant (li
   whole_is quiet out constants s bases plain o =
       let e = and_both (all_true (map decl_spelled tree.decls)) (all_true (map stmt_spelled tree.body)) s in
       let p = module_is IsConstant truths shown whole parts.contents out constants tree.name refl bases tree.imports o (map declaration tree.decls) (decls_good IsConstant truths shown whole parts.contents out constants tree.decls e.0 plain) tree.body e.1 tree.closing quiet (record { variables = λ x i. i; procedures = λ p i. i; types = names_kept parts.contents.bound parts.contents.types; made = λ t i. i; bound = λ t i. inr i }) in
-      record { content = parts.contents; told = λ d. all_told IsConstant parts.contents.types parts.contents.bound p.bound.from p.bound.one d; procedures = p.procedures; body = p.body; scope = p.placed.1.0; receiver = p.placed.1.1.1; name = out; constants = p.full.constants; types = all_described_are IsConstant parts.contents.bound p.full.bound parts.contents.types p.full.types }
+      record { content = parts.contents; told = λ d. all_told IsConstant parts.contents.types parts.contents.bound p.bound.from p.bound.one d; types_are = refl; fresh = p.full.fresh; bound = p.bound.by; procedures = p.procedures; body = p.body; scope = p.placed.1.0; receiver = p.placed.1.1.1; name = out; constants = p.full.constants; types = all_described_are IsConstant parts.contents.bound p.full.bound parts.contents.types p.full.types }
 
   pub bodies_judged : (m : TypedModule) → checked shown tree ≡ Some m → ((out : is_out tree.name.name ≡ false) (x : Expr) → is_spelled x ≡ true → ConstantPhrase IsConstant tree.name.name shown out (phrase_of x)) → tree_spelled tree ≡ true → ShowBases shown tree.name.name → said.all_true (map is_named_plainly tree.decls) ≡ true → AllByRecursion (λ (i : Import). bytes_eq (target_of i).name tree.name.name ≡ false) tree.imports → BodiesAreJudged IsConstant shown m
   bodies_judged m e constants s bases plain o =

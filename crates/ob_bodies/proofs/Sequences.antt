@@ -10,7 +10,7 @@ use Rattle.ob_types.specs.declared.typed.TypedModule.{TypedModule}
 use Rattle.ob_rules.specs.declared.entity.Known.{Known}
 use Rattle.ob_rules.specs.declared.entity.Bound.{Bound}
 use Rattle.ob_rules.specs.Names.{Around, map_of, in_unit, is_out}
-use Rattle.ob_rules.specs.Types.{Parameters, is_module_level}
+use Rattle.ob_rules.specs.Types.{Parameters, nothing, is_module_level}
 use Rattle.ob_rules.specs.Statements.{judging, in_turn}
 use Rattle.ob_rules.specs.Headings.{Head, Heads, head_entity, entity_as, forwards_judged, reversed}
 use Rattle.ob_rules.specs.Declarations.{Contents, no_contents, together, Part, Declared, Written_procedure, all_judged, field_judged, headings_in_order, procedures_judged, stmts_in, body_part, block_inside, with_bound, binding_at, heads_later, block_declared}
@@ -20,6 +20,7 @@ use Rattle.ob_typed.specs.Spelled.{all_true}
 use Rattle.ob_typed.specs.Bodies.{stmt_spelled}
 use Rattle.ob_bodies.specs.Knows.{Grows, IsDescribed, EntityStands}
 use Rattle.ob_bodies.specs.Judged.{IsMade, IsWithin, AreOf, IsProcedureIn, IsForwardIn, NameIs, ProcedureIsJudged}
+use Rattle.ob_bodies.specs.Order.{AreInOrder}
 use Rattle.ob_bodies.proofs.Receivers.{IsBoundAmong, bound_in_order}
 use Rattle.ob_bodies.proofs.Lists.{one_joined, one_all, there_of, all_of, all_both, all_pairs, first_empty, second_empty}
 use Rattle.ob_bodies.proofs.Standing.{Lies, lies_same, grows_as, grows_same, grows_then, grows_both, entity_grown}
@@ -27,7 +28,7 @@ use Rattle.ob_bodies.proofs.Heads.{SignatureStands, HeadStands, head_grown}
 use Rattle.ob_bodies.proofs.Headings.{Aligned, IsUnbroken, types_of_all, lies_in_order, types_lie, named_at, aligned_in_order, names_in_order, HeadsStand, named_fine, stand_in_order}
 use Rattle.ob_bodies.proofs.More.{append_none}
 use Rattle.ob_bodies.proofs.Binding.{binding_changes}
-use Rattle.ob_bodies.proofs.Levels.{Level, AtModule, Within, frame, IsPlaced, IsBoundAt, IsOpened, bound_none, bound_changed, Included, none_full, both_full, first_included, second_included, BlockAt, name_grown}
+use Rattle.ob_bodies.proofs.Levels.{Level, AtModule, Within, frame, IsPlaced, IsBoundAt, IsOpened, BoundBy, bound_none, bound_changed, Included, none_full, both_full, first_included, second_included, BlockAt, name_grown}
 use Rattle.ob_bodies.proofs.Plain.{DeclaredIs}
 use Rattle.ob_bodies.proofs.Quiet.{AreQuiet, IsQuietHead, quiet_in_order}
 use Rattle.ob_bodies.proofs.Forwards.{IsAnswered, all_answered}
@@ -108,7 +109,7 @@ module _ (IsConstant : Value → Type 0) (shown : QName → Option Desc) (m : Ty
     heads = reversed hs.before
 
     stand : HeadsStand IsConstant m.name shown out base hs
-    stand = stand_in_order IsConstant m.name shown out base ps (headings_good IsConstant shown m content out ps good) start (record { behind = refl; knows = b.knows; below = b.below; before = tt; grows = grows_same base.own })
+    stand = stand_in_order IsConstant m.name shown out base ps (headings_good IsConstant shown m content out ps good) start (record { behind = refl; knows = b.knows; below = b.below; before = tt; grows = grows_same base.own; order = λ i. i })
 
     aligned : Aligned ps heads
     aligned = let a = aligned_in_order ps start in subst (Aligned ps) (sym a.is) a.aligned
@@ -173,7 +174,7 @@ module _ (IsConstant : Value → Type 0) (shown : QName → Option Desc) (m : Ty
               procedures = all_both (ProcedureIsJudged IsConstant shown m content) c.procedures [] a.procedures tt;
               body = record { u = w; xs = xs; is = ap (λ l. l ++ s.body) (procedures_body w ps heads); spelled = spelled; stands = stands_at IsConstant shown m content out l w around };
               placed = around.placed;
-              full = both_full IsConstant shown m content c s a.full (record { constants = tt; types = tt; bound = tt });
+              full = both_full IsConstant shown m content c s a.full (record { constants = tt; types = tt; bound = tt; fresh = tt });
               bound = bound_none IsConstant shown m content l inside.contents (two_empty c.bound s.bound (procedures_bound IsConstant shown m content out w ps heads) refl);
             }
 
@@ -181,6 +182,16 @@ module _ (IsConstant : Value → Type 0) (shown : QName → Option Desc) (m : Ty
   binding_made : (l : Level) (outer : Around) → IsPlaced l outer → (v : Around) (heads : List Head) → ((t : TypedType) → IsOneOf v.own t → IsMade content t) → (c : Contents) → c.bound ≡ (binding_at (is_module_level outer) v heads).own → IsBoundAt IsConstant shown m content l c → (t : TypedType) → IsOneOf (binding_at (is_module_level outer) v heads).own t → IsMade content t
   binding_made AtModule outer p v _ k c e i t h = i t (subst (λ ts. IsOneOf ts t) (sym e) h)
   binding_made (Within f) outer p v ks k c e i t h = k t (subst (λ x. IsOneOf (binding_at x v ks).own t) p.0 h)
+
+  -- what is bound at the level of the module is bound by its headings
+  bound_by : (l : Level) (outer : Around) → IsPlaced l outer → (base : Around) → base.unit ≡ m.name → base.shown ≡ shown → (ps : List Written_procedure) (early : Around) → IsOpened IsConstant shown m content l early
+      → (AreInOrder m.name shown early.own → AreInOrder m.name shown (headings_in_order ps (record { around = base; before = [] })).around.own)
+      → (Lies early.own content.types → Lies (headings_in_order ps (record { around = base; before = [] })).around.own content.types)
+      → BoundBy IsConstant shown m content l (binding_at (is_module_level outer) (headings_in_order ps (record { around = base; before = [] })).around (reversed (headings_in_order ps (record { around = base; before = [] })).before)).own
+  bound_by AtModule outer p base e f ps early o g k =
+      let hs = headings_in_order ps (record { around = base; before = [] }) in
+      record { base = base; ps = ps; unit_is = e; shown_is = f; order = g o.1; lies = k o.0; is = ap (λ (x : List ℕ). (binding_at (nothing x) hs.around (reversed hs.before)).own) p.0 }
+  bound_by (Within q) outer p base e f ps early o g k = tt
 
   -- with what is bound, and the declarations before
   pub block_is : (l : Level) (ps : List Written_procedure) → AreProcedures IsConstant shown m content out ps → (xs : List Stmt) → all_true (map stmt_spelled xs) ≡ true → (outer : Around) → IsPlaced l outer → (start : Around) → IsOpened IsConstant shown m content l start → (d : Declared) → DeclaredIs IsConstant shown m content out l start d → AreQuiet d.around → (block_declared outer ps (map judging xs) d).notes.broken ≡ [] → I l (block_declared outer ps (map judging xs) d).contents → PartIs IsConstant shown m content out l (block_declared outer ps (map judging xs) d).contents
@@ -234,6 +245,6 @@ module _ (IsConstant : Value → Type 0) (shown : QName → Option Desc) (m : Ty
         procedures = all_both (ProcedureIsJudged IsConstant shown m content) d.part.contents.procedures c.procedures (all_empty (ProcedureIsJudged IsConstant shown m content) d.part.contents.procedures g.procedures) p.procedures;
         body = record { u = p.body.u; xs = p.body.xs; is = ◌∙◌ {c = stmts_in (in_turn (map judging p.body.xs) p.body.u).node} (ap (λ l. l ++ c.body) g.body) p.body.is; spelled = p.body.spelled; stands = p.body.stands };
         placed = p.placed;
-        full = both_full IsConstant shown m content d.part.contents (together no_contents (together bound c)) g.full (both_full IsConstant shown m content no_contents (together bound c) (none_full IsConstant shown m content) (both_full IsConstant shown m content bound c (record { constants = tt; types = tt; bound = ch.described s.knows.own }) p.full));
-        bound = bound_changed IsConstant shown m content l start opened h.around.own bind.own ch heads_lie (block_declared outer ps (map judging xs) d).contents only_bound;
+        full = both_full IsConstant shown m content d.part.contents (together no_contents (together bound c)) g.full (both_full IsConstant shown m content no_contents (together bound c) (none_full IsConstant shown m content) (both_full IsConstant shown m content bound c (record { constants = tt; types = tt; bound = ch.described s.knows.own; fresh = tt }) p.full));
+        bound = bound_changed IsConstant shown m content l start opened h.around.own bind.own ch heads_lie (bound_by l outer placed base g.around.knows.unit_is g.around.knows.shown_is ps start opened (λ i. s.order (g.order i)) heads_lie) (block_declared outer ps (map judging xs) d).contents only_bound;
       }

@@ -27,15 +27,16 @@ use Rattle.ob_rules.specs.Shapes.{Map, record_of, pointed_record}
 use Rattle.ob_rules.specs.Names.{Around, map_of, is_out}
 use Rattle.ob_rules.specs.Operators.{signatures_match}
 use Rattle.ob_types.specs.declared.desc.Method.{Method}
-use Rattle.ob_rules.specs.Headings.{change_desc}
+use Rattle.ob_rules.specs.Headings.{change_desc, bindings, reversed}
 use Rattle.ob_forms.specs.Whole.{Different}
 use Rattle.ob_rules.specs.Statements.{judging, in_turn}
-use Rattle.ob_rules.specs.Declarations.{Contents, stmts_in}
+use Rattle.ob_rules.specs.Declarations.{Contents, Written_procedure, headings_in_order, stmts_in, all_described}
 use Rattle.ob_forms.specs.Said.{IsOneOf}
 use Rattle.ob_typed.specs.Makes.{IfThere}
 use Rattle.ob_typed.specs.Spelled.{all_true}
 use Rattle.ob_typed.specs.Bodies.{stmt_spelled}
 use Rattle.ob_bodies.specs.Knows.{Stands, IsDescribed, Knows, IsPlain}
+use Rattle.ob_bodies.specs.Order.{IsFresh, AreInOrder}
 
 -- by value or by VAR
 abbrev pub mode_of : Passing → Mode
@@ -181,6 +182,16 @@ module _ (IsConstant : Value → Type 0) (shown : QName → Option Desc) (m : Ty
     pub parameters : AllByRecursion (λ (x : TypedParameter). StandsIn m.types x.of) p.parameters
     pub answer : IfThere (StandsIn m.types) p.result
 
+-- What is bound: some of these types, in their order, with the procedures that headings introduce.
+pub record IsBoundBy (unit : List ℕ) (shown : QName → Option Desc) (types bound : List TypedType) : Type 0 where
+  pub base : Around
+  pub ps : List Written_procedure
+  pub unit_is : base.unit ≡ unit
+  pub shown_is : base.shown ≡ shown
+  pub order : AreInOrder unit shown (headings_in_order ps (record { around = base; before = [] })).around.own
+  pub lies : (t : TypedType) → IsOneOf (headings_in_order ps (record { around = base; before = [] })).around.own t → IsOneOf types t
+  pub is : bound ≡ (bindings (headings_in_order ps (record { around = base; before = [] })).around (reversed (headings_in_order ps (record { around = base; before = [] })).before)).own
+
 module _ (IsConstant : Value → Type 0) (shown : QName → Option Desc) (m : TypedModule) where
   -- the bodies of the procedures, and the body of the module
   pub record BodiesAreJudged : Type 0 where
@@ -188,6 +199,10 @@ module _ (IsConstant : Value → Type 0) (shown : QName → Option Desc) (m : Ty
     pub content : Contents
     -- it is in the module, which has perhaps more procedures bound to it
     pub told : Different (λ t. t.name) m.types → (t : TypedType) → IsMade content t → IsTold m.types t
+    -- its types are those that it makes, with what is bound to them
+    pub types_are : m.types ≡ all_described content.bound content.types
+    pub fresh : AllByRecursion (λ (t : TypedType). IsFresh t.desc) content.types
+    pub bound : (content.bound ≡ []) ⊎ IsBoundBy m.name shown content.types content.bound
     pub procedures : AllByRecursion (ProcedureIsJudged IsConstant shown m content) m.procedures
     pub body : IsJudged IsConstant shown m content None m.body
     -- in the scope of the module, and of no procedure
