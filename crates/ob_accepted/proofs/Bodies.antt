@@ -25,6 +25,7 @@ use Rattle.ob_surrounded.proofs.Names.{procedures_surrounded, modules_surrounded
 use Rattle.ob_surrounded.proofs.Fitting.{bodies_fit}
 use Rattle.ob_valued.specs.Valued.{values}
 use Rattle.ob_judged.specs.Judged.{IsJudgedModule, AreJudgedModules}
+use Rattle.ob_judged.proofs.Age.{age_in}
 use Rattle.ob_judged.proofs.Formed.{maps_formed}
 use Rattle.ob_judged.proofs.Full.{constants_shown}
 use Rattle.ob_judged.proofs.Typed.{values_had}
@@ -66,7 +67,7 @@ module _ (program : Program) (sound : IsSound program) (whole : IsWhole program)
   one_fits : (p : TypedProcedure) → IsOneOf checked.procedures p → IsBuilt program (procedure_view p) → (h : ProcedureIsJudged ConstantIs (shown j.faces) checked j.bodies.content p) → IsLeft program h.body.u → Ok (procedure_view p)
   one_fits p i b h l =
       bodies_fit program (values program) (shown j.faces) checked j.bodies.content (Some p) p.body h.body (procedure_view p) refl b.different
-      (procedures_surrounded program (values program) (shown j.faces) checked m whole is j.bodies.name (constants_shown program judged j.faces j.age) (values_had program whole judged) redefined p i b.different b.locals j.bodies.content formed h.body.u h.body.stands l)
+      (procedures_surrounded program (values program) (shown j.faces) checked m whole is j.bodies.name (constants_shown program judged j.faces (age_in program m j)) (values_had program whole judged) redefined p i b.different b.locals j.bodies.content formed h.body.u h.body.stands l)
 
   all_fit : (ps : List TypedProcedure) → ((p : TypedProcedure) → IsOneOf ps p → IsOneOf checked.procedures p) → AllByRecursion (IsBuilt program) (map procedure_view ps) → (h : AllByRecursion (ProcedureIsJudged ConstantIs (shown j.faces) checked j.bodies.content) ps) → AreLeft program (shown j.faces) checked j.bodies.content ps h → AllByRecursion Ok (map procedure_view ps)
   all_fit [] f b h l = tt
@@ -75,7 +76,7 @@ module _ (program : Program) (sound : IsSound program) (whole : IsWhole program)
   body_fits : Ok (body_of m)
   body_fits =
       bodies_fit program (values program) (shown j.faces) checked j.bodies.content None checked.body j.bodies.body (body_of m) (ap (λ (k : Module). k.body) j.is) built.body.different
-      (modules_surrounded program (values program) (shown j.faces) checked m whole is j.bodies.name (constants_shown program judged j.faces j.age) (values_had program whole judged) redefined (static_held program (body_of m)) j.bodies.content formed j.bodies.body.u j.bodies.body.stands j.bodies.scope j.bodies.receiver left.body)
+      (modules_surrounded program (values program) (shown j.faces) checked m whole is j.bodies.name (constants_shown program judged j.faces (age_in program m j)) (values_had program whole judged) redefined (static_held program (body_of m)) j.bodies.content formed j.bodies.body.u j.bodies.body.stands j.bodies.scope j.bodies.receiver left.body)
 
   all_typed : AreWellTyped program m
   all_typed = record {

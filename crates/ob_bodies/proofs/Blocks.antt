@@ -33,10 +33,10 @@ use Rattle.ob_bodies.proofs.Standing.{Lies, lies_same, lies_front, lies_behind, 
 use Rattle.ob_bodies.proofs.Heads.{self_is, InsideEntity, SignatureStands, HeadStands, all_parameters}
 use Rattle.ob_bodies.proofs.Receivers.{received_as}
 use Rattle.ob_bodies.proofs.Headings.{Aligned, IsUnbroken, AreGoodHeadings}
-use Rattle.ob_bodies.specs.Order.{IsFresh}
-use Rattle.ob_bodies.proofs.InOrder.{AreFresh}
+use Rattle.ob_bodies.specs.Order.{IsOver}
+use Rattle.ob_bodies.proofs.InOrder.{over_all}
 use Rattle.ob_bodies.proofs.Quiet.{IsQuiet, IsWellHeading, IsQuietHead, inside_quiet}
-use Rattle.ob_bodies.proofs.Levels.{Level, AtModule, Within, frame, IsPlaced, IsVariableAt, Included, IsFull, none_full, both_full, first_included, second_included, BlockAt, IsOpened, BoundStands, not_module, outer_name}
+use Rattle.ob_bodies.proofs.Levels.{Level, AtModule, Within, frame, IsPlaced, IsVariableAt, Included, IsFull, none_full, both_full, first_included, second_included, BlockAt, IsOpened, BoundStands, BodyOwn, not_module, outer_name}
 
 -- ---- lists
 
@@ -128,6 +128,7 @@ module _ (IsConstant : Value → Type 0) (shown : QName → Option Desc) (m : Ty
     pub placed : IsPlaced l body.u
     pub full : IsFull IsConstant shown m content c
     pub bound : BoundStands IsConstant shown m content l c
+    pub own : BodyOwn IsConstant shown m content l c.bound body.u
 
   abbrev pub IsBlock : (Around → Part) → Type 0
   IsBlock f = (l : Level) (u : Around) → B l u → IsOpened IsConstant shown m content l u → IsQuiet u → (f u).notes.broken ≡ [] → I l (f u).contents → PartIs l (f u).contents
@@ -275,9 +276,9 @@ module _ (IsConstant : Value → Type 0) (shown : QName → Option Desc) (m : Ty
   head_made None h = tt
   head_made (Some p) h = h
 
-  head_fresh : (o : Option Parameters) → IfThere (λ p. AreFresh p.made) o → AreFresh (types_of_head o)
-  head_fresh None h = tt
-  head_fresh (Some p) h = h
+  head_over : (own : List TypedType) → Grows own m.types → (o : Option Parameters) → IfThere (λ p. AllByRecursion (IsOver (S own)) p.made) o → AllByRecursion (IsOver (S m.types)) (types_of_head o)
+  head_over own g None h = tt
+  head_over own g (Some p) h = over_all m.name shown own m.types g p.made h
 
   framed_variables : (types : Map) (h : Head) (o : Option Parameters) (c : Contents) (x : TypedVariable) → IsOneOf c.variables x → IsVariableAt IsConstant shown m content (Within (framed types h o c)) x
   framed_variables types h None c x i = tt
@@ -303,7 +304,7 @@ module _ (IsConstant : Value → Type 0) (shown : QName → Option Desc) (m : Ty
       )
 
   procedure_is : (path : List ℕ) (l : Level) (u : Around) → B l u → (p : Written_procedure) → IsProcedure p → (h : Head) → HS u.own u.scope h → HeadBound h → AllByRecursion (KnownBehind l u) h.known → IsQuietHead path h → (forward : Bool) → (procedure_judged u p h forward).notes.broken ≡ [] → I l (procedure_judged u p h forward).contents → Adds (procedure_judged u p h forward).contents
-  procedure_is path l u b p g h s r k quiet_head true n i = record { procedures = tt; full = record { constants = tt; types = head_made h.parameters s.made; bound = tt; fresh = head_fresh h.parameters s.fresh } }
+  procedure_is path l u b p g h s r k quiet_head true n i = record { procedures = tt; full = record { constants = tt; types = head_made h.parameters s.made; bound = tt; over = head_over u.own b.grown h.parameters s.over } }
   procedure_is path l u b p g h s o k quiet_head false n i =
       let c = (p.inside (around_body u h)).contents in
       let types = map_of u in
@@ -313,7 +314,7 @@ module _ (IsConstant : Value → Type 0) (shown : QName → Option Desc) (m : Ty
       let r = g.inside (Within f) (around_body u h) (inside_block l u b h s o k types c) tt (inside_quiet path u h quiet_head) quiet (record { variables = λ x j. framed_variables types h h.parameters c x j; procedures = λ q j. i.procedures q (one_right own c.procedures q j); types = grows_then c.types (types_of_head h.parameters ++ c.types) m.types (grows_front (types_of_head h.parameters) c.types) i.types; made = λ t j. i.made t (one_right (types_of_head h.parameters) c.types t j); bound = tt }) in
       record {
         procedures = all_both (ProcedureIsJudged IsConstant shown m content) own c.procedures (framed_judged u.own b.grown types h s.self h.parameters c s.signature r.body) r.procedures;
-        full = record { constants = tt; types = all_both (IsDescribed IsConstant) (types_of_head h.parameters) c.types (head_made h.parameters s.made) r.full.types; bound = tt; fresh = all_both (λ t. IsFresh t.desc) (types_of_head h.parameters) c.types (head_fresh h.parameters s.fresh) r.full.fresh };
+        full = record { constants = tt; types = all_both (IsDescribed IsConstant) (types_of_head h.parameters) c.types (head_made h.parameters s.made) r.full.types; bound = tt; over = all_both (IsOver (S m.types)) (types_of_head h.parameters) c.types (head_over u.own b.grown h.parameters s.over) r.full.over };
       }
 
   pub procedures_are : (path : List ℕ) (l : Level) (u : Around) → B l u → (ps : List Written_procedure) → AreProcedures ps → (hs : List Head) → AllByRecursion (HS u.own u.scope) hs → AllByRecursion HeadBound hs → AllByRecursion (λ (h : Head). AllByRecursion (KnownBehind l u) h.known) hs → AllByRecursion (IsQuietHead path) hs → (procedures_judged u ps hs).notes.broken ≡ [] → I l (procedures_judged u ps hs).contents → Adds (procedures_judged u ps hs).contents

@@ -184,7 +184,7 @@ module _ (IsConstant : Value → Type 0) (unit : List ℕ) (shown : QName → Op
     inside = all_of (λ (k : Known). (k.scope ≡ suc scope) × InsideEntity IsConstant unit shown out own h k.what) (λ (k : Known). (k.scope ≡ suc scope) × InsideEntity IsConstant unit shown out own (declared_head true h u) k.what) h.inside (λ k i. (i.0, inside_none IsConstant unit shown out own h (declared_head true h u) refl k.what i.1)) s.inside;
     free = s.free;
     self = s.self;
-    fresh = tt;
+    over = tt;
   }
   twice_stands own scope false h u s = record {
     made = s.made;
@@ -192,7 +192,7 @@ module _ (IsConstant : Value → Type 0) (unit : List ℕ) (shown : QName → Op
     inside = all_of (λ (k : Known). (k.scope ≡ suc scope) × InsideEntity IsConstant unit shown out own h k.what) (λ (k : Known). (k.scope ≡ suc scope) × InsideEntity IsConstant unit shown out own (declared_head false h u) k.what) h.inside (λ k i. (i.0, inside_again IsConstant unit shown out own h u.known k.what i.1)) s.inside;
     free = s.free;
     self = s.self;
-    fresh = s.fresh;
+    over = s.over;
   }
 
   procedure_own : (u : Around) (h : Head) (b : Bool) → (knows_procedure u h b).own ≡ u.own

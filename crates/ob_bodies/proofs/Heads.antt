@@ -36,7 +36,7 @@ use Rattle.ob_bodies.proofs.Lists.{one_right, all_of, all_filtered, there_of}
 use Rattle.ob_bodies.proofs.Standing.{grows_front, stands_grown}
 use Rattle.ob_bodies.proofs.Named.{type_named_stands}
 use Rattle.ob_bodies.specs.Order.{IsOver}
-use Rattle.ob_bodies.proofs.InOrder.{AreFresh, over_fresh}
+use Rattle.ob_bodies.proofs.InOrder.{over_all}
 use Rattle.ob_bodies.proofs.Over.{AreSectionsOver, ParametersOver, parameters_over}
 use Rattle.ob_bodies.proofs.Sections.{AreGoodSections, ParametersAre, ParameterEntity, SectionsAre, parameters_are, inner_known}
 
@@ -86,7 +86,7 @@ module _ (IsConstant : Value → Type 0) (unit : List ℕ) (shown : QName → Op
     pub inside : AllByRecursion (λ (k : Known). (k.scope ≡ suc scope) × InsideEntity own h k.what) h.inside
     pub free : h.is_bound ≡ false → self_parameters h h.self h.bound ≡ []
     pub self : AllByRecursion (λ (x : TypedParameter). S own x.of) (self_parameters h h.self h.bound)
-    pub fresh : IfThere (λ p. AreFresh p.made) h.parameters
+    pub over : IfThere (λ p. AllByRecursion (IsOver (S own)) p.made) h.parameters
 
   inside_grown : (own more : List TypedType) → Grows own more → (h : Head) (e : Entity) → InsideEntity own h e → InsideEntity more h e
   inside_grown own more g h (entity.Variable v t) i = there_of (λ p. IsParameter (all_parameters h p) v t × S own t) (λ p. IsParameter (all_parameters h p) v t × S more t) h.parameters (λ p k. (k.0, stands_grown unit shown own more g t k.1)) i
@@ -138,7 +138,7 @@ module _ (IsConstant : Value → Type 0) (unit : List ℕ) (shown : QName → Op
     inside = all_of (λ (k : Known). (k.scope ≡ suc scope) × InsideEntity own h k.what) (λ (k : Known). (k.scope ≡ suc scope) × InsideEntity more h k.what) h.inside (λ k i. (i.0, inside_grown own more g h k.what i.1)) s.inside;
     free = s.free;
     self = all_of (λ (x : TypedParameter). S own x.of) (λ (x : TypedParameter). S more x.of) (self_parameters h h.self h.bound) (λ x. stands_grown unit shown own more g x.of) s.self;
-    fresh = s.fresh;
+    over = there_of (λ p. AllByRecursion (IsOver (S own)) p.made) (λ p. AllByRecursion (IsOver (S more)) p.made) h.parameters (λ p i. over_all unit shown own more g p.made i) s.over;
   }
 
   -- THE RECEIVER
@@ -218,7 +218,7 @@ module _ (IsConstant : Value → Type 0) (unit : List ℕ) (shown : QName → Op
   not_above : (n k : ℕ) → k ≤ n → nat_lt n k ≡ true → ⊥
   not_above n k h e = grind (arith, nat_tests)
 
-  module _ (u : Around) (below : AllByRecursion (λ (k : Known). k.scope ≤ u.scope) u.known) (h : WrittenHeading) (forward : Bool) (m : Judged Mark) (b : Judged (Option BoundAs)) (s : Sections) (are : SectionsAre IsConstant unit shown out u.own (suc u.scope) (knows_receiver (inner u) h.receiver b.node).known s) (owner : IfThere (IfThere (λ (b : BoundAs). S u.own b.of)) b.node) (over : IfThere (λ p. AreFresh p.made) s.found.node) where
+  module _ (u : Around) (below : AllByRecursion (λ (k : Known). k.scope ≤ u.scope) u.known) (h : WrittenHeading) (forward : Bool) (m : Judged Mark) (b : Judged (Option BoundAs)) (s : Sections) (are : SectionsAre IsConstant unit shown out u.own (suc u.scope) (knows_receiver (inner u) h.receiver b.node).known s) (owner : IfThere (IfThere (λ (b : BoundAs). S u.own b.of)) b.node) (over : IfThere (ParametersOver IsConstant unit shown out u.own) s.found.node) where
     abbrev hd : Head
     hd = head_from u h forward m b s
 
@@ -251,7 +251,7 @@ module _ (IsConstant : Value → Type 0) (unit : List ℕ) (shown : QName → Op
           (λ k e i f. (e, parameter_inside u.own more hd s.found.node (λ v t. three_entity u.own (self_parameters hd hd.self hd.bound) m.node b.node s.found.node v t) k.what i)));
       free = λ e. free_of hd h.receiver (bound_in b.node) e;
       self = self_stands hd h.receiver b.node owner;
-      fresh = three_have (λ p. AreFresh p.made) m.node b.node s.found.node over;
+      over = three_have (λ p. AllByRecursion (IsOver (S more)) p.made) m.node b.node s.found.node (there_of (ParametersOver IsConstant unit shown out u.own) (λ p. AllByRecursion (IsOver (S more)) p.made) s.found.node (λ p i. over_all unit shown u.own more (grows_front (types_of hd.parameters) u.own) p.made i) over);
     }
 
   receiver_over : (u : Around) → K u → (r : Option RawReceiver) (b : Option (Option BoundAs)) → K (record (knows_receiver (inner u) r b) { own = u.own })
@@ -275,7 +275,7 @@ module _ (IsConstant : Value → Type 0) (unit : List ℕ) (shown : QName → Op
       (subst (λ (w : Around). SectionsAre IsConstant unit shown out u.own (suc u.scope) v.known (parameters_in w name h.parameters)) (sym (receiver_around (inner u) h.receiver b.node))
       (parameters_are IsConstant unit shown out v (receiver_known (inner u) (inner_known IsConstant unit shown out u k) h.receiver b.node) name h.parameters g))
       (owner_stands u k h.receiver)
-      (there_of (ParametersOver IsConstant unit shown out u.own) (λ p. AreFresh p.made) (heading_parameters u h forward b).found.node (λ p i. over_fresh unit shown u.own p.made i) (parameters_in_over u k h forward y))
+      (parameters_in_over u k h forward y)
 
   -- the types that it makes are over those before
   pub head_over : (u : Around) → K u → (h : WrittenHeading) (forward : Bool) → AreSectionsOver IsConstant unit shown out h.parameters.sections → AllByRecursion (IsOver (S u.own)) (types_of (head_of u h forward).parameters)

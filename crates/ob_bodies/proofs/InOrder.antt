@@ -47,5 +47,8 @@ module _ (unit : List ℕ) (shown : QName → Option Desc) where
   made_in_order own [] h k = k
   made_in_order own (t ∷ ts) h k = (over_grown own (ts ++ own) (grows_front ts own) t h.0, made_in_order own ts h.1 k)
 
+  pub over_all : (own more : List TypedType) → Grows own more → (ts : List TypedType) → O own ts → O more ts
+  over_all own more g ts h = all_of (IsOver (S own)) (IsOver (S more)) ts (λ t i. over_grown own more g t i) h
+
   pub over_fresh : (own ts : List TypedType) → O own ts → AreFresh ts
   over_fresh own ts h = all_of (IsOver (S own)) (λ t. IsFresh t.desc) ts (λ t i. i.fresh) h

@@ -26,8 +26,7 @@ use Rattle.ob_forms.specs.Said.{IsOneOf}
 use Rattle.ob_bodies.specs.Knows.{Grows, Stands, IsDescribed, EntityStands, Knows}
 use Rattle.ob_bodies.specs.Judged.{IsMade, IsWithin, ReceiverStands, IsInside, result_of, IsProcedureIn, NameIs, IsBoundBy}
 use Rattle.ob_bodies.proofs.Lists.{one_left, one_right, one_joined, all_of, all_both, there_of}
-use Rattle.ob_bodies.specs.Order.{IsFresh, AreInOrder}
-use Rattle.ob_bodies.proofs.InOrder.{AreFresh}
+use Rattle.ob_bodies.specs.Order.{IsOver, AreInOrder}
 use Rattle.ob_bodies.proofs.Binding.{AreOne, IsFrom, Changes}
 use Rattle.ob_bodies.proofs.Standing.{Lies, grows_front, grows_behind, grows_then, grows_both, stands_grown, with_types_known}
 
@@ -97,6 +96,22 @@ module _ (IsConstant : Value → Type 0) (shown : QName → Option Desc) (m : Ty
   }
   bound_changed (Within p) start o early own ch k y c e = tt
 
+  -- what is known around the body of the module are the types that are bound
+  abbrev pub BodyOwn : Level → List TypedType → Around → Type 0
+  BodyOwn AtModule bound u = (bound ≡ []) ⊎ (u.own ≡ bound)
+  BodyOwn (Within p) bound u = Unit {0}
+
+  pub own_none : (l : Level) (bound : List TypedType) (u : Around) → bound ≡ [] → BodyOwn l bound u
+  own_none AtModule bound u e = inl e
+  own_none (Within p) bound u e = tt
+
+  pub own_bound : (l : Level) (bound : List TypedType) (u : Around) → u.own ≡ bound → BodyOwn l bound u
+  own_bound AtModule bound u e = inr e
+  own_bound (Within p) bound u e = tt
+
+  pub own_same : (l : Level) (bound more : List TypedType) (u : Around) → more ≡ bound → BodyOwn l bound u → BodyOwn l more u
+  own_same l bound more u e h = subst (λ ts. BodyOwn l ts u) (sym e) h
+
   -- what a part adds is in the module
   pub record Included (l : Level) (c : Contents) : Type 0 where
     pub variables : (x : TypedVariable) → IsOneOf c.variables x → IsVariableAt l x
@@ -111,17 +126,17 @@ module _ (IsConstant : Value → Type 0) (shown : QName → Option Desc) (m : Ty
     pub constants : AllByRecursion (λ (x : TypedConstant). IsConstant x.value) c.constants
     pub types : AllByRecursion (IsDescribed IsConstant) c.types
     pub bound : AllByRecursion (IsDescribed IsConstant) c.bound
-    pub fresh : AreFresh c.types
+    pub over : AllByRecursion (IsOver (S m.types)) c.types
 
   pub none_full : IsFull no_contents
-  none_full = record { constants = tt; types = tt; bound = tt; fresh = tt }
+  none_full = record { constants = tt; types = tt; bound = tt; over = tt }
 
   pub both_full : (a b : Contents) → IsFull a → IsFull b → IsFull (together a b)
   both_full a b g h = record {
     constants = all_both (λ (x : TypedConstant). IsConstant x.value) a.constants b.constants g.constants h.constants;
     types = all_both (IsDescribed IsConstant) a.types b.types g.types h.types;
     bound = all_both (IsDescribed IsConstant) a.bound b.bound g.bound h.bound;
-    fresh = all_both (λ t. IsFresh t.desc) a.types b.types g.fresh h.fresh;
+    over = all_both (IsOver (S m.types)) a.types b.types g.over h.over;
   }
 
   first_bound : (l : Level) (a b : Contents) → IsBoundAt l (together a b) → IsBoundAt l a

@@ -45,7 +45,7 @@ use Rattle.ob_bodies.proofs.Typings.{ConstantPhrase}
 use Rattle.ob_bodies.specs.Order.{AreInOrder}
 use Rattle.ob_bodies.proofs.Over.{written_over, written_parameters_over}
 use Rattle.ob_bodies.proofs.Written.{written_good, written_parameters_good}
-use Rattle.ob_bodies.proofs.Levels.{Level, AtModule, Within, frame, IsPlaced, IsOpened, bound_same, bound_none, declared_own, Included, none_full, both_full, first_included, second_included, BlockAt, block_declared as name_declared}
+use Rattle.ob_bodies.proofs.Levels.{Level, AtModule, Within, frame, IsPlaced, IsOpened, own_none, own_same, bound_same, bound_none, declared_own, Included, none_full, both_full, first_included, second_included, BlockAt, block_declared as name_declared}
 use Rattle.ob_said.specs.Procedures.{is_plain, ShowBases, heading_layer, is_named_plainly}
 use Rattle.ob_said.specs.Procedures as said
 use Rattle.ob_said.proofs.Knowing.{AreKnown}
@@ -172,7 +172,7 @@ module _ (IsConstant : Value → Type 0) (truths : (b : Bool) → IsConstant (li
       ((differs b 46 refl q.0, r.0), (differs b 47 refl q.1, r.1))
 
   no_block : IsBlock IsConstant shown m content out (λ u. record { notes = Rattle.ob_rules.specs.Judged.no_notes; contents = no_contents })
-  no_block l u b o q n i = record { procedures = tt; body = record { u = u; xs = []; is = refl; spelled = refl; stands = stands_at IsConstant shown m content out l u b }; placed = b.placed; full = none_full IsConstant shown m content; bound = bound_none IsConstant shown m content l no_contents refl }
+  no_block l u b o q n i = record { procedures = tt; body = record { u = u; xs = []; is = refl; spelled = refl; stands = stands_at IsConstant shown m content out l u b }; placed = b.placed; full = none_full IsConstant shown m content; bound = bound_none IsConstant shown m content l no_contents refl; own = own_none IsConstant shown m content l [] u refl }
 
   decl_cases : (y : Decl-F SD) → PD (roll-Decl (map-Decl SD Decl (λ x. x.0) y))
   decl_cases (Decl-F.Constant d x) = layer (Decl-F.Constant d x) (λ e f. (constant_plain IsConstant shown m content out d (phrase_of x) (constants x e), constant_good d (phrase_of x)))
@@ -268,6 +268,7 @@ module _ (IsConstant : Value → Type 0) (truths : (b : Bool) → IsConstant (li
         placed = p.placed;
         full = both_full IsConstant shown m content no_contents (together d.part.contents c) (none_full IsConstant shown m content) (both_full IsConstant shown m content d.part.contents c r.full p.full);
         bound = bound_same IsConstant shown m content c (together no_contents (together d.part.contents c)) (ap (λ ts. ts ++ c.bound) r.bound) p.bound;
+        own = own_same IsConstant shown m content AtModule c.bound (together no_contents (together d.part.contents c)).bound p.body.u (ap (λ ts. ts ++ c.bound) r.bound) p.own;
       }
 
 -- ---- the checked module
@@ -364,7 +365,7 @@ module _ (IsConstant : Value → Type 0) (truths : (b : Bool) → IsConstant (li
   whole_is quiet out constants s bases plain o =
       let e = and_both (all_true (map decl_spelled tree.decls)) (all_true (map stmt_spelled tree.body)) s in
       let p = module_is IsConstant truths shown whole parts.contents out constants tree.name refl bases tree.imports o (map declaration tree.decls) (decls_good IsConstant truths shown whole parts.contents out constants tree.decls e.0 plain) tree.body e.1 tree.closing quiet (record { variables = λ x i. i; procedures = λ p i. i; types = names_kept parts.contents.bound parts.contents.types; made = λ t i. i; bound = λ t i. inr i }) in
-      record { content = parts.contents; told = λ d. all_told IsConstant parts.contents.types parts.contents.bound p.bound.from p.bound.one d; types_are = refl; fresh = p.full.fresh; bound = p.bound.by; procedures = p.procedures; body = p.body; scope = p.placed.1.0; receiver = p.placed.1.1.1; name = out; constants = p.full.constants; types = all_described_are IsConstant parts.contents.bound p.full.bound parts.contents.types p.full.types }
+      record { content = parts.contents; told = λ d. all_told IsConstant parts.contents.types parts.contents.bound p.bound.from p.bound.one d; types_are = refl; over = p.full.over; from = p.bound.from; bound = p.bound.by; own = p.own; procedures = p.procedures; body = p.body; scope = p.placed.1.0; receiver = p.placed.1.1.1; name = out; constants = p.full.constants; types = all_described_are IsConstant parts.contents.bound p.full.bound parts.contents.types p.full.types }
 
   pub bodies_judged : (m : TypedModule) → checked shown tree ≡ Some m → ((out : is_out tree.name.name ≡ false) (x : Expr) → is_spelled x ≡ true → ConstantPhrase IsConstant tree.name.name shown out (phrase_of x)) → tree_spelled tree ≡ true → ShowBases shown tree.name.name → said.all_true (map is_named_plainly tree.decls) ≡ true → AllByRecursion (λ (i : Import). bytes_eq (target_of i).name tree.name.name ≡ false) tree.imports → BodiesAreJudged IsConstant shown m
   bodies_judged m e constants s bases plain o =

@@ -32,7 +32,7 @@ use Rattle.ob_bodies.specs.Judged.{IsInside, VariableStands, NameIs}
 use Rattle.ob_bodies.proofs.Standing.{Lies, lies_same, lies_front, lies_on}
 use Rattle.ob_bodies.specs.Order.{IsOver, AreInOrder}
 use Rattle.ob_bodies.proofs.Lists.{there_of}
-use Rattle.ob_bodies.proofs.InOrder.{over_same, made_in_order, over_fresh}
+use Rattle.ob_bodies.proofs.InOrder.{over_same, made_in_order, over_all}
 use Rattle.ob_bodies.proofs.Typings.{TypingIs, TypingOver, ConstantPhrase, IsGood, IsWellOver, typed_is}
 use Rattle.ob_bodies.proofs.Levels.{Level, AtModule, Within, frame, IsVariableAt, Included, IsFull, none_full, both_full, first_included, second_included, BlockAt, block_typed, block_declared, declared_own, not_outer, not_module}
 
@@ -92,7 +92,7 @@ module _ (IsConstant : Value → Type 0) (shown : QName → Option Desc) (m : Ty
 
   constant_full : (b : Bool) (x : Ident) (o : Option (Mark × Value)) → IfThere (λ (p : Mark × Value). Unit {0} × IsConstant p.1) o → IsFull IsConstant shown m content (constant_contents b x o)
   constant_full true x None h = none_full IsConstant shown m content
-  constant_full true x (Some p) h = record { constants = (h.1, tt); types = tt; bound = tt; fresh = tt }
+  constant_full true x (Some p) h = record { constants = (h.1, tt); types = tt; bound = tt; over = tt }
   constant_full false x o h = none_full IsConstant shown m content
 
   pub constant_plain : (d : IdentDef) (x : Phrase) → ConstantPhrase IsConstant m.name shown out x → IsPlain (constant_declared d x)
@@ -154,7 +154,7 @@ module _ (IsConstant : Value → Type 0) (shown : QName → Option Desc) (m : Ty
         around = block_declared IsConstant shown m content l v (block_typed IsConstant shown m content l u b (types_made o) (type_made u.own o h) i.types (λ y j. inl (i.made y j))) d.ident (type_entity o) (type_stands u.own o h) (type_name v.own (frame l) u.level u.scope o);
         procedures = refl;
         body = refl;
-        full = record { constants = tt; types = type_made u.own o h; bound = tt; fresh = over_fresh m.name shown u.own (types_made o) over };
+        full = record { constants = tt; types = type_made u.own o h; bound = tt; over = over_all m.name shown u.own m.types b.grown (types_made o) over };
         lies = subst (λ own. Lies own (types_made o ++ u.own)) (sym (declared_own IsConstant shown m content v d.ident (type_entity o))) (lies_same (types_made o ++ u.own));
         bound = refl;
         order = λ k. subst (AreInOrder m.name shown) (sym (declared_own IsConstant shown m content v d.ident (type_entity o))) (made_in_order m.name shown u.own (types_made o) over k);
@@ -199,7 +199,7 @@ module _ (IsConstant : Value → Type 0) (shown : QName → Option Desc) (m : Ty
 
   variable_full : (x : Ident) (o : Option (Mark × Typing)) → IsFull IsConstant shown m content (variable_contents x o)
   variable_full x None = none_full IsConstant shown m content
-  variable_full x (Some p) = record { constants = tt; types = tt; bound = tt; fresh = tt }
+  variable_full x (Some p) = record { constants = tt; types = tt; bound = tt; over = tt }
 
   pub two_empty : {A : Type 0} (xs ys : List A) → xs ≡ [] → ys ≡ [] → xs ++ ys ≡ []
   two_empty xs ys e f = ap (λ l. l ++ ys) e ∙ f
@@ -239,7 +239,7 @@ module _ (IsConstant : Value → Type 0) (shown : QName → Option Desc) (m : Ty
       let v = with_types u (made_in t.node) in
       let mine : Contents = record no_contents { types = made_in t.node } in
       let r = variables_plain ds t.node l v (block_typed IsConstant shown m content l u b (made_in t.node) (in_made u.own t.node h) (first_included IsConstant shown m content l mine (variables_with ds t.node v).part.contents i).types (λ y j. inl ((first_included IsConstant shown m content l mine (variables_with ds t.node v).part.contents i).made y j))) (in_stands u.own t.node h) (second_included IsConstant shown m content l mine (variables_with ds t.node v).part.contents i) in
-      record { around = r.around; procedures = r.procedures; body = r.body; full = both_full IsConstant shown m content mine (variables_with ds t.node v).part.contents (record { constants = tt; types = in_made u.own t.node h; bound = tt; fresh = over_fresh m.name shown u.own (made_in t.node) over }) r.full; lies = lies_on (made_in t.node) (variables_with ds t.node v).part.contents.types u.own v.own (variables_with ds t.node v).around.own (lies_same v.own) r.lies; bound = r.bound; order = λ k. r.order (made_in_order m.name shown u.own (made_in t.node) over k) }
+      record { around = r.around; procedures = r.procedures; body = r.body; full = both_full IsConstant shown m content mine (variables_with ds t.node v).part.contents (record { constants = tt; types = in_made u.own t.node h; bound = tt; over = over_all m.name shown u.own m.types b.grown (made_in t.node) over }) r.full; lies = lies_on (made_in t.node) (variables_with ds t.node v).part.contents.types u.own v.own (variables_with ds t.node v).around.own (lies_same v.own) r.lies; bound = r.bound; order = λ k. r.order (made_in_order m.name shown u.own (made_in t.node) over k) }
 
   -- IN ORDER
 

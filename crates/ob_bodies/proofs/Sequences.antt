@@ -28,7 +28,7 @@ use Rattle.ob_bodies.proofs.Heads.{SignatureStands, HeadStands, head_grown}
 use Rattle.ob_bodies.proofs.Headings.{Aligned, IsUnbroken, types_of_all, lies_in_order, types_lie, named_at, aligned_in_order, names_in_order, HeadsStand, named_fine, stand_in_order}
 use Rattle.ob_bodies.proofs.More.{append_none}
 use Rattle.ob_bodies.proofs.Binding.{binding_changes}
-use Rattle.ob_bodies.proofs.Levels.{Level, AtModule, Within, frame, IsPlaced, IsBoundAt, IsOpened, BoundBy, bound_none, bound_changed, Included, none_full, both_full, first_included, second_included, BlockAt, name_grown}
+use Rattle.ob_bodies.proofs.Levels.{Level, AtModule, Within, frame, IsPlaced, IsBoundAt, IsOpened, BoundBy, own_none, own_bound, own_same, bound_none, bound_changed, Included, none_full, both_full, first_included, second_included, BlockAt, name_grown}
 use Rattle.ob_bodies.proofs.Plain.{DeclaredIs}
 use Rattle.ob_bodies.proofs.Quiet.{AreQuiet, IsQuietHead, quiet_in_order}
 use Rattle.ob_bodies.proofs.Forwards.{IsAnswered, all_answered}
@@ -174,9 +174,14 @@ module _ (IsConstant : Value → Type 0) (shown : QName → Option Desc) (m : Ty
               procedures = all_both (ProcedureIsJudged IsConstant shown m content) c.procedures [] a.procedures tt;
               body = record { u = w; xs = xs; is = ap (λ l. l ++ s.body) (procedures_body w ps heads); spelled = spelled; stands = stands_at IsConstant shown m content out l w around };
               placed = around.placed;
-              full = both_full IsConstant shown m content c s a.full (record { constants = tt; types = tt; bound = tt; fresh = tt });
+              full = both_full IsConstant shown m content c s a.full (record { constants = tt; types = tt; bound = tt; over = tt });
               bound = bound_none IsConstant shown m content l inside.contents (two_empty c.bound s.bound (procedures_bound IsConstant shown m content out w ps heads) refl);
+              own = own_none IsConstant shown m content l inside.contents.bound w (two_empty c.bound s.bound (procedures_bound IsConstant shown m content out w ps heads) refl);
             }
+
+        inside_own : inside_is.body.u.own ≡ own
+        unfolding inside_is
+        inside_own = refl
 
   -- what is known where procedures are bound is made by the module
   binding_made : (l : Level) (outer : Around) → IsPlaced l outer → (v : Around) (heads : List Head) → ((t : TypedType) → IsOneOf v.own t → IsMade content t) → (c : Contents) → c.bound ≡ (binding_at (is_module_level outer) v heads).own → IsBoundAt IsConstant shown m content l c → (t : TypedType) → IsOneOf (binding_at (is_module_level outer) v heads).own t → IsMade content t
@@ -184,14 +189,14 @@ module _ (IsConstant : Value → Type 0) (shown : QName → Option Desc) (m : Ty
   binding_made (Within f) outer p v ks k c e i t h = k t (subst (λ x. IsOneOf (binding_at x v ks).own t) p.0 h)
 
   -- what is bound at the level of the module is bound by its headings
-  bound_by : (l : Level) (outer : Around) → IsPlaced l outer → (base : Around) → base.unit ≡ m.name → base.shown ≡ shown → (ps : List Written_procedure) (early : Around) → IsOpened IsConstant shown m content l early
+  bound_by : (l : Level) (outer : Around) → IsPlaced l outer → (base : Around) → base.unit ≡ m.name → (ps : List Written_procedure) → (headings_in_order ps (record { around = base; before = [] })).around.unit ≡ m.name → (headings_in_order ps (record { around = base; before = [] })).around.shown ≡ shown → (early : Around) → IsOpened IsConstant shown m content l early
       → (AreInOrder m.name shown early.own → AreInOrder m.name shown (headings_in_order ps (record { around = base; before = [] })).around.own)
       → (Lies early.own content.types → Lies (headings_in_order ps (record { around = base; before = [] })).around.own content.types)
       → BoundBy IsConstant shown m content l (binding_at (is_module_level outer) (headings_in_order ps (record { around = base; before = [] })).around (reversed (headings_in_order ps (record { around = base; before = [] })).before)).own
-  bound_by AtModule outer p base e f ps early o g k =
+  bound_by AtModule outer p base b ps e f early o g k =
       let hs = headings_in_order ps (record { around = base; before = [] }) in
-      record { base = base; ps = ps; unit_is = e; shown_is = f; order = g o.1; lies = k o.0; is = ap (λ (x : List ℕ). (binding_at (nothing x) hs.around (reversed hs.before)).own) p.0 }
-  bound_by (Within q) outer p base e f ps early o g k = tt
+      record { base = base; ps = ps; base_unit = b; unit_is = e; shown_is = f; order = g o.1; lies = k o.0; is = ap (λ (x : List ℕ). (binding_at (nothing x) hs.around (reversed hs.before)).own) p.0 }
+  bound_by (Within q) outer p base b ps e f early o g k = tt
 
   -- with what is bound, and the declarations before
   pub block_is : (l : Level) (ps : List Written_procedure) → AreProcedures IsConstant shown m content out ps → (xs : List Stmt) → all_true (map stmt_spelled xs) ≡ true → (outer : Around) → IsPlaced l outer → (start : Around) → IsOpened IsConstant shown m content l start → (d : Declared) → DeclaredIs IsConstant shown m content out l start d → AreQuiet d.around → (block_declared outer ps (map judging xs) d).notes.broken ≡ [] → I l (block_declared outer ps (map judging xs) d).contents → PartIs IsConstant shown m content out l (block_declared outer ps (map judging xs) d).contents
@@ -238,13 +243,15 @@ module _ (IsConstant : Value → Type 0) (shown : QName → Option Desc) (m : Ty
         within = record { unit_is = s.knows.unit_is; shown_is = s.knows.shown_is; own = heads_made };
         answer = record { g = a.g; there = one_turned h.before a.g a.there; written = a.written; free = a.free; path = a.path; r = a.r; is = a.is; alike = a.alike };
       } in
-      let p : PartIs IsConstant shown m content out l c =
-      subst (λ (x : Around). (block_inside x ps all (map judging xs)).notes.broken ≡ [] → I l (block_inside x ps all (map judging xs)).contents → PartIs IsConstant shown m content out l (block_inside x ps all (map judging xs)).contents) (sym e)
-      (λ k o. inside_is l base g.around ps good xs spelled bind.own ch.grows (ch.described s.knows.own) grown bound_made heads_bound calm_heads all_in bind.bound k o) quiet j in
+      let both : (p : PartIs IsConstant shown m content out l c) × (p.body.u.own ≡ bind.own) =
+      subst (λ (x : Around). (block_inside x ps all (map judging xs)).notes.broken ≡ [] → I l (block_inside x ps all (map judging xs)).contents → (p : PartIs IsConstant shown m content out l (block_inside x ps all (map judging xs)).contents) × (p.body.u.own ≡ bind.own)) (sym e)
+      (λ k o. (inside_is l base g.around ps good xs spelled bind.own ch.grows (ch.described s.knows.own) grown bound_made heads_bound calm_heads all_in bind.bound k o, inside_own l base g.around ps good xs spelled bind.own ch.grows (ch.described s.knows.own) grown bound_made heads_bound calm_heads all_in bind.bound k o)) quiet j in
+      let p = both.0 in
       record {
         procedures = all_both (ProcedureIsJudged IsConstant shown m content) d.part.contents.procedures c.procedures (all_empty (ProcedureIsJudged IsConstant shown m content) d.part.contents.procedures g.procedures) p.procedures;
         body = record { u = p.body.u; xs = p.body.xs; is = ◌∙◌ {c = stmts_in (in_turn (map judging p.body.xs) p.body.u).node} (ap (λ l. l ++ c.body) g.body) p.body.is; spelled = p.body.spelled; stands = p.body.stands };
         placed = p.placed;
-        full = both_full IsConstant shown m content d.part.contents (together no_contents (together bound c)) g.full (both_full IsConstant shown m content no_contents (together bound c) (none_full IsConstant shown m content) (both_full IsConstant shown m content bound c (record { constants = tt; types = tt; bound = ch.described s.knows.own; fresh = tt }) p.full));
-        bound = bound_changed IsConstant shown m content l start opened h.around.own bind.own ch heads_lie (bound_by l outer placed base g.around.knows.unit_is g.around.knows.shown_is ps start opened (λ i. s.order (g.order i)) heads_lie) (block_declared outer ps (map judging xs) d).contents only_bound;
+        full = both_full IsConstant shown m content d.part.contents (together no_contents (together bound c)) g.full (both_full IsConstant shown m content no_contents (together bound c) (none_full IsConstant shown m content) (both_full IsConstant shown m content bound c (record { constants = tt; types = tt; bound = ch.described s.knows.own; over = tt }) p.full));
+        bound = bound_changed IsConstant shown m content l start opened h.around.own bind.own ch heads_lie (bound_by l outer placed base g.around.knows.unit_is ps s.knows.unit_is s.knows.shown_is start opened (λ i. s.order (g.order i)) heads_lie) (block_declared outer ps (map judging xs) d).contents only_bound;
+        own = own_same IsConstant shown m content l bind.own (block_declared outer ps (map judging xs) d).contents.bound p.body.u only_bound (own_bound IsConstant shown m content l bind.own p.body.u both.1);
       }

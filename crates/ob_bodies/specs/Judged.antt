@@ -36,7 +36,7 @@ use Rattle.ob_typed.specs.Makes.{IfThere}
 use Rattle.ob_typed.specs.Spelled.{all_true}
 use Rattle.ob_typed.specs.Bodies.{stmt_spelled}
 use Rattle.ob_bodies.specs.Knows.{Stands, IsDescribed, Knows, IsPlain}
-use Rattle.ob_bodies.specs.Order.{IsFresh, AreInOrder}
+use Rattle.ob_bodies.specs.Order.{IsOver, AreInOrder}
 
 -- by value or by VAR
 abbrev pub mode_of : Passing → Mode
@@ -186,8 +186,9 @@ module _ (IsConstant : Value → Type 0) (shown : QName → Option Desc) (m : Ty
 pub record IsBoundBy (unit : List ℕ) (shown : QName → Option Desc) (types bound : List TypedType) : Type 0 where
   pub base : Around
   pub ps : List Written_procedure
-  pub unit_is : base.unit ≡ unit
-  pub shown_is : base.shown ≡ shown
+  pub base_unit : base.unit ≡ unit
+  pub unit_is : (headings_in_order ps (record { around = base; before = [] })).around.unit ≡ unit
+  pub shown_is : (headings_in_order ps (record { around = base; before = [] })).around.shown ≡ shown
   pub order : AreInOrder unit shown (headings_in_order ps (record { around = base; before = [] })).around.own
   pub lies : (t : TypedType) → IsOneOf (headings_in_order ps (record { around = base; before = [] })).around.own t → IsOneOf types t
   pub is : bound ≡ (bindings (headings_in_order ps (record { around = base; before = [] })).around (reversed (headings_in_order ps (record { around = base; before = [] })).before)).own
@@ -201,10 +202,13 @@ module _ (IsConstant : Value → Type 0) (shown : QName → Option Desc) (m : Ty
     pub told : Different (λ t. t.name) m.types → (t : TypedType) → IsMade content t → IsTold m.types t
     -- its types are those that it makes, with what is bound to them
     pub types_are : m.types ≡ all_described content.bound content.types
-    pub fresh : AllByRecursion (λ (t : TypedType). IsFresh t.desc) content.types
+    pub over : AllByRecursion (IsOver (Stands m.name shown m.types)) content.types
+    pub from : (b : TypedType) → IsOneOf content.bound b → (t : TypedType) × (IsOneOf content.types t × ((t.name ≡ b.name) × HasMore t.desc b.desc))
     pub bound : (content.bound ≡ []) ⊎ IsBoundBy m.name shown content.types content.bound
     pub procedures : AllByRecursion (ProcedureIsJudged IsConstant shown m content) m.procedures
     pub body : IsJudged IsConstant shown m content None m.body
+    -- it knows what is bound
+    pub own : (content.bound ≡ []) ⊎ (body.u.own ≡ content.bound)
     -- in the scope of the module, and of no procedure
     pub scope : body.u.scope ≡ 1
     pub receiver : body.u.receiver ≡ None

@@ -1,0 +1,4 @@
+pub mod Ranks
+pub mod Bound
+pub mod Walk
+pub mod Descs

@@ -1,0 +1,2 @@
+//! Bound procedures are introduced once.
+#![tactic(auto)]
