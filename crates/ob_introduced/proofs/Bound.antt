@@ -111,7 +111,7 @@ none_along map (suc n) q b x h (inr (c, (i, l))) m e = by (own_member q (map q) 
     by None None j h up = absurd cc
     by None (Some d) j h up = let same : d ≡ c = cc in up (subst (λ z. member_within map n z x ≡ None) same h)
 
-line_same : (f g : Map) → ((q : QName) → base_record f q ≡ base_record g q) → (n : ℕ) (q b : QName) → Line f n q b → Line g n q b
+pub line_same : (f g : Map) → ((q : QName) → base_record f q ≡ base_record g q) → (n : ℕ) (q b : QName) → Line f n q b → Line g n q b
 line_same f g s zero q b l = l
 line_same f g s (suc n) q b (inl e) = inl e
 line_same f g s (suc n) q b (inr (c, (e, l))) = inr (c, (sym (s q) ∙ e, line_same f g s n c b l))

@@ -2,3 +2,5 @@ pub mod Ranks
 pub mod Bound
 pub mod Walk
 pub mod Descs
+pub mod Programs
+pub mod Whole

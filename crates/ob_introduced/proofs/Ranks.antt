@@ -70,7 +70,7 @@ rank_behind (t ∷ front) ts x h =
 abbrev pub AreOne : List TypedType → Type 0
 AreOne ts = (a b : TypedType) → IsOneOf ts a → IsOneOf ts b → a.name ≡ b.name → a.desc ≡ b.desc
 
-based_more : (S S' : TypeRef → Type 0) → ((t : TypeRef) → S t → S' t) → (d : Desc) → IsBased S d → IsBased S' d
+pub based_more : (S S' : TypeRef → Type 0) → ((t : TypeRef) → S t → S' t) → (d : Desc) → IsBased S d → IsBased S' d
 based_more S S' f (desc.Alias m t) h = f t h
 based_more S S' f (desc.Record r) h = by r.base h
   where
