@@ -68,6 +68,7 @@ place [] x = zero
 place (m ∷ ms) x = cond (bytes_eq m.name x) zero (suc (place ms x))
 
 place_before : (ms rest : List Module) (m : Module) → IsOneOf ms m → place (ms ++ rest) m.name < length ms
+unfolding place
 place_before [] rest m i = absurd i
 place_before (k ∷ ms) rest m i = by (bytes_eq k.name m.name) refl i (place_before ms rest m)
   where
@@ -77,6 +78,7 @@ place_before (k ∷ ms) rest m i = by (bytes_eq k.name m.name) refl i (place_bef
     by false e (inr j) up = let r = up j in omega (arith, r)
 
 place_at : (ms rest : List Module) (m : Module) → Different (λ (k : Module). k.name) (ms ++ m ∷ rest) → place (ms ++ m ∷ rest) m.name ≡ length ms
+unfolding place
 place_at [] rest m d = ap (λ b. cond b zero (suc (place rest m.name))) (bytes_same m.name)
 place_at (k ∷ ms) rest m d =
     let n : bytes_eq k.name m.name ≡ false = other_name k.name m.name (λ e. one_all (λ (y : Module). y.name ≢ k.name) (ms ++ m ∷ rest) m d.0 (one_right ms (m ∷ rest) m (inl refl)) (sym e)) in
@@ -124,7 +126,7 @@ found_in (s ∷ ts) x t e = by (bytes_eq s.name x) refl e (found_in ts x t)
 -- types whose names differ are one where their names are
 differ_one : (bound ts : List TypedType) → Different (λ (t : TypedType). t.name) (all_described bound ts) → AreOne ts
 differ_one bound [] d a b i j e = absurd i
-differ_one bound (t ∷ ts) d a b i j e = by i j
+differ_one bound (t ∷ ts) d a b i j e = by i j (λ k l. differ_one bound ts d.1 a b k l e)
   where
     name_kept : (o : Option TypedType) (s : TypedType) → (described_by o s).name ≡ s.name
     name_kept None s = refl
@@ -140,11 +142,11 @@ differ_one bound (t ∷ ts) d a b i j e = by i j
         let k = there ts s i in
         one_all (λ (y : TypedType). y.name ≢ (described_by (find (λ b. bytes_eq b.name t.name) bound) t).name) (all_described bound ts) k.0 d.0 k.1.0 (k.1.1 ∙ e ∙ sym (name_kept (find (λ b. bytes_eq b.name t.name) bound) t))
 
-    by : IsOneOf (t ∷ ts) a → IsOneOf (t ∷ ts) b → a.desc ≡ b.desc
-    by (inl i) (inl j) = ap (λ (z : TypedType). z.desc) (sym i ∙ j)
-    by (inl i) (inr j) = absurd (not_there b j (sym e ∙ sym (ap (λ (z : TypedType). z.name) i)))
-    by (inr i) (inl j) = absurd (not_there a i (e ∙ sym (ap (λ (z : TypedType). z.name) j)))
-    by (inr i) (inr j) = differ_one bound ts d.1 a b i j e
+    by : IsOneOf (t ∷ ts) a → IsOneOf (t ∷ ts) b → (IsOneOf ts a → IsOneOf ts b → a.desc ≡ b.desc) → a.desc ≡ b.desc
+    by (inl i) (inl j) up = ap (λ (z : TypedType). z.desc) (sym i ∙ j)
+    by (inl i) (inr j) up = absurd (not_there b j (sym e ∙ sym (ap (λ (z : TypedType). z.name) i)))
+    by (inr i) (inl j) up = absurd (not_there a i (e ∙ sym (ap (λ (z : TypedType). z.name) j)))
+    by (inr i) (inr j) up = up i j
 
 introduces_in : (map : Map) (q : QName) (d : Desc) (x : List ℕ) → map q ≡ Some d → HasIn d x → Introduces map q x
 introduces_in map q d x e h = record { r = h.r; is = e ∙ ap (λ z. Some z) h.is; m = h.k; found = h.found }
@@ -164,7 +166,7 @@ module _ (program : Program) (sound : IsSound program) (whole : IsWhole program)
   abbrev D : QName → Option Desc
   D = description program
 
-  at : List ℕ → ℕ
+  abbrev at : List ℕ → ℕ
   at x = place program x
 
   -- ---- a module that was judged

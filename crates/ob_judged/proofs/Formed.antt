@@ -51,7 +51,7 @@ module _ (types : QName → Option Desc) (m : Module) where
   unlaid_fresh x (t ∷ ts) h = (h.0, unlaid_fresh x ts h.1)
 
   -- the layout leaves the names
-  unlaid_differ : (ts : List TypedType) → Different (λ (t : TypedType). t.name) (each (laid_type types m) ts) → Different (λ (t : TypedType). t.name) ts
+  pub unlaid_differ : (ts : List TypedType) → Different (λ (t : TypedType). t.name) (each (laid_type types m) ts) → Different (λ (t : TypedType). t.name) ts
   unlaid_differ [] h = tt
   unlaid_differ (t ∷ ts) h = (unlaid_fresh t.name ts h.0, unlaid_differ ts h.1)
 
