@@ -1,5 +1,5 @@
 -- The law: what the rules accept is well typed.
-use Rattle.std.specs.Prelude.{List, false}
+use Rattle.std.specs.Prelude.{false}
 use Rattle.std.specs.List.{AllByRecursion}
 use Rattle.ob_types.specs.TypedSyntax.{Procedure, Module}
 use Rattle.ob_meaning.specs.Values.{Program, form_in}

@@ -25,7 +25,7 @@ use Rattle.ob_rules.specs.Names.{Around, predeclared, is_out}
 use Rattle.ob_rules.specs.Expressions.{phrase_of}
 use Rattle.ob_rules.specs.Types.{written}
 use Rattle.ob_rules.specs.Statements.{judging, in_turn}
-use Rattle.ob_rules.specs.Declarations.{Contents, no_contents, together, Part, Declared, Written_procedure, Declaration, Plain, Procedure, plain_of, procedure_of, type_name_of, in_order, stmts_in, block_declared, block, decl_rule, declaration, is_system, target_of, import_entity, import_declared, imports_declared, around_module, module_of, described, all_described, typed_module, if_unbroken, checked}
+use Rattle.ob_rules.specs.Declarations.{Contents, no_contents, together, Part, Declaration, Plain, Procedure, plain_of, procedure_of, type_name_of, in_order, stmts_in, block, decl_rule, declaration, is_system, target_of, import_entity, import_declared, imports_declared, around_module, module_of, described, all_described, typed_module, if_unbroken, checked}
 use Rattle.ob_typed.specs.Makes.{IfThere}
 use Rattle.ob_typed.specs.Spelled.{all_true, is_spelled}
 use Rattle.ob_typed.specs.Bodies.{stmt_spelled}

@@ -30,10 +30,10 @@ use Rattle.ob_rules.specs.Shapes.{Map, record_of, is_structured, is_pointer}
 use Rattle.ob_rules.specs.Names.{Around, map_of, find_name, entity_known, type_of_entity, unless_variable_is, unless_variable, type_in, type_behind, type_by, type_named, is_out}
 use Rattle.ob_rules.specs.Phrases.{Phrase}
 use Rattle.ob_rules.specs.Expressions.{phrase_of}
-use Rattle.ob_rules.specs.Types.{Typing, Written, typed_as, with_types, base_name, element_name, field_name, section_name, named_typing, array_length, fixed_array, array, first_of, base_of, base_if, fields_of, WrittenFields, first_name, names_behind, Fields, with_fields, fields_joined, field_lists, record_desc, record_with, pointer_to, base_judged, pointer_base, pointer_by, is_later, WrittenSection, WrittenParameters, Sections, Parameters, parameter_as, mode_of, declare_all, knows, parameters_of, parameters_joined, with_made, behind_section, section, sections, result_of, with_result, behind_sections, parameters_in, procedure_type, inner, node_rule, fields_rule, section_rule, parameters_rule, written, written_parameters}
+use Rattle.ob_rules.specs.Types.{Typing, Written, typed_as, with_types, base_name, element_name, field_name, section_name, named_typing, array_length, fixed_array, array, first_of, base_of, base_if, fields_of, WrittenFields, first_name, names_behind, Fields, with_fields, fields_joined, field_lists, record_desc, record_with, pointer_to, base_judged, pointer_base, pointer_by, is_later, WrittenSection, WrittenParameters, Parameters, parameter_as, mode_of, declare_all, knows, parameters_of, with_made, sections, result_of, with_result, parameters_in, procedure_type, inner, node_rule, fields_rule, section_rule, parameters_rule, written, written_parameters}
 use Rattle.ob_described.proofs.Nodes.{Has, then_has, both_have, first_has, second_has, also_has, unless_has}
 use Rattle.ob_typed.specs.Makes.{IfThere}
-use Rattle.ob_bodies.specs.Knows.{Stands, IsDescribed, EntityStands, Knows}
+use Rattle.ob_bodies.specs.Knows.{Stands, EntityStands}
 use Rattle.ob_bodies.specs.Order.{IsFresh, IsBased, IsOver}
 use Rattle.ob_bodies.proofs.Lists.{all_both, there_of}
 use Rattle.ob_bodies.proofs.Named.{type_named_stands}

@@ -4,7 +4,6 @@ use Rattle.std.specs.Prelude.{is_some}
 use Rattle.std.specs.List.{AllByRecursion}
 use Rattle.ob_tree.specs.declared.names.QName.{QName}
 use Rattle.ob_types.specs.declared.types.Signature.{Signature}
-use Rattle.ob_rules.specs.declared.entity.Known.{Known}
 use Rattle.ob_rules.specs.Names.{Around, in_unit}
 use Rattle.ob_rules.specs.Types.{Parameters, with_types, is_module_level, nothing}
 use Rattle.ob_rules.specs.Headings.{Head, Heads, BoundAs, path_by, head_of, entity_as, head_entity, name_twice, declared_head, knows_procedure, known_behind, types_of, add_heading}

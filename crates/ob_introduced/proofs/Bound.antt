@@ -1,6 +1,6 @@
 -- What is bound to the types of a module: of a record and its bases, one alone introduces a procedure of a name.
 use Rattle.std.proofs.Common.{◌≡◌, ◌⊎◌, ⊎_elim, inl, inr, refl, sym, ap, subst, ◌∙◌, ℕ, zero, suc, ◌≤◌, ◌<◌, Bool, true, false, List, [], ◌∷◌, ◌++◌, length, Option, Some, None, arith, append_assoc}
-use Rattle.std.specs.Prelude.{bytes_eq, cond, ◌||◌, ◌&&◌}
+use Rattle.std.specs.Prelude.{bytes_eq, cond, ◌||◌}
 use Rattle.std.specs.List.{AllByRecursion, find, filter}
 use Rattle.ob_tree.specs.declared.names.QName.{QName}
 use Rattle.ob_types.specs.declared.desc.Desc.{Desc}
@@ -12,7 +12,7 @@ use Rattle.ob_types.specs.declared.typed.TypedType.{TypedType}
 use Rattle.ob_relation.proofs.Names.{bytes_true, bytes_same}
 use Rattle.ob_rules.specs.Shapes.{Map, Member, AField, AMethod, same_name, field_or, own_member, or_in_base, base_record, member_within, member}
 use Rattle.ob_rules.specs.Names.{Around, map_of, own_desc, type_desc, out_string}
-use Rattle.ob_rules.specs.Headings.{Head, BoundAs, Binding, change_desc, changed_if, change_type, with_method, new_method, introduce, redefined, bind_method, bind_by, bind_one, bind_all, owner_is, of_record, bind_records, reversed}
+use Rattle.ob_rules.specs.Headings.{Head, BoundAs, Binding, change_desc, changed_if, change_type, with_method, new_method, redefined, bind_method, bind_by, bind_one, bind_all, owner_is, of_record, bind_records, reversed}
 use Rattle.ob_forms.specs.Said.{IsOneOf}
 use Rattle.ob_bodies.specs.Order.{IsFresh, AreInOrder}
 use Rattle.ob_bodies.proofs.Lists.{one_all}

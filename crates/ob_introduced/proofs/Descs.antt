@@ -1,5 +1,5 @@
 -- Bound procedures by their names, in what becomes of a description: laid out, shown, and with more.
-use Rattle.std.proofs.Common.{◌≡◌, refl, sym, ap, ◌∙◌, ℕ, suc, Bool, true, false, List, [], ◌∷◌, ◌++◌, map as each, Option, Some, None}
+use Rattle.std.proofs.Common.{◌≡◌, refl, sym, ap, ◌∙◌, ℕ, suc, Bool, true, false, List, [], ◌∷◌, ◌++◌, map as each, Some, None}
 use Rattle.std.specs.Prelude.{bytes_eq, cond}
 use Rattle.std.specs.List.{find, filter}
 use Rattle.ob_tree.specs.declared.names.QName.{QName}
@@ -12,7 +12,7 @@ use Rattle.ob_layout.specs.LaidOut.{numbered, laid_record, laid_desc}
 use Rattle.ob_desc.specs.Grammar.{is_shown, seen}
 use Rattle.ob_uses.specs.Objects.{in_places}
 use Rattle.ob_env.specs.Shown.{unnumbered, blank}
-use Rattle.ob_bodies.specs.Judged.{with_methods, HasMore}
+use Rattle.ob_bodies.specs.Judged.{with_methods}
 use Rattle.ob_bodies.specs.Order.{IsFresh, IsBased}
 
 abbrev pub named_so : List ℕ → Method → Bool

@@ -2,7 +2,7 @@
 use Rattle.std.proofs.Common.{◌≡◌, ◌≢◌, ◌⊎◌, ⊎_elim, inl, inr, refl, sym, ap, subst, ◌∙◌, ℕ, zero, suc, ◌<◌, Bool, true, false, List, [], ◌∷◌, ◌++◌, length, map as each, Option, Some, None, arith}
 use Rattle.std.specs.Prelude.{bytes_eq, cond, if◌then◌else◌, MatchOption, IsTrue}
 use Rattle.std.specs.Option.{option_map}
-use Rattle.std.specs.List.{AllByRecursion, find, filter}
+use Rattle.std.specs.List.{AllByRecursion, find}
 use Rattle.ob_tree.specs.declared.names.QName.{QName}
 use Rattle.ob_tree.specs.declared.ident.Mark.TheVariants as mark
 use Rattle.ob_types.specs.declared.types.Basic.TheVariants as basic
@@ -13,7 +13,6 @@ use Rattle.ob_types.specs.declared.desc.Desc.TheVariants as desc
 use Rattle.ob_types.specs.declared.desc.Method.{Method}
 use Rattle.ob_types.specs.declared.desc.RecordDesc.{RecordDesc}
 use Rattle.ob_types.specs.declared.typed.TypedType.{TypedType}
-use Rattle.ob_types.specs.declared.typed.TypedModule.{TypedModule}
 use Rattle.ob_types.specs.Maps.{is_type}
 use Rattle.ob_types.specs.Relations.{IsGrounded}
 use Rattle.ob_types.specs.TypedSyntax.{Module}
@@ -23,16 +22,15 @@ use Rattle.ob_relation.proofs.Names.{bytes_true, bytes_same}
 use Rattle.ob_layout.specs.LaidOut.{words_in, procedures_in, laid_type}
 use Rattle.ob_desc.specs.Grammar.{seen}
 use Rattle.ob_uses.specs.Objects.{in_places}
-use Rattle.ob_tree.specs.declared.print.Print.{Print}
-use Rattle.ob_env.specs.Faces.{Face, described}
+use Rattle.ob_env.specs.Faces.{described}
 use Rattle.ob_env.specs.Shown.{blank, shown}
 use Rattle.ob_rules.specs.Judged.{no_notes}
-use Rattle.ob_rules.specs.Shapes.{Map, AMethod, same_name, field_or, own_member, base_record}
+use Rattle.ob_rules.specs.Shapes.{Map, AMethod, same_name, field_or, own_member}
 use Rattle.ob_rules.specs.Names.{Around, map_of, own_desc, type_desc, out_string}
 use Rattle.ob_rules.specs.Headings.{Head, counts, counted, reversed, bindings}
 use Rattle.ob_rules.specs.Declarations.{headings_in_order, described as described_by, all_described}
 use Rattle.ob_types.specs.declared.desc.Field.{Field}
-use Rattle.ob_declares.specs.Ages.{IsShownBy, AreShown}
+use Rattle.ob_declares.specs.Ages.{IsShownBy}
 use Rattle.ob_declares.proofs.Shown.{one_mapped, face_found}
 use Rattle.ob_declares.proofs.Sounds.{types_shown}
 use Rattle.ob_forms.specs.Said.{IsOneOf, IsSound}
@@ -45,20 +43,20 @@ use Rattle.ob_mentions.proofs.Heading.{kept_filter}
 use Rattle.ob_redefined.specs.Laws.{IsOwned}
 use Rattle.ob_redefined.proofs.Owned.{heads_are_owned}
 use Rattle.ob_outward.specs.Families.{Introduces}
-use Rattle.ob_outward.proofs.Grown.{DescGrows, MapGrows, base_record_same}
+use Rattle.ob_outward.proofs.Grown.{MapGrows, base_record_same}
 use Rattle.ob_bodies.specs.Knows.{StandsBy, Stands}
-use Rattle.ob_bodies.specs.Judged.{IsMade, IsWithin, IsTold, IsBoundBy, BodiesAreJudged}
-use Rattle.ob_bodies.specs.Order.{IsFresh, IsBased, IsOver, AreInOrder}
-use Rattle.ob_bodies.proofs.Lists.{one_left, one_right, one_all}
+use Rattle.ob_bodies.specs.Judged.{IsWithin, IsTold, IsBoundBy}
+use Rattle.ob_bodies.specs.Order.{IsBased, IsOver, AreInOrder}
+use Rattle.ob_bodies.proofs.Lists.{one_right, one_all}
 use Rattle.ob_bodies.proofs.Blocks.{all_reversed}
-use Rattle.ob_surrounded.specs.Left.{IsBelow, AreIntroducedOnce, AreFormed}
+use Rattle.ob_surrounded.specs.Left.{AreIntroducedOnce}
 use Rattle.ob_judged.specs.Judged.{IsJudgedModule, AreJudgedModules}
 use Rattle.ob_judged.proofs.Age.{age_in}
 use Rattle.ob_judged.proofs.Formed.{unlaid_differ}
-use Rattle.ob_introduced.specs.Once.{Line, AreOnce, IsOther, ShowOthers}
+use Rattle.ob_introduced.specs.Once.{AreOnce, IsOther, ShowOthers}
 use Rattle.ob_introduced.proofs.Ranks.{AreOne, based_more}
 use Rattle.ob_introduced.proofs.Bound.{line_same, bound_once}
-use Rattle.ob_introduced.proofs.Walk.{Walked, above}
+use Rattle.ob_introduced.proofs.Walk.{above}
 use Rattle.ob_introduced.proofs.Descs.{HasIn, laid_has, laid_back, blank_back_has, seen_back, more_has, fresh_not, more_based, laid_based, shown_based}
 
 -- ---- places of modules

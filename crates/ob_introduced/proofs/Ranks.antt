@@ -1,5 +1,5 @@
 -- Types in their order have ranks: the base of a record is of a lower rank.
-use Rattle.std.proofs.Common.{◌≡◌, ⊎_elim, inl, inr, refl, sym, ap, subst, ◌∙◌, ℕ, zero, suc, ◌≤◌, ◌<◌, Bool, true, false, List, [], ◌∷◌, ◌++◌, length, Option, Some, None, arith}
+use Rattle.std.proofs.Common.{◌≡◌, inl, inr, refl, sym, ap, subst, ◌∙◌, ℕ, zero, suc, ◌≤◌, ◌<◌, Bool, true, false, List, [], ◌∷◌, ◌++◌, length, Option, Some, None, arith}
 use Rattle.std.specs.Prelude.{bytes_eq, cond, ◌||◌}
 use Rattle.std.specs.List.{find}
 use Rattle.ob_tree.specs.declared.names.QName.{QName}
@@ -10,7 +10,7 @@ use Rattle.ob_types.specs.declared.desc.Desc.TheVariants as desc
 use Rattle.ob_types.specs.declared.typed.TypedType.{TypedType}
 use Rattle.ob_types.specs.Tests.{target_of, follow, target}
 use Rattle.ob_relation.proofs.Names.{bytes_true, bytes_same}
-use Rattle.ob_rules.specs.Shapes.{Map, same_name, record_of, record_if, base_type, base_record}
+use Rattle.ob_rules.specs.Shapes.{Map, same_name, record_if, base_type, base_record}
 use Rattle.ob_rules.specs.Names.{Around, map_of, own_desc, type_desc, out_string}
 use Rattle.ob_forms.specs.Said.{IsOneOf}
 use Rattle.ob_typed.specs.Makes.{IfThere}

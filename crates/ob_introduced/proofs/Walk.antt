@@ -9,13 +9,12 @@ use Rattle.ob_types.specs.declared.desc.Desc.{Desc}
 use Rattle.ob_types.specs.declared.desc.Desc.TheVariants as desc
 use Rattle.ob_types.specs.declared.desc.RecordDesc.{RecordDesc}
 use Rattle.ob_types.specs.Maps.{is_type, listed, stands_on, IsHeld, IsWithin}
-use Rattle.ob_types.specs.Relations.{StandsFor, Is, is_record, Keeps, IsGrounded}
+use Rattle.ob_types.specs.Relations.{Is, is_record, IsGrounded}
 use Rattle.ob_types.specs.Tests.{target, shape_at}
 use Rattle.ob_types.proofs.Targets.{unique, is_target}
-use Rattle.ob_meaning.specs.Values.{Program, Form, RecordForm, line_of, base_line, base_fields, joined, bases_in, form_in, record_in}
-use Rattle.ob_relation.specs.Typed.{IsRecordType}
+use Rattle.ob_meaning.specs.Values.{Program, line_of, base_line, bases_in, form_in, record_in}
 use Rattle.ob_rules.specs.Shapes.{Map, record_at, record_of, record_if, base_type, base_record}
-use Rattle.ob_forms.specs.Formed.{IsRecordOf, Formed}
+use Rattle.ob_forms.specs.Formed.{Formed}
 use Rattle.ob_forms.proofs.Shapes as shapes
 use Rattle.ob_introduced.specs.Once.{Line}
 

@@ -1,14 +1,10 @@
 -- The law of bound procedures.
-use Rattle.std.proofs.Common.{◌≡◌, ◌⊎◌, ⊎_elim, subst, List, [], ◌∷◌}
+use Rattle.std.proofs.Common.{◌⊎◌, ⊎_elim, subst, List, [], ◌∷◌}
 use Rattle.std.specs.List.{AllByRecursion}
-use Rattle.ob_types.specs.Relations.{IsGrounded}
 use Rattle.ob_types.specs.TypedSyntax.{Module}
 use Rattle.ob_meaning.specs.Values.{Program}
-use Rattle.ob_rules.specs.Names.{map_of}
-use Rattle.ob_forms.specs.Said.{IsOneOf, IsSound}
-use Rattle.ob_forms.specs.Whole.{IsWhole}
-use Rattle.ob_forms.specs.Formed.{Formed}
-use Rattle.ob_judged.specs.Judged.{IsJudgedModule, AreJudgedModules}
+use Rattle.ob_forms.specs.Said.{IsOneOf}
+use Rattle.ob_judged.specs.Judged.{IsJudgedModule}
 use Rattle.ob_judged.proofs.Formed.{maps_formed}
 use Rattle.ob_introduced.specs.Grounded.{IsGroundedModule, AreGroundedModules}
 use Rattle.ob_introduced.specs.Laws.{IntroducedOnce}

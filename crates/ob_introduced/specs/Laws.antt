@@ -1,5 +1,4 @@
 -- The law: bound procedures are introduced once.
-use Rattle.std.specs.Prelude.{List}
 use Rattle.ob_types.specs.TypedSyntax.{Module}
 use Rattle.ob_meaning.specs.Values.{Program}
 use Rattle.ob_env.specs.Shown.{shown}

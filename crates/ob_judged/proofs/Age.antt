@@ -1,11 +1,10 @@
 -- Interfaces that show the modules before one show modules of the program.
 use Rattle.std.proofs.Common.{sym, subst, List, [], ◌∷◌, ◌++◌}
-use Rattle.std.specs.List.{AllByRecursion}
 use Rattle.ob_types.specs.TypedSyntax.{Module}
 use Rattle.ob_meaning.specs.Values.{Program}
 use Rattle.ob_tree.specs.declared.print.Print.{Print}
 use Rattle.ob_env.specs.Faces.{Face}
-use Rattle.ob_declares.specs.Ages.{IsShownBy, AreShown}
+use Rattle.ob_declares.specs.Ages.{AreShown}
 use Rattle.ob_bodies.proofs.Lists.{one_left}
 use Rattle.ob_judged.specs.Judged.{IsJudgedModule}
 
