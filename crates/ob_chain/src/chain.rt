@@ -1,6 +1,6 @@
 ghost use Rattle.std.specs.Prelude.{◌≡◌, ◌≤◌, ◌<◌, [], length, IfOk, IfSome};
 
-use ob_tdesc::{Descriptor, Descriptors, Steps};
+use ob_tdesc::{Declaration, Descriptors, Steps};
 use ob_tree::{List, Name, ObjName};
 use std::alloc::{AllocError, Global};
 use std::marker::Brand;
@@ -8,17 +8,18 @@ use std::sync::ledger::{Blank, Ledger};
 use std::test::*;
 
 // A type whose base has the number before its own; that of number 0 has none.
-fn link(alloc: Global, number: u32) -> Result<Descriptor, AllocError>
+fn link(alloc: Global, number: u32) -> Result<Declaration, AllocError>
     ensures base { IfOk result (λ d. IfSome d.base (λ b. b < number)) }
     ensures methods { IfOk result (λ d. d.methods ≡ []) }
 {
     let name = ObjName::new(alloc, b"T")?;
     let base = if number == 0 { None } else { Some(number - 1) };
-    Ok(Descriptor {
+    Ok(Declaration {
         module: Name::new(b"M"),
         name,
         base,
         words: 1,
+        count: 0,
         methods: List::new(alloc),
     })
 }

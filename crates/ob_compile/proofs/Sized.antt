@@ -1,5 +1,5 @@
 -- The limits of sizes and operands of a module that is laid out.
-use Rattle.std.proofs.Common.{◌≡◌, ℕ, List, length, Option, Some, None, Result, Err, sym, ap, subst, ◌∙◌}
+use Rattle.std.proofs.Common.{◌≡◌, ℕ, Bool, List, length, Option, Some, None, Result, Err, sym, ap, subst, ◌∙◌}
 use Rattle.ob_tree.specs.declared.names.QName.{QName}
 use Rattle.ob_tree.specs.declared.which.Which.{Which}
 use Rattle.ob_tree.specs.declared.which.Which.TheVariants as which
@@ -13,7 +13,7 @@ use Rattle.ob_env.specs.Faces.{faces_of, described}
 use Rattle.ob_types.specs.declared.face.Use.{Use}
 use Rattle.ob_obj.specs.declared.parts.Export.{Export}
 use Rattle.ob_obj.specs.declared.file.ObjFile.{ObjFile}
-use Rattle.ob_code.specs.Needs.{has_few_operands}
+use Rattle.ob_code.specs.Needs.{has_few_operands, has_short_code}
 use Rattle.ob_code.specs.Object.{object_file}
 use Rattle.ob_compile.specs.declared.shape.Built.{Built}
 use Rattle.ob_compile.specs.declared.fault.CompileRefusal.TheVariants as refusal
@@ -21,7 +21,7 @@ use Rattle.ob_compile.specs.declared.fault.CompileFault.{CompileFault}
 use Rattle.ob_compile.specs.declared.fault.CompileFault.TheVariants as fault
 use Rattle.ob_compile.specs.Compiling.{within, exceeded, exceeds, limit_of_operands, limit_of_code, exports_of, object_with, interface_by, prints}
 use Rattle.ob_compile.specs.Contract.{Makes}
-use Rattle.ob_compile.specs.Steps.{compiled_of}
+use Rattle.ob_compile.specs.Steps.{compiled_of, short_code}
 use Rattle.ob_compile.proofs.Limited.{over_first, then_more}
 use Rattle.ob_compile.proofs.Facing.{objects_are}
 
@@ -61,3 +61,6 @@ object_made is m k i es us f same exports uses h =
     h ∙ ap (λ (x : TypedModule). object_file (sees is m) (module_view x) es us) same
     ∙ ap (λ (x : List Export). object_file (sees is m) (module_view m) x us) exports
     ∙ ap (λ (x : List Use). object_file (sees is m) (module_view m) (exports_of i) x) uses
+
+pub short_made : (is : List Interface) (m k : TypedModule) (b : Bool) → k ≡ m → has_short_code (sees is m) (module_view k) ≡ b → short_code (compiled_of is m) ≡ b
+short_made is m k b same h = sym (ap (λ (x : TypedModule). has_short_code (sees is m) (module_view x)) same) ∙ h

@@ -1,12 +1,14 @@
 -- What the steps of a compile answer.
-use Rattle.std.specs.Prelude.{◌≡◌, ℕ, ◌≤◌, List, length, Option, Result, Ok, Err, Vec}
+use Rattle.std.specs.Prelude.{◌≡◌, ℕ, ◌≤◌, List, length, Bool, Option, Result, Ok, Err, Vec}
 use Rattle.std.specs.declared.alloc.Global.{Global}
 use Rattle.ob_tree.specs.declared.print.Print.{Print}
 use Rattle.ob_types.specs.declared.face.Interface.{Interface}
 use Rattle.ob_types.specs.declared.typed.TypedModule.{TypedModule}
 use Rattle.ob_types.specs.TypedView.{module_view}
 use Rattle.ob_reading.specs.Reading.{reading}
-use Rattle.ob_env.specs.Faces.{Face, faces_of, print_in}
+use Rattle.ob_layout.specs.LaidOut.{viewed}
+use Rattle.ob_code.specs.Needs.{has_short_code}
+use Rattle.ob_env.specs.Faces.{Face, faces_of, described, print_in}
 use Rattle.ob_env.specs.Stale.{prints_agree}
 use Rattle.ob_env.specs.Answer.{Standing, standing}
 use Rattle.ob_walk.specs.Walk.{Entry}
@@ -30,3 +32,7 @@ stood faces = standing prints_agree print_in faces
 -- what is compiled, where a module that is laid out stands over these interfaces
 abbrev pub compiled_of : List Interface → TypedModule → Compiled Print
 compiled_of is m = made prints (faces_of is) (module_view m)
+
+-- whether it keeps the limit of code
+abbrev pub short_code : Compiled Print → Bool
+short_code c = has_short_code (viewed (described c.against) c.tree) c.tree

@@ -8,8 +8,7 @@ use ob_gcode::{GenFault, Scope};
 use ob_tree::Which;
 use ob_types::{Connective, Guarded, Passing, TypeRef, Unary, Value, Variable};
 
-/// The most instructions that are counted: more than a source of 1,048,576 bytes makes. The limit of a
-/// module's code is lower, and is asked where its object file is whole.
+/// The most instructions that are counted. The limit of a module's code is lower, and is asked before.
 const MOST: usize = 16_777_216;
 
 /// The index so many lines further.

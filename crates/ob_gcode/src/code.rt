@@ -13,8 +13,7 @@ use ob_tree::{List, Name, Pos, QName, Text, Which};
 use std::alloc::Global;
 use std::marker::Model;
 
-/// The most instructions that are counted: more than a source of 1,048,576 bytes makes. The limit of a
-/// module's code is lower, and is asked where its object file is whole.
+/// The most instructions that are counted. The limit of a module's code is lower, and is asked before.
 const MOST: usize = 16_777_216;
 
 /// The instructions, positions, strings and links so far. After a fault it is given up.

@@ -1,6 +1,6 @@
 pub mod Fits
 pub mod Standing
-pub mod Tables
+pub mod Declaring
 pub mod Placing
 pub mod Entering
 pub mod Whole

@@ -3,6 +3,7 @@ pub mod Index
 pub mod Globals
 pub mod Room
 pub mod Standing
+pub mod Declaring
 pub mod Cut
 pub mod Whole
 pub mod WordLaws

@@ -1,9 +1,9 @@
-ghost use Rattle.std.specs.Prelude.{◌≡◌, ◌≤◌, ◌<◌, ◌^◌, ◌++◌, length, take, replicate, slice_get, slice_set, None, IfOk, IfSome};
-ghost use Rattle.ob_tdesc.specs.Bases.{method_in};
-ghost use Rattle.ob_obj.specs.Images.{base_number, base_methods, with_own, descriptor_of};
+ghost use Rattle.std.specs.Prelude.{◌≡◌, ◌<◌, ◌^◌, IfOk, IfSome};
+ghost use Rattle.ob_obj.specs.Images.{base_number};
+ghost use Rattle.ob_image.specs.Declaring.{own_methods, declaration_of};
 
 use ob_obj::{Base, Definition, RecordType};
-use ob_tdesc::{Descriptor, Descriptors};
+use ob_tdesc::{Declaration, OwnMethod};
 use ob_tree::{List, Name, ProcRef};
 use std::alloc::{AllocError, Global};
 
@@ -19,82 +19,52 @@ fn base_number(first: u32, links: &[u32], base: Base) -> Option<u32>
     }
 }
 
-fn base_method(types: &Descriptors, base: Option<u32>, number: u32) -> Option<ProcRef>
-    requires { IfSome base (λ b. b < length types.now.list) }
-    ensures { result ≡ method_in (slice_get (base_methods types.now.list base) number) }
-{
-    match base {
-        None => None,
-        Some(base) => types.method(base, number),
-    }
-}
-
-// The procedure table of a base, cut or filled up to so many entries.
-fn base_table(
+// The bound procedures that a type of the module with this number defines.
+fn own_methods(
     alloc: Global,
-    types: &Descriptors,
-    base: Option<u32>,
-    count: u32,
-) -> Result<Vec<Option<ProcRef>>, AllocError>
-    requires { IfSome base (λ b. b < length types.now.list) }
-    ensures { IfOk result (λ v. v.items ≡ take count (base_methods types.now.list base ++ replicate count None)) }
+    number: u32,
+    definitions: &[Definition],
+) -> Result<List<OwnMethod>, AllocError>
+    ensures { IfOk result (λ l. l ≡ own_methods number definitions.now) }
 {
-    let mut table = Vec::new(alloc);
-    for number in 0..count {
-        table.push(base_method(types, base, number))?;
-    }
-    Ok(table)
-}
-
-fn put_entry(table: &mut [Option<ProcRef>], number: u32, entry: Option<ProcRef>)
-    ensures { table.new ≡ slice_set table.old number entry }
-{
-    if (number as usize) < table.len() {
-        table[number as usize] = entry;
-    }
-}
-
-// Puts own procedures at their numbers.
-fn put_own(table: &mut [Option<ProcRef>], number: u32, definitions: &[Definition])
-    ensures { table.new ≡ with_own number definitions.now table.old }
-{
+    let mut methods = List::new(alloc);
     let mut rest = definitions;
     while let [definition, more @ ..] = rest {
-        let own = ProcRef {
+        let procedure = ProcRef {
             module: number,
             proc: definition.procedure,
         };
-        put_entry(table, definition.number, Some(own));
+        methods.push(OwnMethod {
+            number: definition.number,
+            procedure,
+        })?;
         rest = more;
     }
+    Ok(methods)
 }
 
-/// The descriptor of a record type of a module with this name and number, the first of whose own types
-/// has the number `first` and whose type links stand for `links`.
-pub fn describe(
+/// What a record type of a module with this name and number declares, where the first of its own types
+/// has the number `first` and its type links stand for `links`.
+pub fn declaration(
     alloc: Global,
     name: Name,
     number: u32,
     first: u32,
     links: &[u32],
-    types: &Descriptors,
     own: &RecordType,
-) -> Result<Descriptor, AllocError>
-    requires base { IfSome (base_number first links.now own.now.base) (λ b. b < length types.now.list) }
-    requires few { length types.now.list < 2 ^ 32 }
-    ensures made { IfOk result (λ d. d ≡ descriptor_of name first links.now types.now.list number own.now) }
-    ensures short { IfOk result (λ d. length d.methods < 2 ^ 32) }
+) -> Result<Declaration, AllocError>
+    requires { IfSome (base_number first links.now own.now.base) (λ b. b < 2 ^ 32) }
+    ensures { IfOk result (λ d. d ≡ declaration_of name first links.now number own.now) }
 {
     let base = base_number(first, links, own.base);
     let type_name = own.name.clone()?;
-    let mut table = base_table(alloc, types, base, own.count)?;
-    put_own(&mut table, number, own.definitions.as_slice());
-    let methods = List::from_slice(alloc, &table)?;
-    Ok(Descriptor {
+    let methods = own_methods(alloc, number, own.definitions.as_slice())?;
+    Ok(Declaration {
         module: name,
         name: type_name,
         base,
         words: own.words,
+        count: own.count,
         methods,
     })
 }

@@ -1,16 +1,20 @@
 ghost use Rattle.std.specs.Prelude.{◌≡◌, ◌+◌, ◌-◌, ◌≤◌, ◌<◌, ◌^◌, ◌∷◌, ◌++◌, [], length, map, take, IfOk, IfSome, OnOk, OnErr};
+ghost use Rattle.std.specs.List.Sorted.{IsStrictlySortedBy};
+ghost use Rattle.ob_tdesc.specs.Tables.{by_number as by_method, declared};
+ghost use Rattle.ob_obj.specs.Grammar.{by_number};
 ghost use Rattle.ob_obj.specs.Images.{linked_type, or_zero, with_types, base_number, descriptor_of};
+ghost use Rattle.ob_image.specs.Declaring.{DefinitionsRise};
 ghost use Rattle.ob_image.specs.Names.{names_in};
 ghost use Rattle.ob_image.specs.Cut.{types_of};
 ghost use Rattle.ob_image.specs.Standing.{BasesStand};
 ghost use Rattle.ob_image.specs.Whole.{BasesBefore};
 
-use crate::describing::describe;
+use crate::describing::declaration;
 use crate::index::TypeIndex;
 use crate::links::has_module;
 use crate::loaded::Module;
 use ob_obj::RecordType;
-use ob_tdesc::{Descriptor, Descriptors};
+use ob_tdesc::{Declaration, Descriptors};
 use ob_tree::{List, Name, QName};
 use std::alloc::{AllocError, Global};
 use std::marker::Model;
@@ -119,13 +123,13 @@ impl Types {
         count_names(&self.names, modules)
     }
 
-    /// Adds a descriptor behind the others. After an `Err` nothing is changed.
+    /// Adds the descriptor of a declared type behind the others. After an `Err` nothing is changed.
     #[tactic(auto, using(crate::proofs::Bases::bases_added))]
-    pub fn add(&mut self, alloc: Global, d: Descriptor) -> Result<(), AllocError>
+    pub fn add(&mut self, alloc: Global, d: Declaration) -> Result<(), AllocError>
         requires base { IfSome d.base (λ b. b < length self.old) }
+        requires rising { IsStrictlySortedBy by_method d.methods }
         requires few { length self.old + 1 < 2 ^ 32 }
-        requires short { length d.methods < 2 ^ 32 }
-        ensures ok { OnOk result (self.new ≡ self.old ++ d ∷ []) }
+        ensures ok { OnOk result (self.new ≡ self.old ++ declared self.old d ∷ []) }
         ensures err { OnErr result (self.new ≡ self.old) }
     {
         let object = d.name.clone()?;
@@ -133,7 +137,7 @@ impl Types {
             module: d.module,
             object,
         };
-        self.table.reserve(1, d.methods.len() as u32)?;
+        self.table.reserve(1, d.methods.len())?;
         self.names.reserve(1)?;
         self.index.note(alloc, &name, self.names.len() as u32)?;
         let _ = self.names.push(name);
@@ -152,11 +156,12 @@ impl Types {
         own: &RecordType,
     ) -> Result<(), AllocError>
         requires base { IfSome (base_number first links.now own.now.base) (λ b. b < length self.old) }
+        requires rising { IsStrictlySortedBy by_number own.now.definitions }
         requires few { length self.old + 1 < 2 ^ 32 }
         ensures ok { OnOk result (self.new ≡ self.old ++ descriptor_of «module» first links.now self.old number own.now ∷ []) }
         ensures err { OnErr result (self.new ≡ self.old) }
     {
-        let d = describe(alloc, module, number, first, links, &self.table, own)?;
+        let d = declaration(alloc, module, number, first, links, own)?;
         self.add(alloc, d)
     }
 
@@ -172,6 +177,7 @@ impl Types {
     ) -> Result<(), AllocError>
         requires few { length self.old + length own.now < 2 ^ 32 }
         requires bases { BasesStand (length self.old) links.now (length self.old) own.now }
+        requires rising { DefinitionsRise own.now }
         ensures ok { OnOk result (self.new ≡ with_types «module» (length self.old) links.now number self.old own.now) }
         ensures err { OnErr result (self.new ≡ self.old) }
     {

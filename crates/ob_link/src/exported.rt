@@ -1,3 +1,5 @@
+//! Exported procedures.
+
 use ob_tree::Name;
 
 /// An exported procedure of a loaded module.

@@ -1,3 +1,5 @@
+//! Places, found by names.
+
 ghost use Rattle.std.specs.Prelude.{◌≡◌, Some, None, OnOk, OnErr};
 ghost use Rattle.ob_link.specs.Index.{place_in, Puts, Notes, Forgets, IsAsBefore};
 

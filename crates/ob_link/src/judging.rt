@@ -1,3 +1,5 @@
+//! Whether the uses of an object file are met, and whether its links name something.
+
 ghost use Rattle.std.specs.Prelude.{◌≡◌, ◌≤◌, ◌+◌, ◌*◌, ◌++◌, map, length, IfOk, IfSome, Some};
 ghost use Rattle.std.specs.Option.{option_copied, option_map};
 ghost use Rattle.ob_link.specs.Walk.{first_of};

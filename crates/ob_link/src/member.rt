@@ -1,3 +1,5 @@
+//! A module that is loaded or planned, as others are linked to it.
+
 ghost use Rattle.std.specs.Prelude.{◌≡◌, ◌+◌, ◌<◌, ◌≤◌, ◌^◌, map, slice_get, length, IfOk};
 ghost use Rattle.std.specs.Option.{option_copied, option_map};
 ghost use Rattle.ob_obj.specs.Grammar.{file as file_form, words_of};

@@ -1,3 +1,5 @@
+//! Names in the order in which they were put, each found by its place.
+
 ghost use Rattle.std.specs.Prelude.{◌≡◌, ◌<◌, ◌-◌, ◌++◌, ◌∷◌, [], length, take, OnOk, OnErr};
 ghost use Rattle.ob_link.specs.Index.{place_from};
 

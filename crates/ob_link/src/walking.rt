@@ -1,3 +1,5 @@
+//! The walk from a module through its imports, by their object files.
+
 ghost use Rattle.std.specs.Prelude.{◌≡◌, ◌<◌, ◌≤◌, ◌-◌, ◌++◌, ◌∷◌, [], true, length, map, drop, take, IfOk, OnOk, Option, Some, None, MatchOption};
 ghost use Rattle.std.specs.Result.{IsErrOf};
 ghost use Rattle.ob_io.specs.Io.{SameFiles};

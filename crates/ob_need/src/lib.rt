@@ -9,4 +9,4 @@ mod wants;
 pub use exprs::{operands_of_designator, operands_of_expr};
 pub use limits::has_few_operands;
 pub use stmts::operands_of_stmts;
-pub use wants::MOST_OPERANDS;
+pub use wants::{MOST_OPERANDS, want_for_actual};

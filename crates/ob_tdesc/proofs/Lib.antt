@@ -1,7 +1,9 @@
 pub mod Lines
 pub mod Tables
-pub mod Kept
 pub mod New
+pub mod Kept
+pub mod Find
+pub mod Methods
 pub mod Going
 pub mod Read
 pub mod Cut

@@ -6,9 +6,10 @@ use Rattle.ob_tdesc.specs.declared.descriptor.Descriptor.{Descriptor}
 use Rattle.ob_tdesc.specs.declared.descriptors.Entry.{Entry}
 use Rattle.ob_tdesc.specs.declared.descriptors.Descriptors.TheInside.{Inside}
 use Rattle.ob_tdesc.specs.Bases.{base_in, base_of, with_bases, line_from, line_of, level_of, is_among, is_or_has_base}
-use Rattle.ob_tdesc.specs.Entries.{described, list_of, IsPlaced, IsKept}
+use Rattle.ob_tdesc.specs.Entries.{list_of, IsPlaced, IsKept}
 use Rattle.ob_tdesc.proofs.Lines.{AreBelow, line_up, among_is}
-use Rattle.ob_tdesc.proofs.Kept.{entry_at, descriptor_at, length_map, below_of}
+use Rattle.ob_tdesc.proofs.Tables.{length_list}
+use Rattle.ob_tdesc.proofs.Kept.{entry_at, descriptor_at, below_of}
 
 pub record Known (list : List Descriptor) (a : ℕ) (x : Entry) : Type 0 where
   pub placed : IsPlaced list a x
@@ -23,7 +24,7 @@ known d list a x kept is lt read =
     }
 
 pub below_list : (d : Inside) (list : List Descriptor) → IsKept d → list_of d.methods.items d.entries.items ≡ list → AreBelow list
-below_list d list kept is = subst AreBelow is (below_of (list_of d.methods.items d.entries.items) d.entries.items (length_map (described d.methods.items) d.entries.items) kept.placed)
+below_list d list kept is = subst AreBelow is (below_of (list_of d.methods.items d.entries.items) d.entries.items (length_list d.methods.items d.entries.items) kept.placed)
 
 pub by_table : (list : List Descriptor) (a b : ℕ) (x : Entry) (low : ℕ) → AreBelow list → IsPlaced list a x → low ≡ level_of list b → low ≤ x.level → low < 16 → nat_eq (get_or x.ancestors low 0) b ≡ is_or_has_base list a b
 by_table list a b x low below placed is le lt =

@@ -1,15 +1,11 @@
 -- The descriptors of a machine.
-use Rattle.std.specs.Prelude.{ℕ, ◌+◌, List, [], ◌∷◌, length}
+use Rattle.std.specs.Prelude.{ℕ, List}
 use Rattle.ob_tdesc.specs.declared.descriptor.Descriptor.{Descriptor}
 
--- the descriptors by number, and for how many more of them, and of entries in their procedure tables,
--- there is room
+-- the descriptors by number, how many bound procedures the type of each defines, and for how many more
+-- descriptors and such procedures there is room
 pub record Described : Type 0 where
   pub list : List Descriptor
+  pub own : List ℕ
   pub types_room : ℕ
   pub methods_room : ℕ
-
--- how many entries the procedure tables of some descriptors have
-abbrev pub table_entries : List Descriptor → ℕ
-table_entries [] = 0
-table_entries (d ∷ types) = length d.methods + table_entries types

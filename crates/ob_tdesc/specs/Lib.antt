@@ -1,3 +1,4 @@
 pub mod Bases
+pub mod Tables
 pub mod Described
 pub mod Entries

@@ -1,3 +1,5 @@
+//! Objects, ascending.
+
 ghost use Rattle.std.specs.Prelude.{◌≡◌, IfOk, map as each};
 ghost use Rattle.ob_layout.specs.Lists.{in_order};
 ghost use Rattle.ob_uses.specs.Entries.{by_entry};

@@ -1,3 +1,5 @@
+//! Copies of types and descriptions.
+
 ghost use Rattle.std.specs.Prelude.{◌≡◌, ◌++◌, ◌∷◌, [], OnOk, IfOk, map as each};
 ghost use Rattle.std.specs.List.{filter};
 ghost use Rattle.ob_desc.specs.Grammar.{is_shown, by_place, seen};

@@ -1,3 +1,5 @@
+//! The interface of a module.
+
 ghost use Rattle.std.specs.Prelude.{◌≡◌, List, length, IfOk, map as each};
 ghost use Rattle.ob_tree.specs.declared.names.QName.{QName as Named};
 ghost use Rattle.ob_types.specs.TypedView.{module_view};

@@ -1,3 +1,5 @@
+//! To which types a description leads.
+
 ghost use Rattle.std.specs.Prelude.{◌≡◌, ◌∷◌, [], ◌++◌, OnOk, Bool, map as each};
 ghost use Rattle.std.specs.List.{filter, flat_map};
 ghost use Rattle.ob_types.specs.declared.types.TypeRef.TheVariants as ref;

@@ -1,3 +1,5 @@
+//! Which objects a module relies on, and for which aspects.
+
 ghost use Rattle.std.specs.Prelude.{◌≡◌, ◌++◌, ◌∷◌, [], ◌&&◌, cond, not, List, length, OnOk, IfOk, codes, bytes_eq};
 ghost use Rattle.std.specs.List.{filter};
 ghost use Rattle.ob_tree.specs.declared.names.QName.{QName as Named};

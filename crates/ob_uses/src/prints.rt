@@ -1,3 +1,5 @@
+//! Where prints are found.
+
 ghost use Rattle.std.specs.Prelude.{◌≡◌, Option};
 ghost use Rattle.ob_tree.specs.declared.names.QName.{QName};
 ghost use Rattle.ob_tree.specs.declared.print.Print.{Print};

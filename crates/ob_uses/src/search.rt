@@ -1,3 +1,5 @@
+//! The search for all that is reached.
+
 ghost use Rattle.std.specs.Prelude.{◌≡◌, ◌++◌, OnOk, IfOk};
 ghost use Rattle.ob_uses.specs.Ways.{AreReached, leads_by};
 

@@ -1,3 +1,5 @@
+//! Where the search begins.
+
 ghost use Rattle.std.specs.Prelude.{◌≡◌, ◌++◌, ◌∷◌, [], true, OnOk, IfOk, map as each};
 ghost use Rattle.std.specs.List.{filter, flat_map};
 ghost use Rattle.ob_types.specs.Maps.{signature_types};

@@ -1,3 +1,5 @@
+//! The uses of a module.
+
 ghost use Rattle.std.specs.Prelude.{◌≡◌, ◌++◌, List, length, IfOk, OnOk, map as each};
 ghost use Rattle.std.specs.List.{flat_map};
 ghost use Rattle.ob_tree.specs.declared.names.QName.{QName as Named};

@@ -1,3 +1,5 @@
+//! Ways from one type to others.
+
 /// Through which types others are reached.
 #[derive(Clone, Copy, Debug, PartialEq, Eq)]
 pub enum Way {

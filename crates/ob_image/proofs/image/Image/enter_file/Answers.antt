@@ -2,6 +2,7 @@ use Rattle.std.proofs.Common.{◌≡◌, ◌+◌, ◌<◌, ◌++◌, ◌∷◌, 
 use Rattle.ob_obj.specs.Images.{linked_type, or_zero, module_of, type_links, with_types, global_words}
 use Rattle.ob_image.proofs.Fits.{sound, few_types}
 use Rattle.ob_image.proofs.Standing.{bases_there}
+use Rattle.ob_image.proofs.Declaring.{definitions_rise}
 use Rattle.ob_image.specs.Whole.{IsImage}
 use Rattle.ob_image.proofs.Whole.{entered_image}
 use Rattle.ob_image.proofs.Entering.{pushed, entered_is}
@@ -14,6 +15,9 @@ add_all-requires-clause-bases c =
     let t : c.self.inside.types ≡ img.types = ap (λ i. i.types) c.self.view_is in
     let l : c.as_slice-3.result.now ≡ map (λ q. or_zero (linked_type img.types q)) f.links.types = c.as_slice-3.ensures ∙ c.in_ok-links.ensures ∙ ap (λ n. map (λ q. or_zero (linked_type c.self.inside.types q)) n) c.as_slice.ensures ∙ ap (λ ts. map (λ q. or_zero (linked_type ts q)) f.links.types) t in
     rw (t, l, c.as_slice-4.ensures) (bases_there img.types f.links.types f.body.types c.requires.types (sound f c.requires.fits).bases)
+
+pub add_all-requires-clause-rising : goal.add_all-requires-clause-rising
+add_all-requires-clause-rising c = rw c.as_slice-4.ensures (definitions_rise c.args.file.now c.requires.fits)
 
 pub returns-clause-ok : goal.returns-clause-ok
 returns-clause-ok c =

@@ -2,6 +2,7 @@ use Rattle.std.proofs.Common.{◌≡◌, ◌+◌, ◌<◌, ◌++◌, List, ◌�
 use Rattle.std.specs.Prelude.{IfSome}
 use Rattle.std.proofs.lemmas.List.{length-append, length-map}
 use Rattle.ob_tdesc.specs.declared.descriptor.Descriptor.{Descriptor}
+use Rattle.ob_tdesc.specs.Tables.{declared}
 use Rattle.ob_image.specs.Names.{name_of}
 use Rattle.ob_image.proofs.Bases.{bases_added}
 use Rattle.ob_image.specs.Index.{Notes, IsIndexed}
@@ -11,9 +12,9 @@ use Rattle.ob_image.proofs.types.Types.add.Goals as goal
 
 pub invariant_of-self-2 : goal.invariant_of-self-2
 invariant_of-self-2 c =
-    let d = c.args.d in
     let old = c.self.inside.table.list in
-    let list : c.add.new.self.list ≡ old ++ d ∷ [] = ap (λ t. t.list) c.add.ensures.after ∙ ap (λ t. t.list ++ d ∷ []) c.in_ok-reserve.ensures.ok in
+    let d = declared old c.args.d in
+    let list : c.add.new.self.list ≡ old ++ d ∷ [] = ap (λ t. t.list) c.add.ensures.after ∙ ap (λ t. t.list ++ declared t.list c.args.d ∷ []) c.in_ok-reserve.ensures.ok in
     let base : IfSome d.base (λ b. b < length old) = subst (λ l. IfSome d.base (λ b. b < length l)) (sym c.self.view_is) c.requires.base in
     let few : length old + 1 < 4294967296 = subst (λ (l : List Descriptor). length l + 1 < 4294967296) (sym c.self.view_is) c.requires.few in
     let object : c.in_ok-object.object ≡ d.name = c.in_ok-object.ensures.cases in

@@ -1,0 +1,4 @@
+pub mod Shapes
+pub mod Lengths
+pub mod Turns
+pub mod Short

@@ -1,0 +1,19 @@
+use Rattle.std.proofs.Common.{◌≡◌, subst, arith}
+use Rattle.ob_types.specs.TypedView.{expr_view}
+use Rattle.ob_need.specs.Nowhere.{passed}
+use Rattle.ob_short.specs.Lengths.{capped, expr_lines}
+use Rattle.ob_short.proofs.Turns.{actuals_turn, actuals_over}
+use Rattle.ob_short.proofs.exprs.+expr_lines.Goals as goal
+
+pub lines_of_actuals-actuals-preserved : goal.lines_of_actuals-actuals-preserved
+lines_of_actuals-actuals-preserved g t c =
+    let types = g.T.Types.types c.args.types.now in (
+      actuals_turn types c.args.actuals.now c.actuals.actual-index c.actual-item.result c.actuals.lines c.lines_of_actual.result c.more-lines.result _ c.actuals-test.true
+          (subst (λ y. c.lines_of_actual.result ≡ capped (expr_lines types (passed y.passing) (expr_view y.value))) c.actual-item.is c.lines_of_actual.ensures)
+          c.more-lines.ensures c.actuals.invariant.0,
+      omega arith,
+    )
+
+pub lines_of_actuals-returns : goal.lines_of_actuals-returns
+lines_of_actuals-returns g t c =
+    actuals_over (g.T.Types.types c.args.types.now) c.args.actuals.now c.actuals.actual-index c.actuals.lines _ c.actuals-test.false c.actuals.invariant.1 c.actuals.invariant.0

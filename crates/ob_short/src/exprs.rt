@@ -1,0 +1,121 @@
+ghost use Rattle.std.specs.Prelude.{◌≡◌};
+ghost use Rattle.ob_types.specs.TypedView.{designator_view, expr_view, actuals_view};
+ghost use Rattle.ob_need.specs.Nowhere.{passed};
+ghost use Rattle.ob_short.specs.Lengths.{capped, desig_lines, expr_lines, actuals_lines};
+
+use crate::pieces::{more, pointed_size};
+use ob_code::Want;
+use ob_ends::{between, constant_size, guard_size, joined, place_size, unary_size, variable_size};
+use ob_gcode::{want_for_guard, want_for_index};
+use ob_need::want_for_actual;
+use ob_types::{Actual, Designator, TypedExpr, Types};
+
+/// How many lines the code of a designator has; more than 262,144 are answered as 262,145. Takes no
+/// memory.
+#[cycle(expr_lines)]
+#[tactic(auto, using(crate::proofs::Shapes::few_of_variable, crate::proofs::Shapes::one, crate::proofs::Shapes::two, ob_types::proofs::TypedViews::view_variable, ob_types::proofs::TypedViews::view_field, ob_types::proofs::TypedViews::view_index, ob_types::proofs::TypedViews::view_deref, ob_types::proofs::TypedViews::view_guard))]
+pub fn lines_of_designator<T: Types>(types: &T, want: Want, d: &Designator) -> usize
+    ensures { result ≡ capped (desig_lines (T.types types.now) want (designator_view d.now)) }
+{
+    match d {
+        Designator::Variable { variable, .. } => variable_size(want, variable),
+        Designator::Field { inner, .. } => {
+            let place = lines_of_designator(types, Want::Place, inner.get());
+            more(place, place_size(want) + 1)
+        }
+        Designator::Index {
+            inner,
+            length,
+            index,
+            ..
+        } => {
+            let array = lines_of_designator(types, want_for_index(*length), inner.get());
+            let at = lines_of_expr(types, Want::Value, index.get());
+            more(array, more(at, place_size(want) + 1))
+        }
+        Designator::Deref { inner, of, .. } => {
+            let value = lines_of_designator(types, Want::Value, inner.get());
+            more(value, pointed_size(types, want, of))
+        }
+        Designator::Guard { inner, guarded, .. } => {
+            let held = lines_of_designator(types, want_for_guard(*guarded, want), inner.get());
+            more(held, guard_size(*guarded, want) + 1)
+        }
+    }
+}
+
+/// How many lines the code of an expression has; more than 262,144 are answered as 262,145. Takes no
+/// memory.
+#[cycle(expr_lines)]
+#[tactic(auto, using(crate::proofs::Shapes::few_of_constant, crate::proofs::Shapes::one, crate::proofs::Shapes::two, ob_types::proofs::TypedViews::view_constant, ob_types::proofs::TypedViews::view_value_of, ob_types::proofs::TypedViews::view_procedure_value, ob_types::proofs::TypedViews::view_monadic, ob_types::proofs::TypedViews::view_dyadic, ob_types::proofs::TypedViews::view_logical, ob_types::proofs::TypedViews::view_compare_texts, ob_types::proofs::TypedViews::view_is_pointer, ob_types::proofs::TypedViews::view_is_record, ob_types::proofs::TypedViews::view_length, ob_types::proofs::TypedViews::view_call, ob_types::proofs::TypedViews::view_call_variable))]
+pub fn lines_of_expr<T: Types>(types: &T, want: Want, e: &TypedExpr) -> usize
+    ensures { result ≡ capped (expr_lines (T.types types.now) want (expr_view e.now)) }
+{
+    match e {
+        TypedExpr::Constant(value) => constant_size(want, value),
+        TypedExpr::Designator(d) => lines_of_designator(types, want, d),
+        TypedExpr::Procedure { .. } => 1,
+        TypedExpr::Unary { op, operand, .. } => {
+            let value = lines_of_expr(types, Want::Value, operand.get());
+            more(value, unary_size(*op))
+        }
+        TypedExpr::Binary { left, right, .. } => {
+            let first = lines_of_expr(types, Want::Value, left.get());
+            let second = lines_of_expr(types, Want::Value, right.get());
+            more(first, more(second, 1))
+        }
+        TypedExpr::Logical {
+            connective,
+            left,
+            right,
+        } => {
+            let first = lines_of_expr(types, Want::Value, left.get());
+            let second = lines_of_expr(types, Want::Value, right.get());
+            more(
+                first,
+                more(second, between(*connective) + joined(*connective)),
+            )
+        }
+        TypedExpr::CompareTexts { left, right, .. } => {
+            let first = lines_of_expr(types, Want::PlaceAndLength, left.get());
+            let second = lines_of_expr(types, Want::PlaceAndLength, right.get());
+            more(first, more(second, 1))
+        }
+        TypedExpr::IsPointer { operand, .. } => {
+            let value = lines_of_expr(types, Want::Value, operand.get());
+            more(value, 1)
+        }
+        TypedExpr::IsRecord { inner, .. } => {
+            let tag = lines_of_designator(types, Want::Tag, inner);
+            more(tag, 1)
+        }
+        TypedExpr::Length(d) => lines_of_designator(types, Want::Length, d),
+        TypedExpr::Call { actuals, .. } => {
+            let passed = lines_of_actuals(types, actuals.as_slice());
+            more(passed, 1)
+        }
+        TypedExpr::CallVariable { inner, actuals, .. } => {
+            let called = lines_of_designator(types, Want::Value, inner);
+            let passed = lines_of_actuals(types, actuals.as_slice());
+            more(called, more(passed, 1))
+        }
+    }
+}
+
+#[cycle(expr_lines)]
+fn lines_of_actual<T: Types>(types: &T, actual: &Actual) -> usize
+    ensures { result ≡ capped (expr_lines (T.types types.now) (passed actual.now.passing) (expr_view actual.now.value)) }
+{
+    lines_of_expr(types, want_for_actual(actual.passing), &actual.value)
+}
+
+#[cycle(expr_lines)]
+fn lines_of_actuals<T: Types>(types: &T, actuals: &[Actual]) -> usize
+    ensures { result ≡ capped (actuals_lines (T.types types.now) (actuals_view actuals.now)) }
+{
+    let mut lines = 0;
+    'actuals: for actual in actuals {
+        lines = more(lines, lines_of_actual(types, actual));
+    }
+    lines
+}
