@@ -110,7 +110,7 @@ module _ (shown : QName → Option Desc) (tree : Tree) (out : is_out (M shown tr
     forwards_quiet : (forwards_judged (map_of hs.around) heads heads).broken ≡ []
     forwards_quiet =
         let block_quiet = second_empty imports.part.notes.broken _ (second_empty (name_judged tree.name tree.closing).broken _ quiet) in
-        let headed = second_empty (plain.part.notes.broken ++ (pointers_judged plain.around plain.part.notes.later).broken) _ block_quiet in
+        let headed = second_empty (plain.part.notes.broken ++ (pointers_judged hs.around (plain.part.notes.later ++ heads_later hs.before)).broken) _ block_quiet in
         let told = first_empty (B.notes.broken ++ ((all_judged (field_judged (map_of w)) (plain.part.notes.later ++ heads_later hs.before)).broken ++ (forwards_judged (map_of hs.around) heads heads).broken)) _ headed in
         second_empty (all_judged (field_judged (map_of w)) (plain.part.notes.later ++ heads_later hs.before)).broken _ (second_empty B.notes.broken _ told)
 

@@ -27,7 +27,7 @@ use Rattle.ob_rules.specs.Expressions.{phrase_of}
 use Rattle.ob_rules.specs.Types.{Parameters, WrittenSection, written, written_parameters, is_module_level}
 use Rattle.ob_rules.specs.Statements.{Judging, judging}
 use Rattle.ob_rules.specs.Headings.{Head, Heads, BoundAs, Binding, self_by, self_parameter, reversed}
-use Rattle.ob_rules.specs.Declarations.{Contents, Part, Declared, Written_procedure, Declaration, Plain, Procedure, plain_of, procedure_of, type_name_of, in_order, headings_in_order, pointers_judged, closing_judged, around_body, self_parameters, typed_procedure, types_of_head, procedure_judged, procedures_judged, with_bound, binding_at, block, decl_rule, declaration}
+use Rattle.ob_rules.specs.Declarations.{Contents, Part, Declared, Written_procedure, Declaration, Plain, Procedure, plain_of, procedure_of, type_name_of, in_order, headings_in_order, heads_later, pointers_judged, closing_judged, around_body, self_parameters, typed_procedure, types_of_head, procedure_judged, procedures_judged, with_bound, binding_at, block, decl_rule, declaration}
 use Rattle.ob_forms.specs.Said.{IsOneOf}
 use Rattle.ob_forms.specs.Formed.{IsDeclared}
 use Rattle.ob_relation.proofs.Names.{and_both}
@@ -212,7 +212,7 @@ module _ (unit : List ℕ) (shown : QName → Option Desc) (out : is_out unit �
       let r = order_plain unit shown out all Among raw fs (plains ds g) base (later_fine unit shown out all Among raw u (filter_map type_name_of ds) f) plain_lie in
       let k = heads_fair unit shown out ps (headings ps (procedures ds g)) start (record { around = fair plain.around r.around; before = tt }) in
       let aligned : Aligned ps heads = (let a = aligned_in_order ps start in subst (Aligned ps) (sym a.is) a.aligned) in
-      let headed = second_empty (plain.part.notes.broken ++ (pointers_judged plain.around plain.part.notes.later).broken) _ n in
+      let headed = second_empty (plain.part.notes.broken ++ (pointers_judged hs.around (plain.part.notes.later ++ heads_later hs.before)).broken) _ n in
       let quiet : judged.notes.broken ≡ [] = first_empty judged.notes.broken _ (second_empty _ (judged.notes.broken ++ _) headed) in
       let unbroken : (x : Head) → IsOneOf hs.before x → IsUnbroken x = λ x i. heads_unbroken Any shown (only_name unit) (record { constants = []; types = []; variables = []; procedures = []; body = []; bound = [] }) out w ps heads aligned quiet x (one_reversed hs.before x i) in
       let makes : Lies (types_of_all hs.before) judged.contents.types = types_lie hs.before judged.contents.types (λ x i. types_there Any shown (only_name unit) (record { constants = []; types = []; variables = []; procedures = []; body = []; bound = [] }) out w ps heads aligned x (one_reversed hs.before x i)) in

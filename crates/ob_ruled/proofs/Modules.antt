@@ -13,7 +13,7 @@ use Rattle.ob_rules.specs.Names.{Around, is_out}
 use Rattle.ob_rules.specs.Types.{is_module_level}
 use Rattle.ob_rules.specs.Statements.{judging}
 use Rattle.ob_rules.specs.Headings.{Head, Heads, Binding, reversed}
-use Rattle.ob_rules.specs.Declarations.{no_contents, Part, Declared, Written_procedure, declaration, plain_of, procedure_of, type_name_of, in_order, headings_in_order, pointers_judged, name_judged, binding_at, with_bound, procedure_judged, procedures_judged, imports_declared, import_declared, target_of, around_module, module_of, typed_module, described, all_described, checked}
+use Rattle.ob_rules.specs.Declarations.{no_contents, Part, Declared, Written_procedure, declaration, plain_of, procedure_of, type_name_of, in_order, headings_in_order, heads_later, pointers_judged, name_judged, binding_at, with_bound, procedure_judged, procedures_judged, imports_declared, import_declared, target_of, around_module, module_of, typed_module, described, all_described, checked}
 use Rattle.ob_relation.proofs.Names.{and_both, bytes_true, bytes_same}
 use Rattle.ob_forms.specs.Said.{IsOneOf}
 use Rattle.ob_distinct.specs.Distinct.{AreDistinct}
@@ -133,7 +133,7 @@ module _ (shown : QName → Option Desc) (tree : Tree) (out : is_out (module_is 
   judged_quiet : judged.notes.broken ≡ []
   judged_quiet =
       let block_quiet = second_empty imports.part.notes.broken _ (second_empty (name_judged tree.name tree.closing).broken _ quiet) in
-      let headed = second_empty (plain.part.notes.broken ++ (pointers_judged plain.around plain.part.notes.later).broken) _ block_quiet in
+      let headed = second_empty (plain.part.notes.broken ++ (pointers_judged hs.around (plain.part.notes.later ++ heads_later hs.before)).broken) _ block_quiet in
       first_empty judged.notes.broken _ (second_empty _ (judged.notes.broken ++ _) headed)
 
   plain_lie : Lies plain.part.contents.types all
