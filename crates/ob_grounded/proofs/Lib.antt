@@ -1,0 +1,3 @@
+pub mod Tells
+pub mod Firm
+pub mod Typings

@@ -1,0 +1,2 @@
+//! Chains of types end: the maps of the types of checked modules are grounded.
+#![tactic(auto)]
