@@ -1,3 +1,5 @@
 pub mod Tells
 pub mod Firm
 pub mod Typings
+pub mod Sections
+pub mod Written
