@@ -3,3 +3,4 @@ pub mod Firm
 pub mod Typings
 pub mod Sections
 pub mod Written
+pub mod Plain
