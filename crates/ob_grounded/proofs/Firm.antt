@@ -127,12 +127,23 @@ module _ (unit : List ℕ) (shown : QName → Option Desc) where
 
   -- a description whose pointers have bases that stand
   abbrev pub Whole : (TypedType → Type 0) → List TypedType → Desc → Type 0
-  Whole In own d = Firm (S own) (Closed In) (Seen In is_record true) (Seen In is_structured false) (λ t. S own t × Seen In is_structured true t) d
+  Whole In own d = Firm (S own) (Closed In) (Seen In is_record true) (Seen In is_structured false) (S own) d
 
   pub whole_more : (In More : TypedType → Type 0) → ((s : TypedType) → In s → More s) → (own more : List TypedType) → Grows own more → (d : Desc) → Whole In own d → Whole More more d
   whole_more In More f own more g d h =
-      firm_more (S own) (Closed In) (Seen In is_record true) (Seen In is_structured false) (λ t. S own t × Seen In is_structured true t) (S more) (Closed More) (Seen More is_record true) (Seen More is_structured false) (λ t. S more t × Seen More is_structured true t)
-      (λ t. stands_grown unit shown own more g t) (λ t s. closed_more In More f t) (λ t s. seen_more In More f is_record true t) (λ t s. seen_more In More f is_structured false t) (λ t k. (stands_grown unit shown own more g t k.0, seen_more In More f is_structured true t k.1)) d h
+      firm_more (S own) (Closed In) (Seen In is_record true) (Seen In is_structured false) (S own) (S more) (Closed More) (Seen More is_record true) (Seen More is_structured false) (S more)
+      (λ t. stands_grown unit shown own more g t) (λ t s. closed_more In More f t) (λ t s. seen_more In More f is_record true t) (λ t s. seen_more In More f is_structured false t) (λ t. stands_grown unit shown own more g t) d h
+
+  pub firm_alias : (C R P B : TypeRef → Type 0) (own : List TypedType) (d : Desc) → Firm (S own) C R P B d → IfAlias (S own) d
+  firm_alias C R P B own (desc.Alias m t) h = h.0
+  firm_alias C R P B own (desc.Const v) h = tt
+  firm_alias C R P B own (desc.Var m t) h = tt
+  firm_alias C R P B own (desc.Proc s) h = tt
+  firm_alias C R P B own (desc.Array m n t) h = tt
+  firm_alias C R P B own (desc.OpenArray m t) h = tt
+  firm_alias C R P B own (desc.Pointer m t) h = tt
+  firm_alias C R P B own (desc.ProcType m s) h = tt
+  firm_alias C R P B own (desc.Record r) h = tt
 
   module _ (path : List ℕ) (names : List (List ℕ)) where
     -- the type of one of these names, which is declared later in the scope
@@ -171,17 +182,6 @@ module _ (unit : List ℕ) (shown : QName → Option Desc) where
 
     pub are_described : (ls : List Later) (own ts : List TypedType) → AreFirm ls own ts → AllByRecursion (IsDescribed AnyValue) ts
     are_described ls own ts h = all_of (FirmAt ls own) (IsDescribed AnyValue) ts (λ t k. firm_described (S own) (Closed (IsOneOf own)) (Seen (IsOneOf own) is_record true) (Seen (IsOneOf own) is_structured false) (Base ls own t.name) t k) h
-
-    firm_alias : (C R P B : TypeRef → Type 0) (own : List TypedType) (d : Desc) → Firm (S own) C R P B d → IfAlias (S own) d
-    firm_alias C R P B own (desc.Alias m t) h = h.0
-    firm_alias C R P B own (desc.Const v) h = tt
-    firm_alias C R P B own (desc.Var m t) h = tt
-    firm_alias C R P B own (desc.Proc s) h = tt
-    firm_alias C R P B own (desc.Array m n t) h = tt
-    firm_alias C R P B own (desc.OpenArray m t) h = tt
-    firm_alias C R P B own (desc.Pointer m t) h = tt
-    firm_alias C R P B own (desc.ProcType m s) h = tt
-    firm_alias C R P B own (desc.Record r) h = tt
 
     pub are_aliased : (ls : List Later) (own ts : List TypedType) → AreFirm ls own ts → AllByRecursion (λ (s : TypedType). IfAlias (S own) s.desc) ts
     are_aliased ls own ts h = all_of (FirmAt ls own) (λ (s : TypedType). IfAlias (S own) s.desc) ts (λ t k. firm_alias (Closed (IsOneOf own)) (Seen (IsOneOf own) is_record true) (Seen (IsOneOf own) is_structured false) (Base ls own t.name) own t.desc k) h

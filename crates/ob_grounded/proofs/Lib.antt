@@ -4,3 +4,4 @@ pub mod Typings
 pub mod Sections
 pub mod Written
 pub mod Plain
+pub mod Stand
