@@ -5,3 +5,4 @@ pub mod Sections
 pub mod Written
 pub mod Plain
 pub mod Stand
+pub mod Headings
