@@ -463,10 +463,14 @@ heads_later (h ∷ hs) = h.notes.later ++ heads_later hs
 abbrev pub block_headed : Around → List Later → List Written_procedure → List Judging → Heads → Part
 block_headed outer later ps body hs = block_bound outer hs.around (later ++ heads_later hs.before) ps (reversed hs.before) body (binding_at (is_module_level outer) hs.around (reversed hs.before))
 
+-- the pointers that declarations and headings have left are judged where all headings are known
+abbrev pub block_behind : Around → List Written_procedure → List Judging → Declared → Heads → Part
+block_behind outer ps body d hs =
+    with_part (record { notes = joined (nothing_later d.part.notes) (pointers_judged hs.around (d.part.notes.later ++ heads_later hs.before)); contents = d.part.contents })
+    (block_headed outer d.part.notes.later ps body hs)
+
 abbrev pub block_declared : Around → List Written_procedure → List Judging → Declared → Part
-block_declared outer ps body d =
-    with_part (record { notes = joined (nothing_later d.part.notes) (pointers_judged d.around d.part.notes.later); contents = d.part.contents })
-    (block_headed outer d.part.notes.later ps body (headings_in_order ps (record { around = d.around; before = [] })))
+block_declared outer ps body d = block_behind outer ps body d (headings_in_order ps (record { around = d.around; before = [] }))
 
 abbrev pub block : List Declaration → List Judging → Around → Part
 block ds body u = block_declared u (filter_map procedure_of ds) body (in_order (filter_map plain_of ds) (record u { later_types = filter_map type_name_of ds }))
