@@ -90,6 +90,12 @@ abbrev pub IfAlias : (TypeRef → Type 0) → Desc → Type 0
 IfAlias P (desc.Alias m t) = P t
 IfAlias P d = Unit {0}
 
+-- what a pointer of that name points to is judged later
+pub record IsLeft (ls : List Later) (x : List ℕ) (t : TypeRef) : Type 0 where
+  pub at : Pos
+  pub inline : Bool
+  pub there : IsOneOf ls (later.PointsTo x at t inline)
+
 module _ (unit : List ℕ) (shown : QName → Option Desc) where
   abbrev pub S : List TypedType → TypeRef → Type 0
   S own t = Stands unit shown own t
@@ -125,14 +131,17 @@ module _ (unit : List ℕ) (shown : QName → Option Desc) where
   closed_more In More f t (inl h) = inl (record { s = h.s; there = f h.s h.there; is = h.is; solid = h.solid })
   closed_more In More f t (inr h) = inr (seen_more In More f is_open false t h)
 
-  -- a description whose pointers have bases that stand
-  abbrev pub Whole : (TypedType → Type 0) → List TypedType → Desc → Type 0
-  Whole In own d = Firm (S own) (Closed In) (Seen In is_record true) (Seen In is_structured false) (S own) d
+  -- a description whose pointers have bases that stand, and are records or arrays, or left
+  abbrev pub WholeBase : (TypedType → Type 0) → List Later → List TypedType → List ℕ → TypeRef → Type 0
+  WholeBase In ls own x t = S own t × (Seen In is_structured true t ⊎ IsLeft ls x t)
 
-  pub whole_more : (In More : TypedType → Type 0) → ((s : TypedType) → In s → More s) → (own more : List TypedType) → Grows own more → (d : Desc) → Whole In own d → Whole More more d
-  whole_more In More f own more g d h =
-      firm_more (S own) (Closed In) (Seen In is_record true) (Seen In is_structured false) (S own) (S more) (Closed More) (Seen More is_record true) (Seen More is_structured false) (S more)
-      (λ t. stands_grown unit shown own more g t) (λ t s. closed_more In More f t) (λ t s. seen_more In More f is_record true t) (λ t s. seen_more In More f is_structured false t) (λ t. stands_grown unit shown own more g t) d h
+  abbrev pub WholeAt : (TypedType → Type 0) → List Later → List TypedType → TypedType → Type 0
+  WholeAt In ls own s = Firm (S own) (Closed In) (Seen In is_record true) (Seen In is_structured false) (WholeBase In ls own s.name) s.desc
+
+  pub whole_more : (In : TypedType → Type 0) (ls ms : List Later) → ((l : Later) → IsOneOf ls l → IsOneOf ms l) → (own more : List TypedType) → Grows own more → (s : TypedType) → WholeAt In ls own s → WholeAt In ms more s
+  whole_more In ls ms f own more g s h =
+      firm_more (S own) (Closed In) (Seen In is_record true) (Seen In is_structured false) (WholeBase In ls own s.name) (S more) (Closed In) (Seen In is_record true) (Seen In is_structured false) (WholeBase In ms more s.name)
+      (λ t. stands_grown unit shown own more g t) (λ t a b. b) (λ t a b. b) (λ t a b. b) (λ t b. (stands_grown unit shown own more g t b.0, ⊎_elim (λ k. inl k) (λ k. inr (record { at = k.at; inline = k.inline; there = f (later.PointsTo s.name k.at t k.inline) k.there })) b.1)) s.desc h
 
   pub firm_alias : (C R P B : TypeRef → Type 0) (own : List TypedType) (d : Desc) → Firm (S own) C R P B d → IfAlias (S own) d
   firm_alias C R P B own (desc.Alias m t) h = h.0
@@ -151,12 +160,6 @@ module _ (unit : List ℕ) (shown : QName → Option Desc) where
       pub x : List ℕ
       pub among : is_among x names ≡ true
       pub is : t ≡ ref.Named (record { «module» = unit; object = path ++ x })
-
-    -- what it points to is judged later
-    pub record IsLeft (ls : List Later) (x : List ℕ) (t : TypeRef) : Type 0 where
-      pub at : Pos
-      pub inline : Bool
-      pub there : IsOneOf ls (later.PointsTo x at t inline)
 
     -- the base of a pointer: a record or array, or what is judged later
     abbrev pub Base : List Later → List TypedType → List ℕ → TypeRef → Type 0

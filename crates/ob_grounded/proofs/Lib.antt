@@ -6,3 +6,4 @@ pub mod Written
 pub mod Plain
 pub mod Stand
 pub mod Headings
+pub mod Pointers

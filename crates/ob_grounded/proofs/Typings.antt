@@ -40,7 +40,7 @@ use Rattle.ob_bodies.proofs.Lists.{one_left, one_right, one_joined, all_of, all_
 use Rattle.ob_bodies.proofs.Standing.{Lies, lies_same, lies_front, lies_behind, lies_then, grows_front, grows_as, stands_grown, own_stands, with_types_known}
 use Rattle.ob_bodies.proofs.Named.{type_named_stands}
 use Rattle.ob_grounded.proofs.Tells.{Tell, then_tell, made_tell, both_tell, both_after, unless_tell, wants_tell, also_tell, tell_more, noted_tell}
-use Rattle.ob_grounded.proofs.Firm.{Firm, AnyValue, is_solid, IfAlias, S, Aliased, Seen, seen_more, IsSolid, Closed, closed_more, IsLate, IsLeft, Base, FirmAt, AreFirm, desc_more, are_more, are_described, are_aliased, aliases_more}
+use Rattle.ob_grounded.proofs.Firm.{Firm, AnyValue, is_solid, IfAlias, S, Aliased, Seen, seen_more, IsSolid, Closed, closed_more, IsLate, Base, FirmAt, AreFirm, desc_more, are_more, are_described, are_aliased, aliases_more}
 
 -- ---- what is left for later
 
