@@ -61,7 +61,7 @@ head_notes : (U : Around) (p : Written_procedure) (h : Head) (f : Bool) → (pro
 head_notes U p h true e = e
 head_notes U p h false e = front_empty h.notes.broken (joined (closing_judged h.name p.closing) (p.inside (around_body U h)).notes).broken e
 
-head_types : (U : Around) (p : Written_procedure) (h : Head) (f : Bool) → Lies (types_of h.parameters) (procedure_judged U p h f).contents.types
+pub head_types : (U : Around) (p : Written_procedure) (h : Head) (f : Bool) → Lies (types_of h.parameters) (procedure_judged U p h f).contents.types
 head_types U p h f t i = by h.parameters f i
   where
     same : (o : Option Parameters) → types_of o ≡ types_of_head o

@@ -7,3 +7,4 @@ pub mod Plain
 pub mod Stand
 pub mod Headings
 pub mod Pointers
+pub mod Blocks
