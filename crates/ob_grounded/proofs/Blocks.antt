@@ -17,12 +17,13 @@ use Rattle.ob_types.specs.Tests.{target_of, follow, target}
 use Rattle.ob_rules.specs.declared.notes.Later.{Later}
 use Rattle.ob_rules.specs.declared.notes.Later.TheVariants as later
 use Rattle.ob_rules.specs.declared.entity.Known.{Known}
+use Rattle.ob_rules.specs.declared.broken.Broken.{Broken}
 use Rattle.ob_rules.specs.Judged.{Notes, no_notes, joined}
 use Rattle.ob_rules.specs.Shapes.{Map, is_held, is_open, is_record, is_structured, same_name}
 use Rattle.ob_rules.specs.Names.{Around, map_of, is_among, is_out, out_string}
 use Rattle.ob_rules.specs.Types.{Parameters, is_module_level, nothing, with_types}
 use Rattle.ob_rules.specs.Statements.{Judging, in_turn}
-use Rattle.ob_rules.specs.Headings.{Head, Heads, types_of, head_of, name_twice, declared_head, known_behind, forwards_judged, reversed}
+use Rattle.ob_rules.specs.Headings.{Head, Heads, Binding, types_of, head_of, name_twice, declared_head, known_behind, forwards_judged, reversed}
 use Rattle.ob_rules.specs.Declarations.{Contents, Part, no_contents, Declared, Declaration, Plain, Procedure, plain_of, type_name_of, procedure_of, Written_procedure, in_order, headings_in_order, pointer_name, is_wrong, pointers_judged, is_pointer_left, field_judged, all_judged, nothing_later, around_body, types_of_head, procedure_judged, procedures_judged, body_part, with_bound, binding_at, heads_later, closing_judged, block}
 use Rattle.ob_forms.specs.Said.{IsOneOf}
 use Rattle.ob_relation.proofs.Names.{bytes_same}
@@ -125,7 +126,7 @@ module _ (shown : QName → Option Desc) (unit : List ℕ) (grounded : IsGrounde
 
   -- ---- pointers that were left are right
 
-  right_is : (a b c : Bool) → a ≡ true → b ≡ true → (a && (b && not c)) ≡ false → c ≡ true
+  right_is : (a b c : Bool) → a ≡ true → b ≡ true → ((a && b) && not c) ≡ false → c ≡ true
   right_is true true true e f g = refl
   right_is true true false e f g = absurd cc
   right_is false b c e f g = absurd cc
@@ -308,74 +309,156 @@ module _ (shown : QName → Option Desc) (unit : List ℕ) (grounded : IsGrounde
         within = j refl;
       }
 
-  pub block_adds : (ds : List Declaration) → AreGood ds → (body : List Judging) (u : Around) → Start u → (block ds body u).notes.broken ≡ [] → Lies (block ds body u).contents.types F → (is_module_level u ≡ true → (s : TypedType) → IsOneOf (block ds body u).contents.bound s → In s) → Adds (block ds body u).contents
-  block_adds ds g body u start e lies bound =
-      let path = u.path in
-      let names = filter_map type_name_of ds in
-      let fs = filter_map plain_of ds in
-      let ps = filter_map procedure_of ds in
-      let l = is_module_level u in
-      let v : Around = record u { later_types = names } in
-      let d = in_order fs v in
-      let first : Heads = record { around = d.around; before = [] } in
-      let hs = headings_in_order ps first in
-      let w = hs.around in
-      let R = reversed hs.before in
-      let b = binding_at l w R in
-      let U = with_bound w b in
-      let Q = procedures_judged U ps R in
-      let B = body_part (in_turn body U) in
-      let L = d.part.notes.later ++ heads_later hs.before in
-      let fj = all_judged (field_judged (map_of U)) L in
-      let wj = forwards_judged (map_of w) R R in
-      let n = joined b.notes (joined fj wj) in
-      let pj = pointers_judged w L in
-      -- what is broken: nothing
-      let front = d.part.notes.broken ++ pj.broken in
-      let e1 : n.broken ++ (Q.notes.broken ++ B.notes.broken) ≡ [] = rest_empty front (n.broken ++ (Q.notes.broken ++ B.notes.broken)) e in
-      let ef : front ≡ [] = front_empty front (n.broken ++ (Q.notes.broken ++ B.notes.broken)) e in
-      let ed : d.part.notes.broken ≡ [] = front_empty d.part.notes.broken pj.broken ef in
-      let ep : pj.broken ≡ [] = rest_empty d.part.notes.broken pj.broken ef in
-      let eQ : Q.notes.broken ≡ [] = front_empty Q.notes.broken B.notes.broken (rest_empty n.broken (Q.notes.broken ++ B.notes.broken) e1) in
-      -- the types among all
-      let dF : Lies d.part.contents.types F = λ t i. lies t (one_left d.part.contents.types (Q.contents.types ++ []) t i) in
-      let qF : Lies Q.contents.types F = λ t i. lies t (one_right d.part.contents.types (Q.contents.types ++ []) t (one_left Q.contents.types [] t i)) in
-      -- declarations
-      let kv : Place unit shown out path names v = record { knows = record { unit_is = start.knows.unit_is; shown_is = start.knows.shown_is; own = start.knows.own; known = start.knows.known }; path_is = refl; names_is = refl; sound = start.sound; aliases = whole_aliases [] u.own u.own start.whole } in
-      let o = order_good path names ds g v kv ed in
-      let mF : Lies o.made F = λ t i. dF t (o.types t i) in
-      -- headings
-      let good = procedures_good ds g in
-      let same : R ≡ heads_of ps first = heads_same ps first in
-      let left : (h : Head) → IsOneOf hs.before h → Within h.notes.later L = λ h i y k. one_right d.part.notes.later (heads_later hs.before) y (later_of hs.before h i y k) in
-      let begun = first_heads path names L v kv start.whole start.within d o (λ y k. one_left d.part.notes.later (heads_later hs.before) y k) (λ t i. among t (mF t i)) in
-      let ok = heads_are shown unit grounded apart out path names In L d.around U ps (all_of GoodProcedure (λ (p : Written_procedure). AreFirmSections unit shown out path names p.heading.parameters.sections) ps (λ p i. i.sections path names) good) first begun (subst (λ hs. (procedures_judged U ps hs).notes.broken ≡ []) same eQ) (λ t i. among t (qF t (subst (λ hs. IsOneOf (procedures_judged U ps hs).contents.types t) (sym same) i))) (all_one (λ (h : Head). Within h.notes.later L) (heads_of ps first) (λ h i. left h (one_turned hs.before h (subst (λ hs. IsOneOf hs h) (sym same) i)))) in
-      let k = ok.0 in
-      let ok_R : AllByRecursion (IsHeadIn shown unit grounded apart out path names In L w.own) R = subst (AllByRecursion (IsHeadIn shown unit grounded apart out path names In L w.own)) (sym same) ok.1.0 in
-      -- pointers
-      let told_h : (h : Head) → IsOneOf R h → AreTold F h.notes.later = λ h i. are_told_more (types_of h.parameters) F (λ t j. qF t (subst (λ hs. IsOneOf (procedures_judged U ps hs).contents.types t) (sym same) (made_lie U ps first h (subst (λ hs. IsOneOf hs h) same i) t j))) h.notes.later (one_all (IsHeadIn shown unit grounded apart out path names In L w.own) R h ok_R i).told in
-      let told : AreTold F L = all_both (Tells F) d.part.notes.later (heads_later hs.before) (are_told_more o.made F mF d.part.notes.later o.told) (heads_told F hs.before (all_one (λ (h : Head). AreTold F h.notes.later) hs.before (λ h i. told_h h (one_reversed hs.before h i)))) in
-      let fit : AllByRecursion (W [] w.own) w.own = all_of (W L w.own) (W [] w.own) w.own (λ s i. pointers_fit w k.place.knows k.place.aliases L told k.within ep s i) k.whole in
-      -- what is bound
-      let bound_in : l ≡ true → (s : TypedType) → IsOneOf b.own s → In s = λ y s i. bound y s (one_right d.part.contents.bound (b.own ++ (Q.contents.bound ++ [])) s (one_left b.own (Q.contents.bound ++ []) s i)) in
-      let bind = binding_is l w R (all_of (IsHeadIn shown unit grounded apart out path names In L w.own) (λ (h : Head). Has (λ (p : Parameters). SignatureFirm (T w.own) (λ t. Seen unit shown In is_structured false t) p.signature) h.parameters) R (λ h i. i.signature) ok_R) fit k.within bound_in in
-      let changes = binding_changes AnyValue l w R in
-      let all : (t : TypedType) → IsOneOf w.own t → W [] F t = λ t i. to_all w.own k.within t (one_all (W [] w.own) w.own t fit i) in
+  module _ (ds : List Declaration) (g : AreGood ds) (body : List Judging) (u : Around) (start : Start u) (e : (block ds body u).notes.broken ≡ []) (lies : Lies (block ds body u).contents.types F) where
+    abbrev names : List (List ℕ)
+    names = filter_map type_name_of ds
+
+    abbrev ps : List Written_procedure
+    ps = filter_map procedure_of ds
+
+    abbrev level : Bool
+    level = is_module_level u
+
+    abbrev v : Around
+    v = record u { later_types = names }
+
+    abbrev d : Declared
+    d = in_order (filter_map plain_of ds) v
+
+    abbrev first : Heads
+    first = record { around = d.around; before = [] }
+
+    abbrev hs : Heads
+    hs = headings_in_order ps first
+
+    -- behind the headings
+    abbrev pub w : Around
+    w = hs.around
+
+    abbrev pub R : List Head
+    R = reversed hs.before
+
+    abbrev b : Binding
+    b = binding_at level w R
+
+    abbrev U : Around
+    U = with_bound w b
+
+    abbrev Q : Part
+    Q = procedures_judged U ps R
+
+    abbrev B : Part
+    B = body_part (in_turn body U)
+
+    abbrev L : List Later
+    L = d.part.notes.later ++ heads_later hs.before
+
+    abbrev n : Notes
+    n = joined b.notes (joined (all_judged (field_judged (map_of U)) L) (forwards_judged (map_of w) R R))
+
+    abbrev pj : Notes
+    pj = pointers_judged w L
+
+    -- nothing is broken
+    abbrev front : List Broken
+    front = d.part.notes.broken ++ pj.broken
+
+    e1 : n.broken ++ (Q.notes.broken ++ B.notes.broken) ≡ []
+    e1 = rest_empty front (n.broken ++ (Q.notes.broken ++ B.notes.broken)) e
+
+    ef : front ≡ []
+    ef = front_empty front (n.broken ++ (Q.notes.broken ++ B.notes.broken)) e
+
+    eQ : Q.notes.broken ≡ []
+    eQ = front_empty Q.notes.broken B.notes.broken (rest_empty n.broken (Q.notes.broken ++ B.notes.broken) e1)
+
+    -- the types among all
+    dF : Lies d.part.contents.types F
+    dF t i = lies t (one_left d.part.contents.types (Q.contents.types ++ []) t i)
+
+    qF : Lies Q.contents.types F
+    qF t i = lies t (one_right d.part.contents.types (Q.contents.types ++ []) t (one_left Q.contents.types [] t i))
+
+    -- declarations
+    kv : Place unit shown out u.path names v
+    kv = record { knows = record { unit_is = start.knows.unit_is; shown_is = start.knows.shown_is; own = start.knows.own; known = start.knows.known }; path_is = refl; names_is = refl; sound = start.sound; aliases = whole_aliases [] u.own u.own start.whole }
+
+    o : AreDeclared unit shown out u.path names (HasAll unit shown out u.path names names) v d
+    o = order_good u.path names ds g v kv (front_empty d.part.notes.broken pj.broken ef)
+
+    mF : Lies o.made F
+    mF t i = dF t (o.types t i)
+
+    -- headings
+    same : R ≡ heads_of ps first
+    same = heads_same ps first
+
+    left : (h : Head) → IsOneOf hs.before h → Within h.notes.later L
+    left h i y k = one_right d.part.notes.later (heads_later hs.before) y (later_of hs.before h i y k)
+
+    abbrev HI : Head → Type 0
+    HI h = IsHeadIn shown unit grounded apart out u.path names In L w.own h
+
+    headed : HeadsIn u.path names L d.around hs × (AllByRecursion HI (heads_of ps first) × Lies d.around.own w.own)
+    headed =
+        heads_are shown unit grounded apart out u.path names In L d.around U ps (all_of GoodProcedure (λ (p : Written_procedure). AreFirmSections unit shown out u.path names p.heading.parameters.sections) ps (λ p i. i.sections u.path names) (procedures_good ds g)) first
+        (first_heads u.path names L v kv start.whole start.within d o (λ y k. one_left d.part.notes.later (heads_later hs.before) y k) (λ t i. among t (mF t i)))
+        (subst (λ hs. (procedures_judged U ps hs).notes.broken ≡ []) same eQ) (λ t i. among t (qF t (subst (λ hs. IsOneOf (procedures_judged U ps hs).contents.types t) (sym same) i)))
+        (all_one (λ (h : Head). Within h.notes.later L) (heads_of ps first) (λ h i. left h (one_turned hs.before h (subst (λ hs. IsOneOf hs h) (sym same) i))))
+
+    each_head : AllByRecursion HI R
+    each_head = subst (AllByRecursion HI) (sym same) headed.1.0
+
+    pub own_within : (s : TypedType) → IsOneOf w.own s → In s
+    own_within s i = headed.0.within s i
+
+    none : (Q.contents.bound ≡ []) × (Q.contents.variables ≡ [])
+    none = procedures_none U ps R
+
+    -- what is bound
+    pub bound_is : (s : TypedType) → IsOneOf (block ds body u).contents.bound s → IsOneOf (binding_at level w R).own s
+    bound_is s i =
+        ⊎_elim (λ k. absurd (subst (λ ts. IsOneOf ts s) o.bound k))
+        (λ k. ⊎_elim (λ j. j) (λ j. absurd (subst (λ ts. IsOneOf (ts ++ []) s) none.0 j)) (one_joined b.own (Q.contents.bound ++ []) s k))
+        (one_joined d.part.contents.bound (b.own ++ (Q.contents.bound ++ [])) s i)
+
+    -- pointers
+    told_head : (h : Head) → IsOneOf R h → AreTold F h.notes.later
+    told_head h i = are_told_more (types_of h.parameters) F (λ t j. qF t (subst (λ hs. IsOneOf (procedures_judged U ps hs).contents.types t) (sym same) (made_lie U ps first h (subst (λ hs. IsOneOf hs h) same i) t j))) h.notes.later (one_all HI R h each_head i).told
+
+    told : AreTold F L
+    told = all_both (Tells F) d.part.notes.later (heads_later hs.before) (are_told_more o.made F mF d.part.notes.later o.told) (heads_told F hs.before (all_one (λ (h : Head). AreTold F h.notes.later) hs.before (λ h i. told_head h (one_reversed hs.before h i))))
+
+    fit : AllByRecursion (W [] w.own) w.own
+    fit = all_of (W L w.own) (W [] w.own) w.own (λ s i. pointers_fit w headed.0.place.knows headed.0.place.aliases L told headed.0.within (rest_empty d.part.notes.broken pj.broken ef) s i) headed.0.whole
+
+    all : (t : TypedType) → IsOneOf w.own t → W [] F t
+    all t i = to_all w.own headed.0.within t (one_all (W [] w.own) w.own t fit i)
+
+    module _ (bound : level ≡ true → (s : TypedType) → IsOneOf (block ds body u).contents.bound s → In s) where
+      bind : IsBinding b.own
+      bind =
+          binding_is level w R (all_of HI (λ (h : Head). Has (λ (p : Parameters). SignatureFirm (T w.own) (λ t. Seen unit shown In is_structured false t) p.signature) h.parameters) R (λ h i. i.signature) each_head) fit headed.0.within
+          (λ y s i. bound y s (one_right d.part.contents.bound (b.own ++ (Q.contents.bound ++ [])) s (one_left b.own (Q.contents.bound ++ []) s i)))
+
       -- procedures
-      let begin : (h : Head) → IsHeadIn shown unit grounded apart out path names In L w.own h → HeadStarts U h = λ h i. record {
+      begin : (h : Head) → HI h → HeadStarts U h
+      begin h i = record {
         starts = record {
-          knows = record { unit_is = k.place.knows.unit_is; shown_is = k.place.knows.shown_is; own = whole_described [] b.own b.own bind.whole; known = all_grown unit shown AnyValue w.own b.own changes.grows (h.inside ++ h.known) i.entities };
+          knows = record { unit_is = headed.0.place.knows.unit_is; shown_is = headed.0.place.knows.shown_is; own = whole_described [] b.own b.own bind.whole; known = all_grown unit shown AnyValue w.own b.own (binding_changes AnyValue level w R).grows (h.inside ++ h.known) i.entities };
           sound = i.sound;
           whole = bind.whole;
           within = bind.within;
         };
         types = subst (AllByRecursion (W [] F)) (head_types_same h.parameters) (all_one (W [] F) (types_of h.parameters) (λ t j. all t (i.made t j)));
-      } in
-      let q = procedures_add U ps good R (all_of (IsHeadIn shown unit grounded apart out path names In L w.own) (HeadStarts U) R begin ok_R) eQ qF in
-      let none = procedures_none U ps R in
-      let front_own : Lies o.made w.own = λ t i. ok.1.1 t (subst (λ (z : Around). IsOneOf z.own t) (sym o.around) (one_left o.made v.own t i)) in
-      record {
-        types = all_both (W [] F) d.part.contents.types (Q.contents.types ++ []) (all_one (W [] F) d.part.contents.types (λ t i. all t (front_own t (o.back t i)))) (all_both (W [] F) Q.contents.types [] q tt);
+      }
+
+      front_own : Lies o.made w.own
+      front_own t i = headed.1.1 t (subst (λ (z : Around). IsOneOf z.own t) (sym o.around) (one_left o.made v.own t i))
+
+      pub block_adds : Adds (block ds body u).contents
+      block_adds = record {
+        types = all_both (W [] F) d.part.contents.types (Q.contents.types ++ []) (all_one (W [] F) d.part.contents.types (λ t i. all t (front_own t (o.back t i)))) (all_both (W [] F) Q.contents.types [] (procedures_add U ps (procedures_good ds g) R (all_of HI (HeadStarts U) R begin each_head) eQ qF) tt);
         bound = all_both (W [] F) d.part.contents.bound (b.own ++ (Q.contents.bound ++ [])) (subst (AllByRecursion (W [] F)) (sym o.bound) tt) (all_both (W [] F) b.own (Q.contents.bound ++ []) (all_of (W [] b.own) (W [] F) b.own (λ t i. to_all b.own bind.within t i) bind.whole) (subst (λ ts. AllByRecursion (W [] F) (ts ++ [])) (sym none.0) tt));
-        variables = all_both VariableIn d.part.contents.variables (Q.contents.variables ++ []) (all_of (VariableFirm unit shown out path names (o.made ++ v.own)) VariableIn d.part.contents.variables (λ x i. variable_to (o.made ++ v.own) (λ s j. ⊎_elim (λ y. among s (mF s y)) (λ y. start.within s y) (one_joined o.made v.own s j)) x i) o.variables) (subst (λ xs. AllByRecursion VariableIn (xs ++ [])) (sym none.1) tt);
+        variables = all_both VariableIn d.part.contents.variables (Q.contents.variables ++ []) (all_of (VariableFirm unit shown out u.path names (o.made ++ v.own)) VariableIn d.part.contents.variables (λ x i. variable_to (o.made ++ v.own) (λ s j. ⊎_elim (λ y. among s (mF s y)) (λ y. start.within s y) (one_joined o.made v.own s j)) x i) o.variables) (subst (λ xs. AllByRecursion VariableIn (xs ++ [])) (sym none.1) tt);
       }

@@ -8,3 +8,4 @@ pub mod Stand
 pub mod Headings
 pub mod Pointers
 pub mod Blocks
+pub mod Modules
