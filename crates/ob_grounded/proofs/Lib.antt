@@ -9,3 +9,5 @@ pub mod Headings
 pub mod Pointers
 pub mod Blocks
 pub mod Modules
+pub mod Maps
+pub mod Sorts

@@ -104,14 +104,14 @@ module _ (unit : List ℕ) (shown : QName → Option Desc) (w : Around) (unit_is
 -- ---- what is shown
 
 module _ (shown : QName → Option Desc) (unit : List ℕ) (grounded : IsGrounded shown) (apart : IsApart shown unit) where
-  no_out : (q : QName) (b : Bool) → same_name q out_string ≡ b → (o : Option Desc) → shown q ≡ o → MatchOption o ⊥ (λ d. IsTrue (is_type d)) → b ≡ false
+  pub no_out : (q : QName) (b : Bool) → same_name q out_string ≡ b → (o : Option Desc) → shown q ≡ o → MatchOption o ⊥ (λ d. IsTrue (is_type d)) → b ≡ false
   no_out q false e o f h = refl
   no_out q true e o f h =
       let p = and_both (bytes_eq q.«module» out_string.«module») (bytes_eq q.object out_string.object) e in
       let s : q ≡ out_string = ap (λ (n : List ℕ). let p : QName = record { «module» = n; object = q.object } in p) (bytes_true q.«module» out_string.«module» p.0) ∙ ap (λ (n : List ℕ). let p : QName = record { «module» = out_string.«module»; object = n } in p) (bytes_true q.object out_string.object p.1) in
       absurd (subst (λ o. MatchOption o ⊥ (λ d. IsTrue (is_type d))) (sym f ∙ ap shown s ∙ apart.out) h)
 
-  no_own : (q : QName) (b : Bool) → bytes_eq q.«module» unit ≡ b → (o : Option Desc) → shown q ≡ o → MatchOption o ⊥ (λ d. IsTrue (is_type d)) → b ≡ false
+  pub no_own : (q : QName) (b : Bool) → bytes_eq q.«module» unit ≡ b → (o : Option Desc) → shown q ≡ o → MatchOption o ⊥ (λ d. IsTrue (is_type d)) → b ≡ false
   no_own q false e o f h = refl
   no_own q true e o f h = absurd (subst (λ o. MatchOption o ⊥ (λ d. IsTrue (is_type d))) (sym f ∙ apart.own q e) h)
 
