@@ -11,3 +11,4 @@ pub mod Blocks
 pub mod Modules
 pub mod Maps
 pub mod Sorts
+pub mod Grounded

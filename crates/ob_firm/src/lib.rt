@@ -1,0 +1,2 @@
+//! The maps that modules are compiled with are grounded.
+#![tactic(auto)]
