@@ -21,6 +21,7 @@ use Rattle.ob_env.specs.Fit as fit
 use Rattle.ob_env.specs.Shown.{unplaced, unnumbered, blank}
 use Rattle.ob_relation.proofs.Names.{and_both}
 use Rattle.ob_bodies.proofs.Lists.{all_of}
+use Rattle.ob_grounded.specs.Laws.{IsNotOut}
 use Rattle.ob_grounded.proofs.Maps.{stood_on}
 
 abbrev pub blanked : Option Desc → Option Desc
@@ -151,11 +152,7 @@ blank_twice (desc.OpenArray m t) = refl
 blank_twice (desc.Pointer m t) = refl
 blank_twice (desc.ProcType m s) = refl
 
--- ---- a type that is not the one of Out
-
-abbrev pub IsNotOut : TypeRef → Type 0
-IsNotOut (ref.Basic b) = Unit {0}
-IsNotOut (ref.Named q) = same_name q out_string ≡ false
+-- ---- two maps
 
 module _ (A B : QName → Option Desc) (agree : (q : QName) → same_name q out_string ≡ false → blanked (A q) ≡ blanked (B q)) (closed : (q : QName) (d : Desc) → same_name q out_string ≡ false → A q ≡ Some d → AllByRecursion IsNotOut (named_by d)) (none : (q : QName) → same_name q out_string ≡ true → B q ≡ None) where
   -- what both have

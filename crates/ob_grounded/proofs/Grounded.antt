@@ -34,12 +34,12 @@ use Rattle.ob_distinct.proofs.Short.{chains_are_short}
 use Rattle.ob_bodies.specs.Knows.{HasName, Grows, Stands, IsDescribed}
 use Rattle.ob_bodies.proofs.Lists.{one_all, all_one, all_of}
 use Rattle.ob_bodies.proofs.Standing.{stands_grown}
-use Rattle.ob_grounded.specs.Laws.{IsApart, around_types, types_of, IsChecked, ModulesAreGrounded}
+use Rattle.ob_grounded.specs.Laws.{IsApart, IsChecked, IsNotOut, AreGrounded, ModulesAreGrounded}
 use Rattle.ob_grounded.proofs.Firm.{Firm, firm_more, firm_described, SignatureFirm, AnyValue, is_solid, S, Seen, IsSolid, Closed, IsLeft, WholeBase}
 use Rattle.ob_grounded.proofs.Stand.{IsFound, IsOwn, IsOther, name_found, found_name, at, own_at, other_at}
 use Rattle.ob_grounded.proofs.Blocks.{AreOne, step_stands}
 use Rattle.ob_grounded.proofs.Modules.{bound_from, bound_one, Made, made_named, Whole, types_whole, bound_whole}
-use Rattle.ob_grounded.proofs.Maps.{firm_names, type_held, held, out_is, chains, shown_at, names_are_held}
+use Rattle.ob_grounded.proofs.Maps.{firm_names, closed_at, type_held, held, out_is, chains, shown_at, names_are_held}
 use Rattle.ob_grounded.proofs.Sorts.{strip, stripped, more_stripped, solid_stripped, open_same, record_same, structured_same, not_open, not_structured, record_is, structure_is, solid_closed}
 
 -- ---- types that differ in name
@@ -178,7 +178,7 @@ module _ (shown : QName → Option Desc) (tree : Tree) (grounded : IsGrounded sh
         by false b h = other b (shown q) refl h
 
   module _ (deep : deep_of shown tree.name (map declaration tree.decls) (module_part shown tree) ≡ false) where
-    short : AllByRecursion (λ (s : TypedType). is_within M 200 (ref.Named (record { «module» = w0.unit; object = s.name })) ≡ true) Y
+    pub short : AllByRecursion (λ (s : TypedType). is_within M 200 (ref.Named (record { «module» = w0.unit; object = s.name })) ≡ true) Y
     short = chains_are_short w0 (names_are_held shown unit grounded apart out w0 refl refl are_described closed) deep
 
     pub within_all : (t : TypeRef) → IsHeld M t → IsWithin M 201 t
@@ -340,10 +340,21 @@ module _ (shown : QName → Option Desc) (tree : Tree) (grounded : IsGrounded sh
     pub map_grounded : IsGrounded M
     map_grounded = record { held = held shown unit grounded apart out w0 refl refl are_described closed; chains = within_all; keeps = keeps }
 
+    not_out_of : (t : TypeRef) → T t → IsNotOut t
+    not_out_of (ref.Basic b) h = tt
+    not_out_of (ref.Named q) h = h.0
+
+    pub names_others : (q : QName) (d : Desc) → same_name q out_string ≡ false → M q ≡ Some d → AllByRecursion IsNotOut (named_by d)
+    names_others q d o f = all_of T IsNotOut (named_by d) not_out_of (closed_at shown unit grounded apart out w0 refl refl are_described closed q o d f)
+
 pub modules_are_grounded : ModulesAreGrounded
 modules_are_grounded shown tree m c =
     let p = module_part shown tree in
     let k = unbroken_is p.notes.broken (typed_module shown tree.name tree.imports (map declaration tree.decls) p) m c.is in
     let out : is_out tree.name.name ≡ false = subst (λ (x : TypedModule). is_out x.name ≡ false) (sym k.1) (not_out shown tree m c.is) in
-    subst (λ (x : TypedModule). IsGrounded (types_of shown tree x)) k.1
-    (map_grounded shown tree c.grounded c.apart out c.imports k.0 (subst (λ (x : TypedModule). AreDistinct (λ (t : TypedType). t.name) x.types) (sym k.1) c.names) c.shallow)
+    let names = subst (λ (x : TypedModule). AreDistinct (λ (t : TypedType). t.name) x.types) (sym k.1) c.names in
+    subst (AreGrounded shown tree) k.1 (record {
+      grounded = map_grounded shown tree c.grounded c.apart out c.imports k.0 names c.shallow;
+      names = names_others shown tree c.grounded c.apart out c.imports k.0 names c.shallow;
+      short = short shown tree c.grounded c.apart out c.imports k.0 names c.shallow;
+    })

@@ -3,11 +3,15 @@ use Rattle.std.specs.Prelude.{◌≡◌, ℕ, true, false, List, Option, Some, N
 use Rattle.std.specs.List.{AllByRecursion}
 use Rattle.ob_tree.specs.declared.names.QName.{QName}
 use Rattle.ob_tree.specs.declared.decl.Module.{Module as Tree}
+use Rattle.ob_types.specs.declared.types.TypeRef.{TypeRef}
+use Rattle.ob_types.specs.declared.types.TypeRef.TheVariants as ref
 use Rattle.ob_types.specs.declared.desc.Desc.{Desc}
 use Rattle.ob_types.specs.declared.typed.TypedModule.{TypedModule}
+use Rattle.ob_types.specs.Maps.{named_by}
 use Rattle.ob_types.specs.Relations.{IsGrounded}
-use Rattle.ob_rules.specs.Shapes.{Map}
+use Rattle.ob_rules.specs.Shapes.{Map, same_name}
 use Rattle.ob_rules.specs.Names.{Around, map_of, out_string}
+use Rattle.ob_rules.specs.Depth.{is_within}
 use Rattle.ob_rules.specs.Declarations.{around_module, declaration, target_of, module_part, deep_of, checked}
 use Rattle.ob_distinct.specs.Distinct.{AreDistinct}
 
@@ -34,6 +38,16 @@ pub record IsChecked (shown : QName → Option Desc) (tree : Tree) (m : TypedMod
   pub imports : AllByRecursion (λ i. bytes_eq (target_of i).name tree.name.name ≡ false) tree.imports
   pub names : AreDistinct (λ t. t.name) m.types
 
--- THE MAP OF ITS TYPES IS GROUNDED.
+-- a type that is not the one of Out
+abbrev pub IsNotOut : TypeRef → Type 0
+IsNotOut (ref.Basic b) = Unit {0}
+IsNotOut (ref.Named q) = same_name q out_string ≡ false
+
+-- THE MAP OF ITS TYPES IS GROUNDED; none names the type of Out; and the chain from each type of the module on has at most 200 types.
+pub record AreGrounded (shown : QName → Option Desc) (tree : Tree) (m : TypedModule) : Type 0 where
+  pub grounded : IsGrounded (types_of shown tree m)
+  pub names : (q : QName) (d : Desc) → same_name q out_string ≡ false → types_of shown tree m q ≡ Some d → AllByRecursion IsNotOut (named_by d)
+  pub short : AllByRecursion (λ t. is_within (types_of shown tree m) 200 (ref.Named (record { «module» = tree.name.name; object = t.name })) ≡ true) m.types
+
 abbrev pub ModulesAreGrounded : Type 0
-ModulesAreGrounded = (shown : QName → Option Desc) (tree : Tree) (m : TypedModule) → IsChecked shown tree m → IsGrounded (types_of shown tree m)
+ModulesAreGrounded = (shown : QName → Option Desc) (tree : Tree) (m : TypedModule) → IsChecked shown tree m → AreGrounded shown tree m
