@@ -321,13 +321,19 @@ module _ (A B : QName → Option Desc) (agree : (q : QName) → same_name q out_
   keeps_one (desc.Pointer m t) n h k = is_to is_structure structure_kind t h.0 k
   keeps_one (desc.ProcType m s) n h k = plain_to s h k
 
+  record_same : (x y : RecordDesc) → desc.Record x ≡ desc.Record y → x ≡ y
+  record_same x y e = cc
+
   record_to : (r s : RecordDesc) → blank (desc.Record r) ≡ blank (desc.Record s) → NO (named_by (desc.Record s)) → Keeps A (desc.Record r) → Keeps B (desc.Record s)
   record_to r s e h k =
       let front = listed s.base ++ each (λ f. f.of) s.fields in
       let behind = flat_map (λ (m : Method). signature_types m.signature) s.methods in
-      let b : r.base ≡ s.base = cc in
-      let f : each unplaced r.fields ≡ each unplaced s.fields = cc in
-      let m : each unnumbered r.methods ≡ each unnumbered s.methods = cc in
+      let x : RecordDesc = record r { fields = each unplaced r.fields; methods = each unnumbered r.methods; words = 0; procedures = 0 } in
+      let y : RecordDesc = record s { fields = each unplaced s.fields; methods = each unnumbered s.methods; words = 0; procedures = 0 } in
+      let i : x ≡ y = record_same x y e in
+      let b : r.base ≡ s.base = ap (λ (x : RecordDesc). x.base) i in
+      let f : each unplaced r.fields ≡ each unplaced s.fields = ap (λ (x : RecordDesc). x.fields) i in
+      let m : each unnumbered r.methods ≡ each unnumbered s.methods = ap (λ (x : RecordDesc). x.methods) i in
       (base_to s.base (left_of (listed s.base) (each (λ f. f.of) s.fields) (left_of front behind h)) (subst (λ o. IfSome o (Is A is_record)) b k.0), (fields_to r.fields s.fields f (right_of (listed s.base) (each (λ f. f.of) s.fields) (left_of front behind h)) k.1.0, methods_to r.methods s.methods m (right_of front behind h) k.1.1))
 
   keeps_same : (d e : Desc) → is_record d ≡ false → blank d ≡ blank e → NO (named_by e) → Keeps A d → Keeps B e
