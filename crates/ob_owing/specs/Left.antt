@@ -8,20 +8,16 @@ use Rattle.ob_linking.specs.Same.{ModuleSame}
 use Rattle.ob_tables.specs.Image.{RulesKept}
 use Rattle.ob_valued.specs.Valued.{values}
 use Rattle.ob_ages.specs.Builds.{Build, of, tree_of}
-use Rattle.ob_ages.specs.Laws.{Locality, BuildsAreWritten}
+use Rattle.ob_ages.specs.Laws.{BuildsAreWritten}
 use Rattle.ob_ages.specs.Loads.{BuildsAreLinked}
 use Rattle.ob_joining.specs.Builds.{program_of, AreLoaded, IsOf, BuildsStand}
 use Rattle.ob_stand.specs.Owed.{in_program, Owed}
-use Rattle.ob_ruled.specs.Ruled.{BuildsDiffer, BuildsAreGrounded}
 use Rattle.ob_ordered.specs.Loaded.{BoundAreThere}
 
 pub record Left : Type 0 where
   -- of each build alone
   pub written : BuildsAreWritten
   pub linked : BuildsAreLinked
-  pub differ : BuildsDiffer
-  pub grounded : BuildsAreGrounded
-  pub locality : Locality
   -- of builds that are loaded together: bound procedures are there
   pub bound : BoundAreThere
   -- the descriptions that a module was compiled with say of what it names what its declarations in the program say
