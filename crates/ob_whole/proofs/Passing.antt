@@ -47,7 +47,7 @@ use Rattle.ob_ordered.proofs.Owing.{loaded_are_sound}
 use Rattle.ob_passed.specs.Passed.{IsPassedWell, HeadIsWell}
 use Rattle.ob_passed.proofs.Modules.{parameters_passed}
 use Rattle.ob_whole.specs.Whole.{LoadedPassed}
-use Rattle.ob_whole.proofs.Kinds.{SaidBy, passed_alike}
+use Rattle.ob_whole.proofs.Alike.{SaidBy, passed_alike}
 
 core_type : (d : Desc) → is_type (core d) ≡ is_type d
 core_type (desc.Const v) = refl

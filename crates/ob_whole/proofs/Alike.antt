@@ -103,7 +103,7 @@ module _ (program : Program) (sound : IsSound program) (one : QName → Option D
     basic k b = by k ∙ sym (ap (passing_for k) (basic_is program b))
       where
         by : (k : Mode) → passing_at k (ref.Basic b) None ≡ passing_for k (BasicForm b)
-          by mode.Value = refl
+        by mode.Value = refl
         by mode.Var = refl
 
     target_basic : (n : ℕ) (b : Basic) → target one n (ref.Basic b) ≡ ref.Basic b
