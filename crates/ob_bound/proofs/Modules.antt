@@ -146,9 +146,11 @@ module _ (shown : QName → Option Desc) (tree : Tree) (out : is_out (M shown tr
     found_there : (t : TypedType) → IsRaw t → (o : Option TypedType) → IfThere (λ b. TypeNew (counted heads) b × (bytes_eq b.name t.name ≡ true)) o → Good (described o t)
     found_there t e None h = (subst (AllByRecursion (IsThere made.procedures t)) (sym e.0) tt, e.1)
     found_there t e (Some b) h =
-        let same : b.name ≡ t.name = (bytes_eq-Decides b.name t.name).0 h.1 in
-        (all_of (IsNew (counted heads) b.name) (IsThere made.procedures (record { name = t.name; desc = b.desc })) (methods_of b.desc)
-        (λ k n. from_head (record { name = t.name; desc = b.desc }) k (subst (λ x. IsNew (counted heads) x k) same n)) h.0.0, h.0.1)
+        let same : b.name ≡ t.name = (bytes_eq-Decides b.name t.name).0 h.1 in (
+          all_of (IsNew (counted heads) b.name) (IsThere made.procedures (record { name = t.name; desc = b.desc })) (methods_of b.desc)
+              (λ k n. from_head (record { name = t.name; desc = b.desc }) k (subst (λ x. IsNew (counted heads) x k) same n)) h.0.0,
+          h.0.1,
+        )
 
     first_if : (b : Bool) (P : TypedType → Type 0) (test : TypedType → Bool) (x : TypedType) (o : Option TypedType) → test x ≡ b → P x → IfThere (λ x. P x × (test x ≡ true)) o → IfThere (λ x. P x × (test x ≡ true)) (cond b (Some x) o)
     first_if true P test x o e h k = (h, e)

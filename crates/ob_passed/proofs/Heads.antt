@@ -161,9 +161,9 @@ module _ (unit : List ℕ) (shown : QName → Option Desc) (out : is_out unit �
         around = fv;
         before = (
           subst (λ own. HeadIn own (declared_head t d v)) (sym same)
-          (declared_in (ts ++ hs.around.own) t d (made_passed hs.around.own d.parameters e.parameters)
-          (λ x. if_more (IsReceiver unit shown out hs.around) (λ (b : BoundAs). P (ts ++ hs.around.own) (self_by x b b.receiver)) d.bound (λ b k. passed_more unit shown out hs.around.own (ts ++ hs.around.own) more (self_by x b b.receiver) (self_passed unit shown out hs.around f.around x b k)) e.bound)
-          (known_more hs.around.own (ts ++ hs.around.own) more d.inside e.inside) v (subst (λ own. K own v.known) same fv.knows.known)),
+              (declared_in (ts ++ hs.around.own) t d (made_passed hs.around.own d.parameters e.parameters)
+              (λ x. if_more (IsReceiver unit shown out hs.around) (λ (b : BoundAs). P (ts ++ hs.around.own) (self_by x b b.receiver)) d.bound (λ b k. passed_more unit shown out hs.around.own (ts ++ hs.around.own) more (self_by x b b.receiver) (self_passed unit shown out hs.around f.around x b k)) e.bound)
+              (known_more hs.around.own (ts ++ hs.around.own) more d.inside e.inside) v (subst (λ own. K own v.known) same fv.knows.known)),
           subst (λ own. AllByRecursion (HeadIn own) hs.before) (sym same) (heads_more hs.around.own (ts ++ hs.around.own) more hs.before f.before),
         );
       }

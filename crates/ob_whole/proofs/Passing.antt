@@ -112,13 +112,13 @@ module _ (written : BuildsAreWritten) (ruled : BuildsAreRuled) where
             alike = one.says.alike ∙ sym two.alike;
             type = sym (core_type two.e) ∙ ap is_type two.alike ∙ core_type two.d ∙ kind;
             onward = λ j t i.
-              let a : two.d ≡ desc.Alias j t = closed.core_alias two.d j t (sym one.says.alike ∙ ap core i) in (
-                one.on j t a,
-                (
-                  (subst (λ d. AllByRecursion (declares.IsNear (tree_of b) u.near) (near_types d)) a two.parts).0,
-                  (subst (λ d. AllByRecursion (λ t. IsHeld V t) (named_by d)) a (r.grounded.held q two.d two.of)).0,
-                ),
-              );
+                let a : two.d ≡ desc.Alias j t = closed.core_alias two.d j t (sym one.says.alike ∙ ap core i) in (
+                  one.on j t a,
+                  (
+                    (subst (λ d. AllByRecursion (declares.IsNear (tree_of b) u.near) (near_types d)) a two.parts).0,
+                    (subst (λ d. AllByRecursion (λ t. IsHeld V t) (named_by d)) a (r.grounded.held q two.d two.of)).0,
+                  ),
+                );
             within = λ j t i n w. within_next V q j t (two.of ∙ ap (λ d. Some d) (closed.core_alias two.d j t (sym one.says.alike ∙ ap core i))) n w;
           } in
           let there = held x.of g.stands in

@@ -92,8 +92,7 @@ all_whole ruled program before [] h p v = tt
 all_whole ruled program before (b ∷ bs) h p v =
     let c = h.0.valid.0 in
     let k = h.0.valid.1 in
-    let same : c.tree ≡ tree_of b = ap (λ (x : Compiled Text). x.tree) (sym (of_is b c k)) in
-    (
+    let same : c.tree ≡ tree_of b = ap (λ (x : Compiled Text). x.tree) (sym (of_is b c k)) in (
       subst (λ (x : Module). AllByRecursion (HeadingOk program) x.procedures → Different (λ v. v.name) x.variables → IsWholeModule program x) same (module_whole ruled b c k program) p.0 v.0,
       all_whole ruled program (before ++ b ∷ []) bs h.1 p.1 v.1,
     )
