@@ -1,5 +1,5 @@
 -- What is bound: each bound procedure of a record comes from a heading, which is no forward declaration.
-use Rattle.std.proofs.Common.{◌≡◌, refl, sym, ap, ◌∙◌, subst, ℕ, Bool, true, false, List, [], ◌∷◌, ◌++◌, Option, Some, None, cond, inl, inr}
+use Rattle.std.proofs.Common.{◌≡◌, refl, sym, ◌∙◌, subst, ℕ, Bool, true, false, List, [], ◌∷◌, Option, Some, None, cond, inl, inr}
 use Rattle.std.specs.Prelude.{bytes_eq, is_none, is_some, ◌&&◌}
 use Rattle.std.specs.List.{AllByRecursion, find, filter}
 use Rattle.std.proofs.lemmas.Bool.{false≢true, and_parts}
@@ -15,7 +15,7 @@ use Rattle.ob_rules.specs.Shapes.{Map, Member, AField, AMethod, member}
 use Rattle.ob_rules.specs.Names.{Around, map_of}
 use Rattle.ob_rules.specs.Headings.{Head, BoundAs, Binding, answers, forward_broken, forward_if, forwards_judged, counts_if, counts, counted, change_desc, changed_if, change_type, with_method, new_method, redefined, bind_method, bind_by, bind_one, bind_all, of_record, bind_records, reversed, bindings}
 use Rattle.ob_forms.specs.Said.{IsOneOf}
-use Rattle.ob_bodies.proofs.Lists.{all_both, all_of, first_empty, second_empty}
+use Rattle.ob_bodies.proofs.Lists.{all_both, first_empty, second_empty}
 use Rattle.ob_bound.specs.Bound.{methods_of, HasElements}
 use Rattle.ob_bound.proofs.Typings.{AreRaw}
 

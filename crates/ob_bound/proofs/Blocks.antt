@@ -10,7 +10,6 @@ use Rattle.ob_tree.specs.declared.decl.Decl.{Decl, roll-Decl, map-Decl}
 use Rattle.ob_tree.specs.declared.decl.Decl.TheOpen.{Decl-F}
 use Rattle.ob_tree.specs.declared.decl.Decl.TheFolds.{ind-Decl, fold-roll-Decl}
 use Rattle.ob_types.specs.declared.value.Value.{Value}
-use Rattle.ob_types.specs.declared.desc.Desc.{Desc}
 use Rattle.ob_types.specs.declared.typed.TypedType.{TypedType}
 use Rattle.ob_rules.specs.declared.entity.Entity.{Entity}
 use Rattle.ob_rules.specs.declared.entity.Known.{Known}
@@ -21,7 +20,7 @@ use Rattle.ob_rules.specs.Phrases.{Phrase}
 use Rattle.ob_rules.specs.Types.{Parameters, Typing, Written, written, is_module_level, marked, with_types}
 use Rattle.ob_rules.specs.Statements.{Judging, judging}
 use Rattle.ob_rules.specs.Headings.{Head, Heads, add_heading, reversed, mark_or_hidden}
-use Rattle.ob_rules.specs.Declarations.{Contents, no_contents, together, Declared, declare_if, declare, constant_contents, no_nil, constant_declared, equated, typing_as, types_made, type_declared, variable_contents, paired_typing, variables_with, made_in, variables_typed, variables_declared, Written_procedure, Declaration, Plain, Procedure, plain_of, procedure_of, type_name_of, in_order, headings_in_order, around_body, types_of_head, procedure_judged, procedures_judged, block_headed, block_declared, block, decl_rule, declaration, import_declared, target_of}
+use Rattle.ob_rules.specs.Declarations.{Declared, declare_if, declare, constant_contents, no_nil, constant_declared, equated, typing_as, types_made, type_declared, variable_contents, paired_typing, variables_with, made_in, variables_typed, variables_declared, Written_procedure, Declaration, Plain, Procedure, plain_of, procedure_of, type_name_of, in_order, headings_in_order, around_body, types_of_head, procedure_judged, procedures_judged, block_declared, block, decl_rule, declaration, import_declared, target_of}
 use Rattle.ob_described.proofs.Nodes.{IfThere, Has, all_both, then_has, second_has}
 use Rattle.ob_bound.proofs.Typings.{IsRaw, AreRaw, IsGood, AreGoodSections, MakesRaw, MakeRaw}
 use Rattle.ob_bound.proofs.Written.{written_good, written_parameters_good}

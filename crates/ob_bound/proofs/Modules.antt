@@ -1,11 +1,10 @@
 -- A checked module: its bound procedures are there.
-use Rattle.std.proofs.Common.{◌≡◌, ◌⊎◌, refl, sym, ap, ◌∙◌, subst, ℕ, Bool, true, false, List, [], ◌∷◌, ◌++◌, map, Option, Some, None, cond, inl, inr}
+use Rattle.std.proofs.Common.{◌≡◌, refl, sym, ap, ◌∙◌, subst, ℕ, Bool, true, false, List, [], ◌∷◌, ◌++◌, map, Option, Some, None, cond, inl, inr}
 use Rattle.std.specs.Prelude.{bytes_eq, codes}
 use Rattle.std.specs.List.{AllByRecursion, find, filter_map}
 use Rattle.std.proofs.lemmas.Slice.Eq.{bytes_eq-Decides}
 use Rattle.ob_tree.specs.declared.names.QName.{QName}
 use Rattle.ob_tree.specs.declared.decl.Module.{Module as Tree}
-use Rattle.ob_types.specs.declared.value.Value.{Value}
 use Rattle.ob_types.specs.declared.types.Signature.{Signature}
 use Rattle.ob_types.specs.declared.desc.Desc.{Desc}
 use Rattle.ob_types.specs.declared.desc.Method.{Method}
@@ -15,8 +14,8 @@ use Rattle.ob_types.specs.declared.typed.TypedModule.{TypedModule}
 use Rattle.ob_rules.specs.Names.{Around, map_of, is_out}
 use Rattle.ob_rules.specs.Types.{Parameters, nothing, is_module_level}
 use Rattle.ob_rules.specs.Statements.{judging}
-use Rattle.ob_rules.specs.Headings.{Head, Heads, BoundAs, Binding, forwards_judged, counts, counted, new_method, no_signature, signature_if, signature_or_none, reversed}
-use Rattle.ob_rules.specs.Declarations.{Contents, no_contents, Part, Declared, Written_procedure, declaration, plain_of, procedure_of, type_name_of, in_order, headings_in_order, heads_later, pointers_judged, name_judged, binding_at, all_judged, field_judged, with_bound, procedures_judged, self_parameters, imports_declared, import_declared, target_of, around_module, module_of, block, typed_module, described, all_described, checked}
+use Rattle.ob_rules.specs.Headings.{Head, Heads, Binding, forwards_judged, counts, counted, signature_if, signature_or_none, reversed}
+use Rattle.ob_rules.specs.Declarations.{no_contents, Part, Declared, Written_procedure, declaration, plain_of, procedure_of, type_name_of, in_order, headings_in_order, heads_later, pointers_judged, name_judged, binding_at, all_judged, field_judged, with_bound, procedures_judged, self_parameters, imports_declared, import_declared, target_of, around_module, module_of, typed_module, described, all_described}
 use Rattle.ob_forms.specs.Said.{IsOneOf}
 use Rattle.ob_typed.specs.Makes.{IfThere}
 use Rattle.ob_distinct.proofs.Blocks.{not_out}
@@ -25,7 +24,7 @@ use Rattle.ob_bodies.proofs.Lists.{one_left, one_right, one_all, all_both, all_o
 use Rattle.ob_bodies.proofs.Headings.{Aligned, aligned_in_order}
 use Rattle.ob_bodies.proofs.Blocks.{procedures_bound, heading_there}
 use Rattle.ob_bodies.proofs.Modules.{unbroken_is}
-use Rattle.ob_bound.specs.Bound.{methods_of, HasElements, HasProcedure, IsThere, MethodsAreThere, ArraysHaveElements}
+use Rattle.ob_bound.specs.Bound.{methods_of, HasElements, IsThere, MethodsAreThere, ArraysHaveElements}
 use Rattle.ob_bound.proofs.Typings.{IsRaw, AreRaw, MakeRaw}
 use Rattle.ob_bound.proofs.Heads.{GoodHead, GoodHeads}
 use Rattle.ob_bound.proofs.Binding.{one_filtered, counted_whole, IsNew, TypeNew, AreNew, bindings_new}
@@ -146,9 +145,11 @@ module _ (shown : QName → Option Desc) (tree : Tree) (out : is_out (M shown tr
     found_there : (t : TypedType) → IsRaw t → (o : Option TypedType) → IfThere (λ b. TypeNew (counted heads) b × (bytes_eq b.name t.name ≡ true)) o → Good (described o t)
     found_there t e None h = (subst (AllByRecursion (IsThere made.procedures t)) (sym e.0) tt, e.1)
     found_there t e (Some b) h =
-        let same : b.name ≡ t.name = (bytes_eq-Decides b.name t.name).0 h.1 in
-        (all_of (IsNew (counted heads) b.name) (IsThere made.procedures (record { name = t.name; desc = b.desc })) (methods_of b.desc)
-        (λ k n. from_head (record { name = t.name; desc = b.desc }) k (subst (λ x. IsNew (counted heads) x k) same n)) h.0.0, h.0.1)
+        let same : b.name ≡ t.name = (bytes_eq-Decides b.name t.name).0 h.1 in (
+          all_of (IsNew (counted heads) b.name) (IsThere made.procedures (record { name = t.name; desc = b.desc })) (methods_of b.desc)
+              (λ k n. from_head (record { name = t.name; desc = b.desc }) k (subst (λ x. IsNew (counted heads) x k) same n)) h.0.0,
+          h.0.1,
+        )
 
     first_if : (b : Bool) (P : TypedType → Type 0) (test : TypedType → Bool) (x : TypedType) (o : Option TypedType) → test x ≡ b → P x → IfThere (λ x. P x × (test x ≡ true)) o → IfThere (λ x. P x × (test x ≡ true)) (cond b (Some x) o)
     first_if true P test x o e h k = (h, e)

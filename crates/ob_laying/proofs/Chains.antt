@@ -12,7 +12,7 @@ use Rattle.ob_types.specs.declared.typed.TypedType.{TypedType}
 use Rattle.ob_types.specs.Maps.{is_type, listed, signature_types, stands_on, named_by, IsHeld, IsWithin}
 use Rattle.std.specs.List.{flat_map}
 use Rattle.ob_types.specs.TypedSyntax.{Module}
-use Rattle.ob_layout.specs.LaidOut.{type_named, is_own, viewed, base_of, words_in, procedures_in, placed, numbered, laid_desc, laid_type}
+use Rattle.ob_layout.specs.LaidOut.{type_named, is_own, viewed, base_of, words_in, procedures_in, placed, laid_desc, laid_type}
 
 front : {A : Type 0} (P : A → Type 0) (xs ys : List A) → AllByRecursion P (xs ++ ys) → AllByRecursion P xs
 front P [] ys h = tt

@@ -1,5 +1,5 @@
 -- Builds that are loaded together are laid out over those before them.
-use Rattle.std.proofs.Common.{◌≡◌, ◌≢◌, refl, sym, ap, ◌∙◌, subst, ℕ, ◌≤◌, Bool, true, false, List, [], ◌∷◌, ◌++◌, map as each, Option, Some, None, Result, Ok, Err}
+use Rattle.std.proofs.Common.{◌≡◌, ◌≢◌, refl, sym, ap, ◌∙◌, subst, ℕ, ◌≤◌, true, false, List, [], ◌∷◌, ◌++◌, map as each, Option, Some, None, Ok}
 use Rattle.std.specs.Prelude.{Contains, bytes_eq}
 use Rattle.std.specs.List.{AllByRecursion}
 use Rattle.ob_tree.specs.declared.names.QName.{QName}
@@ -15,18 +15,17 @@ use Rattle.ob_types.specs.TypedSyntax.{Module}
 use Rattle.ob_types.specs.TypedView.{module_view}
 use Rattle.ob_rules.specs.declared.broken.Broken.{Broken}
 use Rattle.ob_rules.specs.Declarations.{checked, first_break}
-use Rattle.ob_layout.specs.Words.{described_words, words_of, most_words}
+use Rattle.ob_layout.specs.Words.{described_words, most_words}
 use Rattle.ob_layout.specs.LaidOut.{is_own, laid_type, laid_out}
 use Rattle.ob_env.specs.Faces.{Face, described}
 use Rattle.ob_env.specs.Shown.{shown}
 use Rattle.ob_uses.specs.Uses.{near_types}
-use Rattle.ob_reading.specs.Reading.{reading}
-use Rattle.ob_compile.specs.Compiling.{texts, Compiled, Refusal, made, of_checked, of_break, by_rules}
+use Rattle.ob_compile.specs.Compiling.{texts, Compiled, made, of_break, by_rules}
 use Rattle.ob_distinct.specs.Fields.{FieldsDiffer, AreApart}
 use Rattle.ob_distinct.specs.Distinct.{AreDistinct}
 use Rattle.ob_distinct.proofs.FieldBlocks.{fields_differ}
 use Rattle.ob_written.proofs.Limits.{within}
-use Rattle.ob_ages.specs.Builds.{Text, Build, IsValid, of, shows_of, tree_of, name_of}
+use Rattle.ob_ages.specs.Builds.{Text, Build, of, shows_of, tree_of, name_of}
 use Rattle.ob_ages.specs.Laws.{IsBehind, AreTogether, AreAround, Locality, BuildsAreWritten}
 use Rattle.ob_joining.specs.Builds.{program_of}
 use Rattle.ob_forms.specs.Said.{IsFreshName, HaveNames}

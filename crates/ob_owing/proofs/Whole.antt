@@ -1,6 +1,5 @@
 -- What is left gives all that is owed.
 use Rattle.ob_valued.specs.Valued.{values}
-use Rattle.ob_stand.specs.Owed.{Owed}
 use Rattle.ob_stand.proofs.Whole.{builds_stand}
 use Rattle.ob_sized.proofs.Different.{modules_differ}
 use Rattle.ob_entered.proofs.Whole.{names_are_shown, words_are_counted, commands_are_there, loaded_enter}

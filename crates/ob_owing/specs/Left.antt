@@ -1,5 +1,5 @@
 -- What is left to be seen of builds, so that all that is owed of those that are loaded together is there.
-use Rattle.std.specs.Prelude.{◌≡◌, List, ◌++◌, map, Contains}
+use Rattle.std.specs.Prelude.{List, ◌++◌, map, Contains}
 use Rattle.ob_meaning.specs.Values.{description}
 use Rattle.ob_layout.specs.LaidOut.{viewed}
 use Rattle.ob_env.specs.Faces.{described}

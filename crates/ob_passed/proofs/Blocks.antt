@@ -1,10 +1,9 @@
 -- Procedures, and sequences of declarations with the procedures among them: all parameters are passed well.
-use Rattle.std.proofs.Common.{◌≡◌, ⊎_elim, refl, sym, ap, ◌∙◌, subst, ℕ, Bool, true, false, List, [], ◌∷◌, ◌++◌, map, Option, Some, None, inl, inr}
-use Rattle.std.specs.Prelude.{◌&&◌, bytes_eq}
-use Rattle.std.specs.List.{AllByRecursion, cons_option, filter_map}
+use Rattle.std.proofs.Common.{◌≡◌, ⊎_elim, refl, sym, ◌∙◌, subst, ℕ, Bool, true, false, List, [], ◌∷◌, ◌++◌, map, Option, Some, None}
+use Rattle.std.specs.Prelude.{◌&&◌}
+use Rattle.std.specs.List.{AllByRecursion, filter_map}
 use Rattle.ob_tree.specs.declared.names.QName.{QName}
 use Rattle.ob_tree.specs.declared.ident.Ident.{Ident}
-use Rattle.ob_tree.specs.declared.ident.Import.{Import}
 use Rattle.ob_tree.specs.declared.type_node.FormalPars.{FormalPars}
 use Rattle.ob_tree.specs.declared.decl.Decl.{Decl, roll-Decl, map-Decl}
 use Rattle.ob_tree.specs.declared.decl.Decl.TheOpen.{Decl-F}
@@ -24,10 +23,10 @@ use Rattle.ob_rules.specs.declared.entity.Known.{Known}
 use Rattle.ob_rules.specs.Shapes.{Map, passing_of}
 use Rattle.ob_rules.specs.Names.{Around, map_of, is_out}
 use Rattle.ob_rules.specs.Expressions.{phrase_of}
-use Rattle.ob_rules.specs.Types.{Parameters, WrittenSection, written, written_parameters, is_module_level}
+use Rattle.ob_rules.specs.Types.{Parameters, WrittenSection, written_parameters, is_module_level}
 use Rattle.ob_rules.specs.Statements.{Judging, judging}
-use Rattle.ob_rules.specs.Headings.{Head, Heads, BoundAs, Binding, self_by, self_parameter, reversed}
-use Rattle.ob_rules.specs.Declarations.{Contents, Part, Declared, Written_procedure, Declaration, Plain, Procedure, plain_of, procedure_of, type_name_of, in_order, headings_in_order, heads_later, pointers_judged, closing_judged, around_body, self_parameters, typed_procedure, types_of_head, procedure_judged, procedures_judged, with_bound, binding_at, block, decl_rule, declaration}
+use Rattle.ob_rules.specs.Headings.{Head, Heads, BoundAs, self_by, self_parameter, reversed}
+use Rattle.ob_rules.specs.Declarations.{Contents, Part, Written_procedure, Declaration, Plain, Procedure, plain_of, procedure_of, type_name_of, in_order, headings_in_order, heads_later, pointers_judged, closing_judged, around_body, self_parameters, typed_procedure, types_of_head, procedure_judged, procedures_judged, with_bound, binding_at, block, decl_rule, declaration}
 use Rattle.ob_forms.specs.Said.{IsOneOf}
 use Rattle.ob_forms.specs.Formed.{IsDeclared}
 use Rattle.ob_relation.proofs.Names.{and_both}
@@ -35,12 +34,12 @@ use Rattle.ob_described.proofs.Nodes.{IfThere}
 use Rattle.ob_typed.specs.Spelled.{all_true}
 use Rattle.ob_typed.specs.Bodies.{stmt_spelled}
 use Rattle.ob_bodies.specs.Spelled.{parameters_spelled, decl_layer, decl_spelled}
-use Rattle.ob_bodies.specs.Knows.{Grows, Stands, EntityStands}
-use Rattle.ob_bodies.specs.Judged.{with_methods, HasMore}
+use Rattle.ob_bodies.specs.Knows.{Grows, EntityStands}
+use Rattle.ob_bodies.specs.Judged.{with_methods}
 use Rattle.ob_bodies.proofs.Lists.{one_left, one_right, one_joined, one_all, all_one, all_of, all_both, first_empty, second_empty}
 use Rattle.ob_bodies.proofs.More.{more_same, more_then}
 use Rattle.ob_bodies.proofs.Standing.{Lies, lies_same, all_grown}
-use Rattle.ob_bodies.proofs.Binding.{IsFrom, Changes, binding_changes}
+use Rattle.ob_bodies.proofs.Binding.{IsFrom, binding_changes}
 use Rattle.ob_bodies.proofs.Headings.{Aligned, aligned_in_order, types_of_all, IsUnbroken, lies_in_order, types_lie}
 use Rattle.ob_bodies.proofs.Blocks.{heads_unbroken, types_there, one_reversed}
 use Rattle.ob_bodies.proofs.Sections.{AreGoodSections}
@@ -49,9 +48,9 @@ use Rattle.ob_bound.proofs.Blocks.{order_good as order_bound, plains_good as pla
 use Rattle.ob_ruled.specs.Variables.{AliasStands}
 use Rattle.ob_ruled.proofs.Shut.{AreGoodSections as AreShutSections}
 use Rattle.ob_ruled.proofs.Written.{written_parameters_good as parameters_shut}
-use Rattle.ob_ruled.proofs.Plain.{Any, AliasesStand, Fine, IsPlain, DeclaredFine, constants, alias_grown, constant_plain, type_plain, variables_plain, order_plain, later_fine}
+use Rattle.ob_ruled.proofs.Plain.{Any, Fine, IsPlain, constants, alias_grown, constant_plain, type_plain, variables_plain, order_plain, later_fine}
 use Rattle.ob_passed.proofs.Sections.{S, Fair, GoodSections, node_good, Passed}
-use Rattle.ob_passed.proofs.Heads.{HeadIn, HeadsFair, GoodHeadings, heads_fair}
+use Rattle.ob_passed.proofs.Heads.{HeadIn, GoodHeadings, heads_fair}
 
 -- a module of that name
 abbrev only_name : List ℕ → TypedModule

@@ -1,26 +1,24 @@
 -- Headings in their order: their parameters and receivers are passed well, and what is known behind them stands.
-use Rattle.std.proofs.Common.{◌≡◌, refl, sym, ap, ◌∙◌, subst, ℕ, suc, Bool, true, false, List, [], ◌∷◌, ◌++◌, Option, Some, None, inl, inr, cond}
-use Rattle.std.specs.Prelude.{nat_lt, codes}
-use Rattle.std.specs.List.{AllByRecursion, filter}
+use Rattle.std.proofs.Common.{◌≡◌, refl, sym, subst, ℕ, Bool, true, false, List, [], ◌∷◌, ◌++◌, Option, Some, None, cond}
+use Rattle.std.specs.Prelude.{nat_lt}
+use Rattle.std.specs.List.{AllByRecursion}
 use Rattle.ob_tree.specs.declared.names.QName.{QName}
 use Rattle.ob_tree.specs.declared.ident.Ident.{Ident}
 use Rattle.ob_tree.specs.declared.ident.Mark.{Mark}
 use Rattle.ob_tree.specs.declared.decl.Receiver.{Receiver as RawReceiver}
-use Rattle.ob_types.specs.declared.types.TypeRef.{TypeRef}
 use Rattle.ob_types.specs.declared.desc.Desc.{Desc}
 use Rattle.ob_types.specs.declared.typed.TypedType.{TypedType}
 use Rattle.ob_types.specs.declared.typed.TypedParameter.{TypedParameter}
-use Rattle.ob_rules.specs.declared.entity.Entity.{Entity}
 use Rattle.ob_rules.specs.declared.entity.Known.{Known}
-use Rattle.ob_rules.specs.Judged.{both, Judged}
+use Rattle.ob_rules.specs.Judged.{both}
 use Rattle.ob_rules.specs.Names.{Around, in_unit, is_out}
-use Rattle.ob_rules.specs.Types.{Parameters, Sections, with_types, marked, inner}
+use Rattle.ob_rules.specs.Types.{Parameters, with_types, marked, inner}
 use Rattle.ob_rules.specs.Headings.{WrittenHeading, Head, BoundAs, Heads, path_by, forward_name, bound_in, of_scope, as_parameters, owner_if, self_by, heading_parameters, knows_receiver, head_of, entity_as, head_entity, declared_head, knows_procedure, known_behind, name_twice, types_of, add_heading}
 use Rattle.ob_rules.specs.Declarations.{Written_procedure, headings_in_order}
 use Rattle.ob_described.proofs.Nodes.{IfThere, Has, second_has}
 use Rattle.ob_bodies.specs.Knows.{EntityStands}
-use Rattle.ob_bodies.proofs.Lists.{all_of, all_both, there_of}
-use Rattle.ob_bodies.proofs.Standing.{Lies, lies_same, lies_then, lies_front, grows_as, all_grown, stands_grown}
+use Rattle.ob_bodies.proofs.Lists.{all_of}
+use Rattle.ob_bodies.proofs.Standing.{Lies, lies_front, grows_as, all_grown, stands_grown}
 use Rattle.ob_ruled.proofs.Plain.{Any}
 use Rattle.ob_passed.proofs.Sections.{S, KnownIn, Fair, more_types, more_known, GoodSections, Passed, all_more, passed_more, ArePassed, sections_known, parameters_passed, IsReceiver, owner_stands, self_passed, receiver_fair}
 
@@ -161,9 +159,9 @@ module _ (unit : List ℕ) (shown : QName → Option Desc) (out : is_out unit �
         around = fv;
         before = (
           subst (λ own. HeadIn own (declared_head t d v)) (sym same)
-          (declared_in (ts ++ hs.around.own) t d (made_passed hs.around.own d.parameters e.parameters)
-          (λ x. if_more (IsReceiver unit shown out hs.around) (λ (b : BoundAs). P (ts ++ hs.around.own) (self_by x b b.receiver)) d.bound (λ b k. passed_more unit shown out hs.around.own (ts ++ hs.around.own) more (self_by x b b.receiver) (self_passed unit shown out hs.around f.around x b k)) e.bound)
-          (known_more hs.around.own (ts ++ hs.around.own) more d.inside e.inside) v (subst (λ own. K own v.known) same fv.knows.known)),
+              (declared_in (ts ++ hs.around.own) t d (made_passed hs.around.own d.parameters e.parameters)
+              (λ x. if_more (IsReceiver unit shown out hs.around) (λ (b : BoundAs). P (ts ++ hs.around.own) (self_by x b b.receiver)) d.bound (λ b k. passed_more unit shown out hs.around.own (ts ++ hs.around.own) more (self_by x b b.receiver) (self_passed unit shown out hs.around f.around x b k)) e.bound)
+              (known_more hs.around.own (ts ++ hs.around.own) more d.inside e.inside) v (subst (λ own. K own v.known) same fv.knows.known)),
           subst (λ own. AllByRecursion (HeadIn own) hs.before) (sym same) (heads_more hs.around.own (ts ++ hs.around.own) more hs.before f.before),
         );
       }

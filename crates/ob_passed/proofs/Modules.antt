@@ -1,35 +1,30 @@
 -- A checked module: the parameters of all its procedures are passed well.
-use Rattle.std.proofs.Common.{◌≡◌, refl, sym, ap, ◌∙◌, subst, ℕ, Bool, true, false, List, [], ◌∷◌, ◌++◌, map, Option, Some, None, inl, inr}
-use Rattle.std.specs.Prelude.{◌≢◌, bytes_eq, cond}
-use Rattle.std.specs.List.{AllByRecursion, find, filter_map}
+use Rattle.std.proofs.Common.{◌≡◌, refl, sym, ap, ◌∙◌, subst, true, false, List, [], map, Option}
+use Rattle.std.specs.List.{AllByRecursion}
 use Rattle.ob_tree.specs.declared.names.QName.{QName}
 use Rattle.ob_tree.specs.declared.decl.Module.{Module as Tree}
 use Rattle.ob_types.specs.declared.desc.Desc.{Desc}
 use Rattle.ob_types.specs.declared.typed.TypedType.{TypedType}
 use Rattle.ob_types.specs.declared.typed.TypedParameter.{TypedParameter}
-use Rattle.ob_types.specs.declared.typed.TypedProcedure.{TypedProcedure}
 use Rattle.ob_types.specs.declared.typed.TypedModule.{TypedModule}
 use Rattle.ob_rules.specs.Names.{Around, is_out}
 use Rattle.ob_rules.specs.Statements.{judging}
-use Rattle.ob_rules.specs.Declarations.{Part, Declared, declaration, imports_declared, import_declared, target_of, around_module, name_judged, module_of, block, typed_module, described, checked}
+use Rattle.ob_rules.specs.Declarations.{Part, Declared, declaration, imports_declared, import_declared, target_of, around_module, name_judged, block}
 use Rattle.ob_relation.proofs.Names.{and_both}
-use Rattle.ob_forms.specs.Said.{IsOneOf}
 use Rattle.ob_distinct.specs.Distinct.{AreDistinct}
 use Rattle.ob_distinct.proofs.Blocks.{not_out}
 use Rattle.ob_typed.specs.Spelled.{all_true}
 use Rattle.ob_typed.specs.Bodies.{stmt_spelled}
-use Rattle.ob_bodies.specs.Spelled.{decl_spelled, tree_spelled}
-use Rattle.ob_bodies.specs.Judged.{HasMore}
+use Rattle.ob_bodies.specs.Spelled.{decl_spelled}
 use Rattle.ob_bodies.specs.Laws.{AreOthers}
 use Rattle.ob_bodies.proofs.Lists.{one_left, one_right, all_of, all_both, second_empty}
-use Rattle.ob_bodies.proofs.Standing.{Lies}
 use Rattle.ob_bodies.proofs.Modules.{unbroken_is}
 use Rattle.ob_bound.proofs.Blocks.{order_good as order_bound, imports_good as imports_bound, decls_good as decls_bound}
-use Rattle.ob_ruled.proofs.Plain.{Any, Fine, DeclaredFine, order_plain, imports_plain, start_fine}
+use Rattle.ob_ruled.proofs.Plain.{DeclaredFine, order_plain, imports_plain, start_fine}
 use Rattle.ob_ruled.proofs.Modules as ruled
 use Rattle.ob_ruled.specs.Variables.{IsSameType}
 use Rattle.ob_passed.specs.Passed.{IsPassedWell, HeadIsWell, ParametersArePassed}
-use Rattle.ob_passed.proofs.Blocks.{Among, raw, G, PassedIn, ProcedureIn, AreIn, block_in, decls_good}
+use Rattle.ob_passed.proofs.Blocks.{Among, raw, PassedIn, ProcedureIn, AreIn, block_in, decls_good}
 
 module _ (shown : QName → Option Desc) (tree : Tree) (out : is_out (ruled.module_is shown tree).name ≡ false) (quiet : (ruled.parts shown tree).notes.broken ≡ []) (spelled : all_true (map decl_spelled tree.decls) ≡ true) (others : AreOthers tree.name.name tree.imports) (differ : AreDistinct (λ (t : TypedType). t.name) (ruled.module_is shown tree).types) where
   abbrev whole : Part

@@ -1,5 +1,5 @@
 -- Parameters in sections: their types stand, and they are passed as those ask for.
-use Rattle.std.proofs.Common.{◌≡◌, ⊎_elim, refl, sym, ap, ◌∙◌, subst, ℕ, suc, ◌+◌, Bool, true, false, List, [], ◌∷◌, ◌++◌, map, length, Option, Some, None, inl, inr}
+use Rattle.std.proofs.Common.{◌≡◌, ⊎_elim, refl, sym, subst, ℕ, ◌+◌, Bool, true, false, List, [], ◌∷◌, ◌++◌, map, length, Option, Some, None}
 use Rattle.std.specs.Prelude.{◌&&◌, ◌||◌, is_some}
 use Rattle.std.specs.List.{AllByRecursion}
 use Rattle.ob_tree.specs.declared.pos.Pos.{Pos}
@@ -15,25 +15,21 @@ use Rattle.ob_types.specs.declared.types.TypeRef.{TypeRef}
 use Rattle.ob_types.specs.declared.types.TypeRef.TheVariants as ref
 use Rattle.ob_types.specs.declared.desc.Desc.{Desc}
 use Rattle.ob_types.specs.declared.desc.Desc.TheVariants as desc
-use Rattle.ob_types.specs.declared.desc.Receiver.{Receiver}
 use Rattle.ob_types.specs.declared.desc.Receiver.TheVariants as receiver
 use Rattle.ob_types.specs.declared.typed.Passing.TheVariants as passing
 use Rattle.ob_types.specs.declared.typed.TypedType.{TypedType}
 use Rattle.ob_types.specs.declared.typed.TypedParameter.{TypedParameter}
 use Rattle.ob_types.specs.Tests.{target, pointer_of}
-use Rattle.ob_rules.specs.declared.entity.Entity.{Entity}
-use Rattle.ob_rules.specs.declared.entity.Entity.TheVariants as entity
 use Rattle.ob_rules.specs.declared.entity.Known.{Known}
 use Rattle.ob_rules.specs.Judged.{Judged, if_sound, paired, sound, both, made, noted, unless, ◌▷◌}
 use Rattle.ob_rules.specs.Shapes.{Map, shape, record_at, record_of, record_if, pointed, pointed_record, array_at, open_at, is_structured, by_value, by_var, passing_of}
 use Rattle.ob_rules.specs.Names.{Around, map_of, type_named, is_out}
-use Rattle.ob_rules.specs.Types.{Typing, Written, with_types, section_name, Parameters, WrittenSection, WrittenParameters, Sections, mode_of, parameter_as, knows, declare_all, parameters_of, parameters_joined, with_made, with_result, sections, result_fits, result_of, first_of, parameters_in, inner, is_module_level}
-use Rattle.ob_rules.specs.Headings.{BoundAs, is_own, kind_of, received_record, if_own, own_record, silent_base, bound_to, owner_of, owner_if, bound_in, self_by, knows_receiver}
-use Rattle.ob_forms.specs.Said.{IsOneOf}
-use Rattle.ob_described.proofs.Nodes.{IfThere, Has, then_has, both_have, first_has}
-use Rattle.ob_bodies.specs.Knows.{Grows, Stands, IsDescribed, EntityStands, Knows}
+use Rattle.ob_rules.specs.Types.{Typing, Written, with_types, section_name, Parameters, WrittenSection, WrittenParameters, mode_of, parameter_as, knows, declare_all, parameters_of, parameters_joined, with_made, with_result, sections, result_fits, result_of, first_of, parameters_in, inner, is_module_level}
+use Rattle.ob_rules.specs.Headings.{BoundAs, is_own, kind_of, received_record, if_own, own_record, silent_base, bound_to, owner_of, owner_if, self_by, knows_receiver}
+use Rattle.ob_described.proofs.Nodes.{IfThere, Has, then_has, both_have}
+use Rattle.ob_bodies.specs.Knows.{Stands, IsDescribed, EntityStands}
 use Rattle.ob_bodies.proofs.Lists.{one_left, one_right, one_joined, all_of, all_both}
-use Rattle.ob_bodies.proofs.Standing.{Lies, lies_same, lies_then, grows_as, stands_grown}
+use Rattle.ob_bodies.proofs.Standing.{Lies, lies_same, lies_then, grows_as}
 use Rattle.ob_bodies.proofs.Named.{type_named_stands}
 use Rattle.ob_bodies.proofs.Typings.{IsGood, TypingIs}
 use Rattle.ob_ruled.specs.Variables.{AliasStands}

@@ -1,23 +1,20 @@
 -- Each build is ruled.
-use Rattle.std.proofs.Common.{◌≡◌, refl, sym, ap, ◌∙◌, subst, ℕ, ◌<◌, ◌≤◌, Bool, true, false, List, [], ◌∷◌, map as each, Option, Some, None}
+use Rattle.std.proofs.Common.{◌≡◌, refl, sym, ap, ◌∙◌, subst, ℕ, Bool, true, false, List, [], ◌∷◌, map as each, Option, Some, None}
 use Rattle.std.specs.Prelude.{◌≢◌, bytes_eq, cond}
 use Rattle.std.specs.List.{AllByRecursion}
 use Rattle.ob_tree.specs.declared.names.QName.{QName}
-use Rattle.ob_tree.specs.declared.decl.Module.{Module as Tree}
 use Rattle.ob_types.specs.declared.types.TypeRef.{TypeRef}
 use Rattle.ob_types.specs.declared.desc.Desc.{Desc}
 use Rattle.ob_types.specs.declared.desc.Desc.TheVariants as desc
 use Rattle.ob_types.specs.declared.typed.TypedType.{TypedType}
-use Rattle.ob_types.specs.declared.typed.TypedModule.{TypedModule}
 use Rattle.ob_types.specs.Relations.{IsGrounded}
 use Rattle.ob_types.specs.TypedSyntax.{Module}
 use Rattle.ob_types.specs.TypedView.{module_view}
 use Rattle.ob_layout.specs.LaidOut.{laid_desc, laid_type, laid_out, words_in, procedures_in}
 use Rattle.ob_env.specs.Faces.{Face, face_named, described}
 use Rattle.ob_env.specs.Shown.{shown}
-use Rattle.ob_walk.specs.Walk.{Entry, Missing, Holds}
-use Rattle.ob_compile.specs.Compiling.{texts, Compiled, made}
-use Rattle.ob_rules.specs.Declarations.{checked}
+use Rattle.ob_walk.specs.Walk.{Holds}
+use Rattle.ob_compile.specs.Compiling.{Compiled}
 use Rattle.ob_relation.proofs.Names.{bytes_true}
 use Rattle.ob_distinct.specs.Distinct.{AreDistinct}
 use Rattle.ob_described.proofs.Blocks.{types_described}
@@ -25,7 +22,6 @@ use Rattle.ob_strings.proofs.Trees.{readings_spelled}
 use Rattle.ob_written.specs.Seen.{AreNamedEntries, LengthFits}
 use Rattle.ob_ranges.proofs.Compiled.{compiled_in_range}
 use Rattle.ob_ages.specs.Builds.{Text, Build, IsValid, IsSpelled, entry_of}
-use Rattle.ob_ages.proofs.Stood.{of_is}
 use Rattle.ob_locality.proofs.Compiled.{ComesOf, comes_of, checked_name, apart_of}
 use Rattle.ob_sized.proofs.Different.{build_comes}
 use Rattle.ob_sized.proofs.Grounded.{against_is_grounded}

@@ -1,5 +1,5 @@
 -- In the descriptions that a module was compiled with, the types of its variables are types, and no open arrays.
-use Rattle.std.proofs.Common.{◌≡◌, refl, sym, ap, ◌∙◌, subst, ℕ, zero, suc, Bool, true, false, List, [], ◌∷◌, ◌++◌, map as each, Option, Some, None, inl, inr, cond}
+use Rattle.std.proofs.Common.{◌≡◌, refl, sym, ap, ◌∙◌, subst, ℕ, zero, suc, Bool, true, false, List, [], ◌∷◌, Option, Some, None, inl, inr, cond}
 use Rattle.std.specs.Prelude.{◌&&◌, bytes_eq, is_some, MatchOption, IsTrue, codes}
 use Rattle.std.specs.List.{AllByRecursion, find}
 use Rattle.std.specs.Option.{option_map}
@@ -20,7 +20,7 @@ use Rattle.ob_types.specs.Relations.{StandsFor, itself, equated, Is, is_alias, i
 use Rattle.ob_types.specs.Tests.{target_of, follow, target, shape_at}
 use Rattle.ob_types.specs.TypedSyntax.{Module}
 use Rattle.ob_types.specs.TypedView.{module_view}
-use Rattle.ob_layout.specs.LaidOut.{type_named, laid_desc, laid_type, laid_out, viewed, words_in, procedures_in}
+use Rattle.ob_layout.specs.LaidOut.{type_named, laid_desc, laid_out, viewed, words_in, procedures_in}
 use Rattle.ob_env.specs.Faces.{Face, face_named, object_named, described}
 use Rattle.ob_env.specs.Shown.{blank, shown}
 use Rattle.ob_rules.specs.Shapes.{open_at, same_name}

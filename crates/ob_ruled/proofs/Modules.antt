@@ -4,7 +4,6 @@ use Rattle.std.specs.Prelude.{◌≢◌, bytes_eq}
 use Rattle.std.specs.List.{AllByRecursion, find, filter_map}
 use Rattle.ob_tree.specs.declared.names.QName.{QName}
 use Rattle.ob_tree.specs.declared.decl.Module.{Module as Tree}
-use Rattle.ob_types.specs.declared.value.Value.{Value}
 use Rattle.ob_types.specs.declared.desc.Desc.{Desc}
 use Rattle.ob_types.specs.declared.typed.TypedType.{TypedType}
 use Rattle.ob_types.specs.declared.typed.TypedVariable.{TypedVariable}
@@ -13,28 +12,27 @@ use Rattle.ob_rules.specs.Names.{Around, is_out}
 use Rattle.ob_rules.specs.Types.{is_module_level}
 use Rattle.ob_rules.specs.Statements.{judging}
 use Rattle.ob_rules.specs.Headings.{Head, Heads, Binding, reversed}
-use Rattle.ob_rules.specs.Declarations.{no_contents, Part, Declared, Written_procedure, declaration, plain_of, procedure_of, type_name_of, in_order, headings_in_order, heads_later, pointers_judged, name_judged, binding_at, with_bound, procedure_judged, procedures_judged, imports_declared, import_declared, target_of, around_module, module_of, typed_module, described, all_described, checked}
-use Rattle.ob_relation.proofs.Names.{and_both, bytes_true, bytes_same}
+use Rattle.ob_rules.specs.Declarations.{no_contents, Part, Declared, Written_procedure, declaration, plain_of, procedure_of, type_name_of, in_order, headings_in_order, heads_later, pointers_judged, name_judged, binding_at, with_bound, procedure_judged, procedures_judged, imports_declared, import_declared, target_of, around_module, module_of, typed_module, described, all_described}
+use Rattle.ob_relation.proofs.Names.{and_both, bytes_true}
 use Rattle.ob_forms.specs.Said.{IsOneOf}
 use Rattle.ob_distinct.specs.Distinct.{AreDistinct}
 use Rattle.ob_distinct.proofs.Blocks.{not_out}
-use Rattle.ob_typed.specs.Makes.{IfThere}
 use Rattle.ob_typed.specs.Spelled.{all_true}
 use Rattle.ob_typed.specs.Bodies.{stmt_spelled}
-use Rattle.ob_bodies.specs.Spelled.{decl_spelled, tree_spelled}
+use Rattle.ob_bodies.specs.Spelled.{decl_spelled}
 use Rattle.ob_bodies.specs.Judged.{HasMore, IsTold}
 use Rattle.ob_bodies.specs.Laws.{AreOthers}
 use Rattle.ob_bodies.proofs.Lists.{one_left, one_right, one_joined, one_all, all_of, all_both, first_empty, second_empty}
 use Rattle.ob_bodies.proofs.More.{more_same}
 use Rattle.ob_bodies.proofs.Held.{one_mapped}
 use Rattle.ob_bodies.proofs.Standing.{Lies, lies_same}
-use Rattle.ob_bodies.proofs.Binding.{Changes, binding_changes}
+use Rattle.ob_bodies.proofs.Binding.{binding_changes}
 use Rattle.ob_bodies.proofs.Headings.{Aligned, aligned_in_order, types_of_all, IsUnbroken, lies_in_order, types_lie}
 use Rattle.ob_bodies.proofs.Blocks.{procedures_bound, heads_unbroken, types_there, one_reversed}
 use Rattle.ob_bodies.proofs.Modules.{unbroken_is}
-use Rattle.ob_bound.proofs.Blocks.{GoodDeclared, order_good, imports_good as imports_bound, plains_good, decls_good}
+use Rattle.ob_bound.proofs.Blocks.{order_good, imports_good as imports_bound, plains_good, decls_good}
 use Rattle.ob_ruled.specs.Variables.{IsDeclaredWell, VariablesAreDeclared}
-use Rattle.ob_ruled.proofs.Plain.{Any, Fine, VariableIn, DeclaredFine, order_plain, imports_plain, decls_plain, start_fine, later_fine}
+use Rattle.ob_ruled.proofs.Plain.{Any, VariableIn, DeclaredFine, order_plain, imports_plain, decls_plain, start_fine, later_fine}
 
 -- ---- types of one name are one
 

@@ -1,5 +1,5 @@
 -- What the bound procedures of a module's records take and give counts for its uses, as the procedures do.
-use Rattle.std.proofs.Common.{◌≡◌, ⊎_elim, refl, sym, ap, ◌∙◌, subst, ℕ, suc, List, [], ◌∷◌, ◌++◌, map as each, Option, inl, inr}
+use Rattle.std.proofs.Common.{sym, subst, ℕ, suc, List, [], ◌∷◌, ◌++◌, map as each, Option, inl, inr}
 use Rattle.std.specs.List.{AllByRecursion, flat_map}
 use Rattle.ob_tree.specs.declared.names.QName.{QName}
 use Rattle.ob_types.specs.declared.types.Mode.{Mode}
@@ -24,7 +24,7 @@ use Rattle.ob_local.specs.Agreeing.{Map, IsNear, On}
 use Rattle.ob_local.proofs.Told.{all_on}
 use Rattle.ob_forms.specs.Said.{IsOneOf}
 use Rattle.ob_bodies.specs.Judged.{AreOf}
-use Rattle.ob_bound.specs.Bound.{methods_of, HasProcedure, IsThere}
+use Rattle.ob_bound.specs.Bound.{methods_of, IsThere}
 use Rattle.ob_ruled.specs.Ruled.{bound_types}
 
 all_both : {A : Type 0} (P : A → Type 0) (xs ys : List A) → AllByRecursion P xs → AllByRecursion P ys → AllByRecursion P (xs ++ ys)

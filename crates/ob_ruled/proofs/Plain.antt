@@ -1,6 +1,6 @@
 -- Constants, types and variables of a module, in their order: where a variable is declared its type stands, and is no open array.
-use Rattle.std.proofs.Common.{◌≡◌, ⊎_elim, refl, sym, ap, ◌∙◌, subst, ℕ, Bool, true, false, List, [], ◌∷◌, ◌++◌, map, Option, Some, None, inl, inr}
-use Rattle.std.specs.Prelude.{◌&&◌, bytes_eq, codes}
+use Rattle.std.proofs.Common.{◌≡◌, ⊎_elim, refl, sym, ◌∙◌, subst, ℕ, Bool, true, false, List, [], ◌∷◌, ◌++◌, map, Option, Some, None}
+use Rattle.std.specs.Prelude.{bytes_eq, codes}
 use Rattle.std.specs.List.{AllByRecursion, filter_map, cons_option}
 use Rattle.ob_tree.specs.declared.names.QName.{QName}
 use Rattle.ob_tree.specs.declared.ident.Ident.{Ident}
@@ -25,17 +25,17 @@ use Rattle.ob_rules.specs.declared.entity.Entity.{Entity}
 use Rattle.ob_rules.specs.declared.entity.Known.{Known}
 use Rattle.ob_rules.specs.Judged.{Judged, sound, both, ◌▷◌}
 use Rattle.ob_rules.specs.Shapes.{is_open}
-use Rattle.ob_rules.specs.Names.{Around, map_of, found_in_scope, predeclared, is_out}
+use Rattle.ob_rules.specs.Names.{Around, map_of, found_in_scope, is_out}
 use Rattle.ob_rules.specs.Phrases.{Phrase}
 use Rattle.ob_rules.specs.Expressions.{phrase_of, constant_value}
-use Rattle.ob_rules.specs.Types.{Typing, Written, written, with_types, is_module_level, marked}
+use Rattle.ob_rules.specs.Types.{Typing, written, with_types, is_module_level, marked}
 use Rattle.ob_rules.specs.Headings.{mark_or_hidden}
 use Rattle.ob_rules.specs.Declarations.{no_contents, together, Declared, declare_if, declare, no_nil, constant_entity, constant_contents, constant_declared, equated, typing_as, type_entity, types_made, type_declared, variable_entity, variable_contents, paired_typing, variables_with, first_name, made_in, variables_typed, variables_declared, Declaration, Plain, Procedure, plain_of, in_order, decl_rule, declaration, is_system, import_entity, import_declared, target_of, around_module}
 use Rattle.ob_forms.specs.Said.{IsOneOf}
 use Rattle.ob_relation.proofs.Names.{and_both}
 use Rattle.ob_described.proofs.Nodes.{IfThere, Has, then_has, second_has}
 use Rattle.ob_typed.specs.Spelled.{all_true, is_spelled}
-use Rattle.ob_bodies.specs.Spelled.{parameters_spelled, type_spelled, decl_layer, decl_spelled}
+use Rattle.ob_bodies.specs.Spelled.{type_spelled, decl_layer, decl_spelled}
 use Rattle.ob_bodies.specs.Knows.{Grows, Stands, IsDescribed, EntityStands, Knows}
 use Rattle.ob_bodies.proofs.Lists.{one_left, one_right, one_joined, all_of, all_both}
 use Rattle.ob_bodies.proofs.Standing.{Lies, grows_front, stands_grown, with_types_known}

@@ -1,3 +1,3 @@
 pub mod Whole
-pub mod Kinds
+pub mod Alike
 pub mod Passing

@@ -1,5 +1,5 @@
 -- Parameters of builds that are loaded together are passed as their types ask for.
-use Rattle.std.proofs.Common.{◌≡◌, refl, sym, ap, ◌∙◌, subst, ℕ, zero, suc, Bool, true, false, List, [], ◌∷◌, ◌++◌, map as each, Option, Some, None, append_assoc}
+use Rattle.std.proofs.Common.{◌≡◌, refl, sym, ap, ◌∙◌, subst, ℕ, zero, suc, true, false, List, [], ◌∷◌, ◌++◌, map as each, Option, Some, append_assoc}
 use Rattle.std.specs.Prelude.{bytes_eq, MatchOption, IsTrue}
 use Rattle.std.specs.List.{AllByRecursion}
 use Rattle.ob_tree.specs.declared.names.QName.{QName}
@@ -47,7 +47,7 @@ use Rattle.ob_ordered.proofs.Owing.{loaded_are_sound}
 use Rattle.ob_passed.specs.Passed.{IsPassedWell, HeadIsWell}
 use Rattle.ob_passed.proofs.Modules.{parameters_passed}
 use Rattle.ob_whole.specs.Whole.{LoadedPassed}
-use Rattle.ob_whole.proofs.Kinds.{SaidBy, passed_alike}
+use Rattle.ob_whole.proofs.Alike.{SaidBy, passed_alike}
 
 core_type : (d : Desc) → is_type (core d) ≡ is_type d
 core_type (desc.Const v) = refl
@@ -112,13 +112,13 @@ module _ (written : BuildsAreWritten) (ruled : BuildsAreRuled) where
             alike = one.says.alike ∙ sym two.alike;
             type = sym (core_type two.e) ∙ ap is_type two.alike ∙ core_type two.d ∙ kind;
             onward = λ j t i.
-              let a : two.d ≡ desc.Alias j t = closed.core_alias two.d j t (sym one.says.alike ∙ ap core i) in (
-                one.on j t a,
-                (
-                  (subst (λ d. AllByRecursion (declares.IsNear (tree_of b) u.near) (near_types d)) a two.parts).0,
-                  (subst (λ d. AllByRecursion (λ t. IsHeld V t) (named_by d)) a (r.grounded.held q two.d two.of)).0,
-                ),
-              );
+                let a : two.d ≡ desc.Alias j t = closed.core_alias two.d j t (sym one.says.alike ∙ ap core i) in (
+                  one.on j t a,
+                  (
+                    (subst (λ d. AllByRecursion (declares.IsNear (tree_of b) u.near) (near_types d)) a two.parts).0,
+                    (subst (λ d. AllByRecursion (λ t. IsHeld V t) (named_by d)) a (r.grounded.held q two.d two.of)).0,
+                  ),
+                );
             within = λ j t i n w. within_next V q j t (two.of ∙ ap (λ d. Some d) (closed.core_alias two.d j t (sym one.says.alike ∙ ap core i))) n w;
           } in
           let there = held x.of g.stands in

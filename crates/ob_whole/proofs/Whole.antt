@@ -1,5 +1,5 @@
 -- The program of builds that are loaded together is whole.
-use Rattle.std.proofs.Common.{◌≡◌, ◌≢◌, refl, sym, ap, ◌∙◌, subst, ℕ, Bool, true, false, List, [], ◌∷◌, ◌++◌, map, Option, Some, None, cond}
+use Rattle.std.proofs.Common.{◌≡◌, ◌≢◌, refl, sym, ap, ◌∙◌, subst, ℕ, Bool, true, false, List, [], ◌∷◌, ◌++◌, map, None, cond}
 use Rattle.std.specs.Prelude.{◌&&◌, bytes_eq, codes, MatchOption, IsTrue}
 use Rattle.std.specs.List.{AllByRecursion, IsDistinct}
 use Rattle.std.proofs.lemmas.Bool.{false≢true}
@@ -7,7 +7,6 @@ use Rattle.std.proofs.lemmas.Slice.Eq.{bytes_eq-Decides}
 use Rattle.ob_tree.specs.declared.names.QName.{QName}
 use Rattle.ob_types.specs.declared.types.TypeRef.{TypeRef}
 use Rattle.ob_types.specs.declared.types.TypeRef.TheVariants as ref
-use Rattle.ob_types.specs.declared.desc.Desc.{Desc}
 use Rattle.ob_types.specs.declared.typed.TypedType.{TypedType}
 use Rattle.ob_types.specs.declared.typed.TypedVariable.{TypedVariable}
 use Rattle.ob_types.specs.Maps.{is_type, IsHeld}
@@ -15,7 +14,7 @@ use Rattle.ob_types.specs.TypedSyntax.{Procedure, Module}
 use Rattle.ob_meaning.specs.Values.{Program}
 use Rattle.ob_rules.specs.Names.{is_out, out_string}
 use Rattle.ob_rules.specs.Shapes.{same_name}
-use Rattle.ob_layout.specs.LaidOut.{type_named, is_own}
+use Rattle.ob_layout.specs.LaidOut.{type_named}
 use Rattle.ob_env.specs.Faces.{described}
 use Rattle.ob_relation.proofs.Names.{bytes_sym}
 use Rattle.ob_distinct.specs.Distinct.{AreDistinct}
@@ -92,8 +91,7 @@ all_whole ruled program before [] h p v = tt
 all_whole ruled program before (b ∷ bs) h p v =
     let c = h.0.valid.0 in
     let k = h.0.valid.1 in
-    let same : c.tree ≡ tree_of b = ap (λ (x : Compiled Text). x.tree) (sym (of_is b c k)) in
-    (
+    let same : c.tree ≡ tree_of b = ap (λ (x : Compiled Text). x.tree) (sym (of_is b c k)) in (
       subst (λ (x : Module). AllByRecursion (HeadingOk program) x.procedures → Different (λ v. v.name) x.variables → IsWholeModule program x) same (module_whole ruled b c k program) p.0 v.0,
       all_whole ruled program (before ++ b ∷ []) bs h.1 p.1 v.1,
     )

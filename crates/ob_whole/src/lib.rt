@@ -5,7 +5,7 @@ ghost use Rattle.ob_whole.specs.Whole.{LoadedPassed, LoadedWhole};
 
 /// A law, with nothing to run. In builds that are loaded together the names of modules differ, and in
 /// each those of its types, procedures and variables. (Taken for granted: of each build alone
-/// `BuildsAreRuled`, and that parameters are passed as their types ask for, `LoadedArePassed`.)
+/// `BuildsAreRuled`; `LoadedArePassed` follows, `loaded_passed`.)
 pub fn loaded_whole()
     ensures { LoadedWhole }
 {}

@@ -1,5 +1,5 @@
 -- A type is passed by its form in a program as it is passed by a map that says of it, and of what it is equated to, what the program does.
-use Rattle.std.proofs.Common.{◌≡◌, refl, sym, ap, ◌∙◌, subst, ℕ, zero, suc, Bool, true, false, List, [], ◌∷◌, Option, Some, None}
+use Rattle.std.proofs.Common.{◌≡◌, refl, sym, ap, ◌∙◌, ℕ, zero, suc, true, false, List, Option, Some, None}
 use Rattle.std.specs.Prelude.{◌||◌, is_some}
 use Rattle.ob_tree.specs.declared.names.QName.{QName}
 use Rattle.ob_tree.specs.declared.ident.Mark.{Mark}
@@ -14,7 +14,7 @@ use Rattle.ob_types.specs.declared.typed.Passing.{Passing}
 use Rattle.ob_types.specs.Maps.{is_type}
 use Rattle.ob_types.specs.Relations.{is_alias}
 use Rattle.ob_types.specs.Tests.{target_of, follow, target, shape_at}
-use Rattle.ob_meaning.specs.Values.{Program, Form, BasicForm, PointerForm, ProcedureForm, ArrayForm, OpenForm, RecordForm, Fields, form_in, formals_in, description}
+use Rattle.ob_meaning.specs.Values.{Program, BasicForm, PointerForm, ProcedureForm, ArrayForm, OpenForm, RecordForm, Fields, form_in, formals_in, description}
 use Rattle.ob_rules.specs.Shapes.{array_at, open_at, record_at, by_value, by_var, passing_of}
 use Rattle.ob_relation.specs.Typed.{passing_for}
 use Rattle.ob_forms.specs.Said.{IsSound}
@@ -103,7 +103,7 @@ module _ (program : Program) (sound : IsSound program) (one : QName → Option D
     basic k b = by k ∙ sym (ap (passing_for k) (basic_is program b))
       where
         by : (k : Mode) → passing_at k (ref.Basic b) None ≡ passing_for k (BasicForm b)
-          by mode.Value = refl
+        by mode.Value = refl
         by mode.Var = refl
 
     target_basic : (n : ℕ) (b : Basic) → target one n (ref.Basic b) ≡ ref.Basic b
