@@ -9,7 +9,7 @@ use Rattle.ob_ordered.proofs.Owing.{loaded_variables, loaded_describe}
 use Rattle.ob_whole.proofs.Whole.{loaded_whole}
 use Rattle.ob_whole.proofs.Passing.{loaded_passed}
 use Rattle.ob_laying.proofs.Loaded.{loaded_laid}
-use Rattle.ob_owing.specs.Left.{Left, LeftGives, LeftStands}
+use Rattle.ob_owing.specs.Left.{LeftGives, LeftStands}
 use Rattle.ob_owing.proofs.Builds.{builds_ruled}
 
 pub left_gives : LeftGives
