@@ -24,10 +24,10 @@ use Rattle.ob_declares.proofs.Ordered.{has_more, sees, types_named}
 use Rattle.ob_declares.proofs.Views.{type_found}
 use Rattle.ob_compile.specs.Compiling.{Compiled}
 use Rattle.ob_ages.specs.Builds.{Text}
-use Rattle.ob_ordered.specs.Loaded.{types_of}
+use Rattle.ob_ruled.specs.Ruled.{types_of}
 use Rattle.ob_ordered.proofs.Used.{near_named}
 
-core_alias : (e : Desc) (m : Mark) (t : TypeRef) → core e ≡ desc.Alias m t → e ≡ desc.Alias m t
+pub core_alias : (e : Desc) (m : Mark) (t : TypeRef) → core e ≡ desc.Alias m t → e ≡ desc.Alias m t
 core_alias (desc.Const v) m t h = h
 core_alias (desc.Var k u) m t h = h
 core_alias (desc.Proc s) m t h = h
@@ -68,15 +68,15 @@ module _ (c : Compiled Text) (before : Program) (over : StandsOver before c.tree
   all = before ++ c.tree ∷ []
 
   -- a type that counts, where the module was compiled and in the program
-  record Look (q : QName) : Type 0 where
-    d : Desc
-    e : Desc
-    of : types_of c q ≡ Some d
-    there : description all q ≡ Some e
-    alike : core e ≡ core d
-    parts : AllByRecursion (declares.IsNear c.tree near) (near_types d)
+  pub record Look (q : QName) : Type 0 where
+    pub d : Desc
+    pub e : Desc
+    pub of : types_of c q ≡ Some d
+    pub there : description all q ≡ Some e
+    pub alike : core e ≡ core d
+    pub parts : AllByRecursion (declares.IsNear c.tree near) (near_types d)
 
-  look : (q : QName) → declares.IsNear c.tree near (ref.Named q) → IsHeld (types_of c) (ref.Named q) → Look q
+  pub look : (q : QName) → declares.IsNear c.tree near (ref.Named q) → IsHeld (types_of c) (ref.Named q) → Look q
   look q n h = by (is_own c.tree q) refl (types_of c q) refl h
     where
       by : (b : Bool) → is_own c.tree q ≡ b → (o : Option Desc) → types_of c q ≡ o → MatchOption o ⊥ (λ d. IsTrue (is_type d)) → Look q

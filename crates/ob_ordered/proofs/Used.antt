@@ -4,6 +4,8 @@ use Rattle.std.specs.Prelude.{Bool, true, false, not, ◌&&◌, ◌||◌, bytes_
 use Rattle.std.specs.Option.{option_map}
 use Rattle.std.specs.List.{AllByRecursion, flat_map}
 use Rattle.ob_tree.specs.declared.names.QName.{QName}
+use Rattle.ob_types.specs.declared.types.Mode.{Mode}
+use Rattle.ob_types.specs.declared.types.Mode.TheVariants as mode
 use Rattle.ob_types.specs.declared.types.TypeRef.{TypeRef}
 use Rattle.ob_types.specs.declared.types.TypeRef.TheVariants as ref
 use Rattle.ob_types.specs.declared.desc.Desc.{Desc}
@@ -11,15 +13,16 @@ use Rattle.ob_types.specs.declared.desc.Desc.TheVariants as desc
 use Rattle.ob_types.specs.declared.desc.Field.{Field}
 use Rattle.ob_types.specs.declared.typed.TypedType.{TypedType}
 use Rattle.ob_types.specs.declared.typed.TypedVariable.{TypedVariable}
+use Rattle.ob_types.specs.declared.typed.TypedParameter.{TypedParameter}
 use Rattle.ob_types.specs.AssigningTests.{described as is_described}
 use Rattle.ob_types.specs.Maps.{is_type, listed, named_by, signature_types, IsHeld}
-use Rattle.ob_types.specs.TypedSyntax.{Module}
+use Rattle.ob_types.specs.TypedSyntax.{Procedure, Module}
 use Rattle.ob_meaning.specs.Values.{Program, description}
 use Rattle.ob_relation.proofs.Names.{bytes_same}
 use Rattle.ob_desc.specs.Grammar.{seen}
 use Rattle.ob_layout.specs.LaidOut.{type_named, is_own}
 use Rattle.ob_env.specs.Faces.{Face, described, text_in}
-use Rattle.ob_counts.specs.Counts.{Count, Shapes, Layouts, both, own_name, counts_of_desc, counts_of_type, counts_of_variable, counts_of_procedure, counts_of_all, counts_of_mentioned, counts_of_module}
+use Rattle.ob_counts.specs.Counts.{Count, Shapes, Layouts, shapes, both, mode_of, formal_counts, counts_of_parameter, counts_of_binding, own_name, counts_of_desc, counts_of_type, counts_of_variable, counts_of_procedure, counts_of_all, counts_of_mentioned, counts_of_module}
 use Rattle.ob_counts.specs.Noted.{names_of, shape_starts}
 use Rattle.ob_uses.specs.declared.way.Way.TheVariants as way
 use Rattle.ob_uses.specs.Closed.{is_among, of_found, reached_from}
@@ -36,11 +39,12 @@ use Rattle.ob_local.proofs.Told.{all_on}
 use Rattle.ob_local.proofs.Agreed.{names_held, all_held, out_none, shapes_met}
 use Rattle.ob_declares.specs.Near.{core, IsUsed, AreUsed}
 use Rattle.ob_declares.specs.Near as declares
+use Rattle.ob_declares.specs.Ordered.{bare}
 use Rattle.ob_declares.proofs.Keeping.{core_bare}
 use Rattle.ob_declares.proofs.Ordered.{seen_bare}
 use Rattle.ob_compile.specs.Compiling.{Compiled}
 use Rattle.ob_ages.specs.Builds.{Text}
-use Rattle.ob_ordered.specs.Loaded.{types_of, bound_types, IsRuled}
+use Rattle.ob_ruled.specs.Ruled.{types_of, bound_types, IsRuled}
 
 -- ---- lists and truths
 
@@ -79,6 +83,29 @@ fields_count P (f ∷ fs) h = (h.0, fields_count P fs h.1)
 variables_count : (P : QName → Type 0) (vs : List TypedVariable) → AllByRecursion (On P) (shape_starts (flat_map counts_of_variable vs)) → AllByRecursion (λ v. On P v.of) vs
 variables_count P [] h = tt
 variables_count P (v ∷ vs) h = (h.0, variables_count P vs h.1)
+
+-- a type of another module as interfaces show it now, and as the program has it
+pub record ShownNow (before : Program) (others : List (Face Text)) (m : Module) (near : QName → Bool) (q : QName) : Type 0 where
+  pub x : Desc
+  pub e : Desc
+  pub of : described others q ≡ Some x
+  pub has : description before q ≡ Some e
+  pub alike : bare e ≡ bare x
+  pub parts : AllByRecursion (declares.IsNear m near) (near_types x)
+
+shape_near : (x d : Desc) → as_shape x ≡ as_shape d → near_types x ≡ near_types d
+shape_near x d e = same x ∙ ap near_types e ∙ sym (same d)
+  where
+    same : (d : Desc) → near_types d ≡ near_types (as_shape d)
+    same (desc.Const v) = refl
+    same (desc.Var m t) = refl
+    same (desc.Proc s) = refl
+    same (desc.Alias m t) = refl
+    same (desc.Array m n t) = refl
+    same (desc.OpenArray m t) = refl
+    same (desc.Pointer m t) = refl
+    same (desc.ProcType m s) = refl
+    same (desc.Record r) = refl
 
 -- ---- a shape keeps the core
 
@@ -163,7 +190,7 @@ module _ (c : Compiled Text) (ruled : IsRuled c) (found : AllByRecursion (λ t. 
               ∙ ap (is_described is_type) e ∙ h
 
   -- what counts and is held is one of the module, or such a one
-  held_near : (t : TypeRef) → On Near t → IsHeld (types_of c) t → declares.IsNear c.tree near t
+  pub held_near : (t : TypeRef) → On Near t → IsHeld (types_of c) t → declares.IsNear c.tree near t
   held_near (ref.Basic b) n h = tt
   held_near (ref.Named q) n h = by (is_own c.tree q) refl
     where
@@ -228,6 +255,28 @@ module _ (c : Compiled Text) (ruled : IsRuled c) (found : AllByRecursion (λ t. 
   pub variables_near : AllByRecursion (λ v. declares.IsNear c.tree near v.of) c.tree.variables
   variables_near = near_variables c.tree.variables (variables_count Near c.tree.variables (starts_back Near (c1 ++ c2) c3 counted)) ruled.variables
 
+  -- the types of the parameters of its procedures
+  formal_count : (k : Mode) (t : TypeRef) → AllByRecursion (On Near) (shape_starts (formal_counts (k, t))) → On Near t
+  formal_count mode.Value t h = h.0
+  formal_count mode.Var t h = h.0
+
+  parameters_count : (xs : List TypedParameter) → AllByRecursion (On Near) (shape_starts (flat_map counts_of_parameter xs)) → AllByRecursion (λ x. On Near x.of) xs
+  parameters_count [] h = tt
+  parameters_count (x ∷ xs) h = (formal_count (mode_of x.passing) x.of (starts_front Near (counts_of_parameter x) (flat_map counts_of_parameter xs) h), parameters_count xs (starts_back Near (counts_of_parameter x) (flat_map counts_of_parameter xs) h))
+
+  procedures_count : (ps : List Procedure) → AllByRecursion (On Near) (shape_starts (flat_map (counts_of_procedure (types_of c)) ps)) → AllByRecursion (λ p. AllByRecursion (λ x. On Near x.of) p.parameters) ps
+  procedures_count [] h = tt
+  procedures_count (p ∷ ps) h =
+      let a = flat_map counts_of_parameter p.parameters in
+      let b = shapes (listed p.result) in
+      let k = flat_map counts_of_variable p.locals in
+      let l = counts_of_binding (types_of c) p.binding in
+      let one = starts_front Near (counts_of_procedure (types_of c) p) (flat_map (counts_of_procedure (types_of c)) ps) h in
+      (parameters_count p.parameters (starts_front Near a b (starts_front Near (a ++ b) k (starts_front Near (a ++ b ++ k) l (starts_front Near (a ++ b ++ k ++ l) (counts_of_all p.body) one)))), procedures_count ps (starts_back Near (counts_of_procedure (types_of c) p) (flat_map (counts_of_procedure (types_of c)) ps) h))
+
+  pub parameters_near : AllByRecursion (λ p. AllByRecursion (λ x. On Near x.of) p.parameters) c.tree.procedures
+  parameters_near = procedures_count c.tree.procedures (starts_back Near (c1 ++ c2 ++ c3) c4 (starts_front Near (c1 ++ c2 ++ c3 ++ c4) (counts_of_all c.tree.body) (all_on Near (shape_starts (counts_of_module (types_of c) c.tree)) (λ q i. first i))))
+
   -- ---- over other interfaces, which show what the modules before declare
 
   module _ (before : Program) (others : List (Face Text)) (spelled_too : AreSpelled others) (no_out_too : HaveNoOut others) (met : AreMet others c.shows.uses) (show : (q : QName) (d : Desc) → described others q ≡ Some d → is_type d ≡ true → (e : Desc) × ((description before q ≡ Some e) × (seen (in_places e) ≡ d))) where
@@ -267,3 +316,19 @@ module _ (c : Compiled Text) (ruled : IsRuled c) (found : AllByRecursion (λ t. 
 
     pub are_used : AreUsed before c.tree (described c.against) near
     are_used = record { own = own_near; others = used_at }
+
+    reached_at : (q : QName) → near q ≡ true → is_among reached q ≡ true
+    unfolding near
+    reached_at q i = (both_true (is_among reached q) (is_described is_type (described c.against q)) (both_true (is_imported c.tree q) (is_among reached q && is_described is_type (described c.against q)) i).1).0
+
+    pub shown_now : (q : QName) → is_own c.tree q ≡ false → near q ≡ true → ShownNow before others c.tree near q
+    shown_now q own i =
+        let u = used_at q own i in
+        by u (described others q) refl (sym (shapes_met c.against others c.tree spelled spelled_too no_out no_out_too (subst (λ (f : Face Text). AreMet others f.uses) shows_is met) q (is_near q (reached_at q i)) (λ j. subst IsSome (sym u.of) refl) own) ∙ ap (option_map as_shape) u.of)
+      where
+        by : (u : IsUsed before c.tree (described c.against) near q) (o : Option Desc) → described others q ≡ o → option_map as_shape o ≡ Some (as_shape u.d) → ShownNow before others c.tree near q
+        by u None j h = absurd cc
+        by u (Some x) j h =
+            let k : as_shape x ≡ as_shape u.d = same_some (as_shape x) (as_shape u.d) h in
+            let s = show q x j (sym (shape_type x) ∙ ap is_type k ∙ shape_type u.d ∙ u.type) in
+            record { x = x; e = s.0; of = j; has = s.1.0; alike = seen_bare s.0 x s.1.1; parts = subst (AllByRecursion (declares.IsNear c.tree near)) (sym (shape_near x u.d k)) u.parts }

@@ -1,0 +1,4 @@
+pub mod Sections
+pub mod Heads
+pub mod Blocks
+pub mod Modules

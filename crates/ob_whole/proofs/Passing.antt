@@ -1,0 +1,167 @@
+-- Parameters of builds that are loaded together are passed as their types ask for.
+use Rattle.std.proofs.Common.{◌≡◌, refl, sym, ap, ◌∙◌, subst, ℕ, zero, suc, true, false, List, [], ◌∷◌, ◌++◌, map as each, Option, Some, append_assoc}
+use Rattle.std.specs.Prelude.{bytes_eq, MatchOption, IsTrue}
+use Rattle.std.specs.List.{AllByRecursion}
+use Rattle.ob_tree.specs.declared.names.QName.{QName}
+use Rattle.ob_tree.specs.declared.ident.Mark.{Mark}
+use Rattle.ob_types.specs.declared.types.TypeRef.{TypeRef}
+use Rattle.ob_types.specs.declared.types.TypeRef.TheVariants as ref
+use Rattle.ob_types.specs.declared.desc.Desc.{Desc}
+use Rattle.ob_types.specs.declared.desc.Desc.TheVariants as desc
+use Rattle.ob_types.specs.declared.typed.TypedType.{TypedType}
+use Rattle.ob_types.specs.declared.typed.TypedParameter.{TypedParameter}
+use Rattle.ob_types.specs.declared.typed.TypedProcedure.{TypedProcedure}
+use Rattle.ob_types.specs.declared.typed.TypedModule.{TypedModule}
+use Rattle.ob_types.specs.Maps.{is_type, stands_on, named_by, IsHeld, IsWithin}
+use Rattle.ob_types.specs.TypedSyntax.{Procedure, Module}
+use Rattle.ob_types.specs.TypedView.{procedure_view, module_view}
+use Rattle.ob_meaning.specs.Values.{Program, description}
+use Rattle.ob_rules.specs.Names.{map_of}
+use Rattle.ob_layout.specs.LaidOut.{viewed, laid_out}
+use Rattle.ob_env.specs.Faces.{Face, described}
+use Rattle.ob_env.specs.Shown.{shown}
+use Rattle.ob_uses.specs.Uses.{near_types}
+use Rattle.ob_compile.specs.Compiling.{Compiled}
+use Rattle.ob_distinct.specs.Distinct.{AreDistinct}
+use Rattle.ob_described.proofs.Blocks.{types_described}
+use Rattle.ob_strings.proofs.Trees.{readings_spelled}
+use Rattle.ob_ages.specs.Builds.{Text, Build, IsValid, of, tree_of}
+use Rattle.ob_ages.specs.Laws.{IsBehind, AreTogether, BuildsAreWritten}
+use Rattle.ob_joining.specs.Builds.{program_of}
+use Rattle.ob_forms.specs.Formed.{IsDeclared}
+use Rattle.ob_forms.specs.Said.{IsSound}
+use Rattle.ob_forms.specs.Whole.{IsPassed, HeadingOk}
+use Rattle.ob_bodies.specs.Knows.{Stands}
+use Rattle.ob_local.specs.Laws.{HaveNoOut}
+use Rattle.ob_declares.specs.Near.{core}
+use Rattle.ob_declares.specs.Near as declares
+use Rattle.ob_locality.proofs.Compiled.{ComesOf, comes_of, checked_name, apart_of}
+use Rattle.ob_sized.proofs.Different.{build_comes}
+use Rattle.ob_sized.proofs.Grounded.{against_is_grounded}
+use Rattle.ob_ruled.specs.Ruled.{types_of, BuildsAreRuled}
+use Rattle.ob_ruled.proofs.Builds.{names_laid}
+use Rattle.ob_ruled.proofs.Closed as standing
+use Rattle.ob_ordered.proofs.Closed as closed
+use Rattle.ob_ordered.proofs.Loaded.{Before, none, map_last, valid_of, before_more, more_all, uses}
+use Rattle.ob_ordered.proofs.Owing.{loaded_are_sound}
+use Rattle.ob_passed.specs.Passed.{IsPassedWell, HeadIsWell}
+use Rattle.ob_passed.proofs.Modules.{parameters_passed}
+use Rattle.ob_whole.specs.Whole.{LoadedPassed}
+use Rattle.ob_whole.proofs.Alike.{SaidBy, passed_alike}
+
+core_type : (d : Desc) → is_type (core d) ≡ is_type d
+core_type (desc.Const v) = refl
+core_type (desc.Var m t) = refl
+core_type (desc.Proc s) = refl
+core_type (desc.Alias m t) = refl
+core_type (desc.Array m n t) = refl
+core_type (desc.OpenArray m t) = refl
+core_type (desc.Pointer m t) = refl
+core_type (desc.ProcType m s) = refl
+core_type (desc.Record r) = refl
+
+within_none : (types : QName → Option Desc) (q : QName) → IsWithin types zero (ref.Named q) → ⊥
+unfolding IsWithin
+within_none types q h = h
+
+within_next : (types : QName → Option Desc) (q : QName) (k : Mark) (t : TypeRef) → types q ≡ Some (desc.Alias k t) → (n : ℕ) → IsWithin types (suc n) (ref.Named q) → IsWithin types n t
+unfolding IsWithin
+within_next types q k t e n h = (subst (λ o. MatchOption o ⊥ (λ d. IsTrue (is_type d) × AllByRecursion (λ t. IsWithin types n t) (stands_on d))) e h).1.0
+
+declared : (unit : List ℕ) (shown : QName → Option Desc) (own : List TypedType) (t : TypeRef) → Stands unit shown own t → IsDeclared t
+declared unit shown own (ref.Basic b) h = tt
+declared unit shown own (ref.Named q) h = h.0
+
+module _ (written : BuildsAreWritten) (ruled : BuildsAreRuled) where
+  module _ (before rest : List Build) (b : Build) (k : Before before) (h : IsBehind before b) (together : AreTogether (before ++ b ∷ []) rest) (program : Program) (is : program_of ((before ++ b ∷ []) ++ rest) ≡ program) (sound : IsSound program) where
+    abbrev V : QName → Option Desc
+    V = types_of (of b)
+
+    valid : IsValid b (of b)
+    valid = valid_of written ruled b h.valid.0 h.valid.1
+
+    -- what the program has of it and those before it
+    stays : (q : QName) (d : Desc) → description (program_of before ++ tree_of b ∷ []) q ≡ Some d → description program q ≡ Some d
+    stays q d e =
+        subst (λ p. description p q ≡ Some d) is
+        (more_all written ruled (before ++ b ∷ []) rest (before_more written ruled before b k h) together q d (subst (λ p. description p q ≡ Some d) (sym (map_last tree_of before b)) e))
+
+    module _ (m : TypedModule) (tree_is : (of b).tree ≡ laid_out (described (of b).against) (module_view m)) (types : AllByRecursion (λ t. is_type t.desc ≡ true) m.types) (differ : AreDistinct (λ t. t.name) m.types) (others : AllByRecursion (λ f. bytes_eq f.«module» m.name ≡ false) (of b).against) (no_out : HaveNoOut (of b).against) where
+      same_view : (q : QName) → V q ≡ viewed (described (of b).against) (laid_out (described (of b).against) (module_view m)) q
+      same_view q = ap (λ (x : Module). viewed (described (of b).against) x q) tree_is
+
+      -- a parameter
+      passed : (x : TypedParameter) → IsPassedWell m.name (shown (of b).against) m.types x → (IsHeld V x.of → declares.IsNear (tree_of b) (uses written ruled before b k h).near x.of) → IsPassed program x
+      passed x g near =
+          let r = ruled b (of b) valid in
+          let u = uses written ruled before b k h in
+          let outside = against_is_grounded b (of b) valid in
+          let S : TypeRef → Type 0 = λ t. Stands m.name (shown (of b).against) g.w.own t in
+          let held : (t : TypeRef) → S t → IsHeld V t = λ t s. held_same t (standing.held_here (of b).against m types differ outside others no_out g.w g.unit_is g.shown_is g.aliases g.told t s) in
+          let P : TypeRef → Type 0 = λ t. S t × (declares.IsNear (tree_of b) u.near t × IsHeld V t) in
+          let said : (q : QName) → P (ref.Named q) → SaidBy program sound (map_of g.w) P (IsWithin V) (within_none V) q =
+          λ q p.
+          let two = closed.look (of b) (program_of before) u.over u.near u.used r.grounded u.types q p.1.0 p.1.1 in
+          let one = standing.look (of b).against m types differ outside others no_out g.w g.unit_is g.shown_is g.aliases g.told q two.d p.0 (sym (same_view q) ∙ two.of) in
+          let kind : is_type two.d ≡ true = subst (λ o. MatchOption o ⊥ (λ d. IsTrue (is_type d))) two.of p.1.1 in
+          record {
+            d = one.d;
+            e = two.e;
+            of = one.there;
+            there = stays q two.e two.there;
+            alike = one.says.alike ∙ sym two.alike;
+            type = sym (core_type two.e) ∙ ap is_type two.alike ∙ core_type two.d ∙ kind;
+            onward = λ j t i.
+                let a : two.d ≡ desc.Alias j t = closed.core_alias two.d j t (sym one.says.alike ∙ ap core i) in (
+                  one.on j t a,
+                  (
+                    (subst (λ d. AllByRecursion (declares.IsNear (tree_of b) u.near) (near_types d)) a two.parts).0,
+                    (subst (λ d. AllByRecursion (λ t. IsHeld V t) (named_by d)) a (r.grounded.held q two.d two.of)).0,
+                  ),
+                );
+            within = λ j t i n w. within_next V q j t (two.of ∙ ap (λ d. Some d) (closed.core_alias two.d j t (sym one.says.alike ∙ ap core i))) n w;
+          } in
+          let there = held x.of g.stands in
+          record {
+            mode = g.mode;
+            passing = g.passing ∙ passed_alike program sound (map_of g.w) P (IsWithin V) (within_none V) said g.mode x.of (g.stands, (near there, there)) (r.grounded.chains x.of there);
+            declared = declared m.name (shown (of b).against) g.w.own x.of g.stands;
+          }
+        where
+          held_same : (t : TypeRef) → IsHeld (viewed (described (of b).against) (laid_out (described (of b).against) (module_view m))) t → IsHeld V t
+          held_same (ref.Basic b) h = tt
+          held_same (ref.Named q) h = subst (λ o. MatchOption o ⊥ (λ d. IsTrue (is_type d))) (sym (same_view q)) h
+
+      all_passed : (xs : List TypedParameter) → AllByRecursion (IsPassedWell m.name (shown (of b).against) m.types) xs → AllByRecursion (λ x. IsHeld V x.of → declares.IsNear (tree_of b) (uses written ruled before b k h).near x.of) xs → AllByRecursion (λ x. IsPassed program x) xs
+      all_passed [] g near = tt
+      all_passed (x ∷ xs) g near = (passed x g.0 near.0, all_passed xs g.1 near.1)
+
+      headings_ok : (ps : List TypedProcedure) → AllByRecursion (HeadIsWell m.name (shown (of b).against) m.types) ps → AllByRecursion (λ (p : Procedure). AllByRecursion (λ x. IsHeld V x.of → declares.IsNear (tree_of b) (uses written ruled before b k h).near x.of) p.parameters) (each procedure_view ps) → AllByRecursion (HeadingOk program) (each procedure_view ps)
+      headings_ok [] g near = tt
+      headings_ok (p ∷ ps) g near = ((all_passed p.parameters g.0.parameters near.0, g.0.result), headings_ok ps g.1 near.1)
+
+    -- the headings of one build
+    one_passed : AllByRecursion (HeadingOk program) (tree_of b).procedures
+    one_passed =
+        let s = build_comes b (of b) valid in
+        let f : ComesOf s.tree (of b) = comes_of b (of b) s.tree valid s.read in
+        let away = apart_of (of b) s.tree f in
+        let m = f.t in
+        let name : m.name ≡ s.tree.name.name = checked_name (shown (of b).against) s.tree m f.tree_is in
+        let tree_is : (of b).tree ≡ laid_out (described (of b).against) (module_view m) = ap (λ (x : Compiled Text). x.tree) f.is in
+        let r = ruled b (of b) valid in
+        let differ : AreDistinct (λ t. t.name) m.types = names_laid (described (of b).against) (module_view m) m.types (subst (λ (x : Module). AreDistinct (λ t. t.name) x.types) tree_is r.names) in
+        let well = parameters_passed (shown (of b).against) s.tree m f.tree_is (readings_spelled b.source s.tree s.read) away.imports differ in
+        let types = types_described (shown (of b).against) s.tree m f.tree_is in
+        let others = subst (λ (x : List ℕ). AllByRecursion (λ (f : Face Text). bytes_eq f.«module» x ≡ false) (of b).against) (sym name) away.others in
+        let near = subst (λ (x : Module). AllByRecursion (λ p. AllByRecursion (λ x. IsHeld V x.of → declares.IsNear (tree_of b) (uses written ruled before b k h).near x.of) p.parameters) x.procedures) tree_is (uses written ruled before b k h).passed in
+        subst (λ (x : Module). AllByRecursion (HeadingOk program) x.procedures) (sym tree_is) (headings_ok m tree_is types differ others away.out m.procedures well near)
+
+  all_headings : (before bs : List Build) → Before before → AreTogether before bs → (program : Program) → program_of (before ++ bs) ≡ program → IsSound program → AllByRecursion (λ (m : Module). AllByRecursion (HeadingOk program) m.procedures) (program_of bs)
+  all_headings before [] k h program is sound = tt
+  all_headings before (b ∷ bs) k h program is sound =
+      let e : program_of ((before ++ b ∷ []) ++ bs) ≡ program = ap program_of (append_assoc before (b ∷ []) bs) ∙ is in
+      (one_passed before bs b k h.0 h.1 program e sound, all_headings (before ++ b ∷ []) bs (before_more written ruled before b k h.0) h.1 program e sound)
+
+pub loaded_passed : LoadedPassed
+loaded_passed written ruled bound bs l = all_headings written ruled [] bs (none written ruled) l.together (program_of bs) refl (loaded_are_sound written ruled bound bs l)
