@@ -51,7 +51,7 @@ numbers_apart : (x y : List ℕ) (n : ℕ) (ms : List Method) (m k : Method) →
 numbers_apart x y n [] m k e f same = absurd cc
 numbers_apart x y n (p ∷ ps) m k e f same = by (bytes_eq x p.name) (bytes_eq y p.name) refl refl e f (λ e f. numbers_apart x y (suc n) ps m k e f same)
   where
-    abbrev rest : List ℕ → Option Method
+    rest : List ℕ → Option Method
     rest z = method_named z (numbered (suc n) ps)
 
     by : (a b : Bool) → bytes_eq x p.name ≡ a → bytes_eq y p.name ≡ b → cond a (Some (record p { number = n })) (rest x) ≡ Some m → cond b (Some (record p { number = n })) (rest y) ≡ Some k → (rest x ≡ Some m → rest y ≡ Some k → x ≡ y) → x ≡ y

@@ -1,0 +1,18 @@
+//! The families of bound procedures: each is introduced by a type that extends, and bound to a type
+//! once.
+#![tactic(auto)]
+
+ghost use Rattle.ob_bindings.specs.Families.{BindingsAreOnce, FamiliesAreIntroduced};
+
+/// A law, with nothing to run: each family of a record type of a sound program is introduced by a type
+/// that it extends, or by itself, where the bindings of its modules are those of the checked modules
+/// (`HasBindings`).
+pub fn families_are_introduced()
+    ensures { FamiliesAreIntroduced }
+{}
+
+/// A law, with nothing to run: where the procedures of a module differ in name, no two of a family are
+/// bound to one type.
+pub fn bindings_are_once()
+    ensures { BindingsAreOnce }
+{}
