@@ -1,2 +1,3 @@
 pub mod Introduced
 pub mod Once
+pub mod Named

@@ -3,6 +3,7 @@
 #![tactic(auto)]
 
 ghost use Rattle.ob_bindings.specs.Families.{BindingsAreOnce, FamiliesAreIntroduced};
+ghost use Rattle.ob_bindings.specs.Named.{BindingsAreNamed};
 
 /// A law, with nothing to run: each family of a record type of a sound program is introduced by a type
 /// that it extends, or by itself, where the bindings of its modules are those of the checked modules
@@ -15,4 +16,10 @@ pub fn families_are_introduced()
 /// bound to one type.
 pub fn bindings_are_once()
     ensures { BindingsAreOnce }
+{}
+
+/// A law, with nothing to run: in a checked module whose types differ in name, each bound procedure is
+/// named by the record that it is bound to and by its family.
+pub fn bindings_are_named()
+    ensures { BindingsAreNamed }
 {}
