@@ -3,6 +3,7 @@
 #![tactic(auto)]
 
 ghost use Rattle.ob_bindings.specs.Families.{BindingsAreOnce, FamiliesAreIntroduced};
+ghost use Rattle.ob_bindings.specs.Like.{LikeAreRedefined};
 ghost use Rattle.ob_bindings.specs.Named.{BindingsAreNamed};
 
 /// A law, with nothing to run: each family of a record type of a sound program is introduced by a type
@@ -22,4 +23,11 @@ pub fn bindings_are_once()
 /// named by the record that it is bound to and by its family.
 pub fn bindings_are_named()
     ensures { BindingsAreNamed }
+{}
+
+/// A law, with nothing to run: where the bound procedures of a sound program are like the methods of
+/// their families (`AreLike`), those that redefine others are alike but for the receiver, in the words
+/// of `RulesKept`.
+pub fn like_are_redefined()
+    ensures { LikeAreRedefined }
 {}

@@ -22,7 +22,8 @@ use Rattle.ob_written.proofs.Reading.{readings_named}
 use Rattle.ob_ranges.proofs.Outward.{laid_differ}
 use Rattle.ob_linking.specs.Files.{AllKeepRules}
 use Rattle.ob_tables.specs.Settled.{TypesSettled, AllDeclared}
-use Rattle.ob_tables.specs.Counted.{FamiliesNumbered, AllBoundOnce}
+use Rattle.ob_tables.specs.Counted.{FamiliesNumbered, number, AllBoundOnce}
+use Rattle.ob_tables.specs.Redefined.{RedefinitionsKept}
 use Rattle.ob_tables.proofs.Counted.{families_from_declarations}
 use Rattle.ob_compile.specs.Compiling.{Compiled, texts}
 use Rattle.ob_ages.specs.Builds.{Text, Build, IsValid, of, shows_of, tree_of}
@@ -37,14 +38,15 @@ use Rattle.ob_stand.specs.Owed.{in_program}
 use Rattle.ob_families.specs.Premises.{builds_of, TypesDiffer}
 use Rattle.ob_families.proofs.Settled.{sound_are_settled}
 use Rattle.ob_families.proofs.Declared.{loaded_are_declared}
-use Rattle.ob_families.proofs.Fit.{units}
+use Rattle.ob_families.proofs.Fit.{units, loaded_values_are, loaded_types_fit}
 use Rattle.ob_families.proofs.Numbered.{methods_are_numbered}
 use Rattle.ob_bindings.specs.Families.{IsBinding, HasBindings}
 use Rattle.ob_bindings.specs.Named.{IsNamed}
 use Rattle.ob_bindings.proofs.Introduced.{families_are_introduced}
 use Rattle.ob_bindings.proofs.Once.{bindings_are_once}
 use Rattle.ob_bindings.proofs.Named.{bindings_are_named}
-use Rattle.ob_inherited.specs.Laws.{LoadedHaveBindings, LoadedFamiliesFit}
+use Rattle.ob_bindings.proofs.Like.{like_are_redefined}
+use Rattle.ob_inherited.specs.Laws.{LoadedHaveBindings, LoadedFamiliesFit, LoadedKeepRules}
 use Rattle.ob_inherited.proofs.Checked.{IsChecked, checked_at}
 
 -- ---- one build
@@ -145,3 +147,25 @@ loaded_families_fit written locality differ are_sound whole laid describe same b
     (subst FamiliesNumbered (sym is.program) given)
     (all_once c program program bs bindings rules) in
     record { differ = k.0; families = k.1 }
+
+pub loaded_keep_rules : LoadedKeepRules
+loaded_keep_rules written locality differ are_sound whole laid describe same like bs more l c is modules bodies =
+    let first = loaded_front bs more l in
+    let program = program_of bs in
+    let types = loaded_types_fit written differ are_sound describe same bs more l c is modules in
+    let families = loaded_families_fit written locality differ are_sound whole laid describe same bs more l c is modules in
+    let values = loaded_values_are bs more c is in
+    record {
+      modules = modules;
+      bodies = bodies;
+      forms = types.forms;
+      built = types.built;
+      sizes = types.sizes;
+      bases = types.bases;
+      number = number c.program;
+      differ = families.differ;
+      families = families.families;
+      redefinitions = subst RedefinitionsKept (sym is.program) (like_are_redefined program (are_sound bs first) (whole bs first) (loaded_have_bindings written locality differ bs first) (like bs first));
+      values = values.procedures;
+      match = values.match;
+    }

@@ -6,6 +6,7 @@ use Rattle.ob_linking.specs.Files as linking
 use Rattle.ob_linking.specs.Files.{AllKeepRules}
 use Rattle.ob_tables.specs.Families.{NumbersDiffer, AllFamiliesDeclared}
 use Rattle.ob_tables.specs.Counted.{number}
+use Rattle.ob_tables.specs.Image.{AllBodiesChecked, RulesKept}
 use Rattle.ob_valued.specs.Valued.{values}
 use Rattle.ob_ages.specs.Builds.{Build}
 use Rattle.ob_ages.specs.Laws.{Locality, BuildsAreWritten}
@@ -13,6 +14,7 @@ use Rattle.ob_joining.specs.Builds.{program_of, AreLoaded, IsOf}
 use Rattle.ob_ordered.specs.Loaded.{LoadedAreWhole, LoadedAreLaid}
 use Rattle.ob_families.specs.Premises.{builds_of, TypesDiffer, LoadedAreSound, LoadedDescribe, LoadedAreSame}
 use Rattle.ob_bindings.specs.Families.{HasBindings}
+use Rattle.ob_bindings.specs.Like.{AreLike}
 
 -- What is bound in each module is bound to a record of the module, one of whose bases introduces it, by what the modules before it show;
 -- whatever interfaces the module was compiled against.
@@ -29,3 +31,13 @@ abbrev pub LoadedFamiliesFit : Type 0
 LoadedFamiliesFit =
     BuildsAreWritten → Locality → TypesDiffer → LoadedAreSound → LoadedAreWhole → LoadedAreLaid → LoadedDescribe → LoadedAreSame →
     (bs more : List Build) → AreLoaded (bs ++ more) → (c : Setting) → IsOf c values bs more → AllKeepRules c (builds_of bs) → FamiliesFit c (builds_of bs)
+
+-- bound procedures are like the methods of their families
+abbrev pub LoadedAreLike : Type 0
+LoadedAreLike = (bs : List Build) → AreLoaded bs → AllByRecursion (AreLike (program_of bs)) (program_of bs)
+
+-- ALL THAT THE RULES OWE, where procedures and bodies are checked.
+abbrev pub LoadedKeepRules : Type 0
+LoadedKeepRules =
+    BuildsAreWritten → Locality → TypesDiffer → LoadedAreSound → LoadedAreWhole → LoadedAreLaid → LoadedDescribe → LoadedAreSame → LoadedAreLike →
+    (bs more : List Build) → AreLoaded (bs ++ more) → (c : Setting) → IsOf c values bs more → AllKeepRules c (builds_of bs) → AllBodiesChecked c (builds_of bs) → RulesKept c (builds_of bs)
