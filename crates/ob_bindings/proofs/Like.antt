@@ -62,7 +62,7 @@ module _ (program : Program) where
   one_kind receiver.Record receiver.Pointer t u d (p ∷ ps) qs r s h = let x : Passing = p.passing in let a = r.0 in let b = h.0 in absurd cc
   one_kind receiver.Pointer receiver.Record t u d (p ∷ ps) qs r s h = let x : Passing = p.passing in let a = r.0 in let b = h.0 in absurd cc
 
-  module _ (sound : IsSound program) (whole : IsWhole program) (all : AllByRecursion (HasBindings program) program) (like : AllByRecursion (AreLike program) program) where
+  module _ (sound : IsSound program) (whole : IsWhole program) (all : AllByRecursion (HasBindings program) program) (likes : AllByRecursion (AreLike program) program) where
     abbrev Bound : Procedure → Type 0
     Bound p = (b : Binding) → p.binding ≡ Some b → (r : RecordDesc) (k : Method) → description program b.family.owner ≡ Some (desc.Record r) → method_named b.family.name r.methods ≡ Some k → IsLike program p b k
 
@@ -105,7 +105,7 @@ module _ (program : Program) where
       where
         by : (o : Option QName) → declared_for program s f ≡ o → first_of_both o (nearest program line f) ≡ Some name → (nearest program line f ≡ Some name → (s : QName) × IsDeclared s f name) → (s : QName) × IsDeclared s f name
         by None d e r = r e
-        by (Some q) d e r = let same : q ≡ name = cc in (s, declared_there program (λ m i. i) like s f name (d ∙ ap (λ x. Some x) same))
+        by (Some q) d e r = let same : q ≡ name = cc in (s, declared_there program (λ m i. i) likes s f name (d ∙ ap (λ x. Some x) same))
 
     -- by the method of the family
     like_method : (s : QName) (f : Family) (name : QName) (x : IsDeclared s f name) (t : QName) (y : Introduced program t f) → IsLike program x.p (let b : Binding = record { owner = s; receiver = x.b.receiver; family = f } in b) y.method
@@ -120,7 +120,7 @@ module _ (program : Program) where
 
     kept : RedefinitionsKept program
     kept d f r q p is e n found =
-        let mine = declared_there program (λ m i. i) like d f r e in
+        let mine = declared_there program (λ m i. i) likes d f r e in
         let other = nearest_there (above (bases_in program d)) f q n in
         let k = families_are_introduced program sound whole all d f is (first_found d f r is e) in
         let a = like_method d f r mine d k in

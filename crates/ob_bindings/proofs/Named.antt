@@ -1,10 +1,6 @@
 -- The names of bound procedures.
-use Rattle.std.proofs.Common.{◌≡◌, inl, inr, ℕ, Bool, true, false, List, [], ◌∷◌, ◌++◌, Option, Some, None, refl, sym, ap, ◌∙◌, subst}
+use Rattle.std.proofs.Common.{◌≡◌, inl, inr, Bool, true, false, List, [], ◌∷◌, ◌++◌, Option, Some, None, refl, sym, ap, ◌∙◌, subst}
 use Rattle.std.specs.Prelude.{codes}
-use Rattle.std.specs.List.{AllByRecursion}
-use Rattle.ob_tree.specs.declared.names.QName.{QName}
-use Rattle.ob_tree.specs.declared.decl.Module.{Module as Tree}
-use Rattle.ob_types.specs.declared.desc.Desc.{Desc}
 use Rattle.ob_types.specs.declared.desc.Method.{Method}
 use Rattle.ob_types.specs.declared.typed.Binding.{Binding as BoundTo}
 use Rattle.ob_types.specs.declared.typed.TypedProcedure.{TypedProcedure}
@@ -12,10 +8,9 @@ use Rattle.ob_rules.specs.Shapes.{Map, Member, AField, AMethod, member}
 use Rattle.ob_rules.specs.Names.{Around, map_of}
 use Rattle.ob_rules.specs.Headings.{path_by, bound_in, owner_if, WrittenHeading, Head, Heads, BoundAs, head_of, declared_head, bindings, add_heading}
 use Rattle.ob_rules.specs.Declarations.{Written_procedure, with_bound, bound_to, binding_of}
-use Rattle.ob_written.specs.Raw.{decl_named}
 use Rattle.ob_outward.proofs.Binding.{Among}
 use Rattle.ob_outward.proofs.Chains.{member_comes, found_name}
-use Rattle.ob_outward.proofs.Blocks.{imports_are, plain_is, next_like, next_twice, next_head, heads_of, IsHidden, TypedSo, procedures_good, behind, start, ps}
+use Rattle.ob_outward.proofs.Blocks.{imports_are, plain_is, next_like, next_twice, heads_of, IsHidden, TypedSo, procedures_good, behind, start, ps}
 use Rattle.ob_bindings.specs.Named.{IsNamed, BindingsAreNamed}
 
 -- ---- a heading at module level is named by what it is bound to
@@ -37,15 +32,15 @@ declared_called : (twice : Bool) (d : Head) (u : Around) → IsCalled d → IsCa
 declared_called true d u h = h
 declared_called false d u h = h
 
-heads_called : (ps : List Written_procedure) (hs : Heads) → hs.around.path ≡ [] → (h : Head) → Among h (heads_of ps hs) → IsCalled h
+heads_called : (xs : List Written_procedure) (hs : Heads) → hs.around.path ≡ [] → (h : Head) → Among h (heads_of xs hs) → IsCalled h
 unfolding heads_of
 heads_called [] hs level h i = absurd i
-heads_called (p ∷ ps) hs level h (inl e) =
+heads_called (p ∷ xs) hs level h (inl e) =
     let d = head_of hs.around p.heading p.forward in
     subst IsCalled e (declared_called (next_twice hs d) d _ (head_called hs.around level p.heading p.forward))
-heads_called (p ∷ ps) hs level h (inr i) =
+heads_called (p ∷ xs) hs level h (inr i) =
     let d = head_of hs.around p.heading p.forward in
-    heads_called ps (add_heading hs p.heading p.forward) ((next_like hs d).path ∙ level) h i
+    heads_called xs (add_heading hs p.heading p.forward) ((next_like hs d).path ∙ level) h i
 
 -- ---- a procedure
 

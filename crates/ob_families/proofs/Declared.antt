@@ -2,12 +2,11 @@
 use Rattle.std.proofs.Common.{◌≡◌, ◌<◌, ℕ, suc, ◌+◌, List, [], ◌∷◌, ◌++◌, length, map, Option, Some, None, refl, sym, ap, subst, ◌∙◌, arith, append_assoc, inl, inr}
 use Rattle.std.proofs.lemmas.Bool.{false≢true}
 use Rattle.std.proofs.lemmas.Bool.Decides.{nat_tests}
-use Rattle.std.specs.Prelude.{◌&&◌, Bool, true, false, bytes_eq, nat_lt, if◌then◌else◌}
+use Rattle.std.specs.Prelude.{Bool, true, false, bytes_eq, nat_lt, if◌then◌else◌}
 use Rattle.std.specs.List.{IsDistinct}
 use Rattle.ob_tree.specs.declared.names.QName.{QName}
 use Rattle.ob_types.specs.declared.desc.Desc.{Desc}
 use Rattle.ob_types.specs.declared.desc.Desc.TheVariants as desc
-use Rattle.ob_types.specs.declared.desc.RecordDesc.{RecordDesc}
 use Rattle.ob_types.specs.declared.typed.TypedType.{TypedType}
 use Rattle.ob_types.specs.TypedSyntax.{Module}
 use Rattle.ob_obj.specs.declared.parts.Base.TheVariants as base
@@ -24,7 +23,7 @@ use Rattle.ob_standing.specs.Described.{IsDescribed}
 use Rattle.ob_linking.specs.Files as linking
 use Rattle.ob_linking.proofs.Linked.{sound}
 use Rattle.ob_linking.proofs.SameFile.{files_same}
-use Rattle.ob_tables.specs.Declared.{typed, base_of, IsBefore, past}
+use Rattle.ob_tables.specs.Declared.{typed, IsBefore, past}
 use Rattle.ob_tables.specs.Settled.{TypesSettled, IsInOrder, AreInOrder, AllDeclared}
 use Rattle.ob_tables.proofs.Settled.{TypesDiffer as NamesDiffer, types_differ, named_here, description_here, base_named}
 use Rattle.ob_compile.specs.Compiling.{Compiled, texts, object_by, exports_of, interface_by}
@@ -38,7 +37,7 @@ use Rattle.ob_ages.proofs.Gone.{all_valid}
 use Rattle.ob_joining.specs.Builds.{program_of, AreLoaded}
 use Rattle.ob_joining.proofs.Settings.{loaded_front}
 use Rattle.ob_stand.specs.Owed.{in_program}
-use Rattle.ob_families.specs.Premises.{builds_of, TypesDiffer, LoadedAreSound, LoadedDescribe, LoadedAreSame}
+use Rattle.ob_families.specs.Premises.{TypesDiffer, LoadedAreSame}
 use Rattle.ob_families.specs.Laws.{LoadedAreDeclared}
 use Rattle.ob_families.proofs.Settled.{sound_are_settled}
 

@@ -12,7 +12,7 @@ use Rattle.ob_types.specs.declared.desc.RecordDesc.{RecordDesc}
 use Rattle.ob_types.specs.declared.typed.TypedType.{TypedType}
 use Rattle.ob_types.specs.Maps.{is_type, listed, stands_on, IsWithin}
 use Rattle.ob_types.specs.TypedSyntax.{Module}
-use Rattle.ob_meaning.specs.Values.{Program, Form, line_of, base_line, form_in, record_in, description}
+use Rattle.ob_meaning.specs.Values.{Program, Form, line_of, base_line, form_in, description}
 use Rattle.ob_layout.specs.Members.{method_named}
 use Rattle.ob_layout.specs.LaidOut.{type_named as own_named, is_own, viewed, base_of as laid_base, declared_procedures, counted as laid_count, words_in, procedures_in, numbered, laid_record, laid_desc, laid_type}
 use Rattle.ob_relation.specs.Relation.{head}
@@ -30,7 +30,7 @@ use Rattle.ob_declares.proofs.Ordered.{either_there, types_named}
 use Rattle.ob_declares.proofs.Summed.{laid_found, has_more}
 use Rattle.ob_declares.proofs.Sizing.{laid_of}
 use Rattle.ob_tables.specs.Declared.{above, base_of}
-use Rattle.ob_tables.specs.Counted.{counted, count_of, count_below, MethodsNumbered}
+use Rattle.ob_tables.specs.Counted.{counted, count_below, MethodsNumbered}
 use Rattle.ob_families.specs.Numbers.{MethodsAreNumbered}
 
 -- ---- numbers in turn

@@ -4,7 +4,6 @@ use Rattle.std.specs.Prelude.{true, false, IfSome, MatchOption}
 use Rattle.ob_tree.specs.declared.names.QName.{QName}
 use Rattle.ob_types.specs.declared.types.TypeRef.{TypeRef}
 use Rattle.ob_types.specs.declared.types.TypeRef.TheVariants as ref
-use Rattle.ob_types.specs.declared.desc.Desc.{Desc}
 use Rattle.ob_types.specs.declared.desc.Desc.TheVariants as desc
 use Rattle.ob_types.specs.declared.desc.RecordDesc.{RecordDesc}
 use Rattle.ob_types.specs.Relations.{StandsFor, itself, is_alias, Is, is_open, is_record}

@@ -1,5 +1,5 @@
 -- The families of builds that are loaded together.
-use Rattle.std.proofs.Common.{◌≡◌, ℕ, List, [], ◌∷◌, ◌++◌, map, Option, Some, refl, sym, ap, subst, ◌∙◌, append_assoc, inl, inr}
+use Rattle.std.proofs.Common.{◌≡◌, List, [], ◌∷◌, ◌++◌, map, Some, refl, sym, ap, subst, ◌∙◌, append_assoc, inl, inr}
 use Rattle.std.specs.Prelude.{bytes_eq}
 use Rattle.std.specs.List.{AllByRecursion, IsDistinct}
 use Rattle.ob_types.specs.declared.typed.Binding.{Binding}
@@ -8,7 +8,6 @@ use Rattle.ob_types.specs.declared.typed.TypedProcedure.{TypedProcedure}
 use Rattle.ob_types.specs.TypedSyntax.{Procedure, Module}
 use Rattle.ob_types.specs.TypedView.{module_view, procedure_view}
 use Rattle.ob_meaning.specs.Values.{Program}
-use Rattle.ob_layout.specs.LaidOut.{laid_type}
 use Rattle.ob_env.specs.Faces.{described}
 use Rattle.ob_env.specs.Shown.{shown}
 use Rattle.ob_uses.specs.Objects.{objects_of}
@@ -26,7 +25,7 @@ use Rattle.ob_tables.specs.Counted.{FamiliesNumbered, number, AllBoundOnce}
 use Rattle.ob_tables.specs.Redefined.{RedefinitionsKept}
 use Rattle.ob_tables.proofs.Counted.{families_from_declarations}
 use Rattle.ob_compile.specs.Compiling.{Compiled, texts}
-use Rattle.ob_ages.specs.Builds.{Text, Build, IsValid, of, shows_of, tree_of}
+use Rattle.ob_ages.specs.Builds.{Text, Build, IsValid, shows_of, tree_of}
 use Rattle.ob_ages.specs.Laws.{Locality, BuildsAreWritten}
 use Rattle.ob_ages.proofs.Compiled.{comes}
 use Rattle.ob_ages.proofs.Gone.{all_valid}
@@ -47,7 +46,7 @@ use Rattle.ob_bindings.proofs.Once.{bindings_are_once}
 use Rattle.ob_bindings.proofs.Named.{bindings_are_named}
 use Rattle.ob_bindings.proofs.Like.{like_are_redefined}
 use Rattle.ob_inherited.specs.Laws.{LoadedHaveBindings, LoadedFamiliesFit, LoadedKeepRules}
-use Rattle.ob_inherited.proofs.Checked.{IsChecked, checked_at}
+use Rattle.ob_inherited.proofs.Checked.{checked_at}
 
 -- ---- one build
 

@@ -1,13 +1,19 @@
 -- The procedures that redefine others match them.
-use Rattle.std.specs.Prelude.{◌≡◌, true, List, Option, Some, [], bytes_eq}
+use Rattle.std.specs.Prelude.{◌≡◌, true, List, Option, Some, [], bytes_eq, map}
 use Rattle.std.specs.List.{AllByRecursion}
 use Rattle.ob_tree.specs.declared.names.QName.{QName}
+use Rattle.ob_tree.specs.declared.decl.Module.{Module as Tree}
+use Rattle.ob_types.specs.declared.desc.Desc.{Desc}
 use Rattle.ob_types.specs.declared.desc.Method.{Method}
+use Rattle.ob_types.specs.declared.typed.TypedModule.{TypedModule}
 use Rattle.ob_types.specs.declared.typed.TypedType.{TypedType}
 use Rattle.ob_rules.specs.Shapes.{AMethod, member}
 use Rattle.ob_rules.specs.Names.{Around}
 use Rattle.ob_rules.specs.Operators.{signatures_match}
-use Rattle.ob_rules.specs.Headings.{BoundAs, Head, same_kind, signature_if, counted, bindings}
+use Rattle.ob_rules.specs.Headings.{BoundAs, Head, same_kind, signature_if, counted, bindings, reversed}
+use Rattle.ob_rules.specs.Declarations.{checked}
+use Rattle.ob_said.specs.Procedures.{ShowBases, all_true, is_named_plainly}
+use Rattle.ob_blocks.specs.Laws.{module_heads}
 use Rattle.ob_declares.specs.Views.{IsEarly}
 use Rattle.ob_redefined.specs.Laws.{with_own, IsOwned}
 use Rattle.ob_blocks.proofs.Bound.{IsJudged}
@@ -28,3 +34,14 @@ BindingsMatch =
     (u : Around) (hs : List Head) → AllByRecursion (λ (h : Head). IsOwned u.unit h.bound) (counted hs) → AllByRecursion IsJudged (counted hs) → (bindings u hs).notes.broken ≡ [] →
     (h : Head) (b : BoundAs) → IsOneOf (counted hs) h → h.bound ≡ Some b → bytes_eq b.owner.«module» u.unit ≡ true → HasRecord u.own b.owner.object →
     (q : QName) (m : Method) → member (with_own u (bindings u hs).own) b.owner h.name ≡ Some (AMethod q m) → (q ≡ b.owner → ⊥) → Matches u (bindings u hs).own h b q m
+
+-- headings of a module: each is bound to a record of the module, if to any; each that counts has its parameters; and nothing that they
+-- bind is broken
+pub record HeadingsAre (u : Around) (hs : List Head) : Type 0 where
+  pub owned : AllByRecursion (λ (h : Head). IsOwned u.unit h.bound) (counted hs)
+  pub judged : AllByRecursion IsJudged (counted hs)
+  pub quiet : (bindings u hs).notes.broken ≡ []
+
+-- So are those of a checked module, whose headings are named by identifiers, where what is shown has the bases of its pointers.
+abbrev pub HeadingsAreJudged : Type 0
+HeadingsAreJudged = (shown : QName → Option Desc) (tree : Tree) (m : TypedModule) → ShowBases shown tree.name.name → all_true (map is_named_plainly tree.decls) ≡ true → checked shown tree ≡ Some m → HeadingsAre (module_heads shown tree).around (reversed (module_heads shown tree).before)
