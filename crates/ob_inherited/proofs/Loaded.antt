@@ -111,7 +111,7 @@ module _ (written : BuildsAreWritten) (locality : Locality) (differ : TypesDiffe
         age = all_shown all before (λ x i. in_front before (b ∷ after) x i) valid;
         is = k.is;
         bindings = subst (λ (x : Module). AllByRecursion (Bound before k.t) x.procedures) (sym k.is)
-        (viewed_bound before k.t k.t.procedures (families_there (shown faces) k.tree k.t k.checked_is apart named) (bindings_are_named (shown faces) k.tree k.t k.checked_is apart named));
+            (viewed_bound before k.t k.t.procedures (families_there (shown faces) k.tree k.t k.checked_is apart named) (bindings_are_named (shown faces) k.tree k.t k.checked_is apart named));
       }
 
   all_bindings : (all before after : List Build) → all ≡ before ++ after → AreLoaded all → AllByRecursion (HasBindings (program_of all)) (program_of after)

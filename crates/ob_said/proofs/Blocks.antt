@@ -60,7 +60,7 @@ abbrev pub AreGoodProcedures : List Written_procedure → Type 0
 AreGoodProcedures ps = AllByRecursion GoodProcedure ps
 
 -- the headings of procedures, in the order of the text
-pub heads_of : List Written_procedure → Heads → List Head
+unfoldable pub heads_of : List Written_procedure → Heads → List Head
 heads_of [] hs = []
 heads_of (p ∷ ps) hs =
     let d = head_of hs.around p.heading p.forward in
