@@ -309,6 +309,7 @@ module _ (shown : QName → Option Desc) (unit : List ℕ) (grounded : IsGrounde
         whole = all_both (WholeAt unit shown In L v.own) (types_of d.parameters) hs.around.own typed.0 (wholes_more hs.around.own v.own grown hs.around.own k.whole);
         within = λ s l. ⊎_elim (λ x. within s x) (λ x. k.within s x) (one_joined (types_of d.parameters) hs.around.own s l);
       }
+
       by_bound : (b : Bool) (before : List Head) → HeadsAre base (record { around = knows_procedure v d b; before = before })
       by_bound true before = bound_are before
       by_bound false before =

@@ -188,12 +188,11 @@ module _ (unit : List ℕ) (shown : QName → Option Desc) (out : is_out unit �
       let r = result_of v p.result in
       let two : s.found.notes.broken ++ r.notes.broken ≡ [] = front_empty (s.found.notes.broken ++ r.notes.broken) _ e in
       let h = sections_firm p.sections g u k name 1 (front_empty s.found.notes.broken r.notes.broken two) in
-      let kv : IsPlace v = known_place u k s.known h.1 (sections_entities u.own p.sections u name 1 k.knows.known) in
-      (
+      let kv : IsPlace v = known_place u k s.known h.1 (sections_entities u.own p.sections u name 1 k.knows.known) in (
         made_tell (λ ls (q : Parameters × Option TypeRef). AreParameters u.own ls (with_result q.0 q.1)) (AreParameters u.own) (λ q. with_result q.0 q.1) (both s.found r)
-        (both_tell (AreParameters u.own) (IsResult v) (λ ls (q : Parameters × Option TypeRef). AreParameters u.own ls (with_result q.0 q.1)) s.found r (λ n. h.0) (result_tell v kv p.result)
-        (λ x o i j. with_result_is u.own (s.found.notes.later ++ r.notes.later) x o (subst (λ ls. AreParameters u.own ls x) (sym (ap (λ l. s.found.notes.later ++ l) j.0 ∙ append-nil s.found.notes.later)) i) j.1))
-        (λ q i. i) e,
+            (both_tell (AreParameters u.own) (IsResult v) (λ ls (q : Parameters × Option TypeRef). AreParameters u.own ls (with_result q.0 q.1)) s.found r (λ n. h.0) (result_tell v kv p.result)
+            (λ x o i j. with_result_is u.own (s.found.notes.later ++ r.notes.later) x o (subst (λ ls. AreParameters u.own ls x) (sym (ap (λ l. s.found.notes.later ++ l) j.0 ∙ append-nil s.found.notes.later)) i) j.1))
+            (λ q i. i) e,
         h.1,
       )
 
