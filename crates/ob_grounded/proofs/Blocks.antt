@@ -1,6 +1,6 @@
 -- Sequences of declarations with the procedures in them: all types that they make are whole.
-use Rattle.std.proofs.Common.{◌≡◌, ◌⊎◌, ⊎_elim, inl, inr, refl, sym, ap, subst, ◌∙◌, ℕ, zero, suc, Bool, true, false, List, [], ◌∷◌, ◌++◌, map as each, Option, Some, None, codes}
-use Rattle.std.specs.Prelude.{bytes_eq, not, ◌&&◌}
+use Rattle.std.proofs.Common.{◌≡◌, ⊎_elim, inl, inr, refl, sym, ap, subst, ◌∙◌, ℕ, zero, suc, Bool, true, false, List, [], ◌∷◌, ◌++◌, Option, Some, None, codes}
+use Rattle.std.specs.Prelude.{not, ◌&&◌}
 use Rattle.std.specs.List.{AllByRecursion, filter_map}
 use Rattle.std.proofs.lemmas.Bool.{false≢true}
 use Rattle.ob_tree.specs.declared.names.QName.{QName}
@@ -16,28 +16,26 @@ use Rattle.ob_types.specs.Relations.{IsGrounded}
 use Rattle.ob_types.specs.Tests.{target_of, follow, target}
 use Rattle.ob_rules.specs.declared.notes.Later.{Later}
 use Rattle.ob_rules.specs.declared.notes.Later.TheVariants as later
-use Rattle.ob_rules.specs.declared.entity.Known.{Known}
 use Rattle.ob_rules.specs.declared.broken.Broken.{Broken}
-use Rattle.ob_rules.specs.Judged.{Notes, no_notes, joined}
-use Rattle.ob_rules.specs.Shapes.{Map, is_held, is_open, is_record, is_structured, same_name}
-use Rattle.ob_rules.specs.Names.{Around, map_of, is_among, is_out, out_string}
+use Rattle.ob_rules.specs.Judged.{Notes, joined}
+use Rattle.ob_rules.specs.Shapes.{is_held, is_record, is_structured}
+use Rattle.ob_rules.specs.Names.{Around, map_of, is_out}
 use Rattle.ob_rules.specs.Types.{Parameters, is_module_level, nothing, with_types}
 use Rattle.ob_rules.specs.Statements.{Judging, in_turn}
 use Rattle.ob_rules.specs.Headings.{Head, Heads, Binding, types_of, head_of, name_twice, declared_head, known_behind, forwards_judged, reversed}
-use Rattle.ob_rules.specs.Declarations.{Contents, Part, no_contents, Declared, Declaration, Plain, Procedure, plain_of, type_name_of, procedure_of, Written_procedure, in_order, headings_in_order, pointer_name, is_wrong, pointers_judged, is_pointer_left, field_judged, all_judged, nothing_later, around_body, types_of_head, procedure_judged, procedures_judged, body_part, with_bound, binding_at, heads_later, closing_judged, block}
+use Rattle.ob_rules.specs.Declarations.{Contents, Part, Declared, Declaration, Plain, Procedure, plain_of, type_name_of, procedure_of, Written_procedure, in_order, headings_in_order, pointer_name, is_wrong, pointers_judged, is_pointer_left, field_judged, all_judged, around_body, types_of_head, procedure_judged, procedures_judged, body_part, with_bound, binding_at, heads_later, closing_judged, block}
 use Rattle.ob_forms.specs.Said.{IsOneOf}
-use Rattle.ob_relation.proofs.Names.{bytes_same}
-use Rattle.ob_said.proofs.Judges.{Has, front_empty, rest_empty, has_more}
+use Rattle.ob_said.proofs.Judges.{Has, front_empty, rest_empty}
 use Rattle.ob_said.proofs.Knowing.{AreKnown}
 use Rattle.ob_blocks.proofs.Heads.{heads_of, heads_are as heads_same}
-use Rattle.ob_bodies.specs.Knows.{HasName, Grows, Stands, IsDescribed, Knows}
+use Rattle.ob_bodies.specs.Knows.{HasName, Grows, IsDescribed, Knows}
 use Rattle.ob_bodies.proofs.Lists.{one_left, one_right, one_joined, one_all, all_one, all_of, all_both}
-use Rattle.ob_bodies.proofs.Standing.{Lies, lies_same, lies_then, lies_front, lies_behind, grows_as, grows_same, grows_then, stands_grown, all_grown}
-use Rattle.ob_bodies.proofs.Binding.{Changes, binding_changes}
+use Rattle.ob_bodies.proofs.Standing.{Lies, lies_front, lies_behind, grows_as, stands_grown, all_grown}
+use Rattle.ob_bodies.proofs.Binding.{binding_changes}
 use Rattle.ob_grounded.specs.Laws.{IsApart}
-use Rattle.ob_grounded.proofs.Firm.{Firm, firm_more, SignatureFirm, firm_described, AnyValue, IfAlias, S, Aliased, Seen, Closed, closed_more, IsLeft, WholeBase, WholeAt, whole_more, firm_alias, aliases_more}
+use Rattle.ob_grounded.proofs.Firm.{firm_more, SignatureFirm, firm_described, AnyValue, IfAlias, S, Aliased, Seen, Closed, closed_more, IsLeft, WholeBase, WholeAt, whole_more, firm_alias}
 use Rattle.ob_grounded.proofs.Typings.{Within, Tells, AreTold, are_told_more, Place}
-use Rattle.ob_grounded.proofs.Sections.{E, AreFirmSections}
+use Rattle.ob_grounded.proofs.Sections.{AreFirmSections}
 use Rattle.ob_grounded.proofs.Plain.{GoodPlain, AreDeclared, HasAll, VariableFirm, next_place, order_one}
 use Rattle.ob_grounded.proofs.Stand.{IsOwn, IsOther, at, held_at, shown_names}
 use Rattle.ob_grounded.proofs.Headings.{HeadsAre, IsHeadIn, heads_are, head_types, resolved, bindings_whole}

@@ -1,10 +1,8 @@
 -- What is said of descriptions: the types that they name stand, and are of the kinds that the rules ask for.
-use Rattle.std.proofs.Common.{◌≡◌, ◌⊎◌, ⊎_elim, inl, inr, refl, sym, ap, subst, ◌∙◌, ℕ, ◌≤◌, Bool, true, false, List, [], ◌∷◌, ◌++◌, Option, Some, None}
-use Rattle.std.specs.Prelude.{bytes_eq}
+use Rattle.std.proofs.Common.{◌≡◌, ◌⊎◌, ⊎_elim, inl, inr, refl, sym, subst, ℕ, ◌≤◌, Bool, true, false, List, ◌++◌, Option}
 use Rattle.std.specs.List.{AllByRecursion}
 use Rattle.ob_tree.specs.declared.pos.Pos.{Pos}
 use Rattle.ob_tree.specs.declared.names.QName.{QName}
-use Rattle.ob_tree.specs.declared.ident.Mark.{Mark}
 use Rattle.ob_types.specs.declared.types.Mode.{Mode}
 use Rattle.ob_types.specs.declared.types.TypeRef.{TypeRef}
 use Rattle.ob_types.specs.declared.types.TypeRef.TheVariants as ref
@@ -15,15 +13,14 @@ use Rattle.ob_types.specs.declared.desc.Desc.TheVariants as desc
 use Rattle.ob_types.specs.declared.desc.Field.{Field}
 use Rattle.ob_types.specs.declared.desc.Method.{Method}
 use Rattle.ob_types.specs.declared.typed.TypedType.{TypedType}
-use Rattle.ob_types.specs.Maps.{is_type}
 use Rattle.ob_rules.specs.declared.notes.Later.{Later}
 use Rattle.ob_rules.specs.declared.notes.Later.TheVariants as later
 use Rattle.ob_rules.specs.Shapes.{Map, is_open, is_record, is_structured}
 use Rattle.ob_rules.specs.Names.{Around, map_of, is_among}
 use Rattle.ob_forms.specs.Said.{IsOneOf}
 use Rattle.ob_typed.specs.Makes.{IfThere}
-use Rattle.ob_bodies.specs.Knows.{HasName, Grows, Stands, IsDescribed}
-use Rattle.ob_bodies.proofs.Lists.{all_of, all_both, there_of}
+use Rattle.ob_bodies.specs.Knows.{Grows, Stands, IsDescribed}
+use Rattle.ob_bodies.proofs.Lists.{all_of, there_of}
 use Rattle.ob_bodies.proofs.Standing.{Lies, grows_as, stands_grown}
 
 -- the types of the parameters, and of the result

@@ -1,9 +1,8 @@
 -- The map of the types of a checked module is grounded.
-use Rattle.std.proofs.Common.{◌≡◌, ◌≢◌, ◌⊎◌, ⊎_elim, inl, inr, refl, sym, ap, subst, ◌∙◌, ℕ, zero, suc, Bool, true, false, List, [], ◌∷◌, ◌++◌, map, Option, Some, None}
+use Rattle.std.proofs.Common.{◌≡◌, ◌≢◌, ⊎_elim, inl, inr, refl, sym, ap, subst, ◌∙◌, ℕ, Bool, true, false, List, [], ◌∷◌, ◌++◌, map, Option, Some, None}
 use Rattle.std.specs.Prelude.{bytes_eq, MatchOption, IfSome, IsTrue}
 use Rattle.std.specs.List.{AllByRecursion, find}
 use Rattle.ob_tree.specs.declared.names.QName.{QName}
-use Rattle.ob_tree.specs.declared.ident.Mark.{Mark}
 use Rattle.ob_tree.specs.declared.ident.Mark.TheVariants as mark
 use Rattle.ob_tree.specs.declared.decl.Module.{Module as Tree}
 use Rattle.ob_types.specs.declared.types.Basic.{Basic}
@@ -24,7 +23,7 @@ use Rattle.ob_types.proofs.Targets.{unique}
 use Rattle.ob_rules.specs.Shapes.{Map, is_open, is_record, is_structured, same_name}
 use Rattle.ob_rules.specs.Names.{Around, map_of, is_out, out_string}
 use Rattle.ob_rules.specs.Depth.{is_within}
-use Rattle.ob_rules.specs.Declarations.{Declaration, around_module, declaration, described, all_described, module_part, typed_module, target_of, deep_of}
+use Rattle.ob_rules.specs.Declarations.{around_module, declaration, described, all_described, module_part, typed_module, target_of, deep_of}
 use Rattle.ob_relation.proofs.Names.{bytes_same}
 use Rattle.ob_forms.specs.Said.{IsOneOf}
 use Rattle.ob_typed.specs.Makes.{IfThere}
@@ -34,11 +33,11 @@ use Rattle.ob_distinct.proofs.Short.{chains_are_short}
 use Rattle.ob_bodies.specs.Knows.{HasName, Grows, Stands, IsDescribed}
 use Rattle.ob_bodies.proofs.Lists.{one_all, all_one, all_of}
 use Rattle.ob_bodies.proofs.Standing.{stands_grown}
-use Rattle.ob_grounded.specs.Laws.{IsApart, IsChecked, IsNotOut, AreGrounded, ModulesAreGrounded}
-use Rattle.ob_grounded.proofs.Firm.{Firm, firm_more, firm_described, SignatureFirm, AnyValue, is_solid, S, Seen, IsSolid, Closed, IsLeft, WholeBase}
-use Rattle.ob_grounded.proofs.Stand.{IsFound, IsOwn, IsOther, name_found, found_name, at, own_at, other_at}
+use Rattle.ob_grounded.specs.Laws.{IsApart, IsNotOut, AreGrounded, ModulesAreGrounded}
+use Rattle.ob_grounded.proofs.Firm.{Firm, firm_more, firm_described, SignatureFirm, AnyValue, is_solid, S, Seen, Closed, WholeBase}
+use Rattle.ob_grounded.proofs.Stand.{IsOwn, IsOther, name_found, found_name, at, own_at, other_at}
 use Rattle.ob_grounded.proofs.Blocks.{AreOne, step_stands}
-use Rattle.ob_grounded.proofs.Modules.{bound_from, bound_one, Made, made_named, Whole, types_whole, bound_whole}
+use Rattle.ob_grounded.proofs.Modules.{bound_from, Made, made_named, Whole, types_whole, bound_whole}
 use Rattle.ob_grounded.proofs.Maps.{firm_names, closed_at, type_held, held, out_is, chains, shown_at, names_are_held}
 use Rattle.ob_grounded.proofs.Sorts.{strip, stripped, more_stripped, solid_stripped, open_same, record_same, structured_same, not_open, not_structured, record_is, structure_is, solid_closed}
 

@@ -1,15 +1,13 @@
 -- The headings of a sequence: their parameters are of types that stand, and so are those of the procedures that are bound to records.
-use Rattle.std.proofs.Common.{◌≡◌, ◌⊎◌, ⊎_elim, inl, inr, refl, sym, ap, subst, ◌∙◌, ℕ, Bool, true, false, List, [], ◌∷◌, ◌++◌, Option, Some, None}
-use Rattle.std.specs.Prelude.{bytes_eq, is_some, nat_lt}
+use Rattle.std.proofs.Common.{◌≡◌, ⊎_elim, inl, inr, refl, sym, ap, subst, ◌∙◌, ℕ, Bool, true, false, List, [], ◌∷◌, ◌++◌, Option, Some, None}
+use Rattle.std.specs.Prelude.{bytes_eq, is_some}
 use Rattle.std.specs.List.{AllByRecursion, filter}
 use Rattle.std.proofs.lemmas.Bool.{false≢true}
 use Rattle.ob_tree.specs.declared.pos.Pos.{Pos}
 use Rattle.ob_tree.specs.declared.names.QName.{QName}
-use Rattle.ob_tree.specs.declared.ident.Ident.{Ident}
 use Rattle.ob_tree.specs.declared.ident.Mark.{Mark}
 use Rattle.ob_tree.specs.declared.decl.Receiver.{Receiver as RawReceiver}
 use Rattle.ob_types.specs.declared.types.TypeRef.{TypeRef}
-use Rattle.ob_types.specs.declared.types.TypeRef.TheVariants as ref
 use Rattle.ob_types.specs.declared.types.Signature.{Signature}
 use Rattle.ob_types.specs.declared.desc.Desc.{Desc}
 use Rattle.ob_types.specs.declared.desc.Desc.TheVariants as desc
@@ -19,15 +17,13 @@ use Rattle.ob_types.specs.Relations.{IsGrounded}
 use Rattle.ob_rules.specs.declared.notes.Later.{Later}
 use Rattle.ob_rules.specs.declared.notes.Later.TheVariants as later
 use Rattle.ob_rules.specs.declared.entity.Known.{Known}
-use Rattle.ob_rules.specs.declared.entity.Entity.{Entity}
 use Rattle.ob_rules.specs.Judged.{Judged, joined, both, paired, made}
-use Rattle.ob_rules.specs.Shapes.{Map, Member, AField, AMethod, member, is_open, is_record, is_structured, pointed, is_held}
+use Rattle.ob_rules.specs.Shapes.{Map, Member, AField, AMethod, member, is_record, is_structured}
 use Rattle.ob_rules.specs.Names.{Around, map_of, is_among, in_unit, is_out, type_named}
-use Rattle.ob_rules.specs.Types.{Parameters, with_types, marked, parameters_in, inner, knows, is_module_level}
+use Rattle.ob_rules.specs.Types.{Parameters, with_types, marked, inner}
 use Rattle.ob_rules.specs.Headings.{BoundAs, owner_of, owner_if, knows_receiver, self_of, WrittenHeading, Head, Heads, path_by, forward_name, of_scope, as_parameters, heading_parameters, head_of, entity_as, head_entity, name_twice, declared_head, knows_procedure, known_behind, types_of, add_heading, signature_if, signature_or_none, no_signature, new_method, with_method, change_desc, changed_if, change_type, Binding, redefined, bind_method, bind_by, bind_one, bind_all, of_record, bind_records, counted, counts, reversed, bindings}
 use Rattle.ob_rules.specs.Declarations.{Written_procedure, headings_in_order, around_body, procedure_judged, procedures_judged, closing_judged, types_of_head}
 use Rattle.ob_forms.specs.Said.{IsOneOf}
-use Rattle.ob_typed.specs.Makes.{IfThere}
 use Rattle.ob_said.proofs.Judges.{Has, Speaks, Anything, front_empty, rest_empty, has_more, made_speaks}
 use Rattle.ob_said.proofs.Knowing.{IsKnown, AreKnown, filter_has}
 use Rattle.ob_said.proofs.Points.{holds, PointsWell}
@@ -38,14 +34,14 @@ use Rattle.ob_later.proofs.Leaves.{Nil, then_nil, made_nil, type_nil}
 use Rattle.ob_later.proofs.Typings.{mark_nil}
 use Rattle.ob_blocks.proofs.Heads.{heads_of}
 use Rattle.ob_bodies.specs.Knows.{HasName, Grows, Stands, EntityStands, Knows}
-use Rattle.ob_bodies.proofs.Lists.{one_left, one_right, one_joined, all_of, all_both, there_of}
+use Rattle.ob_bodies.proofs.Lists.{one_left, one_right, one_joined, all_of, all_both}
 use Rattle.ob_bodies.proofs.Standing.{Lies, lies_same, lies_then, lies_front, lies_behind, grows_as, grows_front, grows_behind, grows_then, grows_same, stands_grown, own_stands, all_grown, entity_grown}
 use Rattle.ob_grounded.specs.Laws.{IsApart}
 use Rattle.ob_grounded.proofs.Firm.{Firm, firm_more, SignatureFirm, signature_more, AnyValue, S, Seen, seen_more, Closed, closed_more, IsLeft, WholeBase, WholeAt, whole_more, firm_alias, firm_described, IfAlias, Aliased, IsLate, Base, FirmAt, AreFirm}
 use Rattle.ob_grounded.proofs.Typings.{Within, AreTold, Place}
 use Rattle.ob_grounded.proofs.Sections.{E, P, AreParameters, AreFirmSections, known_place, inner_place, parameters_firm, sections_entities}
 use Rattle.ob_grounded.proofs.Plain.{HasAll}
-use Rattle.ob_grounded.proofs.Stand.{IsFound, name_found, held_at, bases_shown}
+use Rattle.ob_grounded.proofs.Stand.{name_found, held_at, bases_shown}
 
 -- the receiver is bound where there is one
 abbrev Fits : Option RawReceiver → Option BoundAs → Type 0
@@ -309,6 +305,7 @@ module _ (shown : QName → Option Desc) (unit : List ℕ) (grounded : IsGrounde
         whole = all_both (WholeAt unit shown In L v.own) (types_of d.parameters) hs.around.own typed.0 (wholes_more hs.around.own v.own grown hs.around.own k.whole);
         within = λ s l. ⊎_elim (λ x. within s x) (λ x. k.within s x) (one_joined (types_of d.parameters) hs.around.own s l);
       }
+
       by_bound : (b : Bool) (before : List Head) → HeadsAre base (record { around = knows_procedure v d b; before = before })
       by_bound true before = bound_are before
       by_bound false before =

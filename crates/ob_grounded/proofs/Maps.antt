@@ -1,9 +1,8 @@
 -- Maps of types in a module that are closed: each type that is named stands. What such a map has of a type, and what it says of chains.
-use Rattle.std.proofs.Common.{◌≡◌, ◌⊎◌, ⊎_elim, inl, inr, refl, sym, ap, subst, ◌∙◌, ℕ, zero, suc, ◌≤◌, Bool, true, false, List, [], ◌∷◌, ◌++◌, map as each, Option, Some, None, codes, arith}
-use Rattle.std.specs.Prelude.{bytes_eq, is_some, ◌&&◌, ◌||◌, MatchOption, IsTrue}
+use Rattle.std.proofs.Common.{◌≡◌, ⊎_elim, refl, sym, ap, subst, ◌∙◌, ℕ, zero, suc, Bool, true, false, List, [], ◌∷◌, ◌++◌, map as each, Option, Some, None, codes}
+use Rattle.std.specs.Prelude.{bytes_eq, ◌&&◌, MatchOption, IsTrue}
 use Rattle.std.specs.List.{AllByRecursion, flat_map, list_all}
 use Rattle.ob_tree.specs.declared.names.QName.{QName}
-use Rattle.ob_tree.specs.declared.ident.Mark.{Mark}
 use Rattle.ob_tree.specs.declared.ident.Mark.TheVariants as mark
 use Rattle.ob_types.specs.declared.types.Basic.{Basic}
 use Rattle.ob_types.specs.declared.types.Basic.TheVariants as basic
@@ -13,26 +12,24 @@ use Rattle.ob_types.specs.declared.types.TypeRef.TheVariants as ref
 use Rattle.ob_types.specs.declared.types.Signature.{Signature}
 use Rattle.ob_types.specs.declared.desc.Desc.{Desc}
 use Rattle.ob_types.specs.declared.desc.Desc.TheVariants as desc
-use Rattle.ob_types.specs.declared.desc.RecordDesc.{RecordDesc}
 use Rattle.ob_types.specs.declared.desc.Field.{Field}
 use Rattle.ob_types.specs.declared.desc.Method.{Method}
 use Rattle.ob_types.specs.declared.typed.TypedType.{TypedType}
 use Rattle.ob_types.specs.Maps.{listed, signature_types, is_type, stands_on, named_by, IsHeld, IsWithin}
-use Rattle.ob_types.specs.Relations.{IsOwn as IsOwnType, StandsFor, itself, equated, Is, IsGrounded, is_structure, is_open as is_open_desc, is_record as is_record_desc}
-use Rattle.ob_types.specs.Tests.{target_of, follow, target, shape_at}
-use Rattle.ob_types.proofs.Targets.{unique, IsTarget, is_target, more}
-use Rattle.ob_rules.specs.Shapes.{Map, shape, open_at, array_at, record_at, is_open, is_array, is_record, is_structured, is_held, same_name}
+use Rattle.ob_types.specs.Relations.{IsGrounded}
+use Rattle.ob_types.proofs.Targets.{more}
+use Rattle.ob_rules.specs.Shapes.{is_held, same_name}
 use Rattle.ob_rules.specs.Names.{Around, map_of, type_desc, is_out, out_string}
 use Rattle.ob_rules.specs.Depth.{chain_of, is_within}
 use Rattle.ob_relation.proofs.Names.{bytes_sym, bytes_true, and_both}
 use Rattle.ob_forms.specs.Said.{IsOneOf}
 use Rattle.ob_typed.specs.Makes.{IfThere}
-use Rattle.ob_bodies.specs.Knows.{Stands, IsDescribed}
-use Rattle.ob_bodies.proofs.Lists.{one_all, all_one, all_of, all_both}
+use Rattle.ob_bodies.specs.Knows.{IsDescribed}
+use Rattle.ob_bodies.proofs.Lists.{one_all, all_of, all_both}
 use Rattle.ob_bodies.proofs.Standing.{own_stands}
 use Rattle.ob_grounded.specs.Laws.{IsApart}
 use Rattle.ob_grounded.proofs.Firm.{Firm, SignatureFirm, AnyValue, S}
-use Rattle.ob_grounded.proofs.Stand.{IsOwn, IsOther, at, IsTypeAt, described_at, held_at, other_at, no_own, no_out, shown_stands, shown_names}
+use Rattle.ob_grounded.proofs.Stand.{IsOwn, IsOther, at, described_at, held_at, other_at, no_own, no_out, shown_names}
 
 -- ---- what a description names
 

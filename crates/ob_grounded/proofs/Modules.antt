@@ -1,6 +1,6 @@
 -- Modules: all types that they make are whole, and those with bound procedures are among them.
 use Rattle.std.proofs.Common.{◌≡◌, ◌⊎◌, ⊎_elim, inl, inr, refl, sym, ap, subst, ◌∙◌, ℕ, Bool, true, false, List, [], ◌∷◌, ◌++◌, map, Option, Some, None}
-use Rattle.std.specs.Prelude.{bytes_eq, is_some}
+use Rattle.std.specs.Prelude.{bytes_eq}
 use Rattle.std.specs.List.{AllByRecursion, filter_map}
 use Rattle.std.proofs.lemmas.Bool.{false≢true}
 use Rattle.ob_tree.specs.declared.names.QName.{QName}
@@ -21,21 +21,20 @@ use Rattle.ob_rules.specs.Expressions.{phrase_of}
 use Rattle.ob_rules.specs.Types.{written, is_module_level}
 use Rattle.ob_rules.specs.Statements.{Judging, judging}
 use Rattle.ob_rules.specs.Headings.{reversed}
-use Rattle.ob_rules.specs.Declarations.{Contents, no_contents, together, Part, Declared, Declaration, declare_if, in_order, headings_in_order, plain_of, procedure_of, type_name_of, binding_at, block, decl_rule, declaration, is_system, target_of, import_entity, import_declared, imports_declared, twice, around_module, name_judged, module_part, with_part, only_notes}
+use Rattle.ob_rules.specs.Declarations.{Part, Declared, Declaration, declare_if, in_order, headings_in_order, plain_of, procedure_of, type_name_of, binding_at, block, decl_rule, declaration, is_system, target_of, import_entity, import_declared, imports_declared, twice, around_module, name_judged, module_part}
 use Rattle.ob_forms.specs.Said.{IsOneOf}
 use Rattle.ob_said.proofs.Judges.{front_empty, rest_empty, not_empty}
 use Rattle.ob_said.proofs.Knowing.{IsKnown, AreKnown}
 use Rattle.ob_later.proofs.Expressions.{expr_nil}
-use Rattle.ob_bodies.specs.Knows.{HasName, EntityStands, Knows}
-use Rattle.ob_bodies.specs.Judged.{HasMore}
-use Rattle.ob_bodies.proofs.Lists.{one_left, one_right, one_joined, all_both}
-use Rattle.ob_bodies.proofs.Standing.{Lies, lies_same}
+use Rattle.ob_bodies.specs.Knows.{HasName, EntityStands}
+use Rattle.ob_bodies.proofs.Lists.{one_right, one_joined, all_both}
+use Rattle.ob_bodies.proofs.Standing.{Lies}
 use Rattle.ob_bodies.proofs.Binding.{IsFrom, binding_changes}
 use Rattle.ob_grounded.specs.Laws.{IsApart}
 use Rattle.ob_grounded.proofs.Firm.{AnyValue}
 use Rattle.ob_grounded.proofs.Written.{written_firm, written_parameters_firm}
 use Rattle.ob_grounded.proofs.Plain.{constant_firm, type_firm, variables_firm}
-use Rattle.ob_grounded.proofs.Blocks.{AreOne, W, Start, VariableIn, Adds, GoodDeclaration, AreGood, w, R, own_within, bound_is, block_adds}
+use Rattle.ob_grounded.proofs.Blocks.{AreOne, W, Start, VariableIn, Adds, GoodDeclaration, AreGood, w, own_within, bound_is, block_adds}
 
 module _ (shown : QName → Option Desc) (unit : List ℕ) (grounded : IsGrounded shown) (apart : IsApart shown unit) (out : is_out unit ≡ false) (In : TypedType → Type 0) (F : List TypedType) (among : (s : TypedType) → IsOneOf F s → In s) (named : (s : TypedType) → In s → HasName F s.name) (one : AreOne F) where
   -- ---- declarations, by induction

@@ -1,5 +1,5 @@
 -- Constants, types and variables that are declared, in their order.
-use Rattle.std.proofs.Common.{◌≡◌, ◌⊎◌, ⊎_elim, inl, inr, refl, sym, ap, subst, ◌∙◌, ℕ, Bool, true, false, List, [], ◌∷◌, ◌++◌, map as each, Option, Some, None, append_assoc, append-nil, codes}
+use Rattle.std.proofs.Common.{◌≡◌, ⊎_elim, inr, refl, sym, ap, subst, ◌∙◌, ℕ, Bool, true, false, List, [], ◌∷◌, ◌++◌, Option, Some, None, append_assoc, append-nil, codes}
 use Rattle.std.specs.Prelude.{bytes_eq, ◌||◌, is_some}
 use Rattle.std.specs.List.{AllByRecursion, cons_option}
 use Rattle.ob_tree.specs.declared.pos.Pos.{Pos}
@@ -29,16 +29,16 @@ use Rattle.ob_rules.specs.Declarations.{Declared, declare_if, no_nil, constant_e
 use Rattle.ob_forms.specs.Said.{IsOneOf}
 use Rattle.ob_typed.specs.Makes.{IfThere}
 use Rattle.ob_relation.proofs.Names.{bytes_true}
-use Rattle.ob_said.proofs.Judges.{Has, Speaks, Anything, front_empty, rest_empty, has_more, then_speaks, both_speak, breaks_speaks}
+use Rattle.ob_said.proofs.Judges.{Has, Speaks, Anything, front_empty, rest_empty, then_speaks, both_speak, breaks_speaks}
 use Rattle.ob_said.proofs.Knowing.{IsKnown, AreKnown}
 use Rattle.ob_said.proofs.Typings.{constant_speaks, mark_speaks}
 use Rattle.ob_later.proofs.Leaves.{Nil, then_nil, both_nil}
 use Rattle.ob_later.proofs.Typings.{LengthNil, constant_nil, mark_nil}
-use Rattle.ob_bodies.specs.Knows.{HasName, Grows, Knows, EntityStands}
+use Rattle.ob_bodies.specs.Knows.{HasName, EntityStands}
 use Rattle.ob_bodies.proofs.Lists.{one_left, one_right, one_joined, all_of, all_both}
-use Rattle.ob_bodies.proofs.Standing.{Lies, lies_same, lies_front, lies_behind, lies_then, grows_as, grows_front, grows_behind, stands_grown, all_grown}
+use Rattle.ob_bodies.proofs.Standing.{Lies, lies_same, lies_front, lies_behind, grows_as, grows_front, grows_behind, stands_grown, all_grown}
 use Rattle.ob_grounded.proofs.Tells.{Tell, made_tell, both_tell, tell_more}
-use Rattle.ob_grounded.proofs.Firm.{AnyValue, S, Closed, closed_more, AreFirm, FirmAt, are_more, are_described, are_aliased, aliases_more}
+use Rattle.ob_grounded.proofs.Firm.{AnyValue, S, Closed, closed_more, AreFirm, FirmAt, are_more}
 use Rattle.ob_grounded.proofs.Typings.{Tells, AreTold, are_told_more, nil_tell, Place, IsTyping, IsFirm, typed_firm, with_place}
 use Rattle.ob_grounded.proofs.Sections.{E, known_place}
 

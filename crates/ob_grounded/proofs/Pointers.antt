@@ -1,18 +1,16 @@
 -- Pointers that were left, where nothing is broken: each has the name of one whose base is no wrong one.
-use Rattle.std.proofs.Common.{◌≡◌, ◌⊎◌, ⊎_elim, inl, inr, refl, sym, ap, subst, ◌∙◌, ℕ, zero, suc, Bool, true, false, List, [], ◌∷◌, ◌++◌, length, Option, Some, None, cond}
+use Rattle.std.proofs.Common.{◌≡◌, ◌⊎◌, ⊎_elim, inl, inr, refl, sym, ap, ◌∙◌, ℕ, zero, suc, Bool, true, false, List, [], ◌∷◌, length, Option, Some, None, cond}
 use Rattle.std.specs.Prelude.{bytes_eq, not, ◌&&◌, ◌||◌, ◌==◌}
 use Rattle.std.specs.List.{AllByRecursion, find, filter}
-use Rattle.ob_types.specs.declared.types.TypeRef.{TypeRef}
 use Rattle.ob_rules.specs.declared.notes.Later.{Later}
 use Rattle.ob_rules.specs.declared.notes.Later.TheVariants as later
-use Rattle.ob_rules.specs.Judged.{Notes, no_notes, joined}
-use Rattle.ob_rules.specs.Shapes.{Map}
+use Rattle.ob_rules.specs.Judged.{no_notes}
 use Rattle.ob_rules.specs.Names.{Around, map_of, is_among}
-use Rattle.ob_rules.specs.Declarations.{Pointers, pointer_name, base_name, is_inline, is_wrong, notes_of_wrong, comes_back, add_if, is_told, ring_left, pointer_told, pointer_judged, judge_base, judge_unless, judge_pointer, judge_pointers, is_pointer_left, pointers_judged}
+use Rattle.ob_rules.specs.Declarations.{Pointers, pointer_name, base_name, is_inline, is_wrong, notes_of_wrong, comes_back, add_if, is_told, ring_left, pointer_judged, judge_base, judge_unless, judge_pointer, judge_pointers, is_pointer_left, pointers_judged}
 use Rattle.ob_relation.proofs.Names.{bytes_same, bytes_true}
 use Rattle.ob_forms.specs.Said.{IsOneOf}
 use Rattle.ob_said.proofs.Judges.{front_empty, rest_empty, not_empty}
-use Rattle.ob_bodies.proofs.Lists.{one_all, all_one}
+use Rattle.ob_bodies.proofs.Lists.{one_all}
 
 abbrev IsPointer : Later → Type 0
 IsPointer l = is_pointer_left l ≡ true

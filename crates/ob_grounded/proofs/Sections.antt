@@ -1,5 +1,5 @@
 -- The parameters of headings and of procedure types: the types that they have, and those that they make.
-use Rattle.std.proofs.Common.{◌≡◌, ◌⊎◌, ⊎_elim, inl, inr, refl, sym, ap, subst, ◌∙◌, ℕ, suc, ◌+◌, Bool, true, false, List, [], ◌∷◌, ◌++◌, map as each, length, Option, Some, None, append_assoc, append-nil}
+use Rattle.std.proofs.Common.{◌≡◌, ⊎_elim, inl, inr, refl, sym, ap, subst, ◌∙◌, ℕ, ◌+◌, Bool, true, false, List, [], ◌∷◌, ◌++◌, map as each, length, Option, Some, None, append-nil}
 use Rattle.std.specs.List.{AllByRecursion}
 use Rattle.ob_tree.specs.declared.pos.Pos.{Pos}
 use Rattle.ob_tree.specs.declared.names.QName.{QName}
@@ -14,18 +14,18 @@ use Rattle.ob_types.specs.declared.desc.Desc.TheVariants as desc
 use Rattle.ob_types.specs.declared.typed.TypedType.{TypedType}
 use Rattle.ob_rules.specs.declared.notes.Later.{Later}
 use Rattle.ob_rules.specs.declared.entity.Known.{Known}
-use Rattle.ob_rules.specs.Judged.{Judged, Notes, if_sound, paired, sound, both, made, noted, unless, ◌▷◌}
+use Rattle.ob_rules.specs.Judged.{Judged, Notes, if_sound, paired, sound, both, made, noted}
 use Rattle.ob_rules.specs.Shapes.{is_structured}
 use Rattle.ob_rules.specs.Names.{Around, map_of, type_named, found_in_scope, is_out}
-use Rattle.ob_rules.specs.Types.{Typing, typed_as, with_types, section_name, first_of, Parameters, WrittenSection, WrittenParameters, Sections, mode_of, twice_if, new_name, parameter_as, knows, declare_all, parameters_of, parameters_joined, behind_section, with_made, section, sections, result_fits, result_of, with_result, behind_sections, parameters_in, inner, procedure_type}
+use Rattle.ob_rules.specs.Types.{Typing, typed_as, with_types, section_name, first_of, Parameters, WrittenSection, WrittenParameters, Sections, mode_of, twice_if, parameter_as, knows, declare_all, parameters_of, parameters_joined, behind_section, with_made, section, sections, result_fits, result_of, with_result, parameters_in, inner, procedure_type}
 use Rattle.ob_forms.specs.Said.{IsOneOf}
 use Rattle.ob_typed.specs.Makes.{IfThere}
-use Rattle.ob_said.proofs.Judges.{Has, front_empty, rest_empty, has_more}
+use Rattle.ob_said.proofs.Judges.{Has, front_empty, rest_empty}
 use Rattle.ob_said.proofs.Knowing.{AreKnown}
 use Rattle.ob_said.proofs.Typings.{declare_all_is}
-use Rattle.ob_bodies.specs.Knows.{Stands, EntityStands}
-use Rattle.ob_bodies.proofs.Lists.{one_left, one_right, one_joined, all_of, all_both, there_of}
-use Rattle.ob_bodies.proofs.Standing.{Lies, lies_same, lies_front, grows_as, grows_front, stands_grown}
+use Rattle.ob_bodies.specs.Knows.{EntityStands}
+use Rattle.ob_bodies.proofs.Lists.{one_left, one_right, one_joined, all_both, there_of}
+use Rattle.ob_bodies.proofs.Standing.{Lies, lies_front, grows_as, grows_front, stands_grown}
 use Rattle.ob_grounded.proofs.Tells.{Tell, then_tell, made_tell, both_tell, unless_tell}
 use Rattle.ob_grounded.proofs.Firm.{SignatureFirm, signature_more, AnyValue, S, Seen, seen_more, AreFirm, FirmAt, are_more}
 use Rattle.ob_grounded.proofs.Typings.{Tells, AreTold, are_told_more, Place, IsTyping, IsFirm, with_place, seen_at, name_tell, typed_firm}
@@ -188,12 +188,11 @@ module _ (unit : List ℕ) (shown : QName → Option Desc) (out : is_out unit �
       let r = result_of v p.result in
       let two : s.found.notes.broken ++ r.notes.broken ≡ [] = front_empty (s.found.notes.broken ++ r.notes.broken) _ e in
       let h = sections_firm p.sections g u k name 1 (front_empty s.found.notes.broken r.notes.broken two) in
-      let kv : IsPlace v = known_place u k s.known h.1 (sections_entities u.own p.sections u name 1 k.knows.known) in
-      (
+      let kv : IsPlace v = known_place u k s.known h.1 (sections_entities u.own p.sections u name 1 k.knows.known) in (
         made_tell (λ ls (q : Parameters × Option TypeRef). AreParameters u.own ls (with_result q.0 q.1)) (AreParameters u.own) (λ q. with_result q.0 q.1) (both s.found r)
-        (both_tell (AreParameters u.own) (IsResult v) (λ ls (q : Parameters × Option TypeRef). AreParameters u.own ls (with_result q.0 q.1)) s.found r (λ n. h.0) (result_tell v kv p.result)
-        (λ x o i j. with_result_is u.own (s.found.notes.later ++ r.notes.later) x o (subst (λ ls. AreParameters u.own ls x) (sym (ap (λ l. s.found.notes.later ++ l) j.0 ∙ append-nil s.found.notes.later)) i) j.1))
-        (λ q i. i) e,
+            (both_tell (AreParameters u.own) (IsResult v) (λ ls (q : Parameters × Option TypeRef). AreParameters u.own ls (with_result q.0 q.1)) s.found r (λ n. h.0) (result_tell v kv p.result)
+            (λ x o i j. with_result_is u.own (s.found.notes.later ++ r.notes.later) x o (subst (λ ls. AreParameters u.own ls x) (sym (ap (λ l. s.found.notes.later ++ l) j.0 ∙ append-nil s.found.notes.later)) i) j.1))
+            (λ q i. i) e,
         h.1,
       )
 

@@ -1,18 +1,14 @@
 -- The kinds of types, as the rules test them and as they are, in maps that say the same but for bound procedures.
-use Rattle.std.proofs.Common.{◌≡◌, ◌⊎◌, ⊎_elim, inl, inr, refl, sym, ap, subst, ◌∙◌, ℕ, zero, suc, ◌≤◌, Bool, true, false, List, [], ◌∷◌, ◌++◌, Option, Some, None, arith}
-use Rattle.std.specs.Prelude.{bytes_eq, is_some, ◌&&◌, ◌||◌, MatchOption, IsTrue}
-use Rattle.std.specs.List.{AllByRecursion}
-use Rattle.std.specs.Option.{option_map}
+use Rattle.std.proofs.Common.{◌≡◌, refl, sym, ap, subst, ◌∙◌, ℕ, zero, suc, Bool, true, false, List, [], Option, Some, None, arith}
+use Rattle.std.specs.Prelude.{is_some, ◌||◌, MatchOption, IsTrue}
 use Rattle.ob_tree.specs.declared.names.QName.{QName}
-use Rattle.ob_tree.specs.declared.ident.Mark.{Mark}
 use Rattle.ob_types.specs.declared.types.Basic.{Basic}
 use Rattle.ob_types.specs.declared.types.TypeRef.{TypeRef}
 use Rattle.ob_types.specs.declared.types.TypeRef.TheVariants as ref
 use Rattle.ob_types.specs.declared.desc.Desc.{Desc}
 use Rattle.ob_types.specs.declared.desc.Desc.TheVariants as desc
-use Rattle.ob_types.specs.declared.desc.RecordDesc.{RecordDesc}
 use Rattle.ob_types.specs.declared.desc.Method.{Method}
-use Rattle.ob_types.specs.Maps.{IsHeld, IsWithin}
+use Rattle.ob_types.specs.Maps.{IsWithin}
 use Rattle.ob_types.specs.Relations.{IsOwn as IsOwnType, is_alias, StandsFor, itself, Is, is_structure, is_open as is_open_desc, is_record as is_record_desc}
 use Rattle.ob_types.specs.Tests.{target_of, follow, target, shape_at}
 use Rattle.ob_types.proofs.Targets.{unique, IsTarget, is_target}

@@ -1,9 +1,9 @@
 -- What is judged and breaks no rule: its node, beside what its notes leave for later.
-use Rattle.std.proofs.Common.{◌≡◌, ℕ, Bool, true, false, List, [], ◌∷◌, ◌++◌, Option, Some, None, refl, sym, subst, append-nil}
+use Rattle.std.proofs.Common.{◌≡◌, ℕ, Bool, true, false, List, [], ◌++◌, Option, Some, None, refl, sym, subst, append-nil}
 use Rattle.ob_tree.specs.declared.pos.Pos.{Pos}
 use Rattle.ob_rules.specs.declared.notes.Later.{Later}
-use Rattle.ob_rules.specs.Judged.{Judged, Notes, sound, if_sound, paired, both, made, noted, unless, wants, also, judge_later, ◌▷◌}
-use Rattle.ob_said.proofs.Judges.{Has, Speaks, front_empty, rest_empty, not_empty, has_more}
+use Rattle.ob_rules.specs.Judged.{Judged, Notes, sound, if_sound, paired, both, made, noted, unless, wants, also, ◌▷◌}
+use Rattle.ob_said.proofs.Judges.{Has, front_empty, rest_empty, not_empty, has_more}
 
 -- where nothing is broken there is a node, which has the property with what is left for later
 abbrev pub Tell : {A : Type 0} → (List Later → A → Type 0) → Judged A → Type 0

@@ -1,5 +1,5 @@
 -- Types as they are written: each type that they make names types that stand, of the kinds that the rules ask for.
-use Rattle.std.proofs.Common.{◌≡◌, ◌⊎◌, ⊎_elim, inl, inr, refl, sym, ap, subst, ◌∙◌, ℕ, suc, ◌+◌, ◌≤◌, Bool, true, false, List, [], ◌∷◌, ◌++◌, map as each, length, Option, Some, None, append_assoc, append-nil, arith}
+use Rattle.std.proofs.Common.{◌≡◌, ◌⊎◌, ⊎_elim, inl, inr, refl, sym, ap, subst, ◌∙◌, ℕ, suc, ◌≤◌, Bool, true, false, List, [], ◌∷◌, ◌++◌, Option, Some, None, append-nil, arith}
 use Rattle.std.specs.Prelude.{zero, pos, negsuc, not, ◌&&◌, ◌||◌, is_some, is_none}
 use Rattle.std.specs.List.{AllByRecursion}
 use Rattle.std.proofs.lemmas.Bool.{and_parts}
@@ -10,7 +10,6 @@ use Rattle.ob_tree.specs.declared.ident.IdentDef.{IdentDef}
 use Rattle.ob_tree.specs.declared.ident.Mark.{Mark}
 use Rattle.ob_tree.specs.declared.ident.Mark.TheVariants as mark
 use Rattle.ob_tree.specs.declared.ident.Qualident.{Qualident}
-use Rattle.ob_types.specs.declared.types.Mode.{Mode}
 use Rattle.ob_types.specs.declared.types.TypeRef.{TypeRef}
 use Rattle.ob_types.specs.declared.types.TypeRef.TheVariants as ref
 use Rattle.ob_types.specs.declared.value.Value.{Value}
@@ -21,13 +20,12 @@ use Rattle.ob_types.specs.declared.desc.Field.{Field}
 use Rattle.ob_types.specs.declared.typed.TypedType.{TypedType}
 use Rattle.ob_rules.specs.declared.notes.Later.{Later}
 use Rattle.ob_rules.specs.declared.notes.Later.TheVariants as later
-use Rattle.ob_rules.specs.declared.entity.Known.{Known}
 use Rattle.ob_rules.specs.Judged.{Judged, Notes, sound, both, made, noted, each_sound, unless, wants, also, judge_later, ◌▷◌}
 use Rattle.ob_rules.specs.Shapes.{Map, is_open, is_record, is_structured, is_pointer, record_of}
 use Rattle.ob_rules.specs.Names.{Around, map_of, in_unit, is_among, is_declared, type_named, is_out}
 use Rattle.ob_rules.specs.Phrases.{Phrase}
 use Rattle.ob_rules.specs.Expressions.{constant_value}
-use Rattle.ob_rules.specs.Types.{Typing, Written, marked, typed_as, with_types, base_name, element_name, field_name, named_typing, length_of, array_length, fixed_array, open_array, array, first_of, base_of, base_if, inherits, member_in, record_in, field_declared, fields_of, name_in, names_behind, WrittenFields, first_name, Fields, with_fields, fields_joined, field_lists, record_with, record_desc, pointer_to, base_judged, pointer_base, later_if, later_by, is_later, pointer_by, pointer}
+use Rattle.ob_rules.specs.Types.{Typing, Written, marked, typed_as, with_types, base_name, element_name, field_name, named_typing, length_of, array_length, fixed_array, array, first_of, base_of, base_if, inherits, member_in, record_in, field_declared, fields_of, name_in, names_behind, WrittenFields, first_name, Fields, with_fields, fields_joined, field_lists, record_with, record_desc, pointer_to, base_judged, pointer_base, later_if, later_by, is_later, pointer_by, pointer}
 use Rattle.ob_forms.specs.Said.{IsOneOf}
 use Rattle.ob_typed.specs.Makes.{IfThere}
 use Rattle.ob_said.proofs.Judges.{Has, Speaks, Anything, front_empty, rest_empty, not_empty, has_more}
@@ -35,12 +33,12 @@ use Rattle.ob_said.proofs.Knowing.{AreKnown, name_speaks}
 use Rattle.ob_said.proofs.Typings.{constant_speaks, mark_speaks}
 use Rattle.ob_later.proofs.Leaves.{Nil, type_nil}
 use Rattle.ob_later.proofs.Typings.{LengthNil, constant_nil, mark_nil}
-use Rattle.ob_bodies.specs.Knows.{HasName, Grows, Stands, IsDescribed, Knows}
+use Rattle.ob_bodies.specs.Knows.{HasName, Knows}
 use Rattle.ob_bodies.proofs.Lists.{one_left, one_right, one_joined, all_of, all_both}
-use Rattle.ob_bodies.proofs.Standing.{Lies, lies_same, lies_front, lies_behind, lies_then, grows_front, grows_as, stands_grown, own_stands, with_types_known}
+use Rattle.ob_bodies.proofs.Standing.{Lies, lies_same, lies_front, grows_front, grows_as, stands_grown, own_stands, with_types_known}
 use Rattle.ob_bodies.proofs.Named.{type_named_stands}
-use Rattle.ob_grounded.proofs.Tells.{Tell, then_tell, made_tell, both_tell, both_after, unless_tell, wants_tell, also_tell, tell_more, noted_tell}
-use Rattle.ob_grounded.proofs.Firm.{Firm, AnyValue, is_solid, IfAlias, S, Aliased, Seen, seen_more, IsSolid, Closed, closed_more, IsLate, Base, FirmAt, AreFirm, desc_more, are_more, are_described, are_aliased, aliases_more}
+use Rattle.ob_grounded.proofs.Tells.{Tell, then_tell, made_tell, both_tell, unless_tell, wants_tell, also_tell, tell_more}
+use Rattle.ob_grounded.proofs.Firm.{AnyValue, is_solid, IfAlias, S, Aliased, Seen, seen_more, Closed, closed_more, Base, FirmAt, AreFirm, desc_more, are_more, are_described, are_aliased, aliases_more}
 
 -- ---- what is left for later
 
