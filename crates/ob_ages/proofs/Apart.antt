@@ -17,7 +17,7 @@ found_named (g ∷ fs) m f e = go (bytes_eq m g.«module») refl (λ i. found_na
     go true i more e = let j : g ≡ f = cc in sym ((bytes_eq-Decides m g.«module»).0 i ∙ ap (λ (h : Face Text). h.«module») j)
     go false i more e = more e
 
-entry_named : (fs : List (Face Text)) → AreEntriesNamed (λ name. entry_of (face_named fs name))
+pub entry_named : (fs : List (Face Text)) → AreEntriesNamed (λ name. entry_of (face_named fs name))
 entry_named fs m f e = go (face_named fs m) refl e
   where
     go : (o : Option (Face Text)) → face_named fs m ≡ o → entry_of o ≡ Holds f → f.«module» ≡ m

@@ -12,7 +12,6 @@ use Rattle.ob_ages.specs.Library.{Library}
 use Rattle.ob_ages.specs.Model.{start, answer}
 use Rattle.ob_ages.specs.Laws.{AreSettings, Locality, Simulation, BuildsAreWritten}
 use Rattle.ob_ages.specs.Headline.{Headline, Stands}
-use Rattle.ob_ages.specs.Loads.{TypesAreLinked}
 
 -- WHAT IS TAKEN FOR GRANTED: laws of builds, that speak of no session and no folder
 pub record Promises : Type 0 where
@@ -22,8 +21,6 @@ pub record Promises : Type 0 where
   pub simulation : Simulation
   -- what is written of a build has a spelling
   pub written : BuildsAreWritten
-  -- the links of a module that compiles to record types name what it uses
-  pub linked : TypesAreLinked
 
 -- with accepted words the status is 0, 1 or 3 to 7
 abbrev pub HeadlineHolds : Type 0

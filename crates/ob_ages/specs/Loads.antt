@@ -1,7 +1,6 @@
 -- A load over files that keep a library is a load over the library.
-use Rattle.std.specs.List.{AllByRecursion}
 use Rattle.ob_compile.specs.Compiling.{Compiled}
-use Rattle.ob_planned.specs.Compiled.{Text, file_of, is_record, IsUsedAs, AreLinksUsed}
+use Rattle.ob_planned.specs.Compiled.{Text, AreLinksUsed}
 use Rattle.ob_ages.specs.Builds.{Build, IsValid}
 use Rattle.ob_ages.specs.Laws.{BuildsAreWritten}
 use Rattle.ob_ages.specs.Composing.{PlansAlike}
@@ -9,10 +8,6 @@ use Rattle.ob_ages.specs.Composing.{PlansAlike}
 -- The links of a module that compiles name what it uses.
 abbrev pub BuildsAreLinked : Type 0
 BuildsAreLinked = (b : Build) (c : Compiled Text) → IsValid b c → AreLinksUsed c
-
--- Its links to record types do.
-abbrev pub TypesAreLinked : Type 0
-TypesAreLinked = (b : Build) (c : Compiled Text) → IsValid b c → AllByRecursion (IsUsedAs is_record c) (file_of c).links.types
 
 -- THE LAW, where all builds can be written
 abbrev pub LoadsAlike : Type 0

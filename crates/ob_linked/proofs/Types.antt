@@ -1,7 +1,8 @@
 -- The links to record types of a module that compiles name what it uses.
-use Rattle.std.proofs.Common.{◌≡◌, ◌≢◌, ℕ, Bool, true, false, cond, List, [], ◌∷◌, ◌++◌, length, map, Option, Some, None, Result, Ok, Err, refl, sym, ap, subst, ◌∙◌}
+use Rattle.std.proofs.Common.{◌≡◌, ◌≢◌, ℕ, ◌<◌, Bool, true, false, cond, List, [], ◌∷◌, ◌++◌, length, map, Option, Some, None, Result, Ok, Err, refl, sym, ap, subst, ◌∙◌, arith}
 use Rattle.std.specs.Prelude.{bytes_eq, codes, nat_le}
 use Rattle.std.specs.List.{AllByRecursion, flat_map}
+use Rattle.std.proofs.lemmas.Bool.{leb-true}
 use Rattle.std.proofs.lemmas.Slice.Eq.{bytes_eq-Decides}
 use Rattle.ob_tree.specs.declared.which.Which.{Which}
 use Rattle.ob_tree.specs.declared.names.QName.{QName}
@@ -31,7 +32,10 @@ use Rattle.ob_code.specs.Object.{base_type}
 use Rattle.ob_compile.specs.Compiling.{texts, Compiled, exceeds, within, of_checked, of_break, by_rules, and_limits, is_deep, unless_deep, of_standing, of_reached, most_imports, of_few, imported, of_reading, most_source, of_short, compiled}
 use Rattle.ob_planned.specs.Compiled.{Text, file_of, is_variable, is_procedure, is_record, IsUsedAs}
 use Rattle.ob_distinct.specs.Distinct.{AreDistinct}
+use Rattle.ob_differ.proofs.Modules.{read_types_differ}
+use Rattle.ob_said.specs.Procedures.{ShowBases}
 use Rattle.ob_said.specs.Named.{AreEntriesNamed}
+use Rattle.ob_said.proofs.Faces.{LeavesOthers, walk_others, faces_show}
 use Rattle.ob_named.specs.Mentions.{IsVariable, IsProcedure, Any, IsAmong, AreMentioned}
 use Rattle.ob_named.specs.Trees.{StmtsNamed}
 use Rattle.ob_named.proofs.Modules.{modules_mention}
@@ -40,7 +44,7 @@ use Rattle.ob_recorded.specs.Told.{core, IsTold}
 use Rattle.ob_recorded.proofs.Modules.{modules_recorded}
 use Rattle.ob_linked.specs.Linked.{types_of, IsCounted, IsBaseCounted, IsTypeCounted}
 use Rattle.ob_linked.specs.Trees.{IsTreeCounted}
-use Rattle.ob_linked.specs.Types.{ReadTypesDiffer, CompiledTypesUsed}
+use Rattle.ob_linked.specs.Types.{CompiledTypesUsed}
 use Rattle.ob_linked.proofs.Bodies.{trees_are_used}
 use Rattle.ob_linked.proofs.Mentioned.{one, variable_counted, procedure_counted, described_by}
 use Rattle.ob_linked.proofs.Near.{IsNear, On, stands_near, CountIn, AreIn, all_in, counted}
@@ -191,51 +195,51 @@ module _ (faces : List (Face Text)) (clean : AreNotOut faces) (tree : Tree) (m :
 abbrev Used : Compiled Text → Type 0
 Used c = AllByRecursion (IsUsedAs is_record c) (file_of c).links.types
 
-module _ (differ : ReadTypesDiffer) (c : Compiled Text) (source : List ℕ) (tree : Tree) (read : reading source ≡ Ok tree) where
+module _ (c : Compiled Text) (source : List ℕ) (few : length source < 4294967295) (tree : Tree) (read : reading source ≡ Ok tree) where
   within_kept : (d : Compiled Text) (o : Option Which) → within d o ≡ Ok c → d ≡ c
   within_kept d (Some w) e = absurd cc
   within_kept d None e = cc
 
-  checked_used : (faces : List (Face Text)) → AreNotOut faces → (found : Option TypedModule) → checked (shown faces) tree ≡ found → and_limits texts (of_checked texts faces found) ≡ Ok c → Used c
-  checked_used faces k None is e = absurd cc
-  checked_used faces k (Some m) is e = subst Used (within_kept (one faces m) (exceeds texts (one faces m)) e) (types_used faces k tree m is (differ source tree (shown faces) m read is))
+  checked_used : (faces : List (Face Text)) → AreNotOut faces → ShowBases (shown faces) tree.name.name → (found : Option TypedModule) → checked (shown faces) tree ≡ found → and_limits texts (of_checked texts faces found) ≡ Ok c → Used c
+  checked_used faces k s None is e = absurd cc
+  checked_used faces k s (Some m) is e = subst Used (within_kept (one faces m) (exceeds texts (one faces m)) e) (types_used faces k tree m is (read_types_differ source tree (shown faces) m few s read is))
 
-  break_used : (faces : List (Face Text)) → AreNotOut faces → (b : Option BrokenRule) → and_limits texts (of_break texts faces (checked (shown faces) tree) b) ≡ Ok c → Used c
-  break_used faces k (Some b) e = absurd cc
-  break_used faces k None e = checked_used faces k (checked (shown faces) tree) refl e
+  break_used : (faces : List (Face Text)) → AreNotOut faces → ShowBases (shown faces) tree.name.name → (b : Option BrokenRule) → and_limits texts (of_break texts faces (checked (shown faces) tree) b) ≡ Ok c → Used c
+  break_used faces k s (Some b) e = absurd cc
+  break_used faces k s None e = checked_used faces k s (checked (shown faces) tree) refl e
 
-  deep_used : (b : Bool) (faces : List (Face Text)) → AreNotOut faces → unless_deep b (and_limits texts (by_rules texts faces tree)) ≡ Ok c → Used c
-  deep_used true faces k e = absurd cc
-  deep_used false faces k e = break_used faces k (first_break (shown faces) tree) e
+  deep_used : (b : Bool) (faces : List (Face Text)) → AreNotOut faces → ShowBases (shown faces) tree.name.name → unless_deep b (and_limits texts (by_rules texts faces tree)) ≡ Ok c → Used c
+  deep_used true faces k s e = absurd cc
+  deep_used false faces k s e = break_used faces k s (first_break (shown faces) tree) e
 
-  fit_used : (faces : List (Face Text)) → AreNotOut faces → (o : Option QName) → of_standing texts tree (if_fit o faces) ≡ Ok c → Used c
-  fit_used faces k None e = deep_used (is_deep faces tree) faces k e
-  fit_used faces k (Some q) e = absurd cc
+  fit_used : (faces : List (Face Text)) → AreNotOut faces → AllByRecursion (λ (f : Face Text). bytes_eq f.«module» tree.name.name ≡ false) faces → (o : Option QName) → first_unfit faces ≡ o → of_standing texts tree (if_fit o faces) ≡ Ok c → Used c
+  fit_used faces k others None f e = deep_used (is_deep faces tree) faces k (faces_show tree.name.name faces others f) e
+  fit_used faces k others (Some q) f e = absurd cc
 
-  coherent_used : (faces : List (Face Text)) → AreNotOut faces → (o : Option (StaleUse Text)) → of_standing texts tree (if_coherent o faces) ≡ Ok c → Used c
-  coherent_used faces k None e = fit_used faces k (first_unfit faces) e
-  coherent_used faces k (Some u) e = absurd cc
+  coherent_used : (faces : List (Face Text)) → AreNotOut faces → AllByRecursion (λ (f : Face Text). bytes_eq f.«module» tree.name.name ≡ false) faces → (o : Option (StaleUse Text)) → of_standing texts tree (if_coherent o faces) ≡ Ok c → Used c
+  coherent_used faces k others None e = fit_used faces k others (first_unfit faces) refl e
+  coherent_used faces k others (Some u) e = absurd cc
 
-  walked_used : (w : Walked Text) → LeavesNone w → of_reached texts tree (after_walk (standing texts.same texts.keeps) w) ≡ Ok c → Used c
-  walked_used (Left faces) k e = coherent_used faces k (first_stale texts.same (texts.keeps faces) faces) e
-  walked_used (NoInterface m) k e = absurd cc
-  walked_used (Damaged m) k e = absurd cc
-  walked_used (Cycle m) k e = absurd cc
-  walked_used TooMany k e = absurd cc
+  walked_used : (entry : List ℕ → Entry Text) (known : AreEntriesNamed entry) (w : Walked Text) → LeavesNone w → LeavesOthers entry known tree.name.name w → of_reached texts tree (after_walk (standing texts.same texts.keeps) w) ≡ Ok c → Used c
+  walked_used entry known (Left faces) k others e = coherent_used faces k others (first_stale texts.same (texts.keeps faces) faces) e
+  walked_used entry known (NoInterface m) k others e = absurd cc
+  walked_used entry known (Damaged m) k others e = absurd cc
+  walked_used entry known (Cycle m) k others e = absurd cc
+  walked_used entry known TooMany k others e = absurd cc
 
   few_used : (entry : List ℕ → Entry Text) → AreEntriesNamed entry → (b : Bool) → of_few b (of_reached texts tree (after_walk (standing texts.same texts.keeps) (walk entry tree.name.name (map imported tree.imports)))) ≡ Ok c → Used c
-  few_used entry known true e = walked_used (walk entry tree.name.name (map imported tree.imports)) (walk_none entry known tree.name.name (map imported tree.imports)) e
+  few_used entry known true e = walked_used entry known (walk entry tree.name.name (map imported tree.imports)) (walk_none entry known tree.name.name (map imported tree.imports)) (walk_others entry known tree.name.name (map imported tree.imports)) e
   few_used entry known false e = absurd cc
 
-reading_used : ReadTypesDiffer → (c : Compiled Text) (entry : List ℕ → Entry Text) → AreEntriesNamed entry → (text : List ℕ) (r : Result Tree NoModule) → reading text ≡ r → of_reading texts entry r ≡ Ok c → Used c
-reading_used differ c entry known text (Ok tree) is e = few_used differ c text tree is entry known (nat_le (length tree.imports) most_imports) e
-reading_used differ c entry known text (Err f) is e = absurd cc
+reading_used : (c : Compiled Text) (entry : List ℕ → Entry Text) → AreEntriesNamed entry → (text : List ℕ) → length text < 4294967295 → (r : Result Tree NoModule) → reading text ≡ r → of_reading texts entry r ≡ Ok c → Used c
+reading_used c entry known text few (Ok tree) is e = few_used c text few tree is entry known (nat_le (length tree.imports) most_imports) e
+reading_used c entry known text few (Err f) is e = absurd cc
 
-short_used : ReadTypesDiffer → (c : Compiled Text) (entry : List ℕ → Entry Text) → AreEntriesNamed entry → (text : List ℕ) (b : Bool) → of_short b (of_reading texts entry (reading text)) ≡ Ok c → Used c
-short_used differ c entry known text true e = reading_used differ c entry known text (reading text) refl e
-short_used differ c entry known text false e = absurd cc
+short_used : (c : Compiled Text) (entry : List ℕ → Entry Text) → AreEntriesNamed entry → (text : List ℕ) (b : Bool) → nat_le (length text) most_source ≡ b → of_short b (of_reading texts entry (reading text)) ≡ Ok c → Used c
+short_used c entry known text true few e = let h = leb-true (length text) most_source few in reading_used c entry known text (omega (arith, h)) (reading text) refl e
+short_used c entry known text false few e = absurd cc
 
 pub compiled_types : CompiledTypesUsed
 unfolding compiled
-compiled_types differ entry known None c e = absurd cc
-compiled_types differ entry known (Some source) c e = short_used differ c entry known source (nat_le (length source) most_source) e
+compiled_types entry known None c e = absurd cc
+compiled_types entry known (Some source) c e = short_used c entry known source (nat_le (length source) most_source) refl e

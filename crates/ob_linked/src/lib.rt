@@ -22,8 +22,7 @@ pub fn names_are_used()
 {}
 
 /// A law, with nothing to run: the links to record types in the object file of a module that
-/// compiles name what it uses, where each name has an interface of that name, or none, and the types
-/// of modules that are read and keep the rules differ in name.
+/// compiles name what it uses, where each name has an interface of that name, or none.
 pub fn types_are_used()
     ensures { CompiledTypesUsed }
 {}

@@ -1,6 +1,6 @@
 -- What a build that compiles was made of: a checked module that breaks no rule, laid out against interfaces none of which is of Out
 -- or of the module itself.
-use Rattle.std.proofs.Common.{◌≡◌, ℕ, List, [], ◌∷◌, length, Bool, true, false, refl, sym, ap, ◌∙◌, subst, Option, Some, None, Result, Ok, Err}
+use Rattle.std.proofs.Common.{◌≡◌, ℕ, ◌<◌, arith, List, [], ◌∷◌, length, Bool, true, false, refl, sym, ap, ◌∙◌, subst, Option, Some, None, Result, Ok, Err}
 use Rattle.std.specs.Prelude.{◌||◌, nat_le, bytes_eq, map as each}
 use Rattle.std.specs.List.{AllByRecursion}
 use Rattle.std.specs.Cmp.Lexicographic.{bytes_decides}
@@ -30,7 +30,7 @@ use Rattle.ob_reading.specs.Reading.{reading}
 use Rattle.ob_compile.specs.Compiling as c
 use Rattle.ob_compile.specs.Compiling.{Refusal, Compiled, compiled, texts, made, within, exceeds, of_break, by_rules, and_limits, unless_deep, is_deep, of_faces, of_standing, of_reached, of_few, of_tree, of_reading, of_short, most_imports, most_source, imported}
 use Rattle.ob_ages.specs.Builds.{Text, Build, IsValid, entry_of}
-use Rattle.std.proofs.lemmas.Bool.{false≢true}
+use Rattle.std.proofs.lemmas.Bool.{false≢true, leb-true}
 use Rattle.ob_locality.proofs.Walked.{IsBelow, LeavesBelow, AreNamed, IsNoRoot, is_built_in, walk_below, walk_other, have_none, only_named}
 use Rattle.ob_said.proofs.Judges.{front_empty}
 use Rattle.ob_blocks.specs.Laws.{AreOthers}
@@ -132,6 +132,15 @@ comes_of b x tree valid read =
     let find : List ℕ → walk.Entry Text = λ name. entry_of (face_named b.against name) in
     good_short tree (nat_le (length b.source) most_source) (of_tree texts find tree) (good_tree find (λ n f h. only_named b.against n f h) tree) x
     (ap (λ r. of_short (nat_le (length b.source) most_source) (of_reading texts find r)) (sym read) ∙ valid.is)
+
+-- its source is no longer than a compile takes
+pub short_is : (b : Build) (x : Compiled Text) → IsValid b x → length b.source < 4294967295
+unfolding compiled
+short_is b x valid = by (nat_le (length b.source) most_source) refl valid.is
+  where
+    by : (t : Bool) → nat_le (length b.source) most_source ≡ t → of_short t (of_reading texts (λ name. entry_of (face_named b.against name)) (reading b.source)) ≡ Ok x → length b.source < 4294967295
+    by true e i = let h = leb-true (length b.source) most_source e in omega (arith, h)
+    by false e i = absurd cc
 
 abbrev this_or : TypedModule → Option TypedModule → TypedModule
 this_or d None = d

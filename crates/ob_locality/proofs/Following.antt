@@ -19,7 +19,7 @@ use Rattle.ob_code.specs.Object.{object_file}
 use Rattle.ob_reading.specs.Reading.{reading}
 use Rattle.ob_compile.specs.Compiling.{Compiled, texts, made, of_break, by_rules, object_by, exports_of}
 use Rattle.ob_ages.specs.Builds.{Text, Build, IsValid, IsSpelled}
-use Rattle.ob_ages.specs.Laws.{AreAsWanted, IsSame, AreAround}
+use Rattle.ob_ages.specs.Laws.{AreAsWanted, IsSame, AreAround, Locality}
 use Rattle.ob_local.specs.Agreeing.{IsNear}
 use Rattle.ob_local.specs.Laws.{AreSpelled, HaveNoOut, AreMet, over, view}
 use Rattle.ob_local.specs.Laws as local
@@ -29,18 +29,18 @@ use Rattle.ob_local.proofs.Agreed.{named_none}
 use Rattle.ob_local.proofs.Whole.{modules_are_local}
 use Rattle.ob_local.proofs.Bridged.{counts_are_enough}
 use Rattle.ob_local.proofs.Blanked.{shapes_are_told}
-use Rattle.ob_linked.specs.Types.{ReadTypesDiffer}
+use Rattle.ob_differ.proofs.Modules.{read_types_differ}
+use Rattle.ob_said.proofs.Faces.{faces_show}
 use Rattle.ob_distinct.specs.Distinct.{AreDistinct}
 use Rattle.ob_tying.proofs.Over.{modules_tie}
 use Rattle.ob_sized.proofs.Grounded.{against_is_grounded}
 use Rattle.ob_elsewhere.specs.Laws.{ShowAlike}
 use Rattle.ob_elsewhere.proofs.Whole.{rules_are_local}
-use Rattle.ob_locality.specs.Laws.{LocalityFollows}
 use Rattle.ob_locality.proofs.Named.{found_all}
 use Rattle.ob_locality.proofs.Walked.{have_none, have_no_root}
-use Rattle.ob_locality.proofs.Compiled.{ComesOf, comes_of, checked_name, apart_of}
+use Rattle.ob_locality.proofs.Compiled.{ComesOf, comes_of, short_is, checked_name, apart_of}
 
-module _ (types_differ : ReadTypesDiffer) (b : Build) (c : Compiled Text) (m : Tree) (valid : IsValid b c) (read : reading b.source ≡ Ok m) (faces : List (Face Text)) (around : AreAround c.shows.«module» faces) (wanted : AreAsWanted faces c.shows.uses) where
+module _ (b : Build) (c : Compiled Text) (m : Tree) (valid : IsValid b c) (read : reading b.source ≡ Ok m) (faces : List (Face Text)) (around : AreAround c.shows.«module» faces) (wanted : AreAsWanted faces c.shows.uses) where
   from : ComesOf m c
   from = comes_of b c m valid read
 
@@ -66,7 +66,9 @@ module _ (types_differ : ReadTypesDiffer) (b : Build) (c : Compiled Text) (m : T
   no_out = have_none m.name.name c.against (comes_of b c m valid read).clean
 
   differ : AreDistinct (λ t. t.name) (comes_of b c m valid read).t.types
-  differ = types_differ b.source m (shown c.against) t read (comes_of b c m valid read).tree_is
+  differ =
+      let k = apart_of c m (comes_of b c m valid read) in
+      read_types_differ b.source m (shown c.against) t (short_is b c valid) (faces_show m.name.name c.against k.others k.fit) read (comes_of b c m valid read).tree_is
 
   tied : IsChecked c.against T
   tied =
@@ -133,5 +135,6 @@ module _ (types_differ : ReadTypesDiffer) (b : Build) (c : Compiled Text) (m : T
     },
   )
 
-pub locality_follows : LocalityFollows
-locality_follows types_differ b c m valid read faces around wanted = follows types_differ b c m valid read faces around wanted
+-- THE LAW
+pub locality_holds : Locality
+locality_holds b c m valid read faces around wanted = follows b c m valid read faces around wanted
