@@ -1,6 +1,6 @@
 -- What a module uses of others is enough for it to stand over them.
 use Rattle.std.proofs.Common.{◌≡◌, ◌⊎◌, inl, inr, ℕ, zero, suc, List, [], ◌∷◌, ◌++◌, map as each, Option, Some, None, refl, sym, ap, subst, ◌∙◌}
-use Rattle.std.specs.Prelude.{Bool, true, false, ◌||◌, cond, MatchOption, IfSome, IsTrue}
+use Rattle.std.specs.Prelude.{◌≢◌, Bool, true, false, ◌||◌, cond, MatchOption, IfSome, IsTrue}
 use Rattle.std.specs.List.{AllByRecursion, flat_map}
 use Rattle.ob_tree.specs.declared.names.QName.{QName}
 use Rattle.ob_types.specs.declared.types.TypeRef.{TypeRef}
@@ -325,3 +325,8 @@ users_stand before m types near names described g used = record {
   shown = shown before m types near described g used;
   grounded = users_grounded before m types near described g used;
 }
+
+-- what it sees of a type that it uses
+pub used_seen : (before : Program) (m : Module) (types : QName → Option Desc) (near : QName → Bool) (names : AllByRecursion (λ k. k.name ≢ m.name) before) (described : AllByRecursion (λ t. is_type t.desc ≡ true) m.types) (g : IsGrounded (viewed types m)) (used : AreUsed before m types near) → (q : QName) (e : Desc) → near q ≡ true → description before q ≡ Some e → (users_stand before m types near names described g used).others q ≡ Some (bare e)
+unfolding others kept_if users_stand
+used_seen before m types near names described g used q e n h = ap (λ b. kept_if b (description before q)) n ∙ ap (kept_if true) h

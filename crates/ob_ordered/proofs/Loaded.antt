@@ -1,9 +1,10 @@
 -- The modules of builds that are loaded together stand in order.
-use Rattle.std.proofs.Common.{◌≡◌, ◌≢◌, ℕ, Bool, true, false, List, [], ◌∷◌, ◌++◌, map as each, Option, refl, sym, ap, subst, ◌∙◌, inl, inr, append_assoc}
+use Rattle.std.proofs.Common.{◌≡◌, ◌≢◌, ℕ, Bool, true, false, List, [], ◌∷◌, ◌++◌, map as each, Option, Some, refl, sym, ap, subst, ◌∙◌, inl, inr, append_assoc}
 use Rattle.std.proofs.lemmas.Bool.{false≢true}
-use Rattle.std.specs.Prelude.{◌||◌, Contains, cond, codes, MatchOption, IsTrue}
+use Rattle.std.specs.Prelude.{◌||◌, Contains, cond, codes, bytes_eq, MatchOption, IsTrue}
 use Rattle.std.specs.List.{AllByRecursion}
 use Rattle.ob_tree.specs.declared.names.QName.{QName}
+use Rattle.ob_types.specs.declared.face.Aspect.{Aspect}
 use Rattle.ob_types.specs.declared.types.TypeRef.{TypeRef}
 use Rattle.ob_types.specs.declared.types.TypeRef.TheVariants as ref
 use Rattle.ob_types.specs.declared.desc.Desc.{Desc}
@@ -14,21 +15,23 @@ use Rattle.ob_types.specs.Relations.{Is, is_open}
 use Rattle.ob_types.specs.TypedSyntax.{Module}
 use Rattle.ob_meaning.specs.Values.{Program, description}
 use Rattle.ob_layout.specs.LaidOut.{type_named, is_own}
-use Rattle.ob_env.specs.Faces.{Face, described, text_in}
+use Rattle.ob_format.specs.Format.{◌>>=◌}
+use Rattle.ob_desc.specs.Grammar.{text_of}
+use Rattle.ob_env.specs.Faces.{Face, Wanted, face_named, object_named, described, text_in}
 use Rattle.ob_rules.specs.Names.{is_out}
 use Rattle.ob_uses.specs.Made.{face_of_laid}
 use Rattle.ob_distinct.proofs.Blocks.{not_out}
 use Rattle.ob_local.specs.Laws.{AreSpelled, HaveNoOut}
 use Rattle.ob_declares.specs.Near.{core}
 use Rattle.ob_declares.specs.Near as declares
-use Rattle.ob_declares.specs.Ordered.{StandsOver, StandInOrder}
-use Rattle.ob_declares.proofs.Near.{users_stand}
+use Rattle.ob_declares.specs.Ordered.{bare, StandsOver, StandInOrder}
+use Rattle.ob_declares.proofs.Near.{users_stand, used_seen}
 use Rattle.ob_declares.proofs.Keeping.{open_kind, kind_back}
 use Rattle.ob_declares.proofs.Ordered.{AreSound, has_more, view_held, held_more, in_order_sound, program_sound}
 use Rattle.ob_compile.specs.Compiling.{Compiled}
 use Rattle.ob_planned.proofs.Checked.{compiled_marked}
 use Rattle.ob_ages.specs.Builds.{Text, Build, IsValid, IsSpelled, of, shows_of, tree_of, name_of}
-use Rattle.ob_ages.specs.Laws.{AreTogether, IsBehind, BuildsAreWritten}
+use Rattle.ob_ages.specs.Laws.{AreAsWanted, AreTogether, IsBehind, BuildsAreWritten}
 use Rattle.ob_ages.proofs.Members.{In, to_in, has_head, has_more as has_behind}
 use Rattle.ob_ages.proofs.Stood.{of_is}
 use Rattle.ob_joining.specs.Builds.{program_of}
@@ -37,17 +40,18 @@ use Rattle.ob_locality.proofs.Compiled.{comes_of}
 use Rattle.ob_locality.proofs.Named.{found_all}
 use Rattle.ob_locality.proofs.Walked.{have_none}
 use Rattle.ob_sized.proofs.Different.{build_comes}
-use Rattle.ob_ordered.specs.Loaded.{types_of, BuildsAreRuled, LoadedStand, LoadedFormsStay, LoadedValuesStay}
+use Rattle.ob_ruled.specs.Ruled.{types_of, BuildsAreRuled}
+use Rattle.ob_ordered.specs.Loaded.{LoadedStand, LoadedFormsStay, LoadedValuesStay}
 use Rattle.ob_ordered.specs.Staying.{AreVariablesHeld}
 use Rattle.ob_ordered.specs.Sound.{AreVariablesClosed}
 use Rattle.ob_ordered.proofs.Closed.{all_closed}
 use Rattle.ob_ordered.proofs.Shown.{Showing, builds_show}
 use Rattle.ob_ordered.proofs.Staying.{record_stays, ordered_stay}
-use Rattle.ob_ordered.proofs.Used.{near, variables_near, are_used}
+use Rattle.ob_ordered.proofs.Used.{ShownNow, near, variables_near, are_used, shown_now}
 
 -- ---- lists
 
-map_last : {A B : Type 0} (f : A → B) (xs : List A) (x : A) → each f (xs ++ x ∷ []) ≡ each f xs ++ f x ∷ []
+pub map_last : {A B : Type 0} (f : A → B) (xs : List A) (x : A) → each f (xs ++ x ∷ []) ≡ each f xs ++ f x ∷ []
 map_last f [] x = refl
 map_last f (y ∷ ys) x = ap (λ r. f y ∷ r) (map_last f ys x)
 
@@ -60,17 +64,44 @@ all_last P (y ∷ ys) x h p = (h.0, all_last P ys x h.1 p)
 abbrev IsNotOut : Face Text → Type 0
 IsNotOut f = is_out f.«module» ≡ false
 
-record Before (before : List Build) : Type 0 where
-  showing : AllByRecursion Showing before
-  spelled : AllByRecursion IsSpelled (each shows_of before)
-  out : AllByRecursion IsNotOut (each shows_of before)
+pub record Before (before : List Build) : Type 0 where
+  pub showing : AllByRecursion Showing before
+  pub spelled : AllByRecursion IsSpelled (each shows_of before)
+  pub out : AllByRecursion IsNotOut (each shows_of before)
+  -- each has the texts of its uses among them
+  pub met : AllByRecursion (λ f. AreAsWanted (each shows_of before) f.uses) (each shows_of before)
+
+-- the texts that some interfaces have are there with more behind
+text_more : (xs ys : List (Face Text)) (q : QName) (a : Aspect) (t : Text) → text_in xs q a ≡ Some t → text_in (xs ++ ys) q a ≡ Some t
+text_more [] ys q a t e = absurd cc
+text_more (f ∷ xs) ys q a t e = by (bytes_eq q.«module» f.«module») e (text_more xs ys q a t)
+  where
+    by : (b : Bool) → ((cond b (Some f) (face_named xs q.«module») >>= λ (g : Face Text). object_named g.objects q.object) >>= λ d. text_of q d a) ≡ Some t → (text_in xs q a ≡ Some t → text_in (xs ++ ys) q a ≡ Some t) → ((cond b (Some f) (face_named (xs ++ ys) q.«module») >>= λ (g : Face Text). object_named g.objects q.object) >>= λ d. text_of q d a) ≡ Some t
+    by true e r = e
+    by false e r = r e
+
+wanted_more : (xs ys : List (Face Text)) (us : List (Wanted Text)) → AreAsWanted xs us → AreAsWanted (xs ++ ys) us
+wanted_more xs ys [] h = tt
+wanted_more xs ys (u ∷ us) h = (text_more xs ys u.object u.aspect u.kept h.0, wanted_more xs ys us h.1)
+
+all_more_wanted : (xs ys fs : List (Face Text)) → AllByRecursion (λ f. AreAsWanted xs f.uses) fs → AllByRecursion (λ f. AreAsWanted (xs ++ ys) f.uses) fs
+all_more_wanted xs ys [] h = tt
+all_more_wanted xs ys (f ∷ fs) h = (wanted_more xs ys f.uses h.0, all_more_wanted xs ys fs h.1)
+
+-- the types of other modules that a build uses, as they are there, and as interfaces show them now
+pub record Uses (before : List Build) (b : Build) : Type 0 where
+  pub near : QName → Bool
+  pub over : StandsOver (program_of before) (tree_of b)
+  pub used : declares.AreUsed (program_of before) (tree_of b) (described (of b).against) near
+  pub seen : (q : QName) (e : Desc) → near q ≡ true → description (program_of before) q ≡ Some e → over.others q ≡ Some (bare e)
+  pub shown : (q : QName) → is_own (tree_of b) q ≡ false → near q ≡ true → ShownNow (program_of before) (each shows_of before) (tree_of b) near q
 
 none_out : (fs : List (Face Text)) → AllByRecursion IsNotOut fs → In (each (λ (f : Face Text). f.«module») fs) (codes "Out") → ⊥
 none_out [] h i = i
 none_out (f ∷ fs) h (inl e) = false≢true (sym h.0 ∙ ap is_out e)
 none_out (f ∷ fs) h (inr i) = none_out fs h.1 i
 
-have_no_out : (fs : List (Face Text)) → AllByRecursion IsNotOut fs → HaveNoOut fs
+pub have_no_out : (fs : List (Face Text)) → AllByRecursion IsNotOut fs → HaveNoOut fs
 have_no_out fs h c = none_out fs h (to_in (each (λ (f : Face Text). f.«module») fs) (codes "Out") c)
 
 names_fresh : (n : List ℕ) (xs : List Build) → AllByRecursion Showing xs → (Contains (each name_of xs) n → ⊥) → AllByRecursion (λ (k : Module). k.name ≢ n) (program_of xs)
@@ -161,7 +192,7 @@ module _ (written : BuildsAreWritten) (ruled : BuildsAreRuled) where
     no_out_here : HaveNoOut (of b).against
     no_out_here = let k = build_comes b x v in have_none k.tree.name.name (of b).against (comes_of b (of b) k.tree (valid_of b x v) k.read).clean
 
-  before_more : (before : List Build) (b : Build) → Before before → IsBehind before b → Before (before ++ b ∷ [])
+  pub before_more : (before : List Build) (b : Build) → Before before → IsBehind before b → Before (before ++ b ∷ [])
   before_more before b k h =
       let s = showing b h.valid.0 h.valid.1 in
       let e : each shows_of before ++ shows_of b ∷ [] ≡ each shows_of (before ++ b ∷ []) = sym (map_last shows_of before b) in
@@ -169,6 +200,11 @@ module _ (written : BuildsAreWritten) (ruled : BuildsAreRuled) where
         showing = all_last Showing before b k.showing s;
         spelled = subst (λ fs. AllByRecursion IsSpelled fs) e (all_last IsSpelled (each shows_of before) (shows_of b) k.spelled (written b (of b) (valid_of b h.valid.0 h.valid.1)).symbols);
         out = subst (λ fs. AllByRecursion IsNotOut fs) e (all_last IsNotOut (each shows_of before) (shows_of b) k.out (ap is_out s.name ∙ not_out_here b h.valid.0 h.valid.1));
+        met =
+            subst (λ gs. AllByRecursion (λ f. AreAsWanted gs f.uses) gs) e
+            (all_last (λ f. AreAsWanted (each shows_of before ++ shows_of b ∷ []) f.uses) (each shows_of before) (shows_of b)
+            (all_more_wanted (each shows_of before) (shows_of b ∷ []) (each shows_of before) k.met)
+            (wanted_more (each shows_of before) (shows_of b ∷ []) (shows_of b).uses h.uses));
       }
 
   module _ (before : List Build) (b : Build) (k : Before before) (h : IsBehind before b) where
@@ -187,6 +223,22 @@ module _ (written : BuildsAreWritten) (ruled : BuildsAreRuled) where
 
     stands : StandsOver (program_of before) (tree_of b)
     stands = users_stand (program_of before) (tree_of b) (described (of b).against) (near (of b) (ruled b (of b) (valid_of b x v)) (found_all (tree_of b).types (ruled b (of b) (valid_of b x v)).names) types_are (spelled_here b x v) (no_out_here b x v) (shows_is b x v)) (names_fresh (tree_of b).name before k.showing (subst (λ (n : List ℕ). Contains (each name_of before) n → ⊥) (showing b x v).name h.new)) types_are (ruled b (of b) (valid_of b x v)).grounded used
+
+    -- what it uses, and stands over
+    pub uses : Uses before b
+    unfolding stands
+    uses =
+        let r = ruled b (of b) (valid_of b x v) in
+        let found = found_all (tree_of b).types r.names in
+        let near_it = near (of b) r found types_are (spelled_here b x v) (no_out_here b x v) (shows_is b x v) in
+        let fresh = names_fresh (tree_of b).name before k.showing (subst (λ (n : List ℕ). Contains (each name_of before) n → ⊥) (showing b x v).name h.new) in
+        record {
+          near = near_it;
+          over = stands;
+          used = used;
+          seen = λ q e n i. used_seen (program_of before) (tree_of b) (described (of b).against) near_it fresh types_are r.grounded used q e n i;
+          shown = λ q own n. shown_now (of b) r found types_are (spelled_here b x v) (no_out_here b x v) (shows_is b x v) (program_of before) (each shows_of before) k.spelled (have_no_out (each shows_of before) k.out) h.uses (builds_show before k.showing) q own n;
+        }
 
     variables_here : AllByRecursion (λ v. IsHeld (description (program_of before ++ tree_of b ∷ [])) v.of) (tree_of b).variables
     variables_here =
@@ -230,8 +282,8 @@ module _ (written : BuildsAreWritten) (ruled : BuildsAreRuled) where
   kept_all before (b ∷ bs) k kept h =
       subst (λ xs. Kept (program_of xs)) (append_assoc before (b ∷ []) bs) (kept_all (before ++ b ∷ []) bs (before_more before b k h.0) (subst Kept (sym (map_last tree_of before b)) (kept_here before b k h.0 kept)) h.1)
 
-  none : Before []
-  none = record { showing = tt; spelled = tt; out = tt }
+  pub none : Before []
+  none = record { showing = tt; spelled = tt; out = tt; met = tt }
 
   pub in_order : (bs : List Build) → AreTogether [] bs → StandInOrder [] (program_of bs)
   in_order bs h = stand_all [] bs none h

@@ -36,11 +36,12 @@ use Rattle.ob_local.proofs.Told.{all_on}
 use Rattle.ob_local.proofs.Agreed.{names_held, all_held, out_none, shapes_met}
 use Rattle.ob_declares.specs.Near.{core, IsUsed, AreUsed}
 use Rattle.ob_declares.specs.Near as declares
+use Rattle.ob_declares.specs.Ordered.{bare}
 use Rattle.ob_declares.proofs.Keeping.{core_bare}
 use Rattle.ob_declares.proofs.Ordered.{seen_bare}
 use Rattle.ob_compile.specs.Compiling.{Compiled}
 use Rattle.ob_ages.specs.Builds.{Text}
-use Rattle.ob_ordered.specs.Loaded.{types_of, bound_types, IsRuled}
+use Rattle.ob_ruled.specs.Ruled.{types_of, bound_types, IsRuled}
 
 -- ---- lists and truths
 
@@ -79,6 +80,29 @@ fields_count P (f ∷ fs) h = (h.0, fields_count P fs h.1)
 variables_count : (P : QName → Type 0) (vs : List TypedVariable) → AllByRecursion (On P) (shape_starts (flat_map counts_of_variable vs)) → AllByRecursion (λ v. On P v.of) vs
 variables_count P [] h = tt
 variables_count P (v ∷ vs) h = (h.0, variables_count P vs h.1)
+
+-- a type of another module as interfaces show it now, and as the program has it
+pub record ShownNow (before : Program) (others : List (Face Text)) (m : Module) (near : QName → Bool) (q : QName) : Type 0 where
+  pub x : Desc
+  pub e : Desc
+  pub of : described others q ≡ Some x
+  pub has : description before q ≡ Some e
+  pub alike : bare e ≡ bare x
+  pub parts : AllByRecursion (declares.IsNear m near) (near_types x)
+
+shape_near : (x d : Desc) → as_shape x ≡ as_shape d → near_types x ≡ near_types d
+shape_near x d e = same x ∙ ap near_types e ∙ sym (same d)
+  where
+    same : (d : Desc) → near_types d ≡ near_types (as_shape d)
+    same (desc.Const v) = refl
+    same (desc.Var m t) = refl
+    same (desc.Proc s) = refl
+    same (desc.Alias m t) = refl
+    same (desc.Array m n t) = refl
+    same (desc.OpenArray m t) = refl
+    same (desc.Pointer m t) = refl
+    same (desc.ProcType m s) = refl
+    same (desc.Record r) = refl
 
 -- ---- a shape keeps the core
 
@@ -267,3 +291,19 @@ module _ (c : Compiled Text) (ruled : IsRuled c) (found : AllByRecursion (λ t. 
 
     pub are_used : AreUsed before c.tree (described c.against) near
     are_used = record { own = own_near; others = used_at }
+
+    reached_at : (q : QName) → near q ≡ true → is_among reached q ≡ true
+    unfolding near
+    reached_at q i = (both_true (is_among reached q) (is_described is_type (described c.against q)) (both_true (is_imported c.tree q) (is_among reached q && is_described is_type (described c.against q)) i).1).0
+
+    pub shown_now : (q : QName) → is_own c.tree q ≡ false → near q ≡ true → ShownNow before others c.tree near q
+    shown_now q own i =
+        let u = used_at q own i in
+        by u (described others q) refl (sym (shapes_met c.against others c.tree spelled spelled_too no_out no_out_too (subst (λ (f : Face Text). AreMet others f.uses) shows_is met) q (is_near q (reached_at q i)) (λ j. subst IsSome (sym u.of) refl) own) ∙ ap (option_map as_shape) u.of)
+      where
+        by : (u : IsUsed before c.tree (described c.against) near q) (o : Option Desc) → described others q ≡ o → option_map as_shape o ≡ Some (as_shape u.d) → ShownNow before others c.tree near q
+        by u None j h = absurd cc
+        by u (Some x) j h =
+            let k : as_shape x ≡ as_shape u.d = same_some (as_shape x) (as_shape u.d) h in
+            let s = show q x j (sym (shape_type x) ∙ ap is_type k ∙ shape_type u.d ∙ u.type) in
+            record { x = x; e = s.0; of = j; has = s.1.0; alike = seen_bare s.0 x s.1.1; parts = subst (AllByRecursion (declares.IsNear c.tree near)) (sym (shape_near x u.d k)) u.parts }

@@ -19,6 +19,7 @@ use Rattle.ob_local.specs.Agreeing.{Map, IsNear, On}
 use Rattle.ob_forms.specs.Formed.{IsMethodOf}
 use Rattle.ob_forms.specs.Said.{IsSound}
 use Rattle.ob_forms.specs.Whole.{IsWhole}
+use Rattle.ob_ruled.specs.Ruled.{BuildsAreRuled}
 use Rattle.ob_declares.specs.Ordered.{StandInOrder}
 use Rattle.ob_declares.specs.Words.{AreLaidInOrder}
 use Rattle.ob_standing.specs.Described.{IsDescribed}
@@ -27,34 +28,6 @@ use Rattle.ob_compile.specs.Compiling.{Compiled}
 use Rattle.ob_ages.specs.Builds.{Text, Build, IsValid, tree_of}
 use Rattle.ob_ages.specs.Laws.{BuildsAreWritten}
 use Rattle.ob_joining.specs.Builds.{program_of, AreLoaded, FormsStay}
-
--- the descriptions that a module was compiled with
-abbrev pub types_of : Compiled Text → Map
-types_of c = viewed (described c.against) c.tree
-
--- the types of the parameters and the results of the bound procedures of a record
-abbrev pub bound_types : Desc → List TypeRef
-bound_types (desc.Record r) = flat_map (λ m. signature_types m.signature) r.methods
-bound_types d = []
-
--- an array has a length
-abbrev pub HasLength : Desc → Type 0
-HasLength (desc.Array m n t) = IsLength n
-HasLength d = Unit {0}
-
--- What the rules see to of a module that compiles, in the descriptions that it was compiled with: its types differ in name, arrays have
--- lengths, and the map with them is grounded; what the bound procedures of its records take and give counts for its uses; and its
--- variables have types, which are no open arrays.
-pub record IsRuled (c : Compiled Text) : Type 0 where
-  pub names : AreDistinct (λ t. t.name) c.tree.types
-  pub grounded : IsGrounded (types_of c)
-  pub bound : AllByRecursion (λ t. AllByRecursion (On (IsNear (types_of c) c.tree)) (bound_types t.desc)) c.tree.types
-  pub lengths : AllByRecursion (λ t. HasLength t.desc) c.tree.types
-  pub variables : AllByRecursion (λ v. IsHeld (types_of c) v.of) c.tree.variables
-  pub closed : AllByRecursion (λ v. Is (types_of c) is_open v.of → ⊥) c.tree.variables
-
-abbrev pub BuildsAreRuled : Type 0
-BuildsAreRuled = (b : Build) (c : Compiled Text) → IsValid b c → IsRuled c
 
 -- THE LAWS
 

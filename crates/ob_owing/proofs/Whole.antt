@@ -1,0 +1,37 @@
+-- What is left gives all that is owed.
+use Rattle.ob_valued.specs.Valued.{values}
+use Rattle.ob_stand.specs.Owed.{Owed}
+use Rattle.ob_stand.proofs.Whole.{builds_stand}
+use Rattle.ob_sized.proofs.Different.{modules_differ}
+use Rattle.ob_entered.proofs.Whole.{names_are_shown, words_are_counted, commands_are_there, loaded_enter}
+use Rattle.ob_ruled.specs.Ruled.{BuildsAreRuled}
+use Rattle.ob_ruled.proofs.Builds.{builds_keep_rules}
+use Rattle.ob_ordered.proofs.Loaded.{loaded_forms_stay, loaded_values_stay}
+use Rattle.ob_ordered.proofs.Owing.{loaded_variables, loaded_describe}
+use Rattle.ob_whole.proofs.Whole.{loaded_whole}
+use Rattle.ob_laying.proofs.Loaded.{loaded_laid}
+use Rattle.ob_owing.specs.Left.{Left, LeftGives, LeftStands}
+
+ruled : Left → BuildsAreRuled
+ruled l = builds_keep_rules l.differ l.grounded
+
+pub left_gives : LeftGives
+left_gives l =
+    let r = ruled l in
+    record {
+      values = values;
+      different = modules_differ;
+      enterable = loaded_enter l.written l.linked;
+      same = l.same;
+      described = loaded_describe l.written r l.bound (loaded_whole r l.passed) (loaded_laid l.written r l.locality);
+      rules = l.rules;
+      names = names_are_shown;
+      words = words_are_counted;
+      commands = commands_are_there;
+      variables = loaded_variables l.written r l.bound;
+      forms_stay = loaded_forms_stay l.written r;
+      values_stay = loaded_values_stay l.written r;
+    }
+
+pub left_stands : LeftStands
+left_stands l = builds_stand (left_gives l)

@@ -1,0 +1,39 @@
+-- What is left to be seen of builds, so that all that is owed of those that are loaded together is there.
+use Rattle.std.specs.Prelude.{◌≡◌, List, ◌++◌, map, Contains}
+use Rattle.ob_meaning.specs.Values.{description}
+use Rattle.ob_layout.specs.LaidOut.{viewed}
+use Rattle.ob_env.specs.Faces.{described}
+use Rattle.ob_relation.specs.Setting.{Setting}
+use Rattle.ob_linking.specs.Same.{ModuleSame}
+use Rattle.ob_tables.specs.Image.{RulesKept}
+use Rattle.ob_valued.specs.Valued.{values}
+use Rattle.ob_ages.specs.Builds.{Build, of, tree_of}
+use Rattle.ob_ages.specs.Laws.{Locality, BuildsAreWritten}
+use Rattle.ob_ages.specs.Loads.{BuildsAreLinked}
+use Rattle.ob_joining.specs.Builds.{program_of, AreLoaded, IsOf, BuildsStand}
+use Rattle.ob_stand.specs.Owed.{in_program, Owed}
+use Rattle.ob_ruled.specs.Ruled.{BuildsDiffer, BuildsAreGrounded}
+use Rattle.ob_ordered.specs.Loaded.{BoundAreThere}
+use Rattle.ob_whole.specs.Whole.{LoadedArePassed}
+
+pub record Left : Type 0 where
+  -- of each build alone
+  pub written : BuildsAreWritten
+  pub linked : BuildsAreLinked
+  pub differ : BuildsDiffer
+  pub grounded : BuildsAreGrounded
+  pub locality : Locality
+  -- of builds that are loaded together: parameters are passed as their types ask for, and bound procedures are there
+  pub passed : LoadedArePassed
+  pub bound : BoundAreThere
+  -- the descriptions that a module was compiled with say of what it names what its declarations in the program say
+  pub same : (bs more : List Build) → AreLoaded (bs ++ more) → (b : Build) → Contains bs b → ModuleSame (viewed (described (of b).against) (tree_of b)) (description (program_of bs)) (tree_of b)
+  -- the modules keep the rules
+  pub rules : (bs more : List Build) → AreLoaded (bs ++ more) → (c : Setting) → IsOf c values bs more → RulesKept c (map (in_program (program_of bs)) bs)
+
+-- THE LAWS
+abbrev pub LeftGives : Type 0
+LeftGives = Left → Owed
+
+abbrev pub LeftStands : Type 0
+LeftStands = Left → BuildsStand
