@@ -1,5 +1,5 @@
 -- Procedures, and sequences of declarations with their statements.
-use Rattle.std.proofs.Common.{◌≡◌, refl, sym, ap, ◌∙◌, subst, ℕ, suc, ◌≤◌, ◌<◌, Bool, true, false, List, [], ◌∷◌, ◌++◌, Option, Some, None, inl, inr, arith}
+use Rattle.std.proofs.Common.{◌≡◌, ⊎_elim, refl, sym, ap, ◌∙◌, subst, ℕ, suc, ◌≤◌, ◌<◌, Bool, true, false, List, [], ◌∷◌, ◌++◌, Option, Some, None, inl, inr, arith}
 use Rattle.std.specs.Prelude.{nat_lt}
 use Rattle.std.specs.List.{AllByRecursion}
 use Rattle.ob_tree.specs.declared.names.QName.{QName}
@@ -28,12 +28,15 @@ use Rattle.ob_forms.specs.Said.{IsOneOf}
 use Rattle.ob_typed.specs.Makes.{IfThere}
 use Rattle.ob_bodies.specs.Knows.{Grows, Stands, IsDescribed, EntityStands}
 use Rattle.ob_bodies.specs.Judged.{IsReceivedAs, IsWithin, ReceiverStands, AreOf, IsParameter, IsInside, result_of, NameIs, StandsAround, IsJudged, ProcedureIsJudged}
-use Rattle.ob_bodies.proofs.Lists.{one_left, one_right, all_of, all_both, there_of, first_empty, second_empty}
+use Rattle.ob_bodies.proofs.Lists.{one_left, one_right, one_joined, all_of, all_both, there_of, first_empty, second_empty}
 use Rattle.ob_bodies.proofs.Standing.{Lies, lies_same, lies_front, lies_behind, lies_then, grows_front, grows_then, stands_grown}
 use Rattle.ob_bodies.proofs.Heads.{self_is, InsideEntity, SignatureStands, HeadStands, all_parameters}
 use Rattle.ob_bodies.proofs.Receivers.{received_as}
 use Rattle.ob_bodies.proofs.Headings.{Aligned, IsUnbroken, AreGoodHeadings}
-use Rattle.ob_bodies.proofs.Levels.{Level, AtModule, Within, frame, IsPlaced, IsVariableAt, Included, IsFull, none_full, both_full, first_included, second_included, BlockAt, IsOpened, BoundStands, not_module, outer_name}
+use Rattle.ob_bodies.specs.Order.{IsOver}
+use Rattle.ob_bodies.proofs.InOrder.{over_all}
+use Rattle.ob_bodies.proofs.Quiet.{IsQuiet, IsWellHeading, IsQuietHead, inside_quiet}
+use Rattle.ob_bodies.proofs.Levels.{Level, AtModule, Within, frame, IsPlaced, IsVariableAt, Included, IsFull, none_full, both_full, first_included, second_included, BlockAt, IsOpened, BoundStands, BodyOwn, not_module, outer_name}
 
 -- ---- lists
 
@@ -41,6 +44,10 @@ pub one_reversed : {A : Type 0} (xs : List A) (x : A) → IsOneOf xs x → IsOne
 one_reversed [] x h = h
 one_reversed (y ∷ xs) x (inl e) = one_right (reversed xs) (y ∷ []) x (inl e)
 one_reversed (y ∷ xs) x (inr h) = one_left (reversed xs) (y ∷ []) x (one_reversed xs x h)
+
+pub one_turned : {A : Type 0} (xs : List A) (x : A) → IsOneOf (reversed xs) x → IsOneOf xs x
+one_turned [] x h = h
+one_turned (y ∷ xs) x h = ⊎_elim (λ i. inr (one_turned xs x i)) (λ i. ⊎_elim (λ e. inl e) (λ k. absurd k) i) (one_joined (reversed xs) (y ∷ []) x h)
 
 pub all_reversed : {A : Type 0} (P : A → Type 0) (xs : List A) → AllByRecursion P xs → AllByRecursion P (reversed xs)
 all_reversed P [] h = tt
@@ -121,12 +128,14 @@ module _ (IsConstant : Value → Type 0) (shown : QName → Option Desc) (m : Ty
     pub placed : IsPlaced l body.u
     pub full : IsFull IsConstant shown m content c
     pub bound : BoundStands IsConstant shown m content l c
+    pub own : BodyOwn IsConstant shown m content l c.bound body.u
 
   abbrev pub IsBlock : (Around → Part) → Type 0
-  IsBlock f = (l : Level) (u : Around) → B l u → IsOpened IsConstant shown m content l u → (f u).notes.broken ≡ [] → I l (f u).contents → PartIs l (f u).contents
+  IsBlock f = (l : Level) (u : Around) → B l u → IsOpened IsConstant shown m content l u → IsQuiet u → (f u).notes.broken ≡ [] → I l (f u).contents → PartIs l (f u).contents
 
   pub record IsProcedure (p : Written_procedure) : Type 0 where
     pub heading : AreGoodHeadings IsConstant m.name shown out (p ∷ [])
+    pub well : IsWellHeading p
     pub inside : IsBlock p.inside
 
   abbrev pub AreProcedures : List Written_procedure → Type 0
@@ -135,6 +144,9 @@ module _ (IsConstant : Value → Type 0) (shown : QName → Option Desc) (m : Ty
   pub headings_good : (ps : List Written_procedure) → AreProcedures ps → AreGoodHeadings IsConstant m.name shown out ps
   headings_good [] g = tt
   headings_good (p ∷ ps) g = (g.0.heading.0, headings_good ps g.1)
+
+  pub headings_well : (ps : List Written_procedure) → AreProcedures ps → AllByRecursion IsWellHeading ps
+  headings_well ps g = all_of IsProcedure IsWellHeading ps (λ p h. h.well) g
 
   -- the body of a part, judged at a level
   pub stands_at : (l : Level) (u : Around) → B l u → StandsAround IsConstant shown m content (frame l) u
@@ -174,7 +186,7 @@ module _ (IsConstant : Value → Type 0) (shown : QName → Option Desc) (m : Ty
   inside_name own types h c n k d l (entity.Constant v) i = tt
   inside_name own types h c n k d l (entity.TypeName t) i = tt
   inside_name own types h c n k d l (entity.Procedure q s) i = absurd i
-  inside_name own types h c n k d l (entity.Forward q s) i = tt
+  inside_name own types h c n k d l (entity.Forward q s) i = absurd i
   inside_name own types h c n k d l (entity.Module x) i = tt
   inside_name own types h c n k d l (entity.Predeclared x) i = tt
   inside_name own types h c n k d l entity.LeftOut i = tt
@@ -264,6 +276,10 @@ module _ (IsConstant : Value → Type 0) (shown : QName → Option Desc) (m : Ty
   head_made None h = tt
   head_made (Some p) h = h
 
+  head_over : (own : List TypedType) → Grows own m.types → (o : Option Parameters) → IfThere (λ p. AllByRecursion (IsOver (S own)) p.made) o → AllByRecursion (IsOver (S m.types)) (types_of_head o)
+  head_over own g None h = tt
+  head_over own g (Some p) h = over_all m.name shown own m.types g p.made h
+
   framed_variables : (types : Map) (h : Head) (o : Option Parameters) (c : Contents) (x : TypedVariable) → IsOneOf c.variables x → IsVariableAt IsConstant shown m content (Within (framed types h o c)) x
   framed_variables types h None c x i = tt
   framed_variables types h (Some q) c x i = i
@@ -287,29 +303,29 @@ module _ (IsConstant : Value → Type 0) (shown : QName → Option Desc) (m : Ty
         tt,
       )
 
-  procedure_is : (l : Level) (u : Around) → B l u → (p : Written_procedure) → IsProcedure p → (h : Head) → HS u.own u.scope h → HeadBound h → AllByRecursion (KnownBehind l u) h.known → (forward : Bool) → (procedure_judged u p h forward).notes.broken ≡ [] → I l (procedure_judged u p h forward).contents → Adds (procedure_judged u p h forward).contents
-  procedure_is l u b p g h s r k true n i = record { procedures = tt; full = record { constants = tt; types = head_made h.parameters s.made; bound = tt } }
-  procedure_is l u b p g h s o k false n i =
+  procedure_is : (path : List ℕ) (l : Level) (u : Around) → B l u → (p : Written_procedure) → IsProcedure p → (h : Head) → HS u.own u.scope h → HeadBound h → AllByRecursion (KnownBehind l u) h.known → IsQuietHead path h → (forward : Bool) → (procedure_judged u p h forward).notes.broken ≡ [] → I l (procedure_judged u p h forward).contents → Adds (procedure_judged u p h forward).contents
+  procedure_is path l u b p g h s r k quiet_head true n i = record { procedures = tt; full = record { constants = tt; types = head_made h.parameters s.made; bound = tt; over = head_over u.own b.grown h.parameters s.over } }
+  procedure_is path l u b p g h s o k quiet_head false n i =
       let c = (p.inside (around_body u h)).contents in
       let types = map_of u in
       let f = framed types h h.parameters c in
       let own = typed_procedure types h h.parameters c in
       let quiet = second_empty (closing_judged h.name p.closing).broken _ (second_empty h.notes.broken _ n) in
-      let r = g.inside (Within f) (around_body u h) (inside_block l u b h s o k types c) tt quiet (record { variables = λ x j. framed_variables types h h.parameters c x j; procedures = λ q j. i.procedures q (one_right own c.procedures q j); types = grows_then c.types (types_of_head h.parameters ++ c.types) m.types (grows_front (types_of_head h.parameters) c.types) i.types; made = λ t j. i.made t (one_right (types_of_head h.parameters) c.types t j); bound = tt }) in
+      let r = g.inside (Within f) (around_body u h) (inside_block l u b h s o k types c) tt (inside_quiet path u h quiet_head) quiet (record { variables = λ x j. framed_variables types h h.parameters c x j; procedures = λ q j. i.procedures q (one_right own c.procedures q j); types = grows_then c.types (types_of_head h.parameters ++ c.types) m.types (grows_front (types_of_head h.parameters) c.types) i.types; made = λ t j. i.made t (one_right (types_of_head h.parameters) c.types t j); bound = tt }) in
       record {
         procedures = all_both (ProcedureIsJudged IsConstant shown m content) own c.procedures (framed_judged u.own b.grown types h s.self h.parameters c s.signature r.body) r.procedures;
-        full = record { constants = tt; types = all_both (IsDescribed IsConstant) (types_of_head h.parameters) c.types (head_made h.parameters s.made) r.full.types; bound = tt };
+        full = record { constants = tt; types = all_both (IsDescribed IsConstant) (types_of_head h.parameters) c.types (head_made h.parameters s.made) r.full.types; bound = tt; over = all_both (IsOver (S m.types)) (types_of_head h.parameters) c.types (head_over u.own b.grown h.parameters s.over) r.full.over };
       }
 
-  pub procedures_are : (l : Level) (u : Around) → B l u → (ps : List Written_procedure) → AreProcedures ps → (hs : List Head) → AllByRecursion (HS u.own u.scope) hs → AllByRecursion HeadBound hs → AllByRecursion (λ (h : Head). AllByRecursion (KnownBehind l u) h.known) hs → (procedures_judged u ps hs).notes.broken ≡ [] → I l (procedures_judged u ps hs).contents → Adds (procedures_judged u ps hs).contents
-  procedures_are l u b [] g hs s r k n i = record { procedures = tt; full = none_full IsConstant shown m content }
-  procedures_are l u b (p ∷ ps) g [] s r k n i = record { procedures = tt; full = none_full IsConstant shown m content }
-  procedures_are l u b (p ∷ ps) g (h ∷ hs) s r k n i =
+  pub procedures_are : (path : List ℕ) (l : Level) (u : Around) → B l u → (ps : List Written_procedure) → AreProcedures ps → (hs : List Head) → AllByRecursion (HS u.own u.scope) hs → AllByRecursion HeadBound hs → AllByRecursion (λ (h : Head). AllByRecursion (KnownBehind l u) h.known) hs → AllByRecursion (IsQuietHead path) hs → (procedures_judged u ps hs).notes.broken ≡ [] → I l (procedures_judged u ps hs).contents → Adds (procedures_judged u ps hs).contents
+  procedures_are path l u b [] g hs s r k q n i = record { procedures = tt; full = none_full IsConstant shown m content }
+  procedures_are path l u b (p ∷ ps) g [] s r k q n i = record { procedures = tt; full = none_full IsConstant shown m content }
+  procedures_are path l u b (p ∷ ps) g (h ∷ hs) s r k q n i =
       let a = (procedure_judged u p h p.forward).contents in
       let c = (procedures_judged u ps hs).contents in
       let one = (procedure_judged u p h p.forward).notes.broken in
-      let x = procedure_is l u b p g.0 h s.0 r.0 k.0 p.forward (first_empty one _ n) (first_included IsConstant shown m content l a c i) in
-      let y = procedures_are l u b ps g.1 hs s.1 r.1 k.1 (second_empty one _ n) (second_included IsConstant shown m content l a c i) in
+      let x = procedure_is path l u b p g.0 h s.0 r.0 k.0 q.0 p.forward (first_empty one _ n) (first_included IsConstant shown m content l a c i) in
+      let y = procedures_are path l u b ps g.1 hs s.1 r.1 k.1 q.1 (second_empty one _ n) (second_included IsConstant shown m content l a c i) in
       record { procedures = all_both (ProcedureIsJudged IsConstant shown m content) a.procedures c.procedures x.procedures y.procedures; full = both_full IsConstant shown m content a c x.full y.full }
 
   judged_bound : (u : Around) (p : Written_procedure) (h : Head) (forward : Bool) → (procedure_judged u p h forward).contents.bound ≡ []

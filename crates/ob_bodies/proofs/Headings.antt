@@ -16,8 +16,11 @@ use Rattle.ob_typed.specs.Makes.{IfThere}
 use Rattle.ob_bodies.specs.Knows.{Grows, IsDescribed, EntityStands, Knows}
 use Rattle.ob_bodies.proofs.Lists.{all_of, second_empty}
 use Rattle.ob_bodies.proofs.Standing.{Lies, lies_front, lies_behind, lies_then, lies_both, grows_front, grows_then, with_types_known}
+use Rattle.ob_bodies.specs.Order.{AreInOrder}
+use Rattle.ob_bodies.proofs.InOrder.{made_in_order}
+use Rattle.ob_bodies.proofs.Over.{AreSectionsOver}
 use Rattle.ob_bodies.proofs.Sections.{AreGoodSections}
-use Rattle.ob_bodies.proofs.Heads.{InsideEntity, inside_none, inside_again, HeadStands, head_grown, head_stands}
+use Rattle.ob_bodies.proofs.Heads.{InsideEntity, inside_none, inside_again, HeadStands, head_grown, head_stands, head_over}
 
 -- a heading in each place of a procedure
 abbrev pub Aligned : List Written_procedure → List Head → Type 0
@@ -156,7 +159,7 @@ module _ (IsConstant : Value → Type 0) (unit : List ℕ) (shown : QName → Op
   HS own scope h = HeadStands IsConstant unit shown out own scope h
 
   abbrev pub AreGoodHeadings : List Written_procedure → Type 0
-  AreGoodHeadings ps = AllByRecursion (λ p. AreGoodSections IsConstant unit shown out p.heading.parameters.sections) ps
+  AreGoodHeadings ps = AllByRecursion (λ p. AreGoodSections IsConstant unit shown out p.heading.parameters.sections × AreSectionsOver IsConstant unit shown out p.heading.parameters.sections) ps
 
   pub record HeadsStand (base : Around) (hs : Heads) : Type 0 where
     pub behind : IsBehind base hs.around
@@ -164,6 +167,7 @@ module _ (IsConstant : Value → Type 0) (unit : List ℕ) (shown : QName → Op
     pub below : AllByRecursion (λ (k : Known). k.scope ≤ base.scope) hs.around.known
     pub before : AllByRecursion (HS hs.around.own base.scope) hs.before
     pub grows : Grows base.own hs.around.own
+    pub order : AreInOrder unit shown base.own → AreInOrder unit shown hs.around.own
 
   entity_fine : (own : List TypedType) (forward : Bool) (q : QName) (s : Signature) → EntityStands IsConstant unit shown own (entity_as forward q s)
   entity_fine own true q s = tt
@@ -180,6 +184,7 @@ module _ (IsConstant : Value → Type 0) (unit : List ℕ) (shown : QName → Op
     inside = all_of (λ (k : Known). (k.scope ≡ suc scope) × InsideEntity IsConstant unit shown out own h k.what) (λ (k : Known). (k.scope ≡ suc scope) × InsideEntity IsConstant unit shown out own (declared_head true h u) k.what) h.inside (λ k i. (i.0, inside_none IsConstant unit shown out own h (declared_head true h u) refl k.what i.1)) s.inside;
     free = s.free;
     self = s.self;
+    over = tt;
   }
   twice_stands own scope false h u s = record {
     made = s.made;
@@ -187,6 +192,7 @@ module _ (IsConstant : Value → Type 0) (unit : List ℕ) (shown : QName → Op
     inside = all_of (λ (k : Known). (k.scope ≡ suc scope) × InsideEntity IsConstant unit shown out own h k.what) (λ (k : Known). (k.scope ≡ suc scope) × InsideEntity IsConstant unit shown out own (declared_head false h u) k.what) h.inside (λ k i. (i.0, inside_again IsConstant unit shown out own h u.known k.what i.1)) s.inside;
     free = s.free;
     self = s.self;
+    over = s.over;
   }
 
   procedure_own : (u : Around) (h : Head) (b : Bool) → (knows_procedure u h b).own ≡ u.own
@@ -220,11 +226,11 @@ module _ (IsConstant : Value → Type 0) (unit : List ℕ) (shown : QName → Op
   made_of None h = tt
   made_of (Some p) h = h
 
-  add_stands : (base : Around) (hs : Heads) → HeadsStand base hs → (w : WrittenHeading) → AreGoodSections IsConstant unit shown out w.parameters.sections → (forward : Bool) → HeadsStand base (add_heading hs w forward)
+  add_stands : (base : Around) (hs : Heads) → HeadsStand base hs → (w : WrittenHeading) → AreGoodSections IsConstant unit shown out w.parameters.sections × AreSectionsOver IsConstant unit shown out w.parameters.sections → (forward : Bool) → HeadsStand base (add_heading hs w forward)
   add_stands base hs s w g forward =
       let d = head_of hs.around w forward in
       let n : hs.around.scope ≡ base.scope = ap (λ (x : Around). x.scope) s.behind in
-      let a = head_stands IsConstant unit shown out hs.around s.knows (subst (λ n. AllByRecursion (λ (k : Known). k.scope ≤ n) hs.around.known) (sym n) s.below) w forward g in
+      let a = head_stands IsConstant unit shown out hs.around s.knows (subst (λ n. AllByRecursion (λ (k : Known). k.scope ≤ n) hs.around.known) (sym n) s.below) w forward g.0 g.1 in
       let u = with_types hs.around (types_of d.parameters) in
       let t = name_twice u hs.before d in
       let v = known_behind u t d in
@@ -238,6 +244,7 @@ module _ (IsConstant : Value → Type 0) (unit : List ℕ) (shown : QName → Op
         before = subst (λ l. AllByRecursion (HS l base.scope) (declared_head t d v ∷ hs.before)) o
             (twice_stands u.own base.scope t d v b, all_of (HS hs.around.own base.scope) (HS u.own base.scope) hs.before (λ h i. head_grown IsConstant unit shown out hs.around.own u.own (grows_front (types_of d.parameters) hs.around.own) base.scope h i) s.before);
         grows = subst (λ l. Grows base.own l) o (grows_then base.own hs.around.own u.own s.grows (grows_front (types_of d.parameters) hs.around.own));
+        order = λ i. subst (AreInOrder unit shown) o (made_in_order unit shown hs.around.own (types_of d.parameters) (head_over IsConstant unit shown out hs.around s.knows w forward g.1) (s.order i));
       }
 
   pub stand_in_order : (base : Around) (ps : List Written_procedure) → AreGoodHeadings ps → (hs : Heads) → HeadsStand base hs → HeadsStand base (headings_in_order ps hs)

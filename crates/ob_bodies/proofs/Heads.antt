@@ -35,6 +35,9 @@ use Rattle.ob_bodies.specs.Judged.{AreOf, IsParameter}
 use Rattle.ob_bodies.proofs.Lists.{one_right, all_of, all_filtered, there_of}
 use Rattle.ob_bodies.proofs.Standing.{grows_front, stands_grown}
 use Rattle.ob_bodies.proofs.Named.{type_named_stands}
+use Rattle.ob_bodies.specs.Order.{IsOver}
+use Rattle.ob_bodies.proofs.InOrder.{over_all}
+use Rattle.ob_bodies.proofs.Over.{AreSectionsOver, ParametersOver, parameters_over}
 use Rattle.ob_bodies.proofs.Sections.{AreGoodSections, ParametersAre, ParameterEntity, SectionsAre, parameters_are, inner_known}
 
 -- the parameters of a procedure, its receiver first
@@ -83,6 +86,7 @@ module _ (IsConstant : Value → Type 0) (unit : List ℕ) (shown : QName → Op
     pub inside : AllByRecursion (λ (k : Known). (k.scope ≡ suc scope) × InsideEntity own h k.what) h.inside
     pub free : h.is_bound ≡ false → self_parameters h h.self h.bound ≡ []
     pub self : AllByRecursion (λ (x : TypedParameter). S own x.of) (self_parameters h h.self h.bound)
+    pub over : IfThere (λ p. AllByRecursion (IsOver (S own)) p.made) h.parameters
 
   inside_grown : (own more : List TypedType) → Grows own more → (h : Head) (e : Entity) → InsideEntity own h e → InsideEntity more h e
   inside_grown own more g h (entity.Variable v t) i = there_of (λ p. IsParameter (all_parameters h p) v t × S own t) (λ p. IsParameter (all_parameters h p) v t × S more t) h.parameters (λ p k. (k.0, stands_grown unit shown own more g t k.1)) i
@@ -134,6 +138,7 @@ module _ (IsConstant : Value → Type 0) (unit : List ℕ) (shown : QName → Op
     inside = all_of (λ (k : Known). (k.scope ≡ suc scope) × InsideEntity own h k.what) (λ (k : Known). (k.scope ≡ suc scope) × InsideEntity more h k.what) h.inside (λ k i. (i.0, inside_grown own more g h k.what i.1)) s.inside;
     free = s.free;
     self = all_of (λ (x : TypedParameter). S own x.of) (λ (x : TypedParameter). S more x.of) (self_parameters h h.self h.bound) (λ x. stands_grown unit shown own more g x.of) s.self;
+    over = there_of (λ p. AllByRecursion (IsOver (S own)) p.made) (λ p. AllByRecursion (IsOver (S more)) p.made) h.parameters (λ p i. over_all unit shown own more g p.made i) s.over;
   }
 
   -- THE RECEIVER
@@ -213,7 +218,7 @@ module _ (IsConstant : Value → Type 0) (unit : List ℕ) (shown : QName → Op
   not_above : (n k : ℕ) → k ≤ n → nat_lt n k ≡ true → ⊥
   not_above n k h e = grind (arith, nat_tests)
 
-  module _ (u : Around) (below : AllByRecursion (λ (k : Known). k.scope ≤ u.scope) u.known) (h : WrittenHeading) (forward : Bool) (m : Judged Mark) (b : Judged (Option BoundAs)) (s : Sections) (are : SectionsAre IsConstant unit shown out u.own (suc u.scope) (knows_receiver (inner u) h.receiver b.node).known s) (owner : IfThere (IfThere (λ (b : BoundAs). S u.own b.of)) b.node) where
+  module _ (u : Around) (below : AllByRecursion (λ (k : Known). k.scope ≤ u.scope) u.known) (h : WrittenHeading) (forward : Bool) (m : Judged Mark) (b : Judged (Option BoundAs)) (s : Sections) (are : SectionsAre IsConstant unit shown out u.own (suc u.scope) (knows_receiver (inner u) h.receiver b.node).known s) (owner : IfThere (IfThere (λ (b : BoundAs). S u.own b.of)) b.node) (over : IfThere (ParametersOver IsConstant unit shown out u.own) s.found.node) where
     abbrev hd : Head
     hd = head_from u h forward m b s
 
@@ -246,11 +251,23 @@ module _ (IsConstant : Value → Type 0) (unit : List ℕ) (shown : QName → Op
           (λ k e i f. (e, parameter_inside u.own more hd s.found.node (λ v t. three_entity u.own (self_parameters hd hd.self hd.bound) m.node b.node s.found.node v t) k.what i)));
       free = λ e. free_of hd h.receiver (bound_in b.node) e;
       self = self_stands hd h.receiver b.node owner;
+      over = three_have (λ p. AllByRecursion (IsOver (S more)) p.made) m.node b.node s.found.node (there_of (ParametersOver IsConstant unit shown out u.own) (λ p. AllByRecursion (IsOver (S more)) p.made) s.found.node (λ p i. over_all unit shown u.own more (grows_front (types_of hd.parameters) u.own) p.made i) over);
     }
 
+  receiver_over : (u : Around) → K u → (r : Option RawReceiver) (b : Option (Option BoundAs)) → K (record (knows_receiver (inner u) r b) { own = u.own })
+  receiver_over u k None b = record { unit_is = k.unit_is; shown_is = k.shown_is; own = k.own; known = k.known }
+  receiver_over u k (Some r) None = record { unit_is = k.unit_is; shown_is = k.shown_is; own = k.own; known = (tt, k.known) }
+  receiver_over u k (Some r) (Some None) = record { unit_is = k.unit_is; shown_is = k.shown_is; own = k.own; known = (tt, k.known) }
+  receiver_over u k (Some r) (Some (Some b)) = record { unit_is = k.unit_is; shown_is = k.shown_is; own = k.own; known = (tt, k.known) }
+
+  parameters_in_over : (u : Around) → K u → (h : WrittenHeading) (forward : Bool) → AreSectionsOver IsConstant unit shown out h.parameters.sections → Has (ParametersOver IsConstant unit shown out u.own) (heading_parameters u h forward (owner_if u h.receiver)).found
+  parameters_in_over u k h forward y =
+      let b = owner_if u h.receiver in
+      parameters_over IsConstant unit shown out u.own (knows_receiver (inner u) h.receiver b.node) (receiver_over u k h.receiver b.node) (forward_name forward (u.path ++ path_by b.node h.name.ident.name)) h.parameters y
+
   -- a heading stands among the types that it makes and those before
-  pub head_stands : (u : Around) → K u → AllByRecursion (λ (k : Known). k.scope ≤ u.scope) u.known → (h : WrittenHeading) (forward : Bool) → AreGoodSections IsConstant unit shown out h.parameters.sections → HeadStands (types_of (head_of u h forward).parameters ++ u.own) u.scope (head_of u h forward)
-  head_stands u k below h forward g =
+  pub head_stands : (u : Around) → K u → AllByRecursion (λ (k : Known). k.scope ≤ u.scope) u.known → (h : WrittenHeading) (forward : Bool) → AreGoodSections IsConstant unit shown out h.parameters.sections → AreSectionsOver IsConstant unit shown out h.parameters.sections → HeadStands (types_of (head_of u h forward).parameters ++ u.own) u.scope (head_of u h forward)
+  head_stands u k below h forward g y =
       let b = owner_if u h.receiver in
       let v : Around = record (inner u) { known = (knows_receiver (inner u) h.receiver b.node).known } in
       let name = forward_name forward (u.path ++ path_by b.node h.name.ident.name) in
@@ -258,3 +275,15 @@ module _ (IsConstant : Value → Type 0) (unit : List ℕ) (shown : QName → Op
       (subst (λ (w : Around). SectionsAre IsConstant unit shown out u.own (suc u.scope) v.known (parameters_in w name h.parameters)) (sym (receiver_around (inner u) h.receiver b.node))
       (parameters_are IsConstant unit shown out v (receiver_known (inner u) (inner_known IsConstant unit shown out u k) h.receiver b.node) name h.parameters g))
       (owner_stands u k h.receiver)
+      (parameters_in_over u k h forward y)
+
+  -- the types that it makes are over those before
+  pub head_over : (u : Around) → K u → (h : WrittenHeading) (forward : Bool) → AreSectionsOver IsConstant unit shown out h.parameters.sections → AllByRecursion (IsOver (S u.own)) (types_of (head_of u h forward).parameters)
+  head_over u k h forward y =
+      let b = owner_if u h.receiver in
+      let s = heading_parameters u h forward b in
+      made_types (head_of u h forward).parameters (three_have (ParametersOver IsConstant unit shown out u.own) (marked u false h.name).node b.node s.found.node (parameters_in_over u k h forward y))
+    where
+      made_types : (o : Option Parameters) → IfThere (ParametersOver IsConstant unit shown out u.own) o → AllByRecursion (IsOver (S u.own)) (types_of o)
+      made_types None h = tt
+      made_types (Some p) h = h

@@ -1,5 +1,5 @@
 -- What stands around a sequence of declarations, at the level of the module or in a procedure.
-use Rattle.std.proofs.Common.{◌≡◌, ⊎_elim, refl, subst, ℕ, suc, ◌≤◌, ◌<◌, true, false, List, [], ◌∷◌, ◌++◌, Option, Some, None, arith}
+use Rattle.std.proofs.Common.{◌≡◌, ◌⊎◌, ⊎_elim, inl, inr, refl, sym, subst, ℕ, suc, ◌≤◌, ◌<◌, true, false, List, [], ◌∷◌, ◌++◌, Option, Some, None, arith}
 use Rattle.std.specs.Prelude.{nat_lt}
 use Rattle.std.specs.List.{AllByRecursion}
 use Rattle.std.proofs.lemmas.Bool.Decides.{nat_tests}
@@ -7,6 +7,7 @@ use Rattle.ob_tree.specs.declared.names.QName.{QName}
 use Rattle.ob_tree.specs.declared.ident.Ident.{Ident}
 use Rattle.ob_types.specs.declared.types.Mode.{Mode}
 use Rattle.ob_types.specs.declared.types.TypeRef.{TypeRef}
+use Rattle.ob_types.specs.declared.types.Signature.{Signature}
 use Rattle.ob_types.specs.declared.value.Value.{Value}
 use Rattle.ob_types.specs.declared.desc.Desc.{Desc}
 use Rattle.ob_types.specs.declared.typed.Variable.{Variable}
@@ -23,8 +24,9 @@ use Rattle.ob_rules.specs.Types.{with_types, nothing}
 use Rattle.ob_rules.specs.Declarations.{Contents, no_contents, together, declare_if, declare}
 use Rattle.ob_forms.specs.Said.{IsOneOf}
 use Rattle.ob_bodies.specs.Knows.{Grows, Stands, IsDescribed, EntityStands, Knows}
-use Rattle.ob_bodies.specs.Judged.{IsMade, IsWithin, ReceiverStands, IsInside, result_of, NameIs}
+use Rattle.ob_bodies.specs.Judged.{IsMade, IsWithin, ReceiverStands, IsInside, result_of, IsProcedureIn, NameIs, IsBoundBy}
 use Rattle.ob_bodies.proofs.Lists.{one_left, one_right, one_joined, all_of, all_both, there_of}
+use Rattle.ob_bodies.specs.Order.{IsOver, AreInOrder}
 use Rattle.ob_bodies.proofs.Binding.{AreOne, IsFrom, Changes}
 use Rattle.ob_bodies.proofs.Standing.{Lies, grows_front, grows_behind, grows_then, grows_both, stands_grown, with_types_known}
 
@@ -61,31 +63,54 @@ module _ (IsConstant : Value → Type 0) (shown : QName → Option Desc) (m : Ty
 
   -- at the level of the module what is known before is made by it
   abbrev pub IsOpened : Level → Around → Type 0
-  IsOpened AtModule u = Lies u.own content.types
+  IsOpened AtModule u = Lies u.own content.types × AreInOrder m.name shown u.own
   IsOpened (Within p) u = Unit {0}
 
   -- what is bound are types of the module, perhaps with more bound procedures
   pub record IsBoundFrom (c : Contents) : Type 0 where
     pub from : (b : TypedType) → IsOneOf c.bound b → IsFrom IsConstant content.types b
     pub one : AreOne IsConstant content.types → AreOne IsConstant c.bound
+    pub by : (c.bound ≡ []) ⊎ IsBoundBy m.name shown content.types c.bound
 
   abbrev pub BoundStands : Level → Contents → Type 0
   BoundStands AtModule c = IsBoundFrom c
   BoundStands (Within p) c = Unit {0}
 
   pub bound_same : (c d : Contents) → d.bound ≡ c.bound → IsBoundFrom c → IsBoundFrom d
-  bound_same c d e h = record { from = λ b i. h.from b (subst (λ ts. IsOneOf ts b) e i); one = λ k a b i j. h.one k a b (subst (λ ts. IsOneOf ts a) e i) (subst (λ ts. IsOneOf ts b) e j) }
+  bound_same c d e h = record { from = λ b i. h.from b (subst (λ ts. IsOneOf ts b) e i); one = λ k a b i j. h.one k a b (subst (λ ts. IsOneOf ts a) e i) (subst (λ ts. IsOneOf ts b) e j); by = subst (λ ts. (ts ≡ []) ⊎ IsBoundBy m.name shown content.types ts) (sym e) h.by }
 
   pub bound_none : (l : Level) (c : Contents) → c.bound ≡ [] → BoundStands l c
-  bound_none AtModule c e = record { from = λ b i. absurd (subst (λ ts. IsOneOf ts b) e i); one = λ k a b i j. absurd (subst (λ ts. IsOneOf ts a) e i) }
+  bound_none AtModule c e = record { from = λ b i. absurd (subst (λ ts. IsOneOf ts b) e i); one = λ k a b i j. absurd (subst (λ ts. IsOneOf ts a) e i); by = inl e }
   bound_none (Within p) c e = tt
 
-  pub bound_changed : (l : Level) (start : Around) → IsOpened l start → (early own : List TypedType) → Changes IsConstant early own → (Lies start.own content.types → Lies early content.types) → (c : Contents) → c.bound ≡ own → BoundStands l c
-  bound_changed AtModule start o early own ch k c e = record {
-    from = λ b i. let x = ch.from b (subst (λ ts. IsOneOf ts b) e i) in (x.0, (k o x.0 x.1.0, x.1.1));
-    one = λ h a b i j. ch.one (λ y z p q. h y z (k o y p) (k o z q)) a b (subst (λ ts. IsOneOf ts a) e i) (subst (λ ts. IsOneOf ts b) e j);
+  -- what is bound at the level of the module
+  abbrev pub BoundBy : Level → List TypedType → Type 0
+  BoundBy AtModule own = IsBoundBy m.name shown content.types own
+  BoundBy (Within p) own = Unit {0}
+
+  pub bound_changed : (l : Level) (start : Around) → IsOpened l start → (early own : List TypedType) → Changes IsConstant early own → (Lies start.own content.types → Lies early content.types) → BoundBy l own → (c : Contents) → c.bound ≡ own → BoundStands l c
+  bound_changed AtModule start o early own ch k y c e = record {
+    from = λ b i. let x = ch.from b (subst (λ ts. IsOneOf ts b) e i) in (x.0, (k o.0 x.0 x.1.0, x.1.1));
+    one = λ h a b i j. ch.one (λ y z p q. h y z (k o.0 y p) (k o.0 z q)) a b (subst (λ ts. IsOneOf ts a) e i) (subst (λ ts. IsOneOf ts b) e j);
+    by = inr (subst (IsBoundBy m.name shown content.types) (sym e) y);
   }
-  bound_changed (Within p) start o early own ch k c e = tt
+  bound_changed (Within p) start o early own ch k y c e = tt
+
+  -- what is known around the body of the module are the types that are bound
+  abbrev pub BodyOwn : Level → List TypedType → Around → Type 0
+  BodyOwn AtModule bound u = (bound ≡ []) ⊎ (u.own ≡ bound)
+  BodyOwn (Within p) bound u = Unit {0}
+
+  pub own_none : (l : Level) (bound : List TypedType) (u : Around) → bound ≡ [] → BodyOwn l bound u
+  own_none AtModule bound u e = inl e
+  own_none (Within p) bound u e = tt
+
+  pub own_bound : (l : Level) (bound : List TypedType) (u : Around) → u.own ≡ bound → BodyOwn l bound u
+  own_bound AtModule bound u e = inr e
+  own_bound (Within p) bound u e = tt
+
+  pub own_same : (l : Level) (bound more : List TypedType) (u : Around) → more ≡ bound → BodyOwn l bound u → BodyOwn l more u
+  own_same l bound more u e h = subst (λ ts. BodyOwn l ts u) (sym e) h
 
   -- what a part adds is in the module
   pub record Included (l : Level) (c : Contents) : Type 0 where
@@ -101,15 +126,17 @@ module _ (IsConstant : Value → Type 0) (shown : QName → Option Desc) (m : Ty
     pub constants : AllByRecursion (λ (x : TypedConstant). IsConstant x.value) c.constants
     pub types : AllByRecursion (IsDescribed IsConstant) c.types
     pub bound : AllByRecursion (IsDescribed IsConstant) c.bound
+    pub over : AllByRecursion (IsOver (S m.types)) c.types
 
   pub none_full : IsFull no_contents
-  none_full = record { constants = tt; types = tt; bound = tt }
+  none_full = record { constants = tt; types = tt; bound = tt; over = tt }
 
   pub both_full : (a b : Contents) → IsFull a → IsFull b → IsFull (together a b)
   both_full a b g h = record {
     constants = all_both (λ (x : TypedConstant). IsConstant x.value) a.constants b.constants g.constants h.constants;
     types = all_both (IsDescribed IsConstant) a.types b.types g.types h.types;
     bound = all_both (IsDescribed IsConstant) a.bound b.bound g.bound h.bound;
+    over = all_both (IsOver (S m.types)) a.types b.types g.over h.over;
   }
 
   first_bound : (l : Level) (a b : Contents) → IsBoundAt l (together a b) → IsBoundAt l a
@@ -145,9 +172,8 @@ module _ (IsConstant : Value → Type 0) (shown : QName → Option Desc) (m : Ty
   inside_grown own more g None v t h = tt
   inside_grown own more g (Some p) v t h = (h.0, stands_grown m.name shown own more g t h.1)
 
-  pub name_grown : (own more : List TypedType) → Grows own more → (p : Option TypedProcedure) (level scope : ℕ) (e : Entity) → NameIs IsConstant shown m content own p level scope e → NameIs IsConstant shown m content more p level scope e
-  name_grown own more g p level scope (entity.Variable v t) h = record { outside = λ e. let r = h.outside e in (r.0, stands_grown m.name shown own more g t r.1); inside = λ e f. inside_grown own more g p v t (h.inside e f) }
-  name_grown own more g p level scope (entity.Procedure q s) h = record {
+  procedure_grown : (own more : List TypedType) → Grows own more → (q : QName) (s : Signature) → IsProcedureIn IsConstant shown m content own q s → IsProcedureIn IsConstant shown m content more q s
+  procedure_grown own more g q s h = record {
     p = h.p;
     there = h.there;
     name = h.name;
@@ -156,9 +182,21 @@ module _ (IsConstant : Value → Type 0) (shown : QName → Option Desc) (m : Ty
     params = all_of (λ (k : Mode × TypeRef). S own k.1) (λ (k : Mode × TypeRef). S more k.1) s.params (λ k. stands_grown m.name shown own more g k.1) h.params;
     result_stands = there_of (S own) (S more) s.result (λ t. stands_grown m.name shown own more g t) h.result_stands;
   }
+
+  pub name_grown : (own more : List TypedType) → Grows own more → (p : Option TypedProcedure) (level scope : ℕ) (e : Entity) → NameIs IsConstant shown m content own p level scope e → NameIs IsConstant shown m content more p level scope e
+  name_grown own more g p level scope (entity.Variable v t) h = record { outside = λ e. let r = h.outside e in (r.0, stands_grown m.name shown own more g t r.1); inside = λ e f. inside_grown own more g p v t (h.inside e f) }
+  name_grown own more g p level scope (entity.Procedure q s) h = procedure_grown own more g q s h
   name_grown own more g p level scope (entity.Constant v) h = tt
   name_grown own more g p level scope (entity.TypeName t) h = tt
-  name_grown own more g p level scope (entity.Forward q s) h = tt
+  name_grown own more g p level scope (entity.Forward q s) h = record {
+    t = h.t;
+    procedure = procedure_grown own more g q h.t h.procedure;
+    w = h.w;
+    within = h.within;
+    alike = h.alike;
+    params = all_of (λ (k : Mode × TypeRef). S own k.1) (λ (k : Mode × TypeRef). S more k.1) s.params (λ k. stands_grown m.name shown own more g k.1) h.params;
+    result_stands = there_of (S own) (S more) s.result (λ t. stands_grown m.name shown own more g t) h.result_stands;
+  }
   name_grown own more g p level scope (entity.Module n) h = tt
   name_grown own more g p level scope (entity.Predeclared c) h = tt
   name_grown own more g p level scope entity.LeftOut h = tt
@@ -233,7 +271,7 @@ module _ (IsConstant : Value → Type 0) (shown : QName → Option Desc) (m : Ty
   outer_name own p q level k n below (entity.Procedure r s) h = h
   outer_name own p q level k n below (entity.Constant v) h = tt
   outer_name own p q level k n below (entity.TypeName t) h = tt
-  outer_name own p q level k n below (entity.Forward r s) h = tt
+  outer_name own p q level k n below (entity.Forward r s) h = h
   outer_name own p q level k n below (entity.Module x) h = tt
   outer_name own p q level k n below (entity.Predeclared c) h = tt
   outer_name own p q level k n below entity.LeftOut h = tt

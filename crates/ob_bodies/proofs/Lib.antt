@@ -3,6 +3,8 @@ pub mod Standing
 pub mod Named
 pub mod Typings
 pub mod Sections
+pub mod InOrder
+pub mod Over
 pub mod Written
 pub mod Heads
 pub mod More
@@ -11,6 +13,8 @@ pub mod Headings
 pub mod Receivers
 pub mod Levels
 pub mod Plain
+pub mod Quiet
+pub mod Forwards
 pub mod Blocks
 pub mod Sequences
 pub mod Modules

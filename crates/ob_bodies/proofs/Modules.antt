@@ -1,6 +1,6 @@
 -- Modules: the bodies of a checked module are judged where what is known is as the module has it.
 use Rattle.std.proofs.Common.{◌≡◌, ◌⊎◌, ⊎_elim, refl, sym, ap, ◌∙◌, subst, ℕ, ◌≤◌, Bool, true, false, List, [], ◌∷◌, ◌++◌, map, Option, Some, None, arith, inl, inr}
-use Rattle.std.specs.Prelude.{◌≢◌, cond, bytes_eq, ◌&&◌, ◌||◌}
+use Rattle.std.specs.Prelude.{◌≢◌, ◌==◌, cond, not, bytes_eq, ◌&&◌, ◌||◌}
 use Rattle.std.specs.List.{AllByRecursion, cons_option, filter_map, find}
 use Rattle.ob_tree.specs.declared.pos.Pos.{Pos}
 use Rattle.ob_tree.specs.declared.names.QName.{QName}
@@ -25,7 +25,7 @@ use Rattle.ob_rules.specs.Names.{Around, predeclared, is_out}
 use Rattle.ob_rules.specs.Expressions.{phrase_of}
 use Rattle.ob_rules.specs.Types.{written}
 use Rattle.ob_rules.specs.Statements.{judging, in_turn}
-use Rattle.ob_rules.specs.Declarations.{Contents, no_contents, together, Part, Declared, Written_procedure, Declaration, Plain, Procedure, plain_of, procedure_of, type_name_of, in_order, stmts_in, block_declared, block, decl_rule, declaration, is_system, target_of, import_entity, import_declared, imports_declared, around_module, module_of, described, all_described, typed_module, if_unbroken, checked}
+use Rattle.ob_rules.specs.Declarations.{Contents, no_contents, together, Part, Declaration, Plain, Procedure, plain_of, procedure_of, type_name_of, in_order, stmts_in, block, decl_rule, declaration, is_system, target_of, import_entity, import_declared, imports_declared, around_module, module_of, described, all_described, typed_module, if_unbroken, checked}
 use Rattle.ob_typed.specs.Makes.{IfThere}
 use Rattle.ob_typed.specs.Spelled.{all_true, is_spelled}
 use Rattle.ob_typed.specs.Bodies.{stmt_spelled}
@@ -42,8 +42,17 @@ use Rattle.ob_bodies.proofs.Binding.{AreOne, IsFrom}
 use Rattle.ob_bodies.proofs.Standing.{Lies, lies_same}
 use Rattle.ob_bodies.proofs.Lists.{one_joined, one_all, all_one, all_both, find_has, first_empty, second_empty}
 use Rattle.ob_bodies.proofs.Typings.{ConstantPhrase}
+use Rattle.ob_bodies.specs.Order.{AreInOrder}
+use Rattle.ob_bodies.proofs.Over.{written_over, written_parameters_over}
 use Rattle.ob_bodies.proofs.Written.{written_good, written_parameters_good}
-use Rattle.ob_bodies.proofs.Levels.{Level, AtModule, Within, frame, IsPlaced, IsOpened, bound_same, bound_none, declared_own, Included, none_full, both_full, first_included, second_included, BlockAt, block_declared as name_declared}
+use Rattle.ob_bodies.proofs.Levels.{Level, AtModule, Within, frame, IsPlaced, IsOpened, own_none, own_same, bound_same, bound_none, declared_own, Included, none_full, both_full, first_included, second_included, BlockAt, block_declared as name_declared}
+use Rattle.ob_said.specs.Procedures.{is_plain, ShowBases, heading_layer, is_named_plainly}
+use Rattle.ob_said.specs.Procedures as said
+use Rattle.ob_said.proofs.Knowing.{AreKnown}
+use Rattle.ob_said.proofs.Apart.{or_parts, IsPlain as IsPlainName}
+use Rattle.ob_said.proofs.Written.{written_well, written_parameters_well}
+use Rattle.ob_said.proofs.Plain.{OrderIs, GoodPlain, constant_good, type_good, variables_good, imports_good, order_one}
+use Rattle.ob_bodies.proofs.Quiet.{IsQuiet, quiet_behind}
 use Rattle.ob_bodies.proofs.Plain.{IsPlain, constant_plain, type_plain, variables_declared_plain, order_plain}
 use Rattle.ob_bodies.proofs.Blocks.{all_empty, PartIs, IsBlock, IsProcedure, stands_at}
 use Rattle.ob_bodies.proofs.Sequences.{block_is}
@@ -72,14 +81,14 @@ first_false false b e = refl
 
 module _ (IsConstant : Value → Type 0) (truths : (b : Bool) → IsConstant (literal.Bool b)) (shown : QName → Option Desc) (m : TypedModule) (content : Contents) (out : is_out m.name ≡ false) (constants : (x : Expr) → is_spelled x ≡ true → ConstantPhrase IsConstant m.name shown out (phrase_of x)) where
   abbrev GoodDeclaration : Declaration → Type 0
-  GoodDeclaration (Plain x f) = IsPlain IsConstant shown m content out f
+  GoodDeclaration (Plain x f) = IsPlain IsConstant shown m content out f × GoodPlain x f
   GoodDeclaration (Procedure p) = IsProcedure IsConstant shown m content out p
 
   abbrev AreGood : List Declaration → Type 0
   AreGood ds = AllByRecursion GoodDeclaration ds
 
   plain_good : (d : Declaration) → GoodDeclaration d → IfThere (IsPlain IsConstant shown m content out) (plain_of d)
-  plain_good (Plain x f) h = h
+  plain_good (Plain x f) h = h.0
   plain_good (Procedure p) h = tt
 
   procedure_good : (d : Declaration) → GoodDeclaration d → IfThere (IsProcedure IsConstant shown m content out) (procedure_of d)
@@ -94,8 +103,18 @@ module _ (IsConstant : Value → Type 0) (truths : (b : Bool) → IsConstant (li
   later_opened AtModule u xs h = h
   later_opened (Within p) u xs h = h
 
+  -- declarations leave nothing broken
+  order_quiet : (ds : List Declaration) → AreGood ds → (u : Around) → AreKnown u.known → (in_order (filter_map plain_of ds) u).part.notes.broken ≡ [] → OrderIs (filter_map type_name_of ds) u (in_order (filter_map plain_of ds) u)
+  order_quiet [] g u k e = record { more = u.known; made = []; around = refl; known = k; points = tt; named = λ x h. let bad : false ≡ true = h in absurd cc; none = refl }
+  order_quiet (Procedure p ∷ ds) g u k e = order_quiet ds g.1 u k e
+  order_quiet (Plain o f ∷ ds) g u k e =
+      let a = f u in
+      let rest = in_order (filter_map plain_of ds) a.around in
+      let p = g.0.1 u k (first_empty a.part.notes.broken rest.part.notes.broken e) in
+      order_one o (filter_map type_name_of ds) u a rest p (order_quiet ds g.1 a.around (subst (λ (v : Around). AreKnown v.known) (sym p.around) p.known) (second_empty a.part.notes.broken rest.part.notes.broken e))
+
   block_good : (ds : List Declaration) → AreGood ds → (xs : List Stmt) → all_true (map stmt_spelled xs) ≡ true → IsBlock IsConstant shown m content out (block ds (map judging xs))
-  block_good ds g xs e l u b o n i =
+  block_good ds g xs e l u b o q n i =
       let names = filter_map type_name_of ds in
       let v : Around = record u { later_types = names } in
       let ps = filter_map procedure_of ds in
@@ -113,12 +132,13 @@ module _ (IsConstant : Value → Type 0) (truths : (b : Bool) → IsConstant (li
         receiver = b.receiver;
       } in
       let r = order_plain IsConstant shown m content out (filter_map plain_of ds) (kept_all GoodDeclaration (IsPlain IsConstant shown m content out) plain_of plain_good ds g) l v c (first_included IsConstant shown m content l d.part.contents _ i) in
-      block_is IsConstant shown m content out l ps (kept_all GoodDeclaration (IsProcedure IsConstant shown m content out) procedure_of procedure_good ds g) xs e u b.placed v (later_opened l u names o) d r n i
+      let plain : d.part.notes.broken ≡ [] = first_empty d.part.notes.broken _ (first_empty (d.part.notes.broken ++ _) _ n) in
+      block_is IsConstant shown m content out l ps (kept_all GoodDeclaration (IsProcedure IsConstant shown m content out) procedure_of procedure_good ds g) xs e u b.placed v (later_opened l u names o) d r (quiet_behind names u d q (order_quiet ds g v q.known plain)) n i
 
   -- BY INDUCTION OVER DECLARATIONS
 
   abbrev PD : Decl → Type 0
-  PD x = decl_spelled x ≡ true → GoodDeclaration (declaration x)
+  PD x = decl_spelled x ≡ true → is_named_plainly x ≡ true → GoodDeclaration (declaration x)
 
   abbrev SD : Type 0
   SD = (x : Decl) × PD x
@@ -126,35 +146,58 @@ module _ (IsConstant : Value → Type 0) (truths : (b : Bool) → IsConstant (li
   abbrev decls_in : List SD → List Decl
   decls_in xs = map (λ (x : SD). x.0) xs
 
-  all_in : (xs : List SD) → all_true (map decl_spelled (decls_in xs)) ≡ true → AreGood (map declaration (decls_in xs))
-  all_in [] e = tt
-  all_in (x ∷ xs) e = let p = and_both (decl_spelled x.0) (all_true (map decl_spelled (decls_in xs))) e in (x.1 p.0, all_in xs p.1)
+  all_in : (xs : List SD) → all_true (map decl_spelled (decls_in xs)) ≡ true → said.all_true (map is_named_plainly (decls_in xs)) ≡ true → AreGood (map declaration (decls_in xs))
+  all_in [] e f = tt
+  all_in (x ∷ xs) e f =
+      let p = and_both (decl_spelled x.0) (all_true (map decl_spelled (decls_in xs))) e in
+      let q = and_both (is_named_plainly x.0) (said.all_true (map is_named_plainly (decls_in xs))) f in
+      (x.1 p.0 q.0, all_in xs p.1 q.1)
 
-  layer : (x : Decl-F Decl) → (decl_layer (map-Decl Decl Bool decl_spelled x) ≡ true → GoodDeclaration (decl_rule (map-Decl Decl Declaration declaration x))) → PD (roll-Decl x)
-  layer x h e = subst GoodDeclaration (sym (fold-roll-Decl Declaration decl_rule x)) (h (sym (fold-roll-Decl Bool decl_layer x) ∙ e))
+  layer : (x : Decl-F Decl) → (decl_layer (map-Decl Decl Bool decl_spelled x) ≡ true → heading_layer (map-Decl Decl Bool is_named_plainly x) ≡ true → GoodDeclaration (decl_rule (map-Decl Decl Declaration declaration x))) → PD (roll-Decl x)
+  layer x h e f = subst GoodDeclaration (sym (fold-roll-Decl Declaration decl_rule x)) (h (sym (fold-roll-Decl Bool decl_layer x) ∙ e) (sym (fold-roll-Decl Bool heading_layer x) ∙ f))
+
+  not_false : (b : Bool) → not b ≡ true → b ≡ false
+  not_false true e = absurd cc
+  not_false false e = refl
+
+  differs : (b c : ℕ) → (c == c) ≡ true → (b == c) ≡ false → b ≡ c → ⊥
+  differs b c r e i = let bad : true ≡ false = sym r ∙ ap (λ n. n == c) (sym i) ∙ e in absurd cc
+
+  plain_from : (x : List ℕ) → is_plain x ≡ true → IsPlainName x
+  plain_from [] e = (tt, tt)
+  plain_from (b ∷ x) e =
+      let p = and_both (not (b == 46 || b == 47)) (is_plain x) e in
+      let q = or_parts (b == 46) (b == 47) (not_false (b == 46 || b == 47) p.0) in
+      let r = plain_from x p.1 in
+      ((differs b 46 refl q.0, r.0), (differs b 47 refl q.1, r.1))
 
   no_block : IsBlock IsConstant shown m content out (λ u. record { notes = Rattle.ob_rules.specs.Judged.no_notes; contents = no_contents })
-  no_block l u b o n i = record { procedures = tt; body = record { u = u; xs = []; is = refl; spelled = refl; stands = stands_at IsConstant shown m content out l u b }; placed = b.placed; full = none_full IsConstant shown m content; bound = bound_none IsConstant shown m content l no_contents refl }
+  no_block l u b o q n i = record { procedures = tt; body = record { u = u; xs = []; is = refl; spelled = refl; stands = stands_at IsConstant shown m content out l u b }; placed = b.placed; full = none_full IsConstant shown m content; bound = bound_none IsConstant shown m content l no_contents refl; own = own_none IsConstant shown m content l [] u refl }
 
   decl_cases : (y : Decl-F SD) → PD (roll-Decl (map-Decl SD Decl (λ x. x.0) y))
-  decl_cases (Decl-F.Constant d x) = layer (Decl-F.Constant d x) (λ e. constant_plain IsConstant shown m content out d (phrase_of x) (constants x e))
-  decl_cases (Decl-F.NamedType d n) = layer (Decl-F.NamedType d n) (λ e. type_plain IsConstant shown m content out d (written n) (written_good IsConstant m.name shown out constants n e))
-  decl_cases (Decl-F.Variables ds n) = layer (Decl-F.Variables ds n) (λ e. variables_declared_plain IsConstant shown m content out ds (written n) (written_good IsConstant m.name shown out constants n e))
-  decl_cases (Decl-F.Procedure h ds body closing) = layer (Decl-F.Procedure h (decls_in ds) body closing) (λ e.
+  decl_cases (Decl-F.Constant d x) = layer (Decl-F.Constant d x) (λ e f. (constant_plain IsConstant shown m content out d (phrase_of x) (constants x e), constant_good d (phrase_of x)))
+  decl_cases (Decl-F.NamedType d n) = layer (Decl-F.NamedType d n) (λ e f. (type_plain IsConstant shown m content out d (written n) (written_good IsConstant m.name shown out constants n e) (written_over IsConstant m.name shown out n), type_good d (written n) (written_well n)))
+  decl_cases (Decl-F.Variables ds n) = layer (Decl-F.Variables ds n) (λ e f. (variables_declared_plain IsConstant shown m content out ds (written n) (written_good IsConstant m.name shown out constants n e) (written_over IsConstant m.name shown out n), variables_good ds (written n) (written_well n)))
+  decl_cases (Decl-F.Procedure h ds body closing) = layer (Decl-F.Procedure h (decls_in ds) body closing) (λ e f.
       let p = and_both (parameters_spelled h.parameters) (all_true (map decl_spelled (decls_in ds)) && all_true (map stmt_spelled body)) e in
       let q = and_both (all_true (map decl_spelled (decls_in ds))) (all_true (map stmt_spelled body)) p.1 in
+      let r = and_both (is_plain h.name.ident.name) (said.all_true (map is_named_plainly (decls_in ds))) f in
       record {
-        heading = (written_parameters_good IsConstant m.name shown out constants h.parameters p.0, tt);
-        inside = block_good (map declaration (decls_in ds)) (all_in ds q.0) body q.1;
+        heading = ((written_parameters_good IsConstant m.name shown out constants h.parameters p.0, written_parameters_over IsConstant m.name shown out h.parameters), tt);
+        well = record { sections = written_parameters_well h.parameters; plain = plain_from h.name.ident.name r.0 };
+        inside = block_good (map declaration (decls_in ds)) (all_in ds q.0 r.1) body q.1;
       })
-  decl_cases (Decl-F.Forward h) = layer (Decl-F.Forward h) (λ e. record { heading = (written_parameters_good IsConstant m.name shown out constants h.parameters e, tt); inside = no_block })
+  decl_cases (Decl-F.Forward h) = layer (Decl-F.Forward h) (λ e f. record { heading = ((written_parameters_good IsConstant m.name shown out constants h.parameters e, written_parameters_over IsConstant m.name shown out h.parameters), tt); well = record { sections = written_parameters_well h.parameters; plain = plain_from h.name.ident.name f }; inside = no_block })
 
   decl_good : (x : Decl) → PD x
   decl_good = ind-Decl PD (λ x y is. subst (λ z. PD (roll-Decl z)) is (decl_cases y))
 
-  decls_good : (xs : List Decl) → all_true (map decl_spelled xs) ≡ true → AreGood (map declaration xs)
-  decls_good [] e = tt
-  decls_good (x ∷ xs) e = let p = and_both (decl_spelled x) (all_true (map decl_spelled xs)) e in (decl_good x p.0, decls_good xs p.1)
+  decls_good : (xs : List Decl) → all_true (map decl_spelled xs) ≡ true → said.all_true (map is_named_plainly xs) ≡ true → AreGood (map declaration xs)
+  decls_good [] e f = tt
+  decls_good (x ∷ xs) e f =
+      let p = and_both (decl_spelled x) (all_true (map decl_spelled xs)) e in
+      let q = and_both (is_named_plainly x) (said.all_true (map is_named_plainly xs)) f in
+      (decl_good x p.0 q.0, decls_good xs p.1 q.1)
 
   -- IMPORTS
 
@@ -174,6 +217,7 @@ module _ (IsConstant : Value → Type 0) (truths : (b : Bool) → IsConstant (li
     full = none_full IsConstant shown m content;
     lies = subst (λ own. Lies own u.own) (sym (declared_own IsConstant shown m content u i.ident (import_entity (is_system t.name) t))) (lies_same u.own);
     bound = refl;
+    order = λ k. subst (AreInOrder m.name shown) (sym (declared_own IsConstant shown m content u i.ident (import_entity (is_system t.name) t))) k;
   }
 
   imports_plain : (is : List Import) → AllByRecursion (λ (i : Import). bytes_eq (target_of i).name m.name ≡ false) is → AllByRecursion (IsPlain IsConstant shown m content out) (map (λ i. import_declared i (target_of i)) is)
@@ -202,8 +246,11 @@ module _ (IsConstant : Value → Type 0) (truths : (b : Bool) → IsConstant (li
     receiver = tt;
   }
 
-  module_is : (name : Ident) → name.name ≡ m.name → (imports : List Import) → AllByRecursion (λ (i : Import). bytes_eq (target_of i).name m.name ≡ false) imports → (ds : List Declaration) → AreGood ds → (xs : List Stmt) → all_true (map stmt_spelled xs) ≡ true → (closing : Ident) → (module_of shown name imports ds (map judging xs) closing).notes.broken ≡ [] → Included IsConstant shown m content AtModule (module_of shown name imports ds (map judging xs) closing).contents → PartIs IsConstant shown m content out AtModule (module_of shown name imports ds (map judging xs) closing).contents
-  module_is name e imports o ds g xs s closing n i =
+  predeclared_known : AreKnown predeclared
+  predeclared_known = (tt, (tt, (tt, (tt, (tt, (tt, (tt, (tt, (tt, (tt, (tt, (tt, (tt, (tt, (tt, (tt, (tt, (tt, (tt, (tt, (tt, (tt, (tt, (tt, (tt, (tt, (tt, (tt, (tt, (tt, (tt, tt)))))))))))))))))))))))))))))))
+
+  module_is : (name : Ident) → name.name ≡ m.name → ShowBases shown name.name → (imports : List Import) → AllByRecursion (λ (i : Import). bytes_eq (target_of i).name m.name ≡ false) imports → (ds : List Declaration) → AreGood ds → (xs : List Stmt) → all_true (map stmt_spelled xs) ≡ true → (closing : Ident) → (module_of shown name imports ds (map judging xs) closing).notes.broken ≡ [] → Included IsConstant shown m content AtModule (module_of shown name imports ds (map judging xs) closing).contents → PartIs IsConstant shown m content out AtModule (module_of shown name imports ds (map judging xs) closing).contents
+  module_is name e bases imports o ds g xs s closing n i =
       let u = around_module shown name.name ds in
       let d = imports_declared imports u in
       let c = (block ds (map judging xs) d.around).contents in
@@ -212,13 +259,16 @@ module _ (IsConstant : Value → Type 0) (truths : (b : Bool) → IsConstant (li
       let inner = (block ds (map judging xs) d.around).notes.broken in
       let quiet : inner ≡ [] = second_empty d.part.notes.broken inner (second_empty _ (d.part.notes.broken ++ inner) n) in
       let opened : Lies d.around.own content.types = λ t k. ⊎_elim (λ y. (first_included IsConstant shown m content AtModule d.part.contents c j).made t y) (λ y. absurd y) (one_joined d.part.contents.types [] t (r.lies t k)) in
-      let p = block_good ds g xs s AtModule d.around r.around opened quiet (second_included IsConstant shown m content AtModule d.part.contents c j) in
+      let known = imports_good imports u predeclared_known (first_empty d.part.notes.broken inner (second_empty _ (d.part.notes.broken ++ inner) n)) in
+      let calm : IsQuiet d.around = subst IsQuiet (sym known.around) (record { known = known.known; begins = λ l. (refl, bases) }) in
+      let p = block_good ds g xs s AtModule d.around r.around (opened, r.order tt) calm quiet (second_included IsConstant shown m content AtModule d.part.contents c j) in
       record {
         procedures = all_both (ProcedureIsJudged IsConstant shown m content) d.part.contents.procedures c.procedures (all_empty (ProcedureIsJudged IsConstant shown m content) d.part.contents.procedures r.procedures) p.procedures;
         body = record { u = p.body.u; xs = p.body.xs; is = ◌∙◌ {c = stmts_in (in_turn (map judging p.body.xs) p.body.u).node} (ap (λ l. l ++ c.body) r.body) p.body.is; spelled = p.body.spelled; stands = p.body.stands };
         placed = p.placed;
         full = both_full IsConstant shown m content no_contents (together d.part.contents c) (none_full IsConstant shown m content) (both_full IsConstant shown m content d.part.contents c r.full p.full);
         bound = bound_same IsConstant shown m content c (together no_contents (together d.part.contents c)) (ap (λ ts. ts ++ c.bound) r.bound) p.bound;
+        own = own_same IsConstant shown m content AtModule c.bound (together no_contents (together d.part.contents c)).bound p.body.u (ap (λ ts. ts ++ c.bound) r.bound) p.own;
       }
 
 -- ---- the checked module
@@ -311,14 +361,14 @@ module _ (IsConstant : Value → Type 0) (truths : (b : Bool) → IsConstant (li
   names_kept bound (t ∷ ts) x (s, (inl e, f)) = let d = described (find (λ b. bytes_eq b.name t.name) bound) t in (d, (inl refl, same_named (find (λ b. bytes_eq b.name t.name) bound) t ∙ ap (λ (r : TypedType). r.name) e ∙ f))
   names_kept bound (t ∷ ts) x (s, (inr i, f)) = let r = names_kept bound ts x (s, (i, f)) in (r.0, (inr r.1.0, r.1.1))
 
-  whole_is : parts.notes.broken ≡ [] → (out : is_out whole.name ≡ false) → ((x : Expr) → is_spelled x ≡ true → ConstantPhrase IsConstant whole.name shown out (phrase_of x)) → tree_spelled tree ≡ true → AllByRecursion (λ (i : Import). bytes_eq (target_of i).name tree.name.name ≡ false) tree.imports → BodiesAreJudged IsConstant shown whole
-  whole_is quiet out constants s o =
+  whole_is : parts.notes.broken ≡ [] → (out : is_out whole.name ≡ false) → ((x : Expr) → is_spelled x ≡ true → ConstantPhrase IsConstant whole.name shown out (phrase_of x)) → tree_spelled tree ≡ true → ShowBases shown tree.name.name → said.all_true (map is_named_plainly tree.decls) ≡ true → AllByRecursion (λ (i : Import). bytes_eq (target_of i).name tree.name.name ≡ false) tree.imports → BodiesAreJudged IsConstant shown whole
+  whole_is quiet out constants s bases plain o =
       let e = and_both (all_true (map decl_spelled tree.decls)) (all_true (map stmt_spelled tree.body)) s in
-      let p = module_is IsConstant truths shown whole parts.contents out constants tree.name refl tree.imports o (map declaration tree.decls) (decls_good IsConstant truths shown whole parts.contents out constants tree.decls e.0) tree.body e.1 tree.closing quiet (record { variables = λ x i. i; procedures = λ p i. i; types = names_kept parts.contents.bound parts.contents.types; made = λ t i. i; bound = λ t i. inr i }) in
-      record { content = parts.contents; told = λ d. all_told IsConstant parts.contents.types parts.contents.bound p.bound.from p.bound.one d; procedures = p.procedures; body = p.body; scope = p.placed.1.0; receiver = p.placed.1.1.1; name = out; constants = p.full.constants; types = all_described_are IsConstant parts.contents.bound p.full.bound parts.contents.types p.full.types }
+      let p = module_is IsConstant truths shown whole parts.contents out constants tree.name refl bases tree.imports o (map declaration tree.decls) (decls_good IsConstant truths shown whole parts.contents out constants tree.decls e.0 plain) tree.body e.1 tree.closing quiet (record { variables = λ x i. i; procedures = λ p i. i; types = names_kept parts.contents.bound parts.contents.types; made = λ t i. i; bound = λ t i. inr i }) in
+      record { content = parts.contents; told = λ d. all_told IsConstant parts.contents.types parts.contents.bound p.bound.from p.bound.one d; types_are = refl; over = p.full.over; from = p.bound.from; bound = p.bound.by; own = p.own; procedures = p.procedures; body = p.body; scope = p.placed.1.0; receiver = p.placed.1.1.1; name = out; constants = p.full.constants; types = all_described_are IsConstant parts.contents.bound p.full.bound parts.contents.types p.full.types }
 
-  pub bodies_judged : (m : TypedModule) → checked shown tree ≡ Some m → ((out : is_out tree.name.name ≡ false) (x : Expr) → is_spelled x ≡ true → ConstantPhrase IsConstant tree.name.name shown out (phrase_of x)) → tree_spelled tree ≡ true → AllByRecursion (λ (i : Import). bytes_eq (target_of i).name tree.name.name ≡ false) tree.imports → BodiesAreJudged IsConstant shown m
-  bodies_judged m e constants s o =
+  pub bodies_judged : (m : TypedModule) → checked shown tree ≡ Some m → ((out : is_out tree.name.name ≡ false) (x : Expr) → is_spelled x ≡ true → ConstantPhrase IsConstant tree.name.name shown out (phrase_of x)) → tree_spelled tree ≡ true → ShowBases shown tree.name.name → said.all_true (map is_named_plainly tree.decls) ≡ true → AllByRecursion (λ (i : Import). bytes_eq (target_of i).name tree.name.name ≡ false) tree.imports → BodiesAreJudged IsConstant shown m
+  bodies_judged m e constants s bases plain o =
       let r = unbroken_is parts.notes.broken whole m e in
       let out = not_out r.0 in
-      subst (BodiesAreJudged IsConstant shown) r.1 (whole_is r.0 out (constants out) s o)
+      subst (BodiesAreJudged IsConstant shown) r.1 (whole_is r.0 out (constants out) s bases plain o)

@@ -1,6 +1,6 @@
 -- Constants, types and variables that are declared.
 use Rattle.std.proofs.Common.{◌≡◌, refl, sym, ap, ◌∙◌, subst, ℕ, Bool, true, false, List, [], ◌∷◌, ◌++◌, Option, Some, None, inl}
-use Rattle.std.specs.Prelude.{nat_lt, codes}
+use Rattle.std.specs.Prelude.{nat_lt, codes, is_some}
 use Rattle.std.specs.List.{AllByRecursion}
 use Rattle.ob_tree.specs.declared.pos.Pos.{Pos}
 use Rattle.ob_tree.specs.declared.names.QName.{QName}
@@ -30,7 +30,10 @@ use Rattle.ob_typed.specs.Makes.{IfThere}
 use Rattle.ob_bodies.specs.Knows.{Stands, IsDescribed, EntityStands, Knows}
 use Rattle.ob_bodies.specs.Judged.{IsInside, VariableStands, NameIs}
 use Rattle.ob_bodies.proofs.Standing.{Lies, lies_same, lies_front, lies_on}
-use Rattle.ob_bodies.proofs.Typings.{TypingIs, ConstantPhrase, IsGood, typed_is}
+use Rattle.ob_bodies.specs.Order.{IsOver, AreInOrder}
+use Rattle.ob_bodies.proofs.Lists.{there_of}
+use Rattle.ob_bodies.proofs.InOrder.{over_same, made_in_order, over_all}
+use Rattle.ob_bodies.proofs.Typings.{TypingIs, TypingOver, ConstantPhrase, IsGood, IsWellOver, typed_is}
 use Rattle.ob_bodies.proofs.Levels.{Level, AtModule, Within, frame, IsVariableAt, Included, IsFull, none_full, both_full, first_included, second_included, BlockAt, block_typed, block_declared, declared_own, not_outer, not_module}
 
 module _ (IsConstant : Value → Type 0) (shown : QName → Option Desc) (m : TypedModule) (content : Contents) (out : is_out m.name ≡ false) where
@@ -54,6 +57,7 @@ module _ (IsConstant : Value → Type 0) (shown : QName → Option Desc) (m : Ty
     pub full : IsFull IsConstant shown m content d.part.contents
     pub lies : Lies d.around.own (d.part.contents.types ++ start.own)
     pub bound : d.part.contents.bound ≡ []
+    pub order : AreInOrder m.name shown start.own → AreInOrder m.name shown d.around.own
 
   abbrev pub IsPlain : (Around → Declared) → Type 0
   IsPlain f = (l : Level) (u : Around) → B l u → I l (f u).part.contents → DeclaredIs l u (f u)
@@ -88,7 +92,7 @@ module _ (IsConstant : Value → Type 0) (shown : QName → Option Desc) (m : Ty
 
   constant_full : (b : Bool) (x : Ident) (o : Option (Mark × Value)) → IfThere (λ (p : Mark × Value). Unit {0} × IsConstant p.1) o → IsFull IsConstant shown m content (constant_contents b x o)
   constant_full true x None h = none_full IsConstant shown m content
-  constant_full true x (Some p) h = record { constants = (h.1, tt); types = tt; bound = tt }
+  constant_full true x (Some p) h = record { constants = (h.1, tt); types = tt; bound = tt; over = tt }
   constant_full false x o h = none_full IsConstant shown m content
 
   pub constant_plain : (d : IdentDef) (x : Phrase) → ConstantPhrase IsConstant m.name shown out x → IsPlain (constant_declared d x)
@@ -104,6 +108,7 @@ module _ (IsConstant : Value → Type 0) (shown : QName → Option Desc) (m : Ty
         full = constant_full (is_module_level u) d.ident o h;
         lies = subst (λ own. Lies own ((constant_contents (is_module_level u) d.ident o).types ++ u.own)) (sym (declared_own IsConstant shown m content u d.ident (constant_entity o))) (lies_front (constant_contents (is_module_level u) d.ident o).types u.own);
         bound = constant_bound (is_module_level u) d.ident o;
+        order = λ k. subst (AreInOrder m.name shown) (sym (declared_own IsConstant shown m content u d.ident (constant_entity o))) k;
       }
 
   -- TYPES
@@ -111,6 +116,19 @@ module _ (IsConstant : Value → Type 0) (shown : QName → Option Desc) (m : Ty
   as_good : (u : Around) → Knows IsConstant m.name shown u → (name : List ℕ) (k : Mark) (w : Written) → IsGood IsConstant m.name shown out w → (o : Option Qualident) → Has (T u.own) (typing_as u name k w o)
   as_good u k name mk w g (Some q) = then_has (T u.own) (T u.own) (w.typing u name mk false) (λ t. sound (equated u name mk t)) (g u k name mk false) (λ t h. typed_is IsConstant m.name shown out u k name (desc.Alias mk t.of) t.made refl tt h.made)
   as_good u k name mk w g None = g u k name mk false
+
+  abbrev O : List TypedType → List TypedType → Type 0
+  O own ts = AllByRecursion (IsOver (S own)) ts
+
+  as_over : (u : Around) → Knows IsConstant m.name shown u → (name : List ℕ) (k : Mark) (w : Written) → IsWellOver IsConstant m.name shown out w → (o : Option Qualident) → w.name ≡ o → Has (λ (t : Typing). O u.own t.made) (typing_as u name k w o)
+  as_over u b name mk w g (Some q) e =
+      then_has (TypingOver IsConstant m.name shown out u.own (is_some w.name)) (λ (t : Typing). O u.own t.made) (w.typing u name mk false) (λ t. sound (equated u name mk t)) (g u.own u (over_same IsConstant m.name shown u b) name mk false)
+      (λ t h. (record { based = h.of (ap is_some e); fresh = tt }, h.made))
+  as_over u b name mk w g None e = there_of (TypingOver IsConstant m.name shown out u.own (is_some w.name)) (λ (t : Typing). O u.own t.made) (w.typing u name mk false).node (λ t h. h.made) (g u.own u (over_same IsConstant m.name shown u b) name mk false)
+
+  types_over : (own : List TypedType) (o : Option (Mark × Typing)) → IfThere (λ (p : Mark × Typing). Unit {0} × O own p.1.made) o → O own (types_made o)
+  types_over own None h = tt
+  types_over own (Some p) h = h.1
 
   type_made : (own : List TypedType) (o : Option (Mark × Typing)) → IfThere (λ (p : Mark × Typing). Unit {0} × T own p.1) o → AllByRecursion (IsDescribed IsConstant) (types_made o)
   type_made own None h = tt
@@ -124,20 +142,22 @@ module _ (IsConstant : Value → Type 0) (shown : QName → Option Desc) (m : Ty
   type_name own p level scope None = tt
   type_name own p level scope (Some x) = tt
 
-  pub type_plain : (d : IdentDef) (w : Written) → IsGood IsConstant m.name shown out w → IsPlain (type_declared d w)
-  type_plain d w g l u b i =
+  pub type_plain : (d : IdentDef) (w : Written) → IsGood IsConstant m.name shown out w → IsWellOver IsConstant m.name shown out w → IsPlain (type_declared d w)
+  type_plain d w g y l u b i =
       let k = marked u false d in
       let t = typing_as u (u.path ++ d.ident.name) (mark_or_hidden k.node) w w.name in
       let o = (both k t).node in
       let h = second_has (T u.own) k t (as_good u b.knows (u.path ++ d.ident.name) (mark_or_hidden k.node) w g w.name) in
       let v = with_types u (types_made o) in
+      let over = types_over u.own o (second_has (λ (t : Typing). O u.own t.made) k t (as_over u b.knows (u.path ++ d.ident.name) (mark_or_hidden k.node) w y w.name refl)) in
       record {
         around = block_declared IsConstant shown m content l v (block_typed IsConstant shown m content l u b (types_made o) (type_made u.own o h) i.types (λ y j. inl (i.made y j))) d.ident (type_entity o) (type_stands u.own o h) (type_name v.own (frame l) u.level u.scope o);
         procedures = refl;
         body = refl;
-        full = record { constants = tt; types = type_made u.own o h; bound = tt };
+        full = record { constants = tt; types = type_made u.own o h; bound = tt; over = over_all m.name shown u.own m.types b.grown (types_made o) over };
         lies = subst (λ own. Lies own (types_made o ++ u.own)) (sym (declared_own IsConstant shown m content v d.ident (type_entity o))) (lies_same (types_made o ++ u.own));
         bound = refl;
+        order = λ k. subst (AreInOrder m.name shown) (sym (declared_own IsConstant shown m content v d.ident (type_entity o))) (made_in_order m.name shown u.own (types_made o) over k);
       }
 
   -- VARIABLES
@@ -179,13 +199,13 @@ module _ (IsConstant : Value → Type 0) (shown : QName → Option Desc) (m : Ty
 
   variable_full : (x : Ident) (o : Option (Mark × Typing)) → IsFull IsConstant shown m content (variable_contents x o)
   variable_full x None = none_full IsConstant shown m content
-  variable_full x (Some p) = record { constants = tt; types = tt; bound = tt }
+  variable_full x (Some p) = record { constants = tt; types = tt; bound = tt; over = tt }
 
   pub two_empty : {A : Type 0} (xs ys : List A) → xs ≡ [] → ys ≡ [] → xs ++ ys ≡ []
   two_empty xs ys e f = ap (λ l. l ++ ys) e ∙ f
 
   variables_plain : (ds : List IdentDef) (t : Option Typing) (l : Level) (u : Around) → B l u → IfThere (λ t. S u.own t.of) t → I l (variables_with ds t u).part.contents → DeclaredIs l u (variables_with ds t u)
-  variables_plain [] t l u b h i = record { around = b; procedures = refl; body = refl; full = none_full IsConstant shown m content; lies = lies_same u.own; bound = refl }
+  variables_plain [] t l u b h i = record { around = b; procedures = refl; body = refl; full = none_full IsConstant shown m content; lies = lies_same u.own; bound = refl; order = λ k. k }
   variables_plain (d ∷ ds) t l u b h i =
       let k = (marked u true d).node in
       let o = paired_typing k t in
@@ -197,7 +217,7 @@ module _ (IsConstant : Value → Type 0) (shown : QName → Option Desc) (m : Ty
       let r = variables_plain ds t l v c (subst (λ own. IfThere (λ t. S own t.of) t) (sym (declared_own IsConstant shown m content u d.ident e)) h) (second_included IsConstant shown m content l mine rest i) in
       let a = variable_adds d.ident o in
       let r_own = (variables_with ds t v).around.own in
-      record { around = r.around; procedures = two_empty mine.procedures rest.procedures a.0 r.procedures; body = two_empty mine.body rest.body a.1 r.body; full = both_full IsConstant shown m content mine rest (variable_full d.ident o) r.full; lies = lies_on mine.types rest.types u.own v.own r_own (subst (λ own. Lies own (mine.types ++ u.own)) (sym (declared_own IsConstant shown m content u d.ident e)) (lies_front mine.types u.own)) r.lies; bound = two_empty mine.bound rest.bound (variable_bound d.ident o) r.bound }
+      record { around = r.around; procedures = two_empty mine.procedures rest.procedures a.0 r.procedures; body = two_empty mine.body rest.body a.1 r.body; full = both_full IsConstant shown m content mine rest (variable_full d.ident o) r.full; lies = lies_on mine.types rest.types u.own v.own r_own (subst (λ own. Lies own (mine.types ++ u.own)) (sym (declared_own IsConstant shown m content u d.ident e)) (lies_front mine.types u.own)) r.lies; bound = two_empty mine.bound rest.bound (variable_bound d.ident o) r.bound; order = λ k. r.order (subst (AreInOrder m.name shown) (sym (declared_own IsConstant shown m content u d.ident e)) k) }
 
   in_made : (own : List TypedType) (o : Option Typing) → IfThere (T own) o → AllByRecursion (IsDescribed IsConstant) (made_in o)
   in_made own None h = tt
@@ -207,22 +227,27 @@ module _ (IsConstant : Value → Type 0) (shown : QName → Option Desc) (m : Ty
   in_stands own None h = tt
   in_stands own (Some t) h = h.of
 
-  pub variables_declared_plain : (ds : List IdentDef) (w : Written) → IsGood IsConstant m.name shown out w → IsPlain (variables_declared ds w)
-  variables_declared_plain ds w g l u b i =
+  in_over : (own : List TypedType) (o : Option Typing) (b : Bool) → IfThere (TypingOver IsConstant m.name shown out own b) o → O own (made_in o)
+  in_over own None b h = tt
+  in_over own (Some t) b h = h.made
+
+  pub variables_declared_plain : (ds : List IdentDef) (w : Written) → IsGood IsConstant m.name shown out w → IsWellOver IsConstant m.name shown out w → IsPlain (variables_declared ds w)
+  variables_declared_plain ds w g y l u b i =
       let t = w.typing u (u.path ++ first_name ds ++ codes ":") mark.Hidden false in
       let h : Has (T u.own) t = g u b.knows (u.path ++ first_name ds ++ codes ":") mark.Hidden false in
+      let over = in_over u.own t.node (is_some w.name) (y u.own u (over_same IsConstant m.name shown u b.knows) (u.path ++ first_name ds ++ codes ":") mark.Hidden false) in
       let v = with_types u (made_in t.node) in
       let mine : Contents = record no_contents { types = made_in t.node } in
       let r = variables_plain ds t.node l v (block_typed IsConstant shown m content l u b (made_in t.node) (in_made u.own t.node h) (first_included IsConstant shown m content l mine (variables_with ds t.node v).part.contents i).types (λ y j. inl ((first_included IsConstant shown m content l mine (variables_with ds t.node v).part.contents i).made y j))) (in_stands u.own t.node h) (second_included IsConstant shown m content l mine (variables_with ds t.node v).part.contents i) in
-      record { around = r.around; procedures = r.procedures; body = r.body; full = both_full IsConstant shown m content mine (variables_with ds t.node v).part.contents (record { constants = tt; types = in_made u.own t.node h; bound = tt }) r.full; lies = lies_on (made_in t.node) (variables_with ds t.node v).part.contents.types u.own v.own (variables_with ds t.node v).around.own (lies_same v.own) r.lies; bound = r.bound }
+      record { around = r.around; procedures = r.procedures; body = r.body; full = both_full IsConstant shown m content mine (variables_with ds t.node v).part.contents (record { constants = tt; types = in_made u.own t.node h; bound = tt; over = over_all m.name shown u.own m.types b.grown (made_in t.node) over }) r.full; lies = lies_on (made_in t.node) (variables_with ds t.node v).part.contents.types u.own v.own (variables_with ds t.node v).around.own (lies_same v.own) r.lies; bound = r.bound; order = λ k. r.order (made_in_order m.name shown u.own (made_in t.node) over k) }
 
   -- IN ORDER
 
   pub order_plain : (fs : List (Around → Declared)) → AllByRecursion IsPlain fs → IsPlain (in_order fs)
-  order_plain [] g l u b i = record { around = b; procedures = refl; body = refl; full = none_full IsConstant shown m content; lies = lies_same u.own; bound = refl }
+  order_plain [] g l u b i = record { around = b; procedures = refl; body = refl; full = none_full IsConstant shown m content; lies = lies_same u.own; bound = refl; order = λ k. k }
   order_plain (f ∷ fs) g l u b i =
       let d = f u in
       let rest = in_order fs d.around in
       let a = g.0 l u b (first_included IsConstant shown m content l d.part.contents rest.part.contents i) in
       let r = order_plain fs g.1 l d.around a.around (second_included IsConstant shown m content l d.part.contents rest.part.contents i) in
-      record { around = r.around; procedures = two_empty d.part.contents.procedures rest.part.contents.procedures a.procedures r.procedures; body = two_empty d.part.contents.body rest.part.contents.body a.body r.body; full = both_full IsConstant shown m content d.part.contents rest.part.contents a.full r.full; lies = lies_on d.part.contents.types rest.part.contents.types u.own d.around.own rest.around.own a.lies r.lies; bound = two_empty d.part.contents.bound rest.part.contents.bound a.bound r.bound }
+      record { around = r.around; procedures = two_empty d.part.contents.procedures rest.part.contents.procedures a.procedures r.procedures; body = two_empty d.part.contents.body rest.part.contents.body a.body r.body; full = both_full IsConstant shown m content d.part.contents rest.part.contents a.full r.full; lies = lies_on d.part.contents.types rest.part.contents.types u.own d.around.own rest.around.own a.lies r.lies; bound = two_empty d.part.contents.bound rest.part.contents.bound a.bound r.bound; order = λ k. r.order (a.order k) }

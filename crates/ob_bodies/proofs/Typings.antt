@@ -1,6 +1,6 @@
 -- A type that is written stands among those that it makes, and each that it makes is described.
 use Rattle.std.proofs.Common.{◌≡◌, refl, sym, subst, ℕ, zero, suc, ◌≤◌, Bool, true, false, List, [], ◌∷◌, ◌++◌, Option, Some, None, inl, arith}
-use Rattle.std.specs.Prelude.{is_none, pos, negsuc}
+use Rattle.std.specs.Prelude.{is_none, is_some, pos, negsuc}
 use Rattle.std.specs.List.{AllByRecursion}
 use Rattle.ob_tree.specs.declared.pos.Pos.{Pos}
 use Rattle.ob_tree.specs.declared.names.QName.{QName}
@@ -25,6 +25,7 @@ use Rattle.ob_rules.specs.Expressions.{constant_value}
 use Rattle.ob_rules.specs.Types.{Typing, Written, typed_as, with_types, base_name, element_name, field_name, named_typing, length_of, array_length, fixed_array, array, first_of, fields_of, WrittenFields, first_name, names_behind, Fields, with_fields, fields_joined, field_lists, record_desc, record_with, pointer_to, base_judged, pointer_base, pointer_by}
 use Rattle.ob_described.proofs.Nodes.{Has, then_has, both_have, first_has, second_has, also_has, unless_has}
 use Rattle.ob_bodies.specs.Knows.{Stands, LengthIs, IsDescribed, Knows}
+use Rattle.ob_bodies.specs.Order.{IsOver}
 use Rattle.ob_bodies.proofs.Lists.{all_both}
 use Rattle.ob_bodies.proofs.Standing.{own_stands}
 use Rattle.ob_bodies.proofs.Named.{type_named_stands}
@@ -41,6 +42,15 @@ module _ (IsConstant : Value → Type 0) (unit : List ℕ) (shown : QName → Op
     pub made : AreDescribed t.made
     pub of : Stands unit shown (t.made ++ own) t.of
 
+  -- over the types that are known by names
+  abbrev pub AreOver : List TypedType → List TypedType → Type 0
+  AreOver start ts = AllByRecursion (IsOver (Stands unit shown start)) ts
+
+  pub record TypingOver (start : List TypedType) (named : Bool) (t : Typing) : Type 0 where
+    pub made : AreOver start t.made
+    -- a name stands for a type that is known
+    pub of : named ≡ true → Stands unit shown start t.of
+
   -- an expression whose value is a constant, where constants are
   abbrev pub ConstantPhrase : Phrase → Type 0
   ConstantPhrase x = (u : Around) → K u → Has IsConstant (constant_value u x)
@@ -51,6 +61,17 @@ module _ (IsConstant : Value → Type 0) (unit : List ℕ) (shown : QName → Op
   -- a written type, whatever stands around
   abbrev pub IsGood : Written → Type 0
   IsGood w = (u : Around) → K u → (name : List ℕ) (m : Mark) (open_ok : Bool) → Has (TypingIs u.own) (w.typing u name m open_ok)
+
+  -- the types that are known by names are among these
+  abbrev pub KnownOver : List TypedType → Around → Type 0
+  KnownOver start u = K (record u { own = start })
+
+  -- the types that it makes are over those that are known
+  abbrev pub IsWellOver : Written → Type 0
+  IsWellOver w = (start : List TypedType) (u : Around) → KnownOver start u → (name : List ℕ) (m : Mark) (open_ok : Bool) → Has (TypingOver start (is_some w.name)) (w.typing u name m open_ok)
+
+  abbrev pub AreWellOver : List WrittenFields → Type 0
+  AreWellOver ls = AllByRecursion (λ l. IsWellOver l.node) ls
 
   abbrev pub AreGoodFields : List WrittenFields → Type 0
   AreGoodFields ls = AllByRecursion (λ l. IsGood l.node) ls

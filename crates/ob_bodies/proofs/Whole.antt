@@ -9,7 +9,7 @@ use Rattle.ob_bodies.proofs.Modules.{unbroken_is, parts, whole, not_out, bodies_
 use Rattle.ob_bodies.proofs.Imports.{imports_others}
 
 pub bodies_known : BodiesJudged
-bodies_known shown tree m e s o c = bodies_judged ConstantIs (λ b. tt) shown tree m e (λ out x k u h. (c u h x k).node) s o
+bodies_known shown tree m e s bases plain o c = bodies_judged ConstantIs (λ b. tt) shown tree m e (λ out x k u h. (c u h x k).node) s bases plain o
 
 pub imports_are_others : ImportsAreOthers
 imports_are_others shown tree m e h =

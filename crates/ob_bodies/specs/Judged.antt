@@ -25,16 +25,18 @@ use Rattle.ob_rules.specs.declared.entity.Entity.TheVariants as entity
 use Rattle.ob_rules.specs.declared.entity.Received.{Received}
 use Rattle.ob_rules.specs.Shapes.{Map, record_of, pointed_record}
 use Rattle.ob_rules.specs.Names.{Around, map_of, is_out}
+use Rattle.ob_rules.specs.Operators.{signatures_match}
 use Rattle.ob_types.specs.declared.desc.Method.{Method}
-use Rattle.ob_rules.specs.Headings.{change_desc}
+use Rattle.ob_rules.specs.Headings.{change_desc, bindings, reversed}
 use Rattle.ob_forms.specs.Whole.{Different}
 use Rattle.ob_rules.specs.Statements.{judging, in_turn}
-use Rattle.ob_rules.specs.Declarations.{Contents, stmts_in}
+use Rattle.ob_rules.specs.Declarations.{Contents, Written_procedure, headings_in_order, stmts_in, all_described}
 use Rattle.ob_forms.specs.Said.{IsOneOf}
 use Rattle.ob_typed.specs.Makes.{IfThere}
 use Rattle.ob_typed.specs.Spelled.{all_true}
 use Rattle.ob_typed.specs.Bodies.{stmt_spelled}
 use Rattle.ob_bodies.specs.Knows.{Stands, IsDescribed, Knows, IsPlain}
+use Rattle.ob_bodies.specs.Order.{IsOver, AreInOrder}
 
 -- by value or by VAR
 abbrev pub mode_of : Passing → Mode
@@ -130,6 +132,18 @@ module _ (IsConstant : Value → Type 0) (shown : QName → Option Desc) (m : Ty
     pub params : AllByRecursion (λ k. StandsIn own k.1) s.params
     pub result_stands : IfThere (StandsIn own) s.result
 
+  -- What a forward declaration stands for: a procedure of the module of that name, whose signature matches that of the declaration by what
+  -- is known somewhere in the module.
+  pub record IsForwardIn (own : List TypedType) (q : QName) (s : Signature) : Type 0 where
+    pub t : Signature
+    pub procedure : IsProcedureIn own q t
+    pub w : Around
+    pub within : IsWithin w
+    pub alike : signatures_match (map_of w) (Some s) (Some t) ≡ true
+    -- the types of its own signature stand
+    pub params : AllByRecursion (λ k. StandsIn own k.1) s.params
+    pub result_stands : IfThere (StandsIn own) s.result
+
   -- in the scope of that number, where the variables of the scope `level` may be named
   pub record VariableStands (own : List TypedType) (p : Option TypedProcedure) (level scope : ℕ) (v : Variable) (t : TypeRef) : Type 0 where
     pub outside : nat_lt 1 scope ≡ false → IsGlobal m.name m.variables v t × StandsIn own t
@@ -139,6 +153,7 @@ module _ (IsConstant : Value → Type 0) (shown : QName → Option Desc) (m : Ty
   abbrev pub NameIs : List TypedType → Option TypedProcedure → (level scope : ℕ) → Entity → Type 0
   NameIs own p level scope (entity.Variable v t) = VariableStands own p level scope v t
   NameIs own p level scope (entity.Procedure q s) = IsProcedureIn own q s
+  NameIs own p level scope (entity.Forward q s) = IsForwardIn own q s
   NameIs own p level scope e = Unit {0}
 
   -- what stands around the statements of a procedure, or of the module
@@ -167,6 +182,17 @@ module _ (IsConstant : Value → Type 0) (shown : QName → Option Desc) (m : Ty
     pub parameters : AllByRecursion (λ (x : TypedParameter). StandsIn m.types x.of) p.parameters
     pub answer : IfThere (StandsIn m.types) p.result
 
+-- What is bound: some of these types, in their order, with the procedures that headings introduce.
+pub record IsBoundBy (unit : List ℕ) (shown : QName → Option Desc) (types bound : List TypedType) : Type 0 where
+  pub base : Around
+  pub ps : List Written_procedure
+  pub base_unit : base.unit ≡ unit
+  pub unit_is : (headings_in_order ps (record { around = base; before = [] })).around.unit ≡ unit
+  pub shown_is : (headings_in_order ps (record { around = base; before = [] })).around.shown ≡ shown
+  pub order : AreInOrder unit shown (headings_in_order ps (record { around = base; before = [] })).around.own
+  pub lies : (t : TypedType) → IsOneOf (headings_in_order ps (record { around = base; before = [] })).around.own t → IsOneOf types t
+  pub is : bound ≡ (bindings (headings_in_order ps (record { around = base; before = [] })).around (reversed (headings_in_order ps (record { around = base; before = [] })).before)).own
+
 module _ (IsConstant : Value → Type 0) (shown : QName → Option Desc) (m : TypedModule) where
   -- the bodies of the procedures, and the body of the module
   pub record BodiesAreJudged : Type 0 where
@@ -174,8 +200,15 @@ module _ (IsConstant : Value → Type 0) (shown : QName → Option Desc) (m : Ty
     pub content : Contents
     -- it is in the module, which has perhaps more procedures bound to it
     pub told : Different (λ t. t.name) m.types → (t : TypedType) → IsMade content t → IsTold m.types t
+    -- its types are those that it makes, with what is bound to them
+    pub types_are : m.types ≡ all_described content.bound content.types
+    pub over : AllByRecursion (IsOver (Stands m.name shown m.types)) content.types
+    pub from : (b : TypedType) → IsOneOf content.bound b → (t : TypedType) × (IsOneOf content.types t × ((t.name ≡ b.name) × HasMore t.desc b.desc))
+    pub bound : (content.bound ≡ []) ⊎ IsBoundBy m.name shown content.types content.bound
     pub procedures : AllByRecursion (ProcedureIsJudged IsConstant shown m content) m.procedures
     pub body : IsJudged IsConstant shown m content None m.body
+    -- it knows what is bound
+    pub own : (content.bound ≡ []) ⊎ (body.u.own ≡ content.bound)
     -- in the scope of the module, and of no procedure
     pub scope : body.u.scope ≡ 1
     pub receiver : body.u.receiver ≡ None

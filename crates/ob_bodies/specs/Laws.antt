@@ -24,6 +24,8 @@ use Rattle.ob_typed.specs.Known.{ConstantIs}
 use Rattle.ob_typed.specs.Spelled.{is_spelled}
 use Rattle.ob_typed.specs.Bodies.{in_all, hidden_places, AreHidden}
 use Rattle.ob_typed.specs.Laws.{Having}
+use Rattle.ob_said.specs.Procedures.{ShowBases, is_named_plainly}
+use Rattle.ob_said.specs.Procedures as said
 use Rattle.ob_bodies.specs.Spelled.{tree_spelled}
 use Rattle.ob_bodies.specs.Knows.{Knows}
 use Rattle.ob_bodies.specs.Judged.{BodiesAreJudged}
@@ -36,9 +38,12 @@ ConstantsAre unit shown = (u : Around) → Knows ConstantIs unit shown u → (x 
 abbrev pub AreOthers : List ℕ → List Import → Type 0
 AreOthers unit imports = AllByRecursion (λ i. bytes_eq (target_of i).name unit ≡ false) imports
 
--- Each body of a checked module is judged where what is known is as the module has it.
+-- Each body of a checked module is judged where what is known is as the module has it, where the bases of pointers that are shown are shown
+-- too, and procedures are named by identifiers.
 abbrev pub BodiesJudged : Type 0
-BodiesJudged = (shown : QName → Option Desc) (tree : Tree) (m : TypedModule) → checked shown tree ≡ Some m → tree_spelled tree ≡ true → AreOthers tree.name.name tree.imports → ConstantsAre tree.name.name shown → BodiesAreJudged ConstantIs shown m
+BodiesJudged =
+    (shown : QName → Option Desc) (tree : Tree) (m : TypedModule) → checked shown tree ≡ Some m → tree_spelled tree ≡ true → ShowBases shown tree.name.name → said.all_true (map is_named_plainly tree.decls) ≡ true → AreOthers tree.name.name tree.imports
+    → ConstantsAre tree.name.name shown → BodiesAreJudged ConstantIs shown m
 
 -- A checked module whose listed imports are others imports others alone.
 abbrev pub ImportsAreOthers : Type 0

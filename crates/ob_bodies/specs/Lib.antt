@@ -1,4 +1,5 @@
 pub mod Spelled
 pub mod Knows
+pub mod Order
 pub mod Judged
 pub mod Laws

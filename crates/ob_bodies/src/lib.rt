@@ -6,8 +6,11 @@ ghost use Rattle.ob_bodies.specs.Laws.{BodiesJudged, ImportsAreOthers, HiddenSta
 /// A law, with nothing to run. The bodies of the procedures of a checked module, and its own body, are
 /// judged in surroundings (`specs/Judged.antt`: `StandsAround`) where each known variable that may be
 /// named is one of the module, or one of the procedure at hand or its parameters; each known procedure
-/// is one of the module, of that signature; and each type is one that the module declared before or an
-/// imported module shows. Each type that is known there is the module's by name and description,
+/// is one of the module, of that signature; one that is known by a forward declaration alone is one of
+/// the module too, of a signature that matches; and each type is one that the module declared before
+/// or an imported module shows. (For forward declarations the bases of pointers that are shown have to
+/// be shown too: a receiver that points to nothing known is no error, and what is named by it is
+/// lost.) Each type that is known there is the module's by name and description,
 /// perhaps before procedures are bound to it, where the module's types differ in name; and so where
 /// the heading of a bound procedure names the type of its receiver, which is of the record that the
 /// procedure is bound to. No guard stands around a body, and its result is the procedure's. The module

@@ -398,4 +398,4 @@ pub constants_stand : ConstantsStand
 constants_stand unit shown are u k x e = constant_value_is unit shown are u k x e
 
 pub bodies_stand : BodiesStand
-bodies_stand shown tree m e s o are = bodies_known shown tree m e s o (constants_stand tree.name.name shown are)
+bodies_stand shown tree m e s bases plain o are = bodies_known shown tree m e s bases plain o (constants_stand tree.name.name shown are)

@@ -1,5 +1,5 @@
 -- The laws: constant expressions come to constants, and so the bodies of checked modules are judged where constants are.
-use Rattle.std.specs.Prelude.{◌≡◌, ℕ, List, Option, Some, true, pos}
+use Rattle.std.specs.Prelude.{◌≡◌, ℕ, List, map, Option, Some, true, pos}
 use Rattle.ob_tree.specs.declared.names.QName.{QName}
 use Rattle.ob_tree.specs.declared.ident.Mark.{Mark}
 use Rattle.ob_tree.specs.declared.decl.Module.{Module as Tree}
@@ -11,6 +11,8 @@ use Rattle.ob_types.specs.declared.desc.Desc.TheVariants as desc
 use Rattle.ob_types.specs.declared.typed.TypedModule.{TypedModule}
 use Rattle.ob_rules.specs.Declarations.{checked}
 use Rattle.ob_typed.specs.Known.{ConstantIs}
+use Rattle.ob_said.specs.Procedures.{ShowBases, is_named_plainly}
+use Rattle.ob_said.specs.Procedures as said
 use Rattle.ob_bodies.specs.Spelled.{tree_spelled}
 use Rattle.ob_bodies.specs.Judged.{BodiesAreJudged}
 use Rattle.ob_bodies.specs.Laws.{AreOthers, ConstantsAre}
@@ -26,4 +28,6 @@ ConstantsStand = (unit : List ℕ) (shown : QName → Option Desc) → AreShown 
 
 -- Each body of a checked module is judged where what is known is as the module has it, where what is shown to it is in range.
 abbrev pub BodiesStand : Type 0
-BodiesStand = (shown : QName → Option Desc) (tree : Tree) (m : TypedModule) → checked shown tree ≡ Some m → tree_spelled tree ≡ true → AreOthers tree.name.name tree.imports → AreShown shown → BodiesAreJudged ConstantIs shown m
+BodiesStand =
+    (shown : QName → Option Desc) (tree : Tree) (m : TypedModule) → checked shown tree ≡ Some m → tree_spelled tree ≡ true → ShowBases shown tree.name.name → said.all_true (map is_named_plainly tree.decls) ≡ true → AreOthers tree.name.name tree.imports → AreShown shown
+    → BodiesAreJudged ConstantIs shown m

@@ -18,6 +18,7 @@ use Rattle.ob_declares.proofs.Views.{ruled_formed}
 use Rattle.ob_bodies.specs.Judged.{HasMore, IsTold}
 use Rattle.ob_bodies.proofs.Lists.{one_left, all_one}
 use Rattle.ob_judged.specs.Laws.{MapsFormed}
+use Rattle.ob_judged.proofs.Age.{age_in}
 
 -- before procedures are bound a description says no more
 says : (d e : Desc) → HasMore d e → SaysNoMore d e
@@ -50,7 +51,7 @@ module _ (types : QName → Option Desc) (m : Module) where
   unlaid_fresh x (t ∷ ts) h = (h.0, unlaid_fresh x ts h.1)
 
   -- the layout leaves the names
-  unlaid_differ : (ts : List TypedType) → Different (λ (t : TypedType). t.name) (each (laid_type types m) ts) → Different (λ (t : TypedType). t.name) ts
+  pub unlaid_differ : (ts : List TypedType) → Different (λ (t : TypedType). t.name) (each (laid_type types m) ts) → Different (λ (t : TypedType). t.name) ts
   unlaid_differ [] h = tt
   unlaid_differ (t ∷ ts) h = (unlaid_fresh t.name ts h.0, unlaid_differ ts h.1)
 
@@ -69,5 +70,5 @@ maps_formed program sound whole m there j fields w h =
       unit = h.unit_is ∙ sym same_name;
       own = all_one (IsEarly j.checked.types) w.own (λ t i. early j.checked.types t (j.bodies.told differ t (h.own t i)));
       interfaces = h.shown_is;
-      age = j.age;
+      age = age_in program m j;
     })

@@ -1,3 +1,4 @@
+pub mod Age
 pub mod Formed
 pub mod Typed
 pub mod Full

@@ -30,6 +30,7 @@ use Rattle.ob_bodies.specs.Knows.{HasName, Grows, StandsBy, Stands}
 use Rattle.ob_valued.specs.Laws.{AreTypesOf}
 use Rattle.ob_valued.proofs.Values.{values_are_made}
 use Rattle.ob_judged.specs.Judged.{IsJudgedModule}
+use Rattle.ob_judged.proofs.Age.{age_in}
 use Rattle.ob_judged.specs.Laws.{ProceduresTyped, ValuesHad}
 
 -- ---- what is found
@@ -96,7 +97,7 @@ module _ (program : Program) (whole : IsWhole program) where
       where
         by : (o : Option Desc) → described j.faces q ≡ o → MatchOption (option_map blank o) ⊥ (λ d. IsTrue (is_type d)) → is_held (description program) (ref.Named q) ≡ true
         by None e h = absurd h
-        by (Some d) e h = let s = types_shown program whole j.faces j.age q d e (sym (blank_type d) ∙ h) in some_held q s.0 s.1.0
+        by (Some d) e h = let s = types_shown program whole j.faces (age_in program m j) q d e (sym (blank_type d) ∙ h) in some_held q s.0 s.1.0
 
     stands_held : (t : TypeRef) → Stands j.checked.name (shown j.faces) j.checked.types t → is_held (description program) t ≡ true
     stands_held (ref.Basic b) h = refl

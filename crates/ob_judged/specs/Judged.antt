@@ -1,5 +1,5 @@
 -- A module of a program as it was judged.
-use Rattle.std.specs.Prelude.{◌≡◌, List, Option}
+use Rattle.std.specs.Prelude.{◌≡◌, List, ◌∷◌, ◌++◌, Option}
 use Rattle.std.specs.List.{AllByRecursion}
 use Rattle.ob_tree.specs.declared.names.QName.{QName}
 use Rattle.ob_tree.specs.declared.print.Print.{Print}
@@ -15,13 +15,16 @@ use Rattle.ob_declares.specs.Ages.{AreShown}
 use Rattle.ob_typed.specs.Known.{ConstantIs}
 use Rattle.ob_bodies.specs.Judged.{BodiesAreJudged}
 
--- the checked module with its records laid out, whose bodies were judged over interfaces that show the program's modules
+-- the checked module with its records laid out, whose bodies were judged over interfaces that show the program's modules before it
 pub record IsJudgedModule (program : Program) (m : Module) : Type 0 where
+  pub before : Program
+  pub rest : Program
+  pub order : program ≡ before ++ m ∷ rest
   pub checked : TypedModule
   pub types : QName → Option Desc
   pub faces : List (Face Print)
   pub is : m ≡ laid_out types (module_view checked)
-  pub age : AreShown program faces
+  pub age : AreShown before faces
   pub bodies : BodiesAreJudged ConstantIs (shown faces) checked
 
 abbrev pub AreJudgedModules : Program → Type 0

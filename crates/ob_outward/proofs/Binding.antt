@@ -41,7 +41,7 @@ desc_changes m (desc.Pointer k t) = inl refl
 desc_changes m (desc.ProcType k s) = inl refl
 desc_changes m (desc.Record r) = inr (record { r = r; s = with_method r m; was = refl; is = refl; grows = record { base = refl; fields = refl; more = m ∷ []; methods = refl } })
 
-change_grows : (x : List ℕ) (m : Method) (ts : List TypedType) (y : List ℕ) → DescGrows (desc_in ts y) (desc_in (change_type x (λ r. with_method r m) ts) y)
+pub change_grows : (x : List ℕ) (m : Method) (ts : List TypedType) (y : List ℕ) → DescGrows (desc_in ts y) (desc_in (change_type x (λ r. with_method r m) ts) y)
 change_grows x m [] y = inl refl
 change_grows x m (t ∷ ts) y = go (bytes_eq t.name x) (bytes_eq t.name y) refl (change_grows x m ts y)
   where
@@ -51,7 +51,7 @@ change_grows x m (t ∷ ts) y = go (bytes_eq t.name x) (bytes_eq t.name y) refl 
     go true false e k = subst (λ c. DescGrows (desc_in ts y) (own_desc (cond c (Some (changed_if true (λ r. with_method r m) t)) (find (λ t. bytes_eq t.name y) (change_type x (λ r. with_method r m) ts))))) (sym e) k
     go false false e k = subst (λ c. DescGrows (desc_in ts y) (own_desc (cond c (Some t) (find (λ t. bytes_eq t.name y) (change_type x (λ r. with_method r m) ts))))) (sym e) k
 
-changed_there : (x : List ℕ) (m : Method) (ts : List TypedType) (r : RecordDesc) → desc_in ts x ≡ Some (desc.Record r) → desc_in (change_type x (λ r. with_method r m) ts) x ≡ Some (desc.Record (with_method r m))
+pub changed_there : (x : List ℕ) (m : Method) (ts : List TypedType) (r : RecordDesc) → desc_in ts x ≡ Some (desc.Record r) → desc_in (change_type x (λ r. with_method r m) ts) x ≡ Some (desc.Record (with_method r m))
 changed_there x m [] r e = absurd cc
 changed_there x m (t ∷ ts) r e = go (bytes_eq t.name x) refl e (changed_there x m ts r)
   where

@@ -68,7 +68,7 @@ record_if_same : (f g : Map) → MapGrows f g → (o : Option TypeRef) → recor
 record_if_same f g h None = refl
 record_if_same f g h (Some t) = record_of_same f g h t
 
-base_record_same : (f g : Map) → MapGrows f g → (q : QName) → base_record f q ≡ base_record g q
+pub base_record_same : (f g : Map) → MapGrows f g → (q : QName) → base_record f q ≡ base_record g q
 base_record_same f g h q = ap (record_if f) (base_same (f q) (g q) (h q)) ∙ record_if_same f g h (base_type (g q))
 
 -- ---- members

@@ -19,7 +19,7 @@ use Rattle.ob_types.specs.TypedSyntax.{Module}
 use Rattle.ob_types.specs.TypedView.{procedure_view}
 use Rattle.ob_meaning.specs.Values.{Program, procedure_of, Form, BasicForm, PointerForm, ProcedureForm, ArrayForm, OpenForm, RecordForm, form_in, Formals, Held}
 use Rattle.ob_relation.specs.Layout.{static_held}
-use Rattle.ob_relation.specs.Relation.{FormOk}
+use Rattle.ob_relation.specs.Relation.{FormOk, Scalar}
 use Rattle.ob_relation.specs.Typed.{result_form}
 use Rattle.ob_relation.specs.Passed.{passing_for}
 use Rattle.ob_relation.proofs.Names.{bytes_sym}
@@ -30,7 +30,7 @@ use Rattle.ob_rules.specs.declared.entity.Received.{Received}
 use Rattle.ob_rules.specs.Designators.{same_variable}
 use Rattle.ob_rules.specs.Declarations.{Contents}
 use Rattle.ob_rules.specs.Names.{Around, map_of, find_name, is_enclosing, is_out}
-use Rattle.ob_forms.specs.Formed.{AreParameters, IsProcedureOf, Formed}
+use Rattle.ob_forms.specs.Formed.{IsDeclared, AreParameters, IsProcedureOf, Formed}
 use Rattle.ob_forms.specs.Said.{IsOneOf}
 use Rattle.ob_forms.specs.Whole.{IsPassed, HeadingOk, IsWhole}
 use Rattle.ob_forms.proofs.Modules.{own, procedure_there}
@@ -43,10 +43,12 @@ use Rattle.ob_typed.specs.Surrounded.{IsSurrounded}
 use Rattle.ob_bodies.specs.Knows.{EntityStands}
 use Rattle.ob_surrounded.proofs.Introduced.{of_one_kind}
 use Rattle.ob_surrounded.proofs.Receivers.{receiver_is}
-use Rattle.ob_bodies.specs.Judged.{IsReceived, ReceiverStands, mode_of, AreOf, IsGlobal, IsInside, StandsIn, IsProcedureIn, VariableStands, NameIs, StandsAround}
+use Rattle.ob_bodies.specs.Judged.{IsReceived, ReceiverStands, mode_of, AreOf, IsGlobal, IsInside, StandsIn, IsProcedureIn, IsForwardIn, VariableStands, NameIs, StandsAround}
 use Rattle.ob_bodies.proofs.Lists.{one_all, find_has}
 use Rattle.ob_bodies.proofs.Held.{one_mapped}
-use Rattle.ob_surrounded.specs.Left.{IsModuleOf, AreConstantsShown, HasProcedures, IsLeft}
+use Rattle.ob_valued.proofs.Equal.{matching_are_alike}
+use Rattle.ob_valued.proofs.Matching.{parameters_so, signatures_same}
+use Rattle.ob_surrounded.specs.Left.{IsModuleOf, AreConstantsShown, HasProcedures, AreFormed, IsLeft}
 use Rattle.ob_surrounded.specs.Laws.{ProceduresSurrounded, ModulesSurrounded}
 use Rattle.ob_surrounded.proofs.Standing.{known_is}
 use Rattle.ob_surrounded.proofs.Variables.{global_is, local_is, parameter_is}
@@ -95,7 +97,7 @@ module _ (program : Program) (has : Formals → QName → Bool) (shown : QName �
   heading : (p : TypedProcedure) → IsOneOf checked.procedures p → HeadingOk program (procedure_view p)
   heading p i = one_all (HeadingOk program) m.procedures (procedure_view p) (own program whole m is.there).headings (viewed_there p i)
 
-  module _ (held : List Held) (result : Option TypeRef) (content : Contents) (p : Option TypedProcedure) (u : Around) (around : StandsAround ConstantIs shown checked content p u) (formed : Formed (map_of u) program) (left : IsLeft program Has checked.name held result u) (receivers : (r : Received) (v : Variable) (t : TypeRef) → u.receiver ≡ Some r → same_variable v r.variable ≡ true → VariableIs program Has checked.name held result (map_of u) v t → ReceiverIs program (map_of u) r t) (inside : (scope : ℕ) (v : Variable) (t : TypeRef) → scope ≤ u.scope → nat_lt 1 scope ≡ true → IsInside (StandsIn ConstantIs shown checked content u.own) p v t → VariableIs program Has checked.name held result (map_of u) v t) where
+  module _ (held : List Held) (result : Option TypeRef) (content : Contents) (p : Option TypedProcedure) (all_formed : AreFormed program shown checked content) (u : Around) (around : StandsAround ConstantIs shown checked content p u) (formed : Formed (map_of u) program) (left : IsLeft program u) (receivers : (r : Received) (v : Variable) (t : TypeRef) → u.receiver ≡ Some r → same_variable v r.variable ≡ true → VariableIs program Has checked.name held result (map_of u) v t → ReceiverIs program (map_of u) r t) (inside : (scope : ℕ) (v : Variable) (t : TypeRef) → scope ≤ u.scope → nat_lt 1 scope ≡ true → IsInside (StandsIn ConstantIs shown checked content u.own) p v t → VariableIs program Has checked.name held result (map_of u) v t) where
     known : (t : TypeRef) → StandsIn ConstantIs shown checked content u.own t → IsKnown (map_of u) t
     known t h = known_is ConstantIs checked.name shown u around.knows t h
 
@@ -154,6 +156,41 @@ module _ (program : Program) (has : Formals → QName → Bool) (shown : QName �
     procedures : (x : List ℕ) (k : Known) (q : QName) (s : Signature) → find_name u.known x ≡ Some k → k.what ≡ entity.Procedure q s → ProcedureIs program Has checked.name held result (map_of u) q s
     procedures x k q s e f = procedure_is q s (subst (NameIs ConstantIs shown checked content u.own p u.level k.scope) f (at_name (λ (k : Known). NameIs ConstantIs shown checked content u.own p u.level k.scope k.what) u.known x k around.names e))
 
+    -- one that is known by a forward declaration alone
+    declared : (ks : List (Mode × TypeRef)) → AllByRecursion (λ k. StandsIn ConstantIs shown checked content u.own k.1) ks → AllByRecursion (λ k. IsDeclared k.1) ks
+    declared [] h = tt
+    declared (k ∷ ks) h = ((known k.1 h.0).0, declared ks h.1)
+
+    result_so : (r t : Option TypeRef) → result_form program t ≡ result_form program r → IfThere (StandsIn ConstantIs shown checked content u.own) t → ResultIs program r → ResultIs program t
+    result_so r None e h k = tt
+    result_so None (Some t) e h k = absurd cc
+    result_so (Some r) (Some t) e h k = let f : form_in program t ≡ form_in program r = cc in ((known t h).0, subst Scalar (sym f) k.1)
+
+    forward_is : (q : QName) (s : Signature) → IsForwardIn ConstantIs shown checked content u.own q s → ProcedureIs program Has checked.name held result (map_of u) q s
+    forward_is q s h =
+        let is = procedure_is q h.t h.procedure in
+        let alike = matching_are_alike program (map_of h.w) (all_formed h.w h.within) s h.t (declared s.params h.params) (declared h.t.params h.procedure.params) h.alike in
+        let same = signatures_same program h.t s (sym alike) in
+        let parameters = parameters_so program is.p.parameters h.t.params s.params same.0 is.parameters in
+        let result_is : result_form program is.p.result ≡ result_form program s.result = is.result_is ∙ same.1 in
+        let of : IsProcedureOf program q s = record { p = is.p; found = is.found; result = result_is; parameters = parameters } in
+        let signature : SignatureIs program (map_of u) s = record {
+          params = known_params s.params h.params;
+          result = result_so h.t.result s.result (sym same.1) h.result_stands is.signature.result;
+          result_held = result_held s.result h.result_stands;
+        } in
+        record {
+          p = is.p;
+          found = is.found;
+          result_is = result_is;
+          parameters = parameters;
+          signature = signature;
+          own = λ e. values q s of e;
+        }
+
+    forwards : (x : List ℕ) (k : Known) (q : QName) (s : Signature) → find_name u.known x ≡ Some k → k.what ≡ entity.Forward q s → ProcedureIs program Has checked.name held result (map_of u) q s
+    forwards x k q s e f = forward_is q s (subst (NameIs ConstantIs shown checked content u.own p u.level k.scope) f (at_name (λ (k : Known). NameIs ConstantIs shown checked content u.own p u.level k.scope k.what) u.known x k around.names e))
+
     -- CONSTANTS, TYPES AND IMPORTS
 
     entity_at : (x : List ℕ) (k : Known) (w : Entity) → find_name u.known x ≡ Some k → k.what ≡ w → EntityStands ConstantIs checked.name shown u.own w
@@ -167,7 +204,7 @@ module _ (program : Program) (has : Formals → QName → Bool) (shown : QName �
       variables = variables;
       constants = λ x k v e f. entity_at x k (entity.Constant v) e f;
       procedures = procedures;
-      forwards = left.forwards;
+      forwards = forwards;
       types = λ x k t e f. known t (entity_at x k (entity.TypeName t) e f);
       imports = λ x k n e f. ap (bytes_eq n) around.knows.unit_is ∙ entity_at x k (entity.Module n) e f;
       guards = subst (AllByRecursion (λ (g : Variable × Option TypeRef). IfThere (IsKnown (map_of u)) g.1)) (sym around.guards) tt;
@@ -188,7 +225,7 @@ procedures_surrounded program has shown checked m whole is out constants values 
     let h = heading program has shown checked m whole is out constants values redefined p i in
     let formed = all_formed u around.within in
     let received : (r : Received) → u.receiver ≡ Some r → IsReceived ConstantIs shown checked content p r = λ r e. subst (ReceiverStands ConstantIs shown checked content (Some p)) e around.receiver in
-    surrounded program has shown checked m whole is out constants values redefined held p.result content (Some p) u around formed left
+    surrounded program has shown checked m whole is out constants values redefined held p.result content (Some p) all_formed u around formed left
     (λ r w t e s k. let x = received r e in receiver_is program whole (Having has) checked.name p.result (map_of u) formed left.grounded v different x.x x.there (one_all (λ (y : TypedParameter). IsPassed program y) p.parameters x.x h.0 x.there) r x.is (map_of x.w) (all_formed x.w x.within) x.record_is w t s k)
     (λ scope w t b e g.
     let k = known_is ConstantIs checked.name shown u around.knows t g.1 in
@@ -203,4 +240,4 @@ no_scope : (k n : ℕ) → k ≤ n → n ≡ 1 → nat_lt 1 k ≡ true → ⊥
 no_scope k n h e f = grind (arith, nat_tests)
 
 pub modules_surrounded : ModulesSurrounded
-modules_surrounded program has shown checked m whole is out constants values redefined held content all_formed u around one none left = surrounded program has shown checked m whole is out constants values redefined held None content None u around (all_formed u around.within) left (λ r v t e s k. let bad : None ≡ Some r = sym none ∙ e in absurd cc) (λ scope v t b e g. absurd (no_scope scope u.scope b one e)) tt around.result
+modules_surrounded program has shown checked m whole is out constants values redefined held content all_formed u around one none left = surrounded program has shown checked m whole is out constants values redefined held None content None all_formed u around (all_formed u around.within) left (λ r v t e s k. let bad : None ≡ Some r = sym none ∙ e in absurd cc) (λ scope v t b e g. absurd (no_scope scope u.scope b one e)) tt around.result

@@ -29,14 +29,14 @@ abbrev pub ProceduresSurrounded : Type 0
 ProceduresSurrounded =
     (program : Program) (has : Formals → QName → Bool) (shown : QName → Option Desc) (checked : TypedModule) (m : Module) → IsWhole program → IsModuleOf program checked m → is_out checked.name ≡ false → AreConstantsShown shown → HasProcedures program (Having has) → AreRedefined program
     → (p : TypedProcedure) → IsOneOf checked.procedures p → AreDifferent (static_held program (procedure_view p)) → AllByRecursion (λ v. FormOk program (form_in program v.of)) p.locals
-    → (content : Contents) → AreFormed program shown checked content → (u : Around) → StandsAround ConstantIs shown checked content (Some p) u → IsLeft program (Having has) checked.name (static_held program (procedure_view p)) p.result u
+    → (content : Contents) → AreFormed program shown checked content → (u : Around) → StandsAround ConstantIs shown checked content (Some p) u → IsLeft program u
     → IsSurrounded program (Having has) checked.name (static_held program (procedure_view p)) p.result u
 
 -- Around the body of the module, which has no variables of its own but those that FOR and CASE keep.
 abbrev pub ModulesSurrounded : Type 0
 ModulesSurrounded =
     (program : Program) (has : Formals → QName → Bool) (shown : QName → Option Desc) (checked : TypedModule) (m : Module) → IsWhole program → IsModuleOf program checked m → is_out checked.name ≡ false → AreConstantsShown shown → HasProcedures program (Having has) → AreRedefined program
-    → (held : List Held) (content : Contents) → AreFormed program shown checked content → (u : Around) → StandsAround ConstantIs shown checked content None u → u.scope ≡ 1 → u.receiver ≡ None → IsLeft program (Having has) checked.name held None u
+    → (held : List Held) (content : Contents) → AreFormed program shown checked content → (u : Around) → StandsAround ConstantIs shown checked content None u → u.scope ≡ 1 → u.receiver ≡ None → IsLeft program u
     → IsSurrounded program (Having has) checked.name held None u
 
 -- A body that is judged in such surroundings is well typed, where its variables have different names.

@@ -2,7 +2,6 @@
 use Rattle.std.specs.Prelude.{◌≡◌, ℕ, List, ◌++◌, map, Option, Some, true}
 use Rattle.std.specs.List.{AllByRecursion}
 use Rattle.ob_tree.specs.declared.names.QName.{QName}
-use Rattle.ob_types.specs.declared.types.TypeRef.{TypeRef}
 use Rattle.ob_types.specs.declared.types.Signature.{Signature}
 use Rattle.ob_types.specs.declared.value.Value.{Value as Literal}
 use Rattle.ob_types.specs.declared.desc.Desc.{Desc}
@@ -14,16 +13,14 @@ use Rattle.ob_types.specs.TypedSyntax.{Module}
 use Rattle.ob_types.specs.TypedView.{procedure_view}
 use Rattle.ob_types.specs.declared.desc.Method.{Method}
 use Rattle.ob_rules.specs.Shapes.{Map, AMethod, own_member}
-use Rattle.ob_meaning.specs.Values.{Program, bases_in, Formals, form_in, formals_in, Held}
+use Rattle.ob_meaning.specs.Values.{Program, bases_in, Formals, form_in, formals_in}
 use Rattle.ob_relation.specs.Relation.{FormOk}
-use Rattle.ob_rules.specs.declared.entity.Entity.TheVariants as entity
-use Rattle.ob_rules.specs.declared.entity.Known.{Known}
-use Rattle.ob_rules.specs.Names.{Around, map_of, find_name}
+use Rattle.ob_rules.specs.Names.{Around, map_of}
 use Rattle.ob_rules.specs.Declarations.{Contents}
 use Rattle.ob_forms.specs.Formed.{Formed, IsProcedureOf}
 use Rattle.ob_forms.specs.Said.{IsOneOf}
 use Rattle.ob_typed.specs.Forms.{ResultIs}
-use Rattle.ob_typed.specs.Known.{ConstantIs, ProcedureIs}
+use Rattle.ob_typed.specs.Known.{ConstantIs}
 use Rattle.ob_bodies.specs.Judged.{IsWithin}
 
 -- The checked module is one of the program, perhaps with its records laid out. Its variables can be built, and results are no arrays and no records.
@@ -55,9 +52,7 @@ IsBelow program q b = (more : List QName) × (bases_in program q ≡ more ++ bas
 abbrev pub AreIntroducedOnce : Program → Map → Type 0
 AreIntroducedOnce program map = (q b : QName) (x : List ℕ) (k m : Method) → IsBelow program q b → own_member q (map q) x ≡ Some (AMethod q k) → own_member b (map b) x ≡ Some (AMethod b m) → q ≡ b
 
--- What is left to ask around a body: of the chains of its types; of procedures that are known by forward declarations alone; and of bound
--- procedures, which are introduced once.
-pub record IsLeft (program : Program) (Has : Formals → QName → Type 0) (unit : List ℕ) (held : List Held) (result : Option TypeRef) (u : Around) : Type 0 where
+-- What is left to ask around a body: of the chains of its types; and of bound procedures, which are introduced once.
+pub record IsLeft (program : Program) (u : Around) : Type 0 where
   pub grounded : IsGrounded (map_of u)
-  pub forwards : (x : List ℕ) (k : Known) (q : QName) (s : Signature) → find_name u.known x ≡ Some k → k.what ≡ entity.Forward q s → ProcedureIs program Has unit held result (map_of u) q s
   pub introduced : AreIntroducedOnce program (map_of u)

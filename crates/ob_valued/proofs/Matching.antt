@@ -31,7 +31,7 @@ module _ (program : Program) where
   form = form_in program
 
   -- the same modes and forms
-  abbrev Same : List (Mode × TypeRef) → List (Mode × TypeRef) → Type 0
+  abbrev pub Same : List (Mode × TypeRef) → List (Mode × TypeRef) → Type 0
   Same [] [] = Unit {0}
   Same [] (l ∷ ls) = ⊥
   Same (k ∷ ks) [] = ⊥
@@ -54,7 +54,7 @@ module _ (program : Program) where
       let rest = same_parts ks ls r s h.1.1 in
       (((h.0, h.1.0), rest.0), rest.1)
 
-  parameters_so : (ps : List TypedParameter) (ks ls : List (Mode × TypeRef)) → Same ks ls → AreParameters program ps ks → AreParameters program ps ls
+  pub parameters_so : (ps : List TypedParameter) (ks ls : List (Mode × TypeRef)) → Same ks ls → AreParameters program ps ks → AreParameters program ps ls
   parameters_so [] [] [] h a = tt
   parameters_so [] [] (l ∷ ls) h a = absurd h
   parameters_so [] (k ∷ ks) ls h a = absurd a
@@ -72,7 +72,7 @@ module _ (program : Program) where
   parameters_alike (p ∷ ps) [] (k ∷ ks) a b = absurd b
   parameters_alike (p ∷ ps) (q ∷ qs) (k ∷ ks) a b = ((a.1.0 ∙ sym b.1.0, a.0 ∙ sym b.0), parameters_alike ps qs ks a.1.1 b.1.1)
 
-  signatures_same : (s t : Signature) → formals_in program s ≡ formals_in program t → Same s.params t.params × (result_form program s.result ≡ result_form program t.result)
+  pub signatures_same : (s t : Signature) → formals_in program s ≡ formals_in program t → Same s.params t.params × (result_form program s.result ≡ result_form program t.result)
   signatures_same s t e = same_parts s.params t.params s.result t.result e
 
 -- THE LAWS

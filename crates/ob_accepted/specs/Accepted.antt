@@ -1,0 +1,42 @@
+-- The law: what the rules accept is well typed.
+use Rattle.std.specs.Prelude.{false}
+use Rattle.std.specs.List.{AllByRecursion}
+use Rattle.ob_types.specs.TypedSyntax.{Procedure, Module}
+use Rattle.ob_meaning.specs.Values.{Program, form_in}
+use Rattle.ob_code.specs.Procedures.{body_of}
+use Rattle.ob_relation.specs.Layout.{static_held}
+use Rattle.ob_relation.specs.Relation.{FormOk, AreDifferent}
+use Rattle.ob_relation.specs.Typed.{StmtsOk}
+use Rattle.ob_forms.specs.Said.{IsSound}
+use Rattle.ob_forms.specs.Whole.{IsWhole}
+use Rattle.ob_typed.specs.Forms.{ResultIs}
+use Rattle.ob_typed.specs.Laws.{Having}
+use Rattle.ob_typed.specs.Redefined.{AreRedefined}
+use Rattle.ob_valued.specs.Valued.{values}
+use Rattle.ob_judged.specs.Judged.{AreJudgedModules}
+use Rattle.ob_introduced.specs.Grounded.{AreGroundedModules}
+
+-- the variables of a procedure differ in name and can be built, and its result is no array and no record
+pub record IsBuilt (program : Program) (p : Procedure) : Type 0 where
+  pub different : AreDifferent (static_held program p)
+  pub locals : AllByRecursion (λ v. FormOk program (form_in program v.of)) p.locals
+  pub result : ResultIs program p.result
+
+-- so it is of each procedure of a module and of its body, and its variables can be built
+pub record AreBuilt (program : Program) (m : Module) : Type 0 where
+  pub procedures : AllByRecursion (IsBuilt program) m.procedures
+  pub body : IsBuilt program (body_of m)
+  pub variables : AllByRecursion (λ v. FormOk program (form_in program v.of)) m.variables
+
+abbrev pub IsWellTyped : Program → Module → Procedure → Type 0
+IsWellTyped program m p = StmtsOk program (Having (values program)) m.name (static_held program p) p.result p.body false
+
+-- the bodies of procedures, and that of the module
+pub record AreWellTyped (program : Program) (m : Module) : Type 0 where
+  pub procedures : AllByRecursion (IsWellTyped program m) m.procedures
+  pub body : IsWellTyped program m (body_of m)
+
+-- In a sound program of judged modules the bodies are well typed, where redefinitions are alike, variables can be built, and the maps of
+-- types around bodies are grounded.
+abbrev pub AcceptedIsWellTyped : Type 0
+AcceptedIsWellTyped = (program : Program) → IsSound program → IsWhole program → AreRedefined program → (judged : AreJudgedModules program) → AreGroundedModules program program judged → AllByRecursion (AreBuilt program) program → AllByRecursion (AreWellTyped program) program

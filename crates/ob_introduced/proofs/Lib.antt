@@ -1,0 +1,6 @@
+pub mod Ranks
+pub mod Bound
+pub mod Walk
+pub mod Descs
+pub mod Programs
+pub mod Whole
