@@ -116,6 +116,7 @@ others_are root plain (i ∷ is) h = (subst (λ (x : List ℕ). bytes_eq x root 
 -- what compiles is a text that is read, and its checked module against the interfaces of its walk
 pub record IsFrom (c : Compiled Text) : Type 0 where
   pub text : List ℕ
+  pub short : nat_le (length text) most_source ≡ true
   pub tree : Tree
   pub read : reading text ≡ Ok tree
   pub others : AllByRecursion (IsOther tree.name.name) (map imported_name tree.imports)
@@ -131,6 +132,7 @@ module _ (entry : List ℕ → Entry Text) (entries : AreNamedEntries entry) (c 
   record IsAsked (tree : Tree) (faces : List (Face Text)) : Type 0 where
     pub apart : AllByRecursion (λ f. bytes_eq f.«module» tree.name.name ≡ false) faces
     pub text : List ℕ
+    pub short : nat_le (length text) most_source ≡ true
     pub read : reading text ≡ Ok tree
     pub others : AllByRecursion (IsOther tree.name.name) (map imported_name tree.imports)
 
@@ -142,7 +144,7 @@ module _ (entry : List ℕ → Entry Text) (entries : AreNamedEntries entry) (c 
   of_found faces tree a u None is e = absurd cc
   of_found faces tree a u (Some m) is e =
       let d : Compiled Text = compiled_from faces (module_view m) in
-      record { text = a.text; tree = tree; read = a.read; others = a.others; faces = faces; apart = a.apart; fit = u; m = m; is = is; same = within_is d (exceeds texts d) e }
+      record { text = a.text; short = a.short; tree = tree; read = a.read; others = a.others; faces = faces; apart = a.apart; fit = u; m = m; is = is; same = within_is d (exceeds texts d) e }
 
   broken : (faces : List (Face Text)) (tree : Tree) → IsAsked tree faces → first_unfit faces ≡ None → (b : Option BrokenRule) → and_limits texts (of_break texts faces (checked (shown faces) tree) b) ≡ Ok c → IsFrom c
   broken faces tree a u (Some b) e = absurd cc
@@ -160,29 +162,29 @@ module _ (entry : List ℕ → Entry Text) (entries : AreNamedEntries entry) (c 
   coherent (Some u) faces tree a e = absurd cc
   coherent None faces tree a e = fitting (first_unfit faces) faces tree a refl e
 
-  walked : (w : Walked Text) (tree : Tree) (text : List ℕ) → reading text ≡ Ok tree → walk entry tree.name.name (map imported_name tree.imports) ≡ w → of_reached texts tree (after_walk (standing texts.same texts.keeps) w) ≡ Ok c → IsFrom c
-  walked (Left faces) tree text r i e = coherent (first_stale texts.same (texts.keeps faces) faces) faces tree (record { apart = subst (LeavesApart tree.name.name entry entries) i (walk_apart tree.name.name entry entries (map imported_name tree.imports)); text = text; read = r; others = walk_other tree.name.name entry entries (map imported_name tree.imports) faces i }) e
-  walked (NoInterface m) tree text r i e = absurd cc
-  walked (Damaged m) tree text r i e = absurd cc
-  walked (Cycle m) tree text r i e = absurd cc
-  walked TooMany tree text r i e = absurd cc
+  walked : (w : Walked Text) (tree : Tree) (text : List ℕ) → nat_le (length text) most_source ≡ true → reading text ≡ Ok tree → walk entry tree.name.name (map imported_name tree.imports) ≡ w → of_reached texts tree (after_walk (standing texts.same texts.keeps) w) ≡ Ok c → IsFrom c
+  walked (Left faces) tree text l r i e = coherent (first_stale texts.same (texts.keeps faces) faces) faces tree (record { apart = subst (LeavesApart tree.name.name entry entries) i (walk_apart tree.name.name entry entries (map imported_name tree.imports)); text = text; short = l; read = r; others = walk_other tree.name.name entry entries (map imported_name tree.imports) faces i }) e
+  walked (NoInterface m) tree text l r i e = absurd cc
+  walked (Damaged m) tree text l r i e = absurd cc
+  walked (Cycle m) tree text l r i e = absurd cc
+  walked TooMany tree text l r i e = absurd cc
 
-  few : (b : Bool) (tree : Tree) (text : List ℕ) → reading text ≡ Ok tree → of_few b (of_reached texts tree (env_answer texts.same texts.keeps entry tree.name.name (map imported_name tree.imports))) ≡ Ok c → IsFrom c
-  few true tree text r e = walked (walk entry tree.name.name (map imported_name tree.imports)) tree text r refl e
-  few false tree text r e = absurd cc
+  few : (b : Bool) (tree : Tree) (text : List ℕ) → nat_le (length text) most_source ≡ true → reading text ≡ Ok tree → of_few b (of_reached texts tree (env_answer texts.same texts.keeps entry tree.name.name (map imported_name tree.imports))) ≡ Ok c → IsFrom c
+  few true tree text l r e = walked (walk entry tree.name.name (map imported_name tree.imports)) tree text l r refl e
+  few false tree text l r e = absurd cc
 
-  read : (text : List ℕ) (r : Result Tree NoModule) → reading text ≡ r → of_reading texts entry r ≡ Ok c → IsFrom c
-  read text (Ok tree) i e = few (nat_le (length tree.imports) most_imports) tree text i e
-  read text (Err f) i e = absurd cc
+  read : (text : List ℕ) → nat_le (length text) most_source ≡ true → (r : Result Tree NoModule) → reading text ≡ r → of_reading texts entry r ≡ Ok c → IsFrom c
+  read text l (Ok tree) i e = few (nat_le (length tree.imports) most_imports) tree text l i e
+  read text l (Err f) i e = absurd cc
 
-  short : (b : Bool) (text : List ℕ) → of_short b (of_reading texts entry (reading text)) ≡ Ok c → IsFrom c
-  short true text e = read text (reading text) refl e
-  short false text e = absurd cc
+  short : (b : Bool) (text : List ℕ) → nat_le (length text) most_source ≡ b → of_short b (of_reading texts entry (reading text)) ≡ Ok c → IsFrom c
+  short true text l e = read text l (reading text) refl e
+  short false text l e = absurd cc
 
 pub compiled_is : (entry : List ℕ → Entry Text) → AreNamedEntries entry → (source : Option (List ℕ)) (c : Compiled Text) → compiled texts entry source ≡ Ok c → IsFrom c
 unfolding compiled
 compiled_is entry entries None c e = absurd cc
-compiled_is entry entries (Some source) c e = short entry entries c (nat_le (length source) most_source) source e
+compiled_is entry entries (Some source) c e = short entry entries c (nat_le (length source) most_source) source refl e
 
 -- ---- what it is
 

@@ -2,12 +2,14 @@
 use Rattle.ob_written.proofs.Compiled.{compiled_written}
 use Rattle.ob_ranges.specs.Left.{LeftAreWritten}
 use Rattle.ob_ranges.proofs.Compiled.{compiled_in_range}
+use Rattle.ob_ranges.proofs.Bodies.{compiled_coded}
 use Rattle.ob_ranges.proofs.Outward.{compiled_named}
 use Rattle.ob_ranges.proofs.Numbered.{compiled_numbered}
 
 pub left_written : LeftAreWritten
 left_written entry entries source c is spelled left =
     let r = compiled_in_range entry entries source c is spelled in
+    let coded = compiled_coded entry entries source c is spelled left.differ (record { lengths = r.lengths; grounded = left.grounded }) in
     compiled_written entry entries source c is spelled (record {
       short = left.short;
       differ = left.differ;
@@ -15,8 +17,8 @@ left_written entry entries source c is spelled left =
       constants = r.constants;
       procedures = compiled_named entry entries source c is left.differ;
       grounded = left.grounded;
-      bodies = left.bodies;
-      body = left.body;
+      bodies = coded.bodies;
+      body = coded.body;
       bases = left.bases;
       numbers = compiled_numbered entry entries source c is left.differ left.grounded;
     })

@@ -4,4 +4,5 @@ pub mod Others
 pub mod Compiled
 pub mod Outward
 pub mod Numbered
+pub mod Bodies
 pub mod Left

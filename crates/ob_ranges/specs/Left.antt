@@ -1,5 +1,5 @@
 -- What is left to be seen of a module that compiles, where its constants and lengths are in range.
-use Rattle.std.specs.Prelude.{◌≡◌, ℕ, ◌<◌, ◌^◌, List, length, map, Option, true, false, Ok, bytes_eq}
+use Rattle.std.specs.Prelude.{◌≡◌, ℕ, ◌<◌, ◌^◌, List, length, map, Option, true, Ok, bytes_eq}
 use Rattle.std.specs.List.{AllByRecursion, IsDistinct}
 use Rattle.ob_tree.specs.declared.names.QName.{QName}
 use Rattle.ob_types.specs.declared.types.TypeRef.TheVariants as ref
@@ -9,9 +9,7 @@ use Rattle.ob_layout.specs.LaidOut.{viewed}
 use Rattle.ob_env.specs.Faces.{described}
 use Rattle.ob_env.specs.Fit.{is_within}
 use Rattle.ob_walk.specs.Walk.{Entry}
-use Rattle.ob_code.specs.Procedures.{body_of, within}
 use Rattle.ob_compile.specs.Compiling.{Compiled, texts, compiled}
-use Rattle.ob_written.specs.Coded.{BodyIsCoded, StmtsAreCoded}
 use Rattle.ob_written.specs.Files.{BasesFit}
 use Rattle.ob_written.specs.Laws.{Text, IsSpelled, IsWritten}
 use Rattle.ob_written.specs.Seen.{AreNamedEntries}
@@ -24,9 +22,6 @@ module _ (types : QName → Option Desc) (m : Module) where
     pub differ : IsDistinct bytes_eq (map (λ t. t.name) m.types)
     -- the chains of own types end
     pub grounded : AllByRecursion (λ t. is_within types 200 (ref.Named (record { «module» = m.name; object = t.name })) ≡ true) m.types
-    -- statements
-    pub bodies : AllByRecursion (BodyIsCoded types m) m.procedures
-    pub body : StmtsAreCoded (within types m (body_of m)) false m.body
     -- bases
     pub bases : BasesFit types m 0 m.types
 

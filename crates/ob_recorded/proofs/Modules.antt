@@ -280,7 +280,7 @@ module _ (k : Setting) where
 
 -- ---- the types of a module, by name and core
 
-abbrev IsOf : List TypedType → List ℕ → Desc → Type 0
+abbrev pub IsOf : List TypedType → List ℕ → Desc → Type 0
 IsOf [] x c = ⊥
 IsOf (t ∷ ts) x c = ((t.name ≡ x) × (core t.desc ≡ c)) ⊎ IsOf ts x c
 
@@ -288,7 +288,7 @@ of_front : (t : TypedType) (ts us : List TypedType) → AllByRecursion (λ (y : 
 of_front t [] us h = tt
 of_front t (y ∷ ts) us h = (inr h.0, of_front t ts us h.1)
 
-all_are_of : (ts : List TypedType) → AllByRecursion (λ (y : TypedType). IsOf ts y.name (core y.desc)) ts
+pub all_are_of : (ts : List TypedType) → AllByRecursion (λ (y : TypedType). IsOf ts y.name (core y.desc)) ts
 all_are_of [] = tt
 all_are_of (t ∷ ts) = (inl (refl, refl), of_front t ts ts (all_are_of ts))
 
@@ -361,15 +361,15 @@ module _ (types : QName → Option Desc) (unit : List ℕ) where
 
 -- ---- types with what is bound
 
-described_name : (o : Option TypedType) (t : TypedType) → (described o t).name ≡ t.name
+pub described_name : (o : Option TypedType) (t : TypedType) → (described o t).name ≡ t.name
 described_name None t = refl
 described_name (Some b) t = refl
 
 module _ (bound : List TypedType) where
-  abbrev with_its : TypedType → TypedType
+  abbrev pub with_its : TypedType → TypedType
   with_its t = described (find (λ b. bytes_eq b.name t.name) bound) t
 
-  distinct_back : (ts : List TypedType) → AreDistinct (λ t. t.name) (all_described bound ts) → AreDistinct (λ t. t.name) ts
+  pub distinct_back : (ts : List TypedType) → AreDistinct (λ t. t.name) (all_described bound ts) → AreDistinct (λ t. t.name) ts
   distinct_back [] d = tt
   distinct_back (t ∷ ts) d = (others ts d.0, distinct_back ts d.1)
     where
@@ -378,7 +378,7 @@ module _ (bound : List TypedType) where
       others (y ∷ us) h = (λ e. h.0 (described_name (find (λ b. bytes_eq b.name y.name) bound) y ∙ e ∙ sym (described_name (find (λ b. bytes_eq b.name t.name) bound) t)), others us h.1)
 
   module _ (ts : List TypedType) (distinct : AreDistinct (λ t. t.name) ts) (of : AllByRecursion (λ (b : TypedType). IsOf ts b.name (core b.desc)) bound) where
-    its_core : (t : TypedType) → IsOf ts t.name (core t.desc) → core (with_its t).desc ≡ core t.desc
+    pub its_core : (t : TypedType) → IsOf ts t.name (core t.desc) → core (with_its t).desc ≡ core t.desc
     its_core t i = by (find (λ b. bytes_eq b.name t.name) bound) (found_in (λ (b : TypedType). IsOf ts b.name (core b.desc)) (λ (b : TypedType). bytes_eq b.name t.name) bound of)
       where
         by : (o : Option TypedType) → IfThere (IsFound (λ (b : TypedType). IsOf ts b.name (core b.desc)) (λ (b : TypedType). bytes_eq b.name t.name)) o → core (described o t).desc ≡ core t.desc
@@ -397,7 +397,7 @@ module _ (bound : List TypedType) where
 
 -- ---- modules
 
-unbroken_is : (bs : List Broken) (x m : TypedModule) → if_unbroken bs x ≡ Some m → (bs ≡ []) × (x ≡ m)
+pub unbroken_is : (bs : List Broken) (x m : TypedModule) → if_unbroken bs x ≡ Some m → (bs ≡ []) × (x ≡ m)
 unbroken_is [] x m e = (refl, cc)
 unbroken_is (b ∷ bs) x m e = absurd cc
 

@@ -1,0 +1,16 @@
+pub mod Setting
+pub mod Folding
+pub mod Rooms
+pub mod Values
+pub mod Calls
+pub mod Functions
+pub mod Designators
+pub mod Expressions
+pub mod Statements
+pub mod Bodies
+pub mod Heads
+pub mod Modules
+pub mod Views
+pub mod Texts
+pub mod Chains
+pub mod Whole

@@ -1,0 +1,2 @@
+-- The law of statements of modules that are read.
+pub mod Laws

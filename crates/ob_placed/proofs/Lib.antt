@@ -1,0 +1,3 @@
+pub mod Tokens
+pub mod Folds
+pub mod Trees
