@@ -17,7 +17,7 @@ use Rattle.ob_rules.specs.Names.{Around, map_of, is_among}
 use Rattle.ob_rules.specs.Types.{Parameters, is_module_level, with_types, nothing}
 use Rattle.ob_rules.specs.Statements.{Judging, judging, in_turn}
 use Rattle.ob_rules.specs.Headings.{BoundAs, Head, Heads, Binding, head_of, name_twice, declared_head, known_behind, types_of, forwards_judged, bindings, reversed}
-use Rattle.ob_rules.specs.Declarations.{Contents, Part, no_contents, with_part, Declared, Declaration, Plain, Procedure, plain_of, type_name_of, procedure_of, Written_procedure, in_order, headings_in_order, pointers_judged, field_judged, all_judged, nothing_later, closing_judged, around_body, binding_of, bound_to, typed_procedure, types_of_head, self_parameters, procedure_contents, procedure_part, procedure_judged, procedures_judged, stmts_in, body_part, only_notes, block_inside, with_bound, block_bound, binding_at, heads_later, block_headed, block_declared, block}
+use Rattle.ob_rules.specs.Declarations.{Contents, Part, no_contents, with_part, Declared, Declaration, Plain, Procedure, plain_of, type_name_of, procedure_of, Written_procedure, in_order, headings_in_order, pointers_judged, field_judged, all_judged, nothing_later, closing_judged, around_body, binding_of, bound_to, typed_procedure, types_of_head, self_parameters, procedure_contents, procedure_part, procedure_judged, procedures_judged, stmts_in, body_part, only_notes, block_inside, with_bound, block_bound, binding_at, heads_later, block_headed, block_behind, block_declared, block}
 use Rattle.ob_said.specs.Procedures.{ShowBases}
 use Rattle.ob_said.proofs.Judges.{Has, front_empty, rest_empty}
 use Rattle.ob_said.proofs.Knowing.{AreKnown, all_both, all_from}
@@ -311,7 +311,7 @@ module _ (P : QName → Type 0) (s : QName → Option Desc) (leaves : LeavesIn P
       let in_R : AllByRecursion (HeadIn P) R = all_reversed (HeadIn P) hs.before H.heads in
       let later_h = leaves.headed d.around D.agrees own_d ps (grammars ps good) said_before in
       let later : AllByRecursion (LaterIn P) L = all_both (LaterIn P) d.part.notes.later (heads_later hs.before) later_d later_h in
-      let ptr = two (λ x y. pointers_judged x (d.part.notes.later ++ heads_later y)) H.around H.before ∙ pointers_same P w s H.agrees L later in
+      let ptr = pointers_same P w s H.agrees L later in
       -- what is bound
       let held_w = based_held w ok.0.based in
       let kept = binding_kept l w R (record { covers = λ x i. i; stays = with_near w w.own held_w H.agrees.own }) in
@@ -336,7 +336,6 @@ module _ (P : QName → Type 0) (s : QName → Option Desc) (leaves : LeavesIn P
       ∙ two (λ x y. with_part N (with_part O (with_part x (body_part y)))) procedures body in
       let at_binding : block_headed u d.part.notes.later ps J (record { around = beside w s; before = hs.before }) ≡ block_headed u d.part.notes.later ps J hs =
       ap (block_bound u (beside w s) L ps R J) bind ∙ at_body in
-      let at_heads : block_headed u d.part.notes.later ps J (headings_in_order ps (record { around = beside d.around s; before = [] })) ≡ block_headed u d.part.notes.later ps J hs =
-      two (λ x y. block_headed u d.part.notes.later ps J (record { around = x; before = y })) H.around H.before ∙ at_binding in
       two (λ x y. block_declared u ps J (record { part = x; around = y })) D.part D.around
-      ∙ two (λ x y. with_part (record { notes = joined (nothing_later d.part.notes) x; contents = d.part.contents }) y) ptr at_heads
+      ∙ (two (λ x y. block_behind u ps J d (record { around = x; before = y })) H.around H.before
+      ∙ two (λ x y. with_part (record { notes = joined (nothing_later d.part.notes) x; contents = d.part.contents }) y) ptr at_binding)

@@ -189,6 +189,11 @@ module _ (shown : QName → Option Desc) (tree : Tree) where
   abbrev rest : Part
   rest = block_headed imports.around plain.part.notes.later (filter_map procedure_of (map declaration tree.decls)) (map judging tree.body) (headings_in_order (filter_map procedure_of (map declaration tree.decls)) (record { around = plain.around; before = [] }))
 
+  abbrev pointers : Notes
+  pointers =
+      let hs = headings_in_order (filter_map procedure_of (map declaration tree.decls)) (record { around = plain.around; before = [] }) in
+      pointers_judged hs.around (plain.part.notes.later ++ heads_later hs.before)
+
   its_variables : parts.contents.variables ≡ plain.part.contents.variables
   its_variables =
       let r = headed_none imports.around plain.part.notes.later (filter_map procedure_of (map declaration tree.decls)) (map judging tree.body) (headings_in_order (filter_map procedure_of (map declaration tree.decls)) (record { around = plain.around; before = [] })) in
@@ -199,9 +204,7 @@ module _ (shown : QName → Option Desc) (tree : Tree) where
   quiet e =
       let a = back_empty _ _ e in
       let b = back_empty imports.part.notes.broken _ a in
-      let hs = headings_in_order (filter_map procedure_of (map declaration tree.decls)) (record { around = plain.around; before = [] }) in
-      let pointers = (pointers_judged hs.around (plain.part.notes.later ++ heads_later hs.before)).broken in
-      front_empty plain.part.notes.broken pointers (front_empty (plain.part.notes.broken ++ pointers) _ b)
+      front_empty plain.part.notes.broken pointers.broken (front_empty (plain.part.notes.broken ++ pointers.broken) _ b)
 
 -- what is made of the parts, where nothing is broken
 pub unbroken_is : (bs : List Broken) (x m : TypedModule) → if_unbroken bs x ≡ Some m → (bs ≡ []) × (x ≡ m)

@@ -1,0 +1,14 @@
+pub mod Tells
+pub mod Firm
+pub mod Typings
+pub mod Sections
+pub mod Written
+pub mod Plain
+pub mod Stand
+pub mod Headings
+pub mod Pointers
+pub mod Blocks
+pub mod Modules
+pub mod Maps
+pub mod Sorts
+pub mod Grounded
