@@ -35,7 +35,7 @@ use Rattle.ob_rules.specs.Names.{Around, map_of, type_named}
 use Rattle.ob_rules.specs.Values.{computed, type_in, tree, type, place_in, constant, constant_in}
 use Rattle.ob_rules.specs.Operators.{combined, opposite, signed, related, element, set_of}
 use Rattle.ob_rules.specs.Designators.{guard_of, if_extends}
-use Rattle.ob_rules.specs.Phrases.{Phrase, Behind, Index}
+use Rattle.ob_rules.specs.Phrases.{Phrase, Behind}
 use Rattle.ob_rules.specs.Expressions.{procedure_value, value_meant, Named, meant_by, designator_phrase, testable, record_if, record_test, pointer_test, test_record, test_of, test, untestable, is_test, Tailed, combine_all, bracketed, Ranged, value_if, element_value, relation_of, expr_rule, selector_rule, designator_rule, element_rule, tail_rule, phrase_of, named_of, ranged_of, tailed_of, behind_of, integer_literal, integer_text, char_literal, marked, constant_of, constant_if, constant_value, phrase}
 use Rattle.std.proofs.lemmas.Bool.Decides.{nat_tests}
 use Rattle.ob_types.specs.declared.value.Value.TheVariants as literal

@@ -303,6 +303,7 @@ module _ (faces : List (Face Text)) (spelled : AllByRecursion IsSpelled faces) (
       stood u s = record { unit = s.unit; shows = s.shown; own_types = s.own; known = entities u.known s.known }
 
       judges_two : Judges Two
+      unfolding K
       judges_two = record {
         fixed = λ u s x e. constant_keeps K u (stood u s) (phrase_of x) (expr_ok K x e);
         body = λ u s xs e. subst (λ l. Keeps (AllByRecursion (S K l)) (in_turn (map judging xs) u)) s.in_loop (turn_keeps K u (stood u s) (map judging xs) (stmts_ok K xs e));
@@ -312,10 +313,12 @@ module _ (faces : List (Face Text)) (spelled : AllByRecursion IsSpelled faces) (
       ok = contents_ok (shown faces) tree placed Two judges_two refl refl quiet tell
 
       bodies_fit : (ps : List TypedProcedure) → AllByRecursion (ProcedureOk Two) ps → AllByRecursion (BodyFits V) (map procedure_view ps)
+      unfolding K
       bodies_fit [] h = tt
       bodies_fit (p ∷ ps) h = (record { at = h.0.0; body = stmts_fit K false p.body h.0.1 }, bodies_fit ps h.1)
 
       fitting : AreFitting V M
+      unfolding K
       fitting = record { bodies = bodies_fit C.procedures ok.procedures; body = stmts_fit K false C.body ok.body }
 
   abbrev Fitted : TypedModule → Type 0

@@ -29,13 +29,13 @@ pub record AreInRange (shown : QName → Option Desc) : Type 0 where
   pub constants : (q : QName) (v : Value) → shown q ≡ Some (desc.Const v) → ConstantIs v
   pub lengths : (q : QName) (m : Mark) (n : ℕ) (t : TypeRef) → shown q ≡ Some (desc.Array m n t) → n < 2 ^ 31
 
--- of a module: names of its types differ, its arrays are short, and the chains of its types end
+-- of a module: its arrays are short, and the chains of its types end
 pub record AreBounded (types : QName → Option Desc) (m : Module) : Type 0 where
   pub lengths : AllByRecursion (λ t. LengthFits t.desc) m.types
   pub grounded : AllByRecursion (λ t. is_within types 200 (ref.Named (record { «module» = m.name; object = t.name })) ≡ true) m.types
 
--- THE STATEMENTS of a module that is read from a text of no more than 2^30 characters and keeps the rules against interfaces that have a
--- spelling fit: places, constants, numbers, and the room of strings.
+-- THE STATEMENTS of a module that is read from a text of fewer than 2^30 characters, and keeps the rules against interfaces that have a
+-- spelling and fit together, none of them its own, fit: places, constants, numbers, and the room of strings.
 abbrev pub ModulesFit : Type 0
 ModulesFit = (faces : List (Face Text)) → AllByRecursion IsSpelled faces → AreInRange (shown faces) → first_unfit faces ≡ None → (text : List ℕ) → length text < 2 ^ 30 → (tree : Tree) → reading text ≡ Ok tree → AllByRecursion (λ f. bytes_eq f.«module» tree.name.name ≡ false) faces → (m : TypedModule) → checked (shown faces) tree ≡ Some m → AreDistinct (λ t. t.name) m.types →
     AreBounded (viewed (described faces) (laid_out (described faces) (module_view m))) (laid_out (described faces) (module_view m)) →

@@ -4,7 +4,7 @@ use Rattle.ob_tree.specs.declared.decl.Module.{Module as Tree}
 use Rattle.ob_reading.specs.Reading.{reading}
 use Rattle.ob_placed.specs.Placed.{tree_fits}
 
--- THE PLACES in a module that is read from a text of no more than 2^30 characters are numbers of 32 bits, and its strings are short and of
+-- THE PLACES in a module that is read from a text of fewer than 2^30 characters are numbers of 32 bits, and its strings are short and of
 -- characters.
 abbrev pub ReadingsArePlaced : Type 0
 ReadingsArePlaced = (text : List ℕ) → length text < 2 ^ 30 → (tree : Tree) → reading text ≡ Ok tree → tree_fits tree ≡ true
