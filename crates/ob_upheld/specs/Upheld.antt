@@ -1,10 +1,8 @@
 -- Laws of builds that are kept, and what of the headline's premises is left.
-use Rattle.std.specs.Prelude.{◌≡◌, ◌<◌, ◌^◌, true, length}
+use Rattle.std.specs.Prelude.{◌<◌, ◌^◌, length}
 use Rattle.std.specs.List.{AllByRecursion}
-use Rattle.ob_types.specs.declared.types.TypeRef.TheVariants as ref
 use Rattle.ob_layout.specs.LaidOut.{viewed}
 use Rattle.ob_env.specs.Faces.{described}
-use Rattle.ob_env.specs.Fit.{is_within}
 use Rattle.ob_compile.specs.Compiling.{Compiled}
 use Rattle.ob_written.specs.Files.{BasesFit}
 use Rattle.ob_ages.specs.Builds.{Text, Build, IsValid}
@@ -17,17 +15,13 @@ use Rattle.ob_ages.specs.Holds.{Promises}
 abbrev pub NamesAreShort : Type 0
 NamesAreShort = (b : Build) (c : Compiled Text) → IsValid b c → AllByRecursion (λ t. length t.name < 2 ^ 16) c.tree.types
 
--- their chains end
-abbrev pub ChainsEnd : Type 0
-ChainsEnd = (b : Build) (c : Compiled Text) → IsValid b c → AllByRecursion (λ t. is_within (viewed (described c.against) c.tree) 200 (ref.Named (record { «module» = c.tree.name; object = t.name })) ≡ true) c.tree.types
-
 -- a base stands before its extensions
 abbrev pub BasesStand : Type 0
 BasesStand = (b : Build) (c : Compiled Text) → IsValid b c → BasesFit (viewed (described c.against) c.tree) c.tree 0 c.tree.types
 
 -- WHAT IS WRITTEN of a build has a spelling, where that is seen.
 abbrev pub WrittenFollows : Type 0
-WrittenFollows = NamesAreShort → ChainsEnd → BasesStand → BuildsAreWritten
+WrittenFollows = NamesAreShort → BasesStand → BuildsAreWritten
 
 -- WHAT IS LEFT to be taken for granted: that commands by the machine's table are those of the meaning, and that what is written of a build
 -- has a spelling.

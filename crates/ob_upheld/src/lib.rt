@@ -4,7 +4,7 @@
 ghost use Rattle.ob_upheld.specs.Upheld.{SimulationSuffices, WrittenFollows};
 
 /// A law, with nothing to run: what is written of a build has a spelling, where the names of its
-/// types are short, their chains end, and a base stands before its extensions.
+/// types are short and a base stands before its extensions.
 pub fn written()
     ensures { WrittenFollows }
 {}
