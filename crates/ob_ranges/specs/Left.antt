@@ -1,6 +1,6 @@
 -- What is left to be seen of a module that compiles, where its constants and lengths are in range.
-use Rattle.std.specs.Prelude.{◌≡◌, ℕ, ◌<◌, ◌^◌, List, length, map, Option, true, Ok, bytes_eq}
-use Rattle.std.specs.List.{AllByRecursion, IsDistinct}
+use Rattle.std.specs.Prelude.{◌≡◌, ℕ, ◌<◌, ◌^◌, List, length, Option, true, Ok}
+use Rattle.std.specs.List.{AllByRecursion}
 use Rattle.ob_tree.specs.declared.names.QName.{QName}
 use Rattle.ob_types.specs.declared.types.TypeRef.TheVariants as ref
 use Rattle.ob_types.specs.declared.desc.Desc.{Desc}
@@ -17,9 +17,8 @@ use Rattle.ob_written.specs.Seen.{AreNamedEntries}
 -- WHAT IS LEFT, of a module that is laid out, by its descriptions
 module _ (types : QName → Option Desc) (m : Module) where
   pub record IsLeft : Type 0 where
-    -- names of types are short, and different
+    -- names of types are short
     pub short : AllByRecursion (λ t. length t.name < 2 ^ 16) m.types
-    pub differ : IsDistinct bytes_eq (map (λ t. t.name) m.types)
     -- the chains of own types end
     pub grounded : AllByRecursion (λ t. is_within types 200 (ref.Named (record { «module» = m.name; object = t.name })) ≡ true) m.types
     -- bases

@@ -16,7 +16,7 @@ pub fn ranges()
 
 /// A law, with nothing to run: what compiles against interfaces that have a spelling is written,
 /// where what is left to be seen of its module is so (`specs/Left.antt`): that names of types are
-/// short and differ, chains of types end, and bases stand before their extensions.
+/// short, chains of types end, and bases stand before their extensions.
 pub fn written()
     ensures { LeftAreWritten }
 {}
