@@ -15,17 +15,19 @@ use Rattle.ob_relation.specs.Linked.{OwnFormsOk}
 use Rattle.ob_relation.specs.Setting.{Setting}
 use Rattle.ob_relation.specs.Typed.{StmtsOk}
 use Rattle.ob_standing.specs.Fits.{IsNamed}
-use Rattle.ob_standing.specs.Compiled.{IsChecked, ProceduresChecked}
+use Rattle.ob_standing.specs.Compiled.{ParametersFit, IsChecked, ProceduresChecked}
 use Rattle.ob_fitting.proofs.Statements.{typed_statements_fit}
 use Rattle.ob_linking.specs.Files.{Build, KeepsRules, AllKeepRules}
 use Rattle.ob_tables.specs.Image.{AllBodiesChecked}
 use Rattle.ob_forms.specs.Said.{IsOneOf}
+use Rattle.ob_forms.specs.Whole.{HeadingOk, IsWholeModule}
 use Rattle.ob_forms.proofs.Modules.{of_all}
 use Rattle.ob_typed.specs.Laws.{Having}
 use Rattle.ob_valued.specs.Valued.{values}
 use Rattle.ob_accepted.specs.Accepted.{IsBuilt, AreBuilt, IsWellTyped, AreWellTyped}
 use Rattle.ob_kept.specs.Kept.{IsLeft, AreLeft, IsTyped, WellTypedKeeps}
 use Rattle.ob_kept.proofs.Names.{AllNamed, names_stand}
+use Rattle.ob_kept.proofs.Parameters.{all_fit}
 
 -- ---- forms of variables
 
@@ -52,10 +54,10 @@ module _ (c : Setting) (builds : List Build) (is : IsTyped c builds) (left : All
   named = subst AllNamed (sym is.program) (all_named c builds left)
 
   module _ (types : QName → Option Desc) (md : Module) (there : IsOneOf c.program md) where
-    is_checked : (p : Procedure) → IsBuilt c.program p → IsWellTyped c.program md p → IsLeft c types md p → IsChecked c types md p
-    is_checked p b w l = record {
+    is_checked : (p : Procedure) → ParametersFit c.program p.parameters → IsBuilt c.program p → IsWellTyped c.program md p → IsLeft c types md p → IsChecked c types md p
+    is_checked p k b w l = record {
       fits = typed_statements_fit c.program (values c.program) (within types md p) md.name (static_held c.program p) p.result p.body false (names_stand c.program is.sound is.whole named types md there p) w l.there;
-      parameters = l.parameters;
+      parameters = k;
       ok = subst (λ h. StmtsOk c.program (Having h) md.name (static_held c.program p) p.result p.body false) (sym is.has) w;
       different = b.different;
       forms = own_ok c.program p.locals (hidden_of_all p.body) b.locals;
@@ -63,9 +65,9 @@ module _ (c : Setting) (builds : List Build) (is : IsTyped c builds) (left : All
       few = l.few;
     }
 
-    all_checked : (ps : List Procedure) → AllByRecursion (IsBuilt c.program) ps → AllByRecursion (IsWellTyped c.program md) ps → AllByRecursion (λ (p : Procedure). IsNamed p.name) ps → AllByRecursion (IsLeft c types md) ps → ProceduresChecked c types md ps
-    all_checked [] b w n l = tt
-    all_checked (p ∷ ps) b w n l = ((n.0, is_checked p b.0 w.0 l.0), all_checked ps b.1 w.1 n.1 l.1)
+    all_checked : (ps : List Procedure) → AllByRecursion (HeadingOk c.program) ps → AllByRecursion (IsBuilt c.program) ps → AllByRecursion (IsWellTyped c.program md) ps → AllByRecursion (λ (p : Procedure). IsNamed p.name) ps → AllByRecursion (IsLeft c types md) ps → ProceduresChecked c types md ps
+    all_checked [] h b w n l = tt
+    all_checked (p ∷ ps) h b w n l = ((n.0, is_checked p (all_fit c.program is.sound p.parameters h.0.0) b.0 w.0 l.0), all_checked ps h.1 b.1 w.1 n.1 l.1)
 
   module _ (b : Build) (i : IsOneOf builds b) (l : AreLeft c b) where
     there : IsOneOf c.program b.unit
@@ -77,11 +79,14 @@ module _ (c : Setting) (builds : List Build) (is : IsTyped c builds) (left : All
     typed : AreWellTyped c.program b.unit
     typed = of_all (AreWellTyped c.program) c.program b.unit is.typed there
 
+    whole : IsWholeModule c.program b.unit
+    whole = of_all (IsWholeModule c.program) c.program b.unit is.whole.modules there
+
     keeps : KeepsRules c b
-    keeps = record { described = l.described; checked = all_checked b.types b.unit there b.unit.procedures built.procedures typed.procedures l.named l.procedures; different = l.different }
+    keeps = record { described = l.described; checked = all_checked b.types b.unit there b.unit.procedures whole.headings built.procedures typed.procedures l.named l.procedures; different = l.different }
 
     body_checked : IsChecked c b.types b.unit (body_of b.unit)
-    body_checked = is_checked b.types b.unit there (body_of b.unit) built.body typed.body l.body
+    body_checked = is_checked b.types b.unit there (body_of b.unit) tt built.body typed.body l.body
 
   all_keep : (bs : List Build) → ((b : Build) → IsOneOf bs b → IsOneOf builds b) → AllByRecursion (AreLeft c) bs → AllKeepRules c bs
   all_keep [] f l = tt

@@ -69,7 +69,7 @@ own_owner form q (f ∷ fs) o x h = by (bytes_eq x f.name && same_name o q) refl
     by true e h up = name_true o q (and_both (bytes_eq x f.name) (same_name o q) e)
     by false e h up = up h
 
-nothing_form : (types : QName → Option Desc) (n : ℕ) (q : QName) → types q ≡ None → form_within types n (ref.Named q) ≡ BasicForm basic.Boolean
+pub nothing_form : (types : QName → Option Desc) (n : ℕ) (q : QName) → types q ≡ None → form_within types n (ref.Named q) ≡ BasicForm basic.Boolean
 nothing_form types zero q e = refl
 nothing_form types (suc n) q e = ap (λ o. described (form_within types n) q o) e
 

@@ -10,7 +10,6 @@ use Rattle.ob_code.specs.Needs.{need_stmts}
 use Rattle.ob_relation.specs.Setting.{Setting}
 use Rattle.ob_standing.specs.Described.{IsDescribed}
 use Rattle.ob_standing.specs.Fits.{IsNamed}
-use Rattle.ob_standing.specs.Compiled.{ParametersFit}
 use Rattle.ob_fitting.specs.There.{StmtsThere}
 use Rattle.ob_linking.specs.Files.{Build, AllKeepRules}
 use Rattle.ob_tables.specs.Image.{AllBodiesChecked}
@@ -19,11 +18,10 @@ use Rattle.ob_forms.specs.Whole.{IsWhole}
 use Rattle.ob_valued.specs.Valued.{values}
 use Rattle.ob_accepted.specs.Accepted.{AreBuilt, AreWellTyped}
 
--- What is left of a procedure: the variables that it names are its own, FOR has steps other than 0, parameters are passed as suits their
--- types, and it keeps the limits of activations and operands.
+-- What is left of a procedure: the variables that it names are its own, FOR has steps other than 0, and it keeps the limits of activations
+-- and operands.
 pub record IsLeft (c : Setting) (types : QName → Option Desc) (md : Module) (p : Procedure) : Type 0 where
   pub there : StmtsThere (within types md p) p.body
-  pub parameters : ParametersFit c.program p.parameters
   pub small : slots (map (λ x. param_for types md (within types md p) x.passing x.of) p.parameters) + all_local_words types md p ≤ 1048576
   pub few : need_stmts (within types md p) p.body ≤ 256
 
