@@ -1,6 +1,7 @@
 -- The procedures and the bodies of a program whose bodies are well typed are checked.
-use Rattle.std.proofs.Common.{⊎_elim, inl, inr, refl, sym, ap, subst, List, [], ◌∷◌, ◌++◌, map, Option, false}
-use Rattle.std.specs.List.{AllByRecursion}
+use Rattle.std.proofs.Common.{◌≡◌, ◌≢◌, ℕ, ⊎_elim, inl, inr, refl, sym, ap, subst, List, [], ◌∷◌, ◌++◌, map, Option, false}
+use Rattle.std.specs.Prelude.{bytes_eq}
+use Rattle.std.specs.List.{AllByRecursion, IsDistinct}
 use Rattle.ob_tree.specs.declared.names.QName.{QName}
 use Rattle.ob_tree.specs.declared.pos.Pos.{Pos}
 use Rattle.ob_types.specs.declared.desc.Desc.{Desc}
@@ -20,8 +21,8 @@ use Rattle.ob_fitting.proofs.Statements.{typed_statements_fit}
 use Rattle.ob_linking.specs.Files.{Build, KeepsRules, AllKeepRules}
 use Rattle.ob_tables.specs.Image.{AllBodiesChecked}
 use Rattle.ob_forms.specs.Said.{IsOneOf}
-use Rattle.ob_forms.specs.Whole.{HeadingOk, IsWholeModule}
-use Rattle.ob_forms.proofs.Modules.{of_all}
+use Rattle.ob_forms.specs.Whole.{Different, HeadingOk, IsWholeModule}
+use Rattle.ob_forms.proofs.Modules.{of_all, other_name}
 use Rattle.ob_typed.specs.Laws.{Having}
 use Rattle.ob_valued.specs.Valued.{values}
 use Rattle.ob_accepted.specs.Accepted.{IsBuilt, AreBuilt, IsWellTyped, AreWellTyped}
@@ -38,6 +39,17 @@ hidden_ok program (at ∷ ats) = (tt, hidden_ok program ats)
 own_ok : (program : Program) (vs : List TypedVariable) (ats : List Pos) → AllByRecursion (λ (v : TypedVariable). FormOk program (form_in program v.of)) vs → OwnFormsOk program (map (held_variable program) vs ++ map hidden_held ats)
 own_ok program [] ats h = hidden_ok program ats
 own_ok program (v ∷ vs) ats h = (h.0, own_ok program vs ats h.1)
+
+-- ---- names of procedures
+
+apart : (x : List ℕ) (ps : List Procedure) → AllByRecursion (λ (p : Procedure). p.name ≢ x) ps → AllByRecursion (λ y. bytes_eq x y ≡ false) (map (λ (p : Procedure). p.name) ps)
+apart x [] h = tt
+apart x (p ∷ ps) h = (other_name x p.name (λ e. h.0 (sym e)), apart x ps h.1)
+
+distinct : (ps : List Procedure) → Different (λ (p : Procedure). p.name) ps → IsDistinct bytes_eq (map (λ (p : Procedure). p.name) ps)
+unfolding IsDistinct
+distinct [] d = tt
+distinct (p ∷ ps) d = (apart p.name ps d.0, distinct ps d.1)
 
 -- ---- modules of builds
 
@@ -83,7 +95,7 @@ module _ (c : Setting) (builds : List Build) (is : IsTyped c builds) (left : All
     whole = of_all (IsWholeModule c.program) c.program b.unit is.whole.modules there
 
     keeps : KeepsRules c b
-    keeps = record { described = l.described; checked = all_checked b.types b.unit there b.unit.procedures whole.headings built.procedures typed.procedures l.named l.procedures; different = l.different }
+    keeps = record { described = l.described; checked = all_checked b.types b.unit there b.unit.procedures whole.headings built.procedures typed.procedures l.named l.procedures; different = distinct b.unit.procedures whole.procedures }
 
     body_checked : IsChecked c b.types b.unit (body_of b.unit)
     body_checked = is_checked b.types b.unit there (body_of b.unit) tt built.body typed.body l.body

@@ -1,6 +1,6 @@
 -- Where the bodies of a program are well typed, its modules keep the rules: the law.
-use Rattle.std.specs.Prelude.{◌≡◌, ◌+◌, ◌≤◌, List, map, bytes_eq, Option}
-use Rattle.std.specs.List.{AllByRecursion, IsDistinct}
+use Rattle.std.specs.Prelude.{◌≡◌, ◌+◌, ◌≤◌, List, map, Option}
+use Rattle.std.specs.List.{AllByRecursion}
 use Rattle.ob_tree.specs.declared.names.QName.{QName}
 use Rattle.ob_types.specs.declared.desc.Desc.{Desc}
 use Rattle.ob_types.specs.TypedSyntax.{Procedure, Module}
@@ -25,10 +25,9 @@ pub record IsLeft (c : Setting) (types : QName → Option Desc) (md : Module) (p
   pub small : slots (map (λ x. param_for types md (within types md p) x.passing x.of) p.parameters) + all_local_words types md p ≤ 1048576
   pub few : need_stmts (within types md p) p.body ≤ 256
 
--- of a module: its descriptions say what types are, and its procedures have names, which differ
+-- of a module: its descriptions say what types are, and its procedures have names
 pub record AreLeft (c : Setting) (b : Build) : Type 0 where
   pub described : IsDescribed b.types c.program
-  pub different : IsDistinct bytes_eq (map (λ p. p.name) b.unit.procedures)
   pub named : AllByRecursion (λ p. IsNamed p.name) b.unit.procedures
   pub procedures : AllByRecursion (IsLeft c b.types b.unit) b.unit.procedures
   pub body : IsLeft c b.types b.unit (body_of b.unit)
