@@ -259,7 +259,7 @@ module _ (P : QName → Type 0) (s : QName → Option Desc) (leaves : LeavesIn P
       let fj = all_judged (field_judged (map_of U)) L in
       let wj = forwards_judged (map_of w) R R in
       let n = joined b.notes (joined fj wj) in
-      let pj = pointers_judged d.around d.part.notes.later in
+      let pj = pointers_judged w L in
       let A : Part = record { notes = joined (nothing_later d.part.notes) pj; contents = d.part.contents } in
       let N : Part = only_notes n in
       let O : Part = record { notes = no_notes; contents = record no_contents { bound = b.own } } in
@@ -292,7 +292,6 @@ module _ (P : QName → Type 0) (s : QName → Option Desc) (leaves : LeavesIn P
       let D = order_same P s fs plain v a own ed md sound in
       let own_d : OwnIn P d.around.unit = subst (OwnIn P) (sym D.unit) own in
       let later_d = leaves.declared v a own fs plain ed md sound in
-      let ptr = pointers_same P d.around s D.agrees d.part.notes.later later_d in
       -- headings
       let good = procedures_good ds g in
       let before_is : R ≡ heads_of ps first = heads_are ps first in
@@ -312,6 +311,7 @@ module _ (P : QName → Type 0) (s : QName → Option Desc) (leaves : LeavesIn P
       let in_R : AllByRecursion (HeadIn P) R = all_reversed (HeadIn P) hs.before H.heads in
       let later_h = leaves.headed d.around D.agrees own_d ps (grammars ps good) said_before in
       let later : AllByRecursion (LaterIn P) L = all_both (LaterIn P) d.part.notes.later (heads_later hs.before) later_d later_h in
+      let ptr = two (λ x y. pointers_judged x (d.part.notes.later ++ heads_later y)) H.around H.before ∙ pointers_same P w s H.agrees L later in
       -- what is bound
       let held_w = based_held w ok.0.based in
       let kept = binding_kept l w R (record { covers = λ x i. i; stays = with_near w w.own held_w H.agrees.own }) in

@@ -19,8 +19,8 @@ use Rattle.ob_cdecl.specs.Growing.{Grows}
 use Rattle.ob_cdecl.specs.Order.{plain_in_order}
 use Rattle.ob_cdecl.proofs.Growing.{grows_on}
 use Rattle.ob_cdecl.proofs.ContentsLaws.{added_in_turn}
-use Rattle.ob_cblock.specs.Blocks.{block_of, unbound, plain_notes}
-use Rattle.ob_cblock.specs.Steps.{type_names, procedures_in, headed, binding_of, around_bound, bound_notes, declared_notes, left_block}
+use Rattle.ob_cblock.specs.Blocks.{block_of, unbound}
+use Rattle.ob_cblock.specs.Steps.{plain_notes, type_names, procedures_in, headed, binding_of, around_bound, bound_notes, declared_notes, left_block}
 use Rattle.ob_chead.specs.declared.head.Head.{Head as Kept}
 use Rattle.ob_chead.specs.Kept.{AreKept}
 use Rattle.ob_cblock.specs.Procedures.{judged_from, AreBehind, AreReady}
@@ -109,7 +109,7 @@ block_noted level ds body u v w b0 b1 b2 b3 c0 c1 c2 c3 j =
     ∙ ap (λ k. book_after k (stmts_part level ds body v).notes) (j.judged ∙ ap (λ y. book_after b1 (judged_from y ds (heads_of ds v)).notes) j.around ∙ ap (λ k. book_after k (procedures_part level ds v).notes) j.declared)
     ∙ ap (λ l. F l v) j.level_is
     ∙ ap (F m) j.inner
-    ∙ four_noted b0 (plain_notes (plain_in_order ds x)) (bound_notes m (plain_in_order ds x).part.notes.later (headed ds x)) (procedures_part m ds x).notes (stmts_part m ds body x).notes
+    ∙ four_noted b0 (plain_notes (plain_in_order ds x) (headed ds x)) (bound_notes m (plain_in_order ds x).part.notes.later (headed ds x)) (procedures_part m ds x).notes (stmts_part m ds body x).notes
 
 three_added : (a d r s : Contents) → together (together (together a d) r) s ≡ together a (together d (together r s))
 three_added a d r s = ap (λ c. together c s) (added_in_turn a d r) ∙ added_in_turn a (together d r) s ∙ ap (together a) (added_in_turn d r s)

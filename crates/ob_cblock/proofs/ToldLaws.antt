@@ -1,5 +1,6 @@
 -- What is declared before the procedures, step by step.
 use Rattle.std.proofs.Common.{◌≡◌, ℕ, suc, List, [], ◌∷◌, ◌++◌, Bool, sym, ap, subst, ◌∙◌}
+use Rattle.std.specs.Prelude.{reverse}
 use Rattle.std.specs.List.{cons_option}
 use Rattle.ob_tree.specs.declared.decl.Decl.{Decl}
 use Rattle.ob_rules.specs.declared.notes.Later.{Later}
@@ -8,14 +9,14 @@ use Rattle.ob_rules.specs.Judged.{Notes, joined}
 use Rattle.ob_rules.specs.Books.{book_after, empty_book}
 use Rattle.ob_rules.specs.Names.{Around, map_of}
 use Rattle.ob_rules.specs.Headings.{Heads, forwards_judged, reversed}
-use Rattle.ob_rules.specs.Declarations.{Declared, type_name_of, declaration, nothing_later, pointers_judged, all_judged, field_judged, heads_later, with_bound, binding_at}
+use Rattle.ob_rules.specs.Declarations.{type_name_of, declaration, nothing_later, pointers_judged, all_judged, field_judged, heads_later, with_bound, binding_at}
 use Rattle.ob_rules.proofs.BookLaws.{after_joined}
 use Rattle.ob_chead.specs.declared.head.Head.{Head as Kept}
 use Rattle.ob_chead.specs.Kept.{AreKept}
 use Rattle.ob_cdecl.specs.Order.{plain_in_order}
 use Rattle.ob_cdecl.proofs.BookJoins.{without_later, later_in}
-use Rattle.ob_cblock.specs.Blocks.{plain_notes}
-use Rattle.ob_cblock.specs.Steps.{type_names, headings, headed, binding_of, around_bound, field_notes, bound_notes}
+use Rattle.ob_cblock.proofs.FieldLaws.{later_kept}
+use Rattle.ob_cblock.specs.Steps.{type_names, kept_later, headings, headed, binding_of, around_bound, field_notes, bound_notes}
 
 -- THE NAMES OF THE TYPES
 
@@ -30,13 +31,13 @@ plain_taken e p t n new noted is = without_later p t n (noted ∙ ap (λ k. book
 pub plain_later : (e p : Notebook) (n : Notes) (ls : List Later) → e ≡ empty_book → p ≡ book_after e n → ls ≡ p.later → ls ≡ n.later
 plain_later e p n ls new noted is = is ∙ later_in p n (noted ∙ ap (λ k. book_after k n) new)
 
-pub plain_noted : (b c k : Notebook) (d : Declared) (u : Around) (ls : List Later) → c ≡ book_after b (nothing_later d.part.notes) → k ≡ book_after c (pointers_judged u ls) → u ≡ d.around → ls ≡ d.part.notes.later → k ≡ book_after b (plain_notes d)
-plain_noted b c k d u ls e f g h =
-    f ∙ ap (λ x. book_after c (pointers_judged x ls)) g ∙ ap (λ l. book_after c (pointers_judged d.around l)) h
-    ∙ ap (λ x. book_after x (pointers_judged d.around d.part.notes.later)) e
-    ∙ after_joined b (nothing_later d.part.notes) (pointers_judged d.around d.part.notes.later)
-
 -- WHEN ALL HEADINGS ARE KNOWN
+
+pub pointers_noted : (n : ℕ) (hs : Heads) (heads : List Kept) (u : Around) (left later ls : List Later) (b c : Notebook) → u ≡ hs.around → AreKept n heads (reversed hs.before)
+    → left ≡ later ++ kept_later (reverse heads) → ls ≡ left → c ≡ book_after b (pointers_judged u ls) → c ≡ book_after b (pointers_judged hs.around (later ++ heads_later hs.before))
+pointers_noted n hs heads u left later ls b c e k f g is =
+    is ∙ ap (λ x. book_after b (pointers_judged x ls)) e
+    ∙ ap (λ l. book_after b (pointers_judged hs.around l)) (g ∙ f ∙ ap (λ l. later ++ l) (later_kept n heads hs.before k))
 
 pub bound_around : (level : Bool) (hs : Heads) (u v : Around) → u ≡ hs.around → v ≡ with_bound u (binding_at level u (reversed hs.before)) → v ≡ around_bound level hs
 bound_around level hs u v e f = f ∙ ap (λ x. with_bound x (binding_at level x (reversed hs.before))) e

@@ -2,10 +2,9 @@
 use Rattle.std.specs.Prelude.{List, [], map}
 use Rattle.ob_tree.specs.declared.decl.Decl.{Decl}
 use Rattle.ob_tree.specs.declared.stmt.Stmt.{Stmt}
-use Rattle.ob_rules.specs.Judged.{Notes, joined}
 use Rattle.ob_rules.specs.Names.{Around}
 use Rattle.ob_rules.specs.Statements.{judging}
-use Rattle.ob_rules.specs.Declarations.{Contents, Declared, Part, nothing_later, pointers_judged, declaration, block}
+use Rattle.ob_rules.specs.Declarations.{Contents, Part, declaration, block}
 
 -- a sequence of declarations with its statements
 abbrev pub block_of : List Decl → List Stmt → Around → Part
@@ -14,7 +13,3 @@ block_of ds body u = block (map declaration ds) (map judging body) u
 -- without the types of the module level
 abbrev pub unbound : Contents → Contents
 unbound c = record c { bound = [] }
-
--- what is said of the declarations but for the procedures
-abbrev pub plain_notes : Declared → Notes
-plain_notes d = joined (nothing_later d.part.notes) (pointers_judged d.around d.part.notes.later)

@@ -8,9 +8,8 @@ use Rattle.ob_chead.specs.declared.head.Head.{Head as Kept}
 use Rattle.ob_rules.specs.Judged.{Notes, joined}
 use Rattle.ob_rules.specs.Names.{Around, map_of}
 use Rattle.ob_rules.specs.Headings.{Heads, Binding, add_heading, forwards_judged, reversed}
-use Rattle.ob_rules.specs.Declarations.{Written_procedure, type_name_of, procedure_of, declaration, headings_in_order, with_bound, binding_at, all_judged, field_judged, heads_later}
+use Rattle.ob_rules.specs.Declarations.{Declared, nothing_later, pointers_judged, Written_procedure, type_name_of, procedure_of, declaration, headings_in_order, with_bound, binding_at, all_judged, field_judged, heads_later}
 use Rattle.ob_cdecl.specs.Order.{plain_in_order}
-use Rattle.ob_cblock.specs.Blocks.{plain_notes}
 
 -- the types that the declarations are of
 abbrev pub type_names : List Decl → List (List ℕ)
@@ -47,9 +46,13 @@ field_notes u later hs = all_judged (field_judged (map_of u)) (later ++ heads_la
 abbrev pub bound_notes : Bool → List Later → Heads → Notes
 bound_notes level later hs = joined (binding_of level hs).notes (joined (field_notes (around_bound level hs) later hs) (forwards_judged (map_of hs.around) (reversed hs.before) (reversed hs.before)))
 
+-- what is said of declarations, and of the pointers that they and these headings have left
+abbrev pub plain_notes : Declared → Heads → Notes
+plain_notes d hs = joined (nothing_later d.part.notes) (pointers_judged hs.around (d.part.notes.later ++ heads_later hs.before))
+
 -- what is said before the procedures and statements
 abbrev pub declared_notes : Bool → List Decl → Around → Notes
-declared_notes level ds u = joined (plain_notes (plain_in_order ds u)) (bound_notes level (plain_in_order ds u).part.notes.later (headed ds u))
+declared_notes level ds u = joined (plain_notes (plain_in_order ds u) (headed ds u)) (bound_notes level (plain_in_order ds u).part.notes.later (headed ds u))
 
 -- a procedure or forward declaration has a heading
 abbrev pub heading_added : Option Written_procedure → Heads → Heads

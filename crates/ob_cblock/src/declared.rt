@@ -12,12 +12,11 @@ ghost use Rattle.ob_chead.specs.Kept.{AreKept};
 ghost use Rattle.ob_cdecl.specs.Growing.{Grows};
 ghost use Rattle.ob_cdecl.specs.Order.{plain_in_order};
 ghost use Rattle.ob_cdecl.specs.Seen.{contents_of};
-ghost use Rattle.ob_cblock.specs.Blocks.{plain_notes};
 ghost use Rattle.ob_cblock.specs.Steps.{type_names as names_in, heading_added, headings, headed, around_bound, declared_notes};
 
 use crate::bound::bound_told;
 use crate::heads::turned;
-use ob_cbound::pointers_judged;
+use crate::left::pointers_told;
 use ob_cdecl::{Contents, append_notes, plain_in_order, take_later};
 use ob_chead::{Head, Heads, add_heading};
 use ob_known::{Imports, Scope, Stack};
@@ -50,8 +49,7 @@ pub(crate) fn type_names(alloc: Global, decls: &[Decl]) -> Result<Stack, AllocEr
     Ok(names)
 }
 
-// All but the procedures, in order, and then the pointers whose bases come later. Gives what is
-// judged later.
+// All but the procedures, in order. Gives what is judged later.
 fn plain_part<E: Imports>(
     alloc: Global,
     scope: &mut Scope<'_, E>,
@@ -60,7 +58,7 @@ fn plain_part<E: Imports>(
     decls: &[Decl],
 ) -> Result<List<Later>, AllocError>
     ensures around { OnOk result (around_of E.types scope.new ≡ (plain_in_order decls.now (around_of E.types scope.old)).around) }
-    ensures noted { OnOk result (book.new ≡ book_after book.old (plain_notes (plain_in_order decls.now (around_of E.types scope.old)))) }
+    ensures noted { OnOk result (book.new ≡ book_after book.old (spec.nothing_later (plain_in_order decls.now (around_of E.types scope.old)).part.notes)) }
     ensures added { OnOk result (contents_of contents.new ≡ spec.together (contents_of contents.old) (plain_in_order decls.now (around_of E.types scope.old)).part.contents) }
     ensures grows { OnOk result (Grows (around_of E.types scope.old) (around_of E.types scope.new)) }
     ensures later { IfOk result (λ r. r ≡ (plain_in_order decls.now (around_of E.types scope.old)).part.notes.later) }
@@ -69,7 +67,6 @@ fn plain_part<E: Imports>(
     plain_in_order(alloc, scope, &mut plain, contents, decls)?;
     let later = take_later(alloc, &mut plain);
     append_notes(book, plain)?;
-    pointers_judged(alloc, &*scope, book, later.as_slice())?;
     Ok(later)
 }
 
@@ -124,6 +121,7 @@ pub(crate) fn declare_all<E: Imports>(
 {
     let later = plain_part(alloc, scope, book, contents, decls)?;
     let heads = headings_told(alloc, scope, decls)?;
+    pointers_told(alloc, &*scope, book, later.as_slice(), heads.as_slice())?;
     bound_told(
         alloc,
         scope,

@@ -6,6 +6,7 @@ mod bound;
 mod contents;
 mod declared;
 mod heads;
+mod left;
 mod opened;
 
 pub use blocks::block;

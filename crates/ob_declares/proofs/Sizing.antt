@@ -34,7 +34,7 @@ use Rattle.ob_declares.proofs.Summed.{laid_found, has_more, words_more}
 use Rattle.ob_declares.proofs.Places.{places_sum, offset_behind}
 
 -- a record that is laid out was one before
-laid_of : (w p : TypeRef → ℕ) (q : QName) (d : Desc) (s : RecordDesc) → laid_desc w p q d ≡ desc.Record s → (r : RecordDesc) × ((d ≡ desc.Record r) × (laid_record w p q r ≡ s))
+pub laid_of : (w p : TypeRef → ℕ) (q : QName) (d : Desc) (s : RecordDesc) → laid_desc w p q d ≡ desc.Record s → (r : RecordDesc) × ((d ≡ desc.Record r) × (laid_record w p q r ≡ s))
 laid_of w p q (desc.Const v) s e = absurd cc
 laid_of w p q (desc.Var m t) s e = absurd cc
 laid_of w p q (desc.Proc g) s e = absurd cc
@@ -90,7 +90,7 @@ module _ (program : Program) (sound : IsSound program) (whole : IsWhole program)
       let in_program : description program q ≡ Some (desc.Record (laid_record w p q l.0)) = has_more program sound whole before m i more over q (desc.Record s) e ∙ ap (λ x. Some (desc.Record x)) (sym l.1.1) in
       let own : is_own c q ≡ true = ap (λ (y : List ℕ). bytes_eq y c.name) unit ∙ bytes_same c.name in
       let view : viewed types c q ≡ Some (desc.Record l.0) = ap (λ b. cond b (own_named c.types q.object) (types q)) own ∙ f.has ∙ ap (λ x. Some x) l.1.0 in
-      let within : IsWithin (viewed types c) 201 (ref.Named q) = over.grounded.chains (ref.Named q) (subst (λ o. MatchOption o ⊥ (λ d. IsTrue (is_type d))) (sym view) refl) in
+      let within : IsWithin (viewed types c) 201 (ref.Named q) = over.chains (ref.Named q) (subst (λ o. MatchOption o ⊥ (λ d. IsTrue (is_type d))) (sym view) refl) in
       let parts = all_from (λ t. IsWithin (viewed types c) 200 t) (λ t. w t ≡ words (form t)) (λ t h. summed_words program sound whole before m i more known over 201 t (one_more (viewed types c) 200 t h)) (stands_on (desc.Record l.0)) (parts_within (viewed types c) 200 q (desc.Record l.0) view within) in
       let checked = type_found c.types q.object f.t.desc f.has in
       let names : HaveNames l.0.fields = subst FieldsDiffer (checked.desc ∙ l.1.0) (of_all (λ t. FieldsDiffer t.desc) c.types checked.t over.laid.fields checked.there) in

@@ -68,7 +68,7 @@ module _ (program : Program) (sound : IsSound program) (whole : IsWhole program)
       let laid = laid_words (words_in types c) (procedures_in types c) (record { «module» = c.name; object = f.t.name }) f.t.desc s f.laid in
       let own : is_own c q ≡ true = ap (λ (y : List ℕ). bytes_eq y c.name) unit ∙ bytes_same c.name in
       let seen : viewed types c q ≡ Some f.t.desc = ap (λ b. cond b (own_named c.types q.object) (types q)) own ∙ f.has in
-      let sum : words_in types c (ref.Named q) ≡ words (record_in program q) = summed_words program sound whole before m i more known over 201 (ref.Named q) (over.grounded.chains (ref.Named q) (subst (λ o. MatchOption o ⊥ (λ d. IsTrue (is_type d))) (sym seen) laid.0)) in
+      let sum : words_in types c (ref.Named q) ≡ words (record_in program q) = summed_words program sound whole before m i more known over 201 (ref.Named q) (over.chains (ref.Named q) (subst (λ o. MatchOption o ⊥ (λ d. IsTrue (is_type d))) (sym seen) laid.0)) in
       let x = type_found m.types q.object (desc.Record s) at_m in
       let small : s.words ≤ most_words = subst IsSmall x.desc (of_all (λ t. IsSmall t.desc) m.types x.t over.small x.there) in
       kept_small (words_in types c (ref.Named q)) s.words (laid.1 ∙ ap (λ p. kept (words_in types c (ref.Named p))) named) small ∙ sum)

@@ -199,7 +199,9 @@ module _ (shown : QName → Option Desc) (tree : Tree) where
   quiet e =
       let a = back_empty _ _ e in
       let b = back_empty imports.part.notes.broken _ a in
-      front_empty plain.part.notes.broken (pointers_judged plain.around plain.part.notes.later).broken (front_empty (plain.part.notes.broken ++ (pointers_judged plain.around plain.part.notes.later).broken) _ b)
+      let hs = headings_in_order (filter_map procedure_of (map declaration tree.decls)) (record { around = plain.around; before = [] }) in
+      let pointers = (pointers_judged hs.around (plain.part.notes.later ++ heads_later hs.before)).broken in
+      front_empty plain.part.notes.broken pointers (front_empty (plain.part.notes.broken ++ pointers) _ b)
 
 -- what is made of the parts, where nothing is broken
 pub unbroken_is : (bs : List Broken) (x m : TypedModule) → if_unbroken bs x ≡ Some m → (bs ≡ []) × (x ≡ m)

@@ -194,7 +194,7 @@ block_good ds g body u =
     let hs = headings_in_order ps first in
     let heads = headings_good (suc d.around.scope) ps first (record { scope = refl; before = tt }) in
     let rest = block_headed u d.part.notes.later ps body hs in
-    let pointers = (pointers_judged d.around d.part.notes.later).broken in
+    let pointers = (pointers_judged hs.around (d.part.notes.later ++ heads_later hs.before)).broken in
     let no_variables : rest.contents.variables ≡ [] = headed_none u d.part.notes.later ps body hs in
     let its : d.part.contents.variables ++ rest.contents.variables ≡ d.part.contents.variables = ap (λ vs. d.part.contents.variables ++ vs) no_variables ∙ no_more d.part.contents.variables in
     record {

@@ -245,7 +245,7 @@ module _ (faces others : List (Face Text)) (tree : Tree) (t : TypedModule) (is :
       let fj = all_judged (field_judged (map_of U)) L in
       let wj = forwards_judged (map_of w) R R in
       let n = joined b.notes (joined fj wj) in
-      let pj = pointers_judged d.around d.part.notes.later in
+      let pj = pointers_judged w L in
       let A : Part = record { notes = joined (nothing_later d.part.notes) pj; contents = d.part.contents } in
       -- what is broken: nothing
       let N : Part = only_notes (name_judged tree.name tree.closing) in

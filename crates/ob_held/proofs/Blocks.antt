@@ -454,7 +454,7 @@ block_ok g ds good body judge u f own e t =
     let L = joined (all_judged (field_judged (map_of U)) later) (forwards_judged (map_of hs.around) (reversed hs.before) (reversed hs.before)) in
     let Q = procedures_judged U ps (reversed hs.before) in
     let j = in_turn body U in
-    let pointers = pointers_judged d.around d.part.notes.later in
+    let pointers = pointers_judged hs.around later in
     -- what is quiet
     let behind = back_empty (d.part.notes.broken ++ pointers.broken) ((b.notes.broken ++ L.broken) ++ (Q.notes.broken ++ j.notes.broken)) e in
     let inside = back_empty (b.notes.broken ++ L.broken) (Q.notes.broken ++ j.notes.broken) behind in
@@ -475,7 +475,7 @@ block_ok g ds good body judge u f own e t =
     let first : Part = record { notes = joined (nothing_later d.part.notes) pointers; contents = d.part.contents } in
     let middle : Part = record { notes = no_notes; contents = record no_contents { bound = b.own } } in
     let rest = with_part Q (body_part j) in
-    part_both g first (with_part (only_notes (joined b.notes L)) (with_part middle rest)) (record { contents = o.part.contents; notes = both_name g (nothing_later d.part.notes) pointers o.part.notes (pointers_name g d.around d.part.notes.later) })
+    part_both g first (with_part (only_notes (joined b.notes L)) (with_part middle rest)) (record { contents = o.part.contents; notes = both_name g (nothing_later d.part.notes) pointers o.part.notes (pointers_name g hs.around later) })
     (part_both g (only_notes (joined b.notes L)) (with_part middle rest) (notes_ok g (joined b.notes L) (both_name g b.notes L bound.notes (both_name g (all_judged (field_judged (map_of U)) later) (forwards_judged (map_of hs.around) (reversed hs.before) (reversed hs.before)) (fields_name g (map_of U) later) (forwards_name g (map_of hs.around) (reversed hs.before) (reversed hs.before)))))
     (part_both g middle rest (record { contents = record { types = tt; variables = tt; procedures = tt; body = tt; bound = (bound.named, bound.there) }; notes = none })
     (part_both g Q (body_part j) q (record { contents = record { types = tt; variables = tt; procedures = tt; body = stmts_there g j.node s.0; bound = (tt, tt) }; notes = s.1 }))))

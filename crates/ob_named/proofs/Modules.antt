@@ -299,7 +299,7 @@ block_ok k ds g body j u s n =
     let B = body_part (in_turn body U) in
     let later = d.part.notes.later ++ heads_later hs.before in
     let m = joined b.notes (joined (all_judged (field_judged (map_of U)) later) (forwards_judged (map_of hs.around) (reversed hs.before) (reversed hs.before))) in
-    let front = d.part.notes.objects ++ (pointers_judged d.around d.part.notes.later).objects in
+    let front = d.part.notes.objects ++ (pointers_judged hs.around later).objects in
     let two = all_rest k.Mentioned m.objects (Q.notes.objects ++ B.notes.objects) (all_rest k.Mentioned front (m.objects ++ (Q.notes.objects ++ B.notes.objects)) n) in
     let o : DeclaredOk k d = order_good k (filter_map plain_of ds) (plains k ds g) v (record { unit = s.unit; shown = s.shown; known = s.known }) in
     let h : HeadsOk k hs = headings_good k ps start (record { around = o.around; before = tt }) in

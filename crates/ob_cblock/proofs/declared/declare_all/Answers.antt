@@ -1,9 +1,9 @@
-use Rattle.std.proofs.Common.{◌∙◌, suc, ap}
+use Rattle.std.proofs.Common.{◌∙◌, ◌++◌, suc, ap}
 use Rattle.ob_known.specs.Scopes.{around_of}
 use Rattle.ob_rules.specs.Books.{book_after}
+use Rattle.ob_rules.specs.Declarations.{nothing_later, pointers_judged, heads_later}
 use Rattle.ob_cdecl.specs.Order.{plain_in_order}
-use Rattle.ob_cblock.specs.Blocks.{plain_notes}
-use Rattle.ob_cblock.specs.Steps.{headed, bound_notes}
+use Rattle.ob_cblock.specs.Steps.{plain_notes, headed, bound_notes}
 use Rattle.ob_cblock.proofs.ToldLaws.{headed_around, headed_kept, two_noted}
 use Rattle.ob_cblock.proofs.declared.declare_all.Goals as goal
 
@@ -16,8 +16,13 @@ returns-clause-noted g c =
     let x = around_of t c.headings_told.new.scope in
     let d = plain_in_order ds v in
     let h = headed ds v in
-    two_noted c.args.book.now c.plain_part.new.book c.bound_told.new.book (plain_notes d) (bound_notes c.args.level d.part.notes.later h) c.in_ok-later.ensures.noted
-    (c.in_ok-bound_told.ensures.noted (suc d.around.scope) h
-    (headed_around ds v w x c.in_ok-later.ensures.around c.in_ok-heads.ensures.around)
+    let around = headed_around ds v w x c.in_ok-later.ensures.around c.in_ok-heads.ensures.around in
+    let pointers = pointers_judged h.around (d.part.notes.later ++ heads_later h.before) in
+    two_noted c.args.book.now c.pointers_told.new.book c.bound_told.new.book (plain_notes d h) (bound_notes c.args.level d.part.notes.later h)
+    (two_noted c.args.book.now c.plain_part.new.book c.pointers_told.new.book (nothing_later d.part.notes) pointers c.in_ok-later.ensures.noted
+    (c.in_ok-pointers_told.ensures (suc d.around.scope) h around
     (headed_kept ds v w c.in_ok-heads.heads c.as_slice-2.result.now c.in_ok-later.ensures.around c.as_slice-2.ensures c.in_ok-heads.ensures.heads)
-    ∙ ap (λ ls. book_after c.plain_part.new.book (bound_notes c.args.level ls h)) (c.as_slice.ensures ∙ c.in_ok-later.ensures.later))
+    ∙ ap (λ ls. book_after c.plain_part.new.book (pointers_judged h.around (ls ++ heads_later h.before))) (c.as_slice.ensures ∙ c.in_ok-later.ensures.later)))
+    (c.in_ok-bound_told.ensures.noted (suc d.around.scope) h around
+    (headed_kept ds v w c.in_ok-heads.heads c.as_slice-4.result.now c.in_ok-later.ensures.around c.as_slice-4.ensures c.in_ok-heads.ensures.heads)
+    ∙ ap (λ ls. book_after c.pointers_told.new.book (bound_notes c.args.level ls h)) (c.as_slice-3.ensures ∙ c.in_ok-later.ensures.later))
