@@ -12,7 +12,7 @@ use Rattle.ob_joining.specs.Builds.{program_of}
 use Rattle.ob_joining.proofs.Settings.{loaded_front}
 use Rattle.ob_families.specs.Premises.{builds_of}
 use Rattle.ob_families.proofs.Fit.{units}
-use Rattle.ob_assured.specs.Laws.{LoadedAreChecked}
+use Rattle.ob_assured.specs.Checked.{LoadedAreChecked}
 
 pub loaded_are_checked : LoadedAreChecked
 loaded_are_checked are_sound are_whole bs more l c is left =
