@@ -1,14 +1,13 @@
 -- Interfaces that show the modules before one show modules of the program.
-use Rattle.std.proofs.Common.{sym, subst, List, [], ◌∷◌, ◌++◌}
+use Rattle.std.proofs.Common.{sym, subst, ℕ, List, [], ◌∷◌, ◌++◌}
 use Rattle.ob_types.specs.TypedSyntax.{Module}
 use Rattle.ob_meaning.specs.Values.{Program}
-use Rattle.ob_tree.specs.declared.print.Print.{Print}
 use Rattle.ob_env.specs.Faces.{Face}
 use Rattle.ob_declares.specs.Ages.{AreShown}
 use Rattle.ob_bodies.proofs.Lists.{one_left}
 use Rattle.ob_judged.specs.Judged.{IsJudgedModule}
 
-shown_in : (before more : Program) (faces : List (Face Print)) → AreShown before faces → AreShown (before ++ more) faces
+shown_in : (before more : Program) (faces : List (Face (List ℕ))) → AreShown before faces → AreShown (before ++ more) faces
 shown_in before more [] h = tt
 shown_in before more (f ∷ fs) h = (record { m = h.0.m; there = one_left before more h.0.m h.0.there; name = h.0.name; objects = h.0.objects }, shown_in before more fs h.1)
 

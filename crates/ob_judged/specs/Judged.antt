@@ -1,8 +1,7 @@
 -- A module of a program as it was judged.
-use Rattle.std.specs.Prelude.{◌≡◌, List, ◌∷◌, ◌++◌, Option}
+use Rattle.std.specs.Prelude.{◌≡◌, ℕ, List, ◌∷◌, ◌++◌, Option}
 use Rattle.std.specs.List.{AllByRecursion}
 use Rattle.ob_tree.specs.declared.names.QName.{QName}
-use Rattle.ob_tree.specs.declared.print.Print.{Print}
 use Rattle.ob_types.specs.declared.desc.Desc.{Desc}
 use Rattle.ob_types.specs.declared.typed.TypedModule.{TypedModule}
 use Rattle.ob_types.specs.TypedSyntax.{Module}
@@ -22,7 +21,7 @@ pub record IsJudgedModule (program : Program) (m : Module) : Type 0 where
   pub order : program ≡ before ++ m ∷ rest
   pub checked : TypedModule
   pub types : QName → Option Desc
-  pub faces : List (Face Print)
+  pub faces : List (Face (List ℕ))
   pub is : m ≡ laid_out types (module_view checked)
   pub age : AreShown before faces
   pub bodies : BodiesAreJudged ConstantIs (shown faces) checked

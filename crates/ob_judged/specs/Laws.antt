@@ -1,8 +1,7 @@
 -- The laws of programs whose modules were judged.
-use Rattle.std.specs.Prelude.{List}
+use Rattle.std.specs.Prelude.{ℕ, List}
 use Rattle.std.specs.List.{AllByRecursion}
 use Rattle.ob_types.specs.TypedSyntax.{Module}
-use Rattle.ob_tree.specs.declared.print.Print.{Print}
 use Rattle.ob_meaning.specs.Values.{Program}
 use Rattle.ob_env.specs.Faces.{Face}
 use Rattle.ob_env.specs.Shown.{shown}
@@ -22,7 +21,7 @@ ProceduresTyped = (program : Program) → IsWhole program → AreJudgedModules p
 
 -- What interfaces show as constants are constants.
 abbrev pub ConstantsShown : Type 0
-ConstantsShown = (program : Program) → AreJudgedModules program → (faces : List (Face Print)) → AreShown program faces → AreConstantsShown (shown faces)
+ConstantsShown = (program : Program) → AreJudgedModules program → (faces : List (Face (List ℕ))) → AreShown program faces → AreConstantsShown (shown faces)
 
 -- Wherever types are known in a module of a sound program, whose records have different fields, the map says what the program has.
 abbrev pub MapsFormed : Type 0

@@ -4,7 +4,6 @@ use Rattle.std.specs.Prelude.{pos}
 use Rattle.std.specs.Option.{option_map}
 use Rattle.std.specs.List.{AllByRecursion, filter}
 use Rattle.ob_tree.specs.declared.names.QName.{QName}
-use Rattle.ob_tree.specs.declared.print.Print.{Print}
 use Rattle.ob_types.specs.declared.types.TypeRef.{TypeRef}
 use Rattle.ob_types.specs.declared.value.Value.TheVariants as literal
 use Rattle.ob_types.specs.declared.desc.Desc.{Desc}
@@ -79,7 +78,7 @@ object_fits m full o j =
     subst (λ (o : List ℕ × Desc). DescFits o.1) x.1.1 (type_fits x.0.desc d.type d.length))
     (one_joined ((cs ++ vs) ++ ps) ts o (one_ordered by_name (((cs ++ vs) ++ ps) ++ ts) o j))
 
-module _ (program : Program) (faces : List (Face Print)) (age : ages.AreShown program faces) (full : AllByRecursion IsFull program) where
+module _ (program : Program) (faces : List (Face (List ℕ))) (age : ages.AreShown program faces) (full : AllByRecursion IsFull program) where
   described_fits : (q : QName) (d : Desc) → described faces q ≡ Some d → DescFits d
   described_fits q d e =
       let f = face_found faces q d e in

@@ -1,8 +1,7 @@
 -- The laws: what the interfaces of a program show of constants and lengths is in range.
-use Rattle.std.specs.Prelude.{List, Option}
+use Rattle.std.specs.Prelude.{ℕ, List, Option}
 use Rattle.std.specs.List.{AllByRecursion}
 use Rattle.ob_tree.specs.declared.names.QName.{QName}
-use Rattle.ob_tree.specs.declared.print.Print.{Print}
 use Rattle.ob_types.specs.declared.desc.Desc.{Desc}
 use Rattle.ob_types.specs.declared.typed.TypedConstant.{TypedConstant}
 use Rattle.ob_types.specs.TypedSyntax.{Module}
@@ -22,7 +21,7 @@ pub record IsFull (m : Module) : Type 0 where
 
 -- Interfaces that show full modules show constants and lengths in range.
 abbrev pub FullAreShown : Type 0
-FullAreShown = (program : Program) (faces : List (Face Print)) → ages.AreShown program faces → AllByRecursion IsFull program → AreShown (shown faces)
+FullAreShown = (program : Program) (faces : List (Face (List ℕ))) → ages.AreShown program faces → AllByRecursion IsFull program → AreShown (shown faces)
 
 -- A full module is so with its records laid out.
 abbrev pub LaidAreFull : Type 0

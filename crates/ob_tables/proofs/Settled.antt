@@ -32,7 +32,7 @@ abbrev first_name : QName → Form → QName
 first_name q (RecordForm (p ∷ line) fs) = p
 first_name q t = q
 
-no_line : (types : QName → Option Desc) (n : ℕ) (t : TypeRef) (fs : Fields) → form_within types n t ≡ RecordForm [] fs → ⊥
+pub no_line : (types : QName → Option Desc) (n : ℕ) (t : TypeRef) (fs : Fields) → form_within types n t ≡ RecordForm [] fs → ⊥
 no_line types zero (ref.Basic b) fs e = absurd (cc)
 no_line types zero (ref.Named q) fs e = absurd (cc)
 no_line types (suc n) (ref.Basic b) fs e = absurd (cc)
