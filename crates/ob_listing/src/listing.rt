@@ -205,7 +205,7 @@ impl Listing {
 }
 
 /// The listing of an object file.
-pub fn listing(alloc: Global, file: &ObjFile) -> anyhow::Result<String> {
+pub fn listing_of(alloc: Global, file: &ObjFile) -> anyhow::Result<String> {
     let mut out = Listing {
         alloc,
         text: String::new(alloc),

@@ -2,10 +2,10 @@
 //! object file, and what sessions over the same folder write.
 #![tactic(auto)]
 
-mod bench;
 mod listing;
+mod sections;
 
-use bench::Bench;
+use sections::Bench;
 use std::alloc::Global;
 use std::fs;
 

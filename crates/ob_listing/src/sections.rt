@@ -1,6 +1,6 @@
 //! Sections of a text: modules that are compiled and listed, and scripts.
 
-use crate::listing::listing;
+use crate::listing::listing_of;
 use ob_io::{Folder, MemFolder, MemSink, MemSource, Shelf};
 use ob_obj::{ObjFault, read_obj};
 use ob_session::session;
@@ -77,7 +77,7 @@ impl Bench {
             return Ok(());
         };
         let lines = match read_obj(alloc, bytes.as_slice()) {
-            Ok(file) => listing(alloc, &file)?,
+            Ok(file) => listing_of(alloc, &file)?,
             Err(ObjFault::Damaged) => anyhow::bail!("no object file"),
             Err(ObjFault::Memory) => anyhow::bail!("no memory"),
         };
