@@ -185,7 +185,7 @@ impl Listing {
         let mut place = 0;
         let mut at: u32 = 0;
         for instr in file.body.code.as_slice() {
-            while number < rows.len() && rows[number].entry == at {
+            if number < rows.len() && rows[number].entry == at {
                 self.put_procedure(number, &rows[number])?;
                 number += 1;
             }
