@@ -38,4 +38,4 @@ builds_are_written short bases b c v =
     record { object = w.object; symbols = w.symbols }
 
 pub simulation_suffices : SimulationSuffices
-simulation_suffices simulation written = record { locality = locality_holds; simulation = simulation; written = written }
+simulation_suffices simulation short bases = record { locality = locality_holds; simulation = simulation; written = builds_are_written short bases }

@@ -23,7 +23,6 @@ BasesStand = (b : Build) (c : Compiled Text) → IsValid b c → BasesFit (viewe
 abbrev pub WrittenFollows : Type 0
 WrittenFollows = NamesAreShort → BasesStand → BuildsAreWritten
 
--- WHAT IS LEFT to be taken for granted: that commands by the machine's table are those of the meaning, and that what is written of a build
--- has a spelling.
+-- WHAT IS LEFT to be taken for granted: that commands by the machine's table are those of the meaning, and what is still to be seen.
 abbrev pub SimulationSuffices : Type 0
-SimulationSuffices = Simulation → BuildsAreWritten → Promises
+SimulationSuffices = Simulation → NamesAreShort → BasesStand → Promises

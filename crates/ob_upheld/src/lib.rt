@@ -10,8 +10,8 @@ pub fn written()
 {}
 
 /// A law, with nothing to run: all that the headline takes for granted of builds follows where
-/// commands by the machine's table are those of the meaning and what is written of a build has a
-/// spelling.
+/// commands by the machine's table are those of the meaning, names of types are short, and a base
+/// stands before its extensions.
 pub fn simulation_suffices()
     ensures { SimulationSuffices }
 {}
