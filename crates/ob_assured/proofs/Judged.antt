@@ -1,10 +1,10 @@
 -- Each module of builds that are loaded together is judged over the interfaces of those before it.
-use Rattle.std.proofs.Common.{◌≡◌, inl, inr, refl, sym, ap, subst, ◌∙◌, ℕ, List, [], ◌∷◌, ◌++◌, map, append_assoc}
+use Rattle.std.proofs.Common.{◌≡◌, inl, inr, refl, sym, ap, subst, ◌∙◌, ℕ, List, [], ◌∷◌, ◌++◌, map, Some, append_assoc}
 use Rattle.std.specs.List.{AllByRecursion}
 use Rattle.ob_types.specs.TypedSyntax.{Module}
 use Rattle.ob_env.specs.Faces.{described}
 use Rattle.ob_env.specs.Shown.{shown}
-use Rattle.ob_compile.specs.Compiling.{Compiled}
+use Rattle.ob_compile.specs.Compiling.{Compiled, texts}
 use Rattle.ob_said.specs.Procedures.{ShowBases}
 use Rattle.ob_said.proofs.Texts.{headings_are_named}
 use Rattle.ob_strings.proofs.Trees.{readings_spelled}
@@ -15,12 +15,13 @@ use Rattle.ob_forms.proofs.Modules.{of_all}
 use Rattle.ob_judged.specs.Judged.{IsJudgedModule}
 use Rattle.ob_ages.specs.Builds.{Text, Build, IsSpelled, shows_of, tree_of, name_of}
 use Rattle.ob_ages.specs.Laws.{Locality, BuildsAreWritten}
+use Rattle.ob_ages.proofs.Compiled.{comes}
 use Rattle.ob_ages.proofs.Stood.{of_is}
 use Rattle.ob_ages.proofs.Gone.{all_valid}
 use Rattle.ob_ages.proofs.Members.{In}
 use Rattle.ob_joining.specs.Builds.{program_of, AreLoaded}
 use Rattle.ob_inherited.proofs.Checked.{checked_at}
-use Rattle.ob_inherited.proofs.Loaded.{IsSome, in_front, in_middle, shows_module, all_shown}
+use Rattle.ob_inherited.proofs.Loaded.{IsSome, in_front, in_middle, all_shown}
 use Rattle.ob_assured.specs.Judged.{LoadedShowBases, LoadedAreJudged}
 
 map_both : {A B : Type 0} (f : A → B) (xs ys : List A) → map f (xs ++ ys) ≡ map f xs ++ map f ys
@@ -33,6 +34,10 @@ all_spelled written (b ∷ xs) v =
     let x = v b (inl refl) in
     (subst (λ (y : Compiled Text). IsSpelled y.shows) (sym (of_is b x.0 x.1)) (written b x.0 x.1).symbols, all_spelled written xs (λ y j. v y (inr j)))
 
+-- a build shows the name of its module
+shows_name : (b : Build) → IsSome b → name_of b ≡ (tree_of b).name
+shows_name b v = subst (λ (x : Compiled Text). x.shows.«module» ≡ x.tree.name) (sym (of_is b v.0 v.1)) (subst (λ (x : Compiled Text). x.shows.«module» ≡ x.tree.name) (sym (comes texts _ (Some b.source) v.0 v.1.is).is) refl)
+
 module _ (written : BuildsAreWritten) (locality : Locality) (bases : LoadedShowBases) where
   is_judged : (before : List Build) (b : Build) (after : List Build) → AreLoaded (before ++ b ∷ after) → IsJudgedModule (program_of (before ++ b ∷ after)) (tree_of b)
   is_judged before b after l =
@@ -42,7 +47,7 @@ module _ (written : BuildsAreWritten) (locality : Locality) (bases : LoadedShowB
       let v = valid b (in_middle before b after) in
       let faces = map shows_of before in
       let tree_name : (tree_of b).name ≡ k.tree.name.name = ap (λ (m : Module). m.name) k.is ∙ checked_name (shown faces) k.tree k.t k.checked_is in
-      let name : name_of b ≡ k.tree.name.name = (shows_module (b ∷ []) b (inl refl) v).name ∙ tree_name in
+      let name : name_of b ≡ k.tree.name.name = shows_name b v ∙ tree_name in
       record {
         before = program_of before;
         rest = program_of after;

@@ -59,7 +59,7 @@ tree_in (x ∷ xs) b (inl e) = inl (ap tree_of e)
 tree_in (x ∷ xs) b (inr i) = inr (tree_in xs b i)
 
 -- it shows its module
-pub shows_module : (all : List Build) (b : Build) → In all b → IsSome b → IsShownBy (program_of all) (shows_of b)
+shows_module : (all : List Build) (b : Build) → In all b → IsSome b → IsShownBy (program_of all) (shows_of b)
 shows_module all b i v =
     let is = (comes texts _ (Some b.source) v.0 v.1.is).is in
     let same = sym (of_is b v.0 v.1) in

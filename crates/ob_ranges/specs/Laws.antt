@@ -1,5 +1,5 @@
 -- The laws of constants and lengths: those that interfaces show, and those of a module that is read and keeps the rules.
-use Rattle.std.specs.Prelude.{◌≡◌, ℕ, List, Option, Some, None, Ok, bytes_eq}
+use Rattle.std.specs.Prelude.{◌≡◌, ℕ, List, Option, Some, None, Ok, false, bytes_eq}
 use Rattle.std.specs.List.{AllByRecursion}
 use Rattle.ob_tree.specs.declared.decl.Module.{Module as Tree}
 use Rattle.ob_types.specs.declared.typed.TypedModule.{TypedModule}
