@@ -1,8 +1,9 @@
 -- The map of the types of a checked module is grounded.
-use Rattle.std.proofs.Common.{◌≡◌, ◌≢◌, ⊎_elim, inl, inr, refl, sym, ap, subst, ◌∙◌, ℕ, Bool, true, false, List, [], ◌∷◌, ◌++◌, map, Option, Some, None}
+use Rattle.std.proofs.Common.{◌≡◌, ◌≢◌, ⊎_elim, inl, inr, refl, sym, ap, subst, ◌∙◌, ℕ, Bool, true, false, List, [], ◌∷◌, ◌++◌, map, Option, Some, None, zero, suc}
 use Rattle.std.specs.Prelude.{bytes_eq, MatchOption, IfSome, IsTrue}
 use Rattle.std.specs.List.{AllByRecursion, find}
 use Rattle.ob_tree.specs.declared.names.QName.{QName}
+use Rattle.ob_tree.specs.declared.ident.Mark.{Mark}
 use Rattle.ob_tree.specs.declared.ident.Mark.TheVariants as mark
 use Rattle.ob_tree.specs.declared.decl.Module.{Module as Tree}
 use Rattle.ob_types.specs.declared.types.Basic.{Basic}
@@ -16,7 +17,7 @@ use Rattle.ob_types.specs.declared.desc.Field.{Field}
 use Rattle.ob_types.specs.declared.desc.Method.{Method}
 use Rattle.ob_types.specs.declared.typed.TypedType.{TypedType}
 use Rattle.ob_types.specs.declared.typed.TypedModule.{TypedModule}
-use Rattle.ob_types.specs.Maps.{is_type, named_by, signature_types, listed, IsHeld, IsWithin}
+use Rattle.ob_types.specs.Maps.{is_type, stands_on, named_by, signature_types, listed, IsHeld, IsWithin}
 use Rattle.ob_types.specs.Relations.{IsOwn as IsOwnType, is_alias, StandsFor, itself, equated, Is, is_structure, is_open as is_open_desc, is_record as is_record_desc, IsPlainResult, Keeps, IsGrounded}
 use Rattle.ob_types.specs.Tests.{target_of as alias_target}
 use Rattle.ob_types.proofs.Targets.{unique}
@@ -32,14 +33,14 @@ use Rattle.ob_distinct.proofs.Blocks.{unbroken_is, not_out}
 use Rattle.ob_distinct.proofs.Short.{chains_are_short}
 use Rattle.ob_bodies.specs.Knows.{HasName, Grows, Stands, IsDescribed}
 use Rattle.ob_bodies.proofs.Lists.{one_all, all_one, all_of}
-use Rattle.ob_bodies.proofs.Standing.{stands_grown}
+use Rattle.ob_bodies.proofs.Standing.{stands_grown, own_stands}
 use Rattle.ob_grounded.specs.Laws.{IsApart, IsNotOut, AreGrounded, ModulesAreGrounded}
-use Rattle.ob_grounded.proofs.Firm.{Firm, firm_more, firm_described, SignatureFirm, AnyValue, is_solid, S, Seen, Closed, WholeBase}
+use Rattle.ob_grounded.proofs.Firm.{Firm, firm_more, firm_described, SignatureFirm, AnyValue, is_solid, S, Seen, Closed, WholeBase, WholeAt}
 use Rattle.ob_grounded.proofs.Stand.{IsOwn, IsOther, name_found, found_name, at, own_at, other_at}
 use Rattle.ob_grounded.proofs.Blocks.{AreOne, step_stands}
 use Rattle.ob_grounded.proofs.Modules.{bound_from, Made, made_named, Whole, types_whole, bound_whole}
-use Rattle.ob_grounded.proofs.Maps.{firm_names, closed_at, type_held, held, out_is, chains, shown_at, names_are_held}
-use Rattle.ob_grounded.proofs.Sorts.{strip, stripped, more_stripped, solid_stripped, open_same, record_same, structured_same, not_open, not_structured, record_is, structure_is, solid_closed}
+use Rattle.ob_grounded.proofs.Maps.{firm_names, stood_on, closed_at, type_held, held, out_is, out_within, shown_within, chains, shown_at, names_are_held}
+use Rattle.ob_grounded.proofs.Sorts.{strip, stripped, more_stripped, solid_stripped, alias_is, alias_stripped, type_stripped, stands_stripped, structure_stripped, open_desc_stripped, record_desc_stripped, open_same, record_same, structured_same, not_open, not_structured, record_is, structure_is, solid_closed}
 
 -- ---- types that differ in name
 
@@ -345,6 +346,177 @@ module _ (shown : QName → Option Desc) (tree : Tree) (grounded : IsGrounded sh
 
     pub names_others : (q : QName) (d : Desc) → same_name q out_string ≡ false → M q ≡ Some d → AllByRecursion IsNotOut (named_by d)
     names_others q d o f = all_of T IsNotOut (named_by d) not_out_of (closed_at shown unit grounded apart out w0 refl refl are_described closed q o d f)
+
+    -- ---- what is known somewhere in the module, where each type that it names is known too
+
+    module _ (w : Around) (unit_is : w.unit ≡ unit) (shown_is : w.shown ≡ shown) (whole : AllByRecursion (WholeAt unit shown In [] w.own) w.own) (within : (s : TypedType) → IsOneOf w.own s → In s) where
+      abbrev N : Map
+      N = map_of w
+
+      abbrev P : TypeRef → Type 0
+      P t = S unit shown w.own t
+
+      closed_w : AllByRecursion (λ (s : TypedType). AllByRecursion P (named_by s.desc)) w.own
+      closed_w = all_of (WholeAt unit shown In [] w.own) (λ (s : TypedType). AllByRecursion P (named_by s.desc)) w.own (λ s h. firm_names P (Closed unit shown In) (Seen unit shown In is_record true) (Seen unit shown In is_structured false) (WholeBase unit shown In [] w.own s.name) (λ t k. k.0) s.desc h) whole
+
+      described_w : AllByRecursion (IsDescribed AnyValue) w.own
+      described_w = all_of (WholeAt unit shown In [] w.own) (IsDescribed AnyValue) w.own (λ s h. firm_described P (Closed unit shown In) (Seen unit shown In is_record true) (Seen unit shown In is_structured false) (WholeBase unit shown In [] w.own s.name) s h) whole
+
+      same_w : (q : QName) → P (ref.Named q) → stripped (N q) ≡ stripped (M q)
+      same_w q s = like w unit_is shown_is within q s (N q) refl (stands_some w unit_is shown_is within q s)
+
+      to_all : (t : TypeRef) → P t → T t
+      to_all t s = stands_grown unit shown w.own Y (within_grows w unit_is shown_is within) t s
+
+      closed_at_w : (q : QName) (d : Desc) → P (ref.Named q) → N q ≡ Some d → AllByRecursion P (named_by d)
+      closed_at_w q d s f = closed_at shown unit grounded apart out w unit_is shown_is described_w closed_w q s.0 d f
+
+      -- what both have
+      kind_at : (f : Desc → Bool) → ((d : Desc) → f (strip d) ≡ f d) → (x y : Option Desc) → stripped x ≡ stripped y → MatchOption x ⊥ (λ d. IsTrue (f d)) → MatchOption y ⊥ (λ d. IsTrue (f d))
+      kind_at f k None y e h = absurd h
+      kind_at f k (Some d) None e h = absurd cc
+      kind_at f k (Some d) (Some c) e h = let i : strip d ≡ strip c = cc in sym (k c) ∙ ap f (sym i) ∙ k d ∙ h
+
+      own_kind : (x y : Option Desc) → stripped x ≡ stripped y → MatchOption x (Unit {0}) (λ d. is_alias d ≡ false) → MatchOption y (Unit {0}) (λ d. is_alias d ≡ false)
+      own_kind x None e h = tt
+      own_kind None (Some c) e h = absurd cc
+      own_kind (Some d) (Some c) e h = let i : strip d ≡ strip c = cc in sym (alias_stripped c) ∙ ap is_alias (sym i) ∙ alias_stripped d ∙ h
+
+      alias_at : (m : Mark) (t : TypeRef) (x y : Option Desc) → stripped x ≡ stripped y → x ≡ Some (desc.Alias m t) → y ≡ Some (desc.Alias m t)
+      alias_at m t x None e f = let bad : Some (desc.Alias m t) ≡ None = sym (ap stripped f) ∙ e in absurd cc
+      alias_at m t x (Some c) e f = let i : Some (strip c) ≡ Some (desc.Alias m t) = sym e ∙ ap stripped f in ap (λ d. Some d) (alias_is m t c cc)
+
+      own_w : (t : TypeRef) → P t → IsOwnType M t → IsOwnType N t
+      own_w (ref.Basic b) s h = tt
+      own_w (ref.Named q) s h = own_kind (M q) (N q) (sym (same_w q s)) h
+
+      own_m : (t : TypeRef) → P t → IsOwnType N t → IsOwnType M t
+      own_m (ref.Basic b) s h = tt
+      own_m (ref.Named q) s h = own_kind (N q) (M q) (same_w q s) h
+
+      stands_w : {t u : TypeRef} → StandsFor M t u → P t → StandsFor N t u × P u
+      stands_w (itself {t = t} a) s = (itself (own_w t s a), s)
+      stands_w (equated {q = q} {m = m} {t = t} f r) s =
+          let g : N q ≡ Some (desc.Alias m t) = alias_at m t (M q) (N q) (sym (same_w q s)) f in
+          let k = stands_w r (closed_at_w q (desc.Alias m t) s g).0 in
+          (equated g k.0, k.1)
+
+      stands_m : {t u : TypeRef} → StandsFor N t u → P t → StandsFor M t u × P u
+      stands_m (itself {t = t} a) s = (itself (own_m t s a), s)
+      stands_m (equated {q = q} {m = m} {t = t} f r) s =
+          let k = stands_m r (closed_at_w q (desc.Alias m t) s f).0 in
+          (equated (alias_at m t (N q) (M q) (same_w q s) f) k.0, k.1)
+
+      is_w : (f : Desc → Bool) → ((d : Desc) → f (strip d) ≡ f d) → (t : TypeRef) → P t → Is M f t → Is N f t
+      is_w f k t s h = let r = stands_w h.1.0 s in (h.0, (r.0, kind_at f k (M h.0) (N h.0) (sym (same_w h.0 r.1)) h.1.1))
+
+      not_w : (f : Desc → Bool) → ((d : Desc) → f (strip d) ≡ f d) → (t : TypeRef) → P t → (Is M f t → ⊥) → Is N f t → ⊥
+      not_w f k t s n h = let r = stands_m h.1.0 s in n (h.0, (r.0, kind_at f k (N h.0) (M h.0) (same_w h.0 r.1) h.1.1))
+
+      -- what descriptions keep
+      abbrev AP : List TypeRef → Type 0
+      AP ts = AllByRecursion P ts
+
+      left_w : (xs ys : List TypeRef) → AP (xs ++ ys) → AP xs
+      left_w [] ys h = tt
+      left_w (x ∷ xs) ys h = (h.0, left_w xs ys h.1)
+
+      right_w : (xs ys : List TypeRef) → AP (xs ++ ys) → AP ys
+      right_w [] ys h = h
+      right_w (x ∷ xs) ys h = right_w xs ys h.1
+
+      plain_w : (s : Signature) → AP (signature_types s) → IsPlainResult M s → IsPlainResult N s
+      plain_w s h k = by s.result (right_w (map (λ p. p.1) s.params) (listed s.result) h) k
+        where
+          by : (o : Option TypeRef) → AP (listed o) → IfSome o (λ t. Is M is_structure t → ⊥) → IfSome o (λ t. Is N is_structure t → ⊥)
+          by None h k = tt
+          by (Some t) h k = not_w is_structure structure_stripped t h.0 k
+
+      fields_w : (fs : List Field) → AP (map (λ f. f.of) fs) → AllByRecursion (λ (f : Field). Is M is_open_desc f.of → ⊥) fs → AllByRecursion (λ (f : Field). Is N is_open_desc f.of → ⊥) fs
+      fields_w [] h k = tt
+      fields_w (f ∷ fs) h k = (not_w is_open_desc open_desc_stripped f.of h.0 k.0, fields_w fs h.1 k.1)
+
+      methods_w : (ms : List Method) → AP (Rattle.std.specs.List.flat_map (λ (m : Method). signature_types m.signature) ms) → AllByRecursion (λ (m : Method). IsPlainResult M m.signature) ms → AllByRecursion (λ (m : Method). IsPlainResult N m.signature) ms
+      methods_w [] h k = tt
+      methods_w (m ∷ ms) h k = (plain_w m.signature (left_w (signature_types m.signature) _ h) k.0, methods_w ms (right_w (signature_types m.signature) _ h) k.1)
+
+      base_w : (o : Option TypeRef) → AP (listed o) → IfSome o (Is M is_record_desc) → IfSome o (Is N is_record_desc)
+      base_w None h k = tt
+      base_w (Some t) h k = is_w is_record_desc record_desc_stripped t h.0 k
+
+      keeps_w : (d : Desc) → AP (named_by d) → Keeps M d → Keeps N d
+      keeps_w (desc.Const v) h k = tt
+      keeps_w (desc.Var m t) h k = not_w is_open_desc open_desc_stripped t h.0 k
+      keeps_w (desc.Proc s) h k = plain_w s h k
+      keeps_w (desc.Alias m t) h k = not_w is_open_desc open_desc_stripped t h.0 k
+      keeps_w (desc.Array m n t) h k = not_w is_open_desc open_desc_stripped t h.0 k
+      keeps_w (desc.OpenArray m t) h k = not_w is_open_desc open_desc_stripped t h.0 k
+      keeps_w (desc.Pointer m t) h k = is_w is_structure structure_stripped t h.0 k
+      keeps_w (desc.ProcType m s) h k = plain_w s h k
+      keeps_w (desc.Record r) h k =
+          let front = listed r.base ++ map (λ f. f.of) r.fields in
+          (base_w r.base (left_w (listed r.base) (map (λ f. f.of) r.fields) (left_w front _ h)) k.0, (fields_w r.fields (right_w (listed r.base) (map (λ f. f.of) r.fields) (left_w front _ h)) k.1.0, methods_w r.methods (right_w front _ h) k.1.1))
+
+      sound_w : (s : TypedType) → WholeAt unit shown In [] w.own s → Sound s.desc
+      sound_w s h =
+          firm_more P (Closed unit shown In) (Seen unit shown In is_record true) (Seen unit shown In is_structured false) (WholeBase unit shown In [] w.own s.name) T (Closed unit shown In) (Seen unit shown In is_record true) (Seen unit shown In is_structured false) (λ t. T t × Seen unit shown In is_structured true t)
+          to_all (λ t a b. b) (λ t a b. b) (λ t a b. b) (λ t b. (to_all t b.0, ⊎_elim (λ k. k) (λ k. absurd k.there) b.1)) s.desc h
+
+      basic_w : (b : Basic) → Is N is_open_desc (ref.Basic b) → ⊥
+      basic_w b h = let bad : ref.Basic b ≡ ref.Named h.0 = unique N (itself tt) h.1.0 in absurd cc
+
+      keeps_around : (q : QName) (d : Desc) → N q ≡ Some d → Keeps N d
+      keeps_around q d f = by (same_name q out_string) refl
+        where
+          by : (b : Bool) → same_name q out_string ≡ b → Keeps N d
+          by true o = let g : Some (desc.OpenArray mark.Hidden (ref.Basic basic.Char)) ≡ Some d = sym (out_is shown unit grounded apart out w unit_is shown_is described_w closed_w q o) ∙ f in let i : desc.OpenArray mark.Hidden (ref.Basic basic.Char) ≡ d = cc in subst (Keeps N) i (basic_w basic.Char)
+          by false o =
+              let names = closed_at shown unit grounded apart out w unit_is shown_is described_w closed_w q o d f in
+              keeps_w d names
+              (⊎_elim
+              (λ (k : IsOwn unit shown w unit_is shown_is q d). subst (Keeps M) k.desc (sound_keeps k.s.desc (sound_w k.s (one_all (WholeAt unit shown In [] w.own) w.own k.s whole k.there))))
+              (λ (k : IsOther unit shown w unit_is shown_is q d). keeps_to d (grounded.held q d k.is) (grounded.keeps q d k.is))
+              (at unit shown w unit_is shown_is q o d f))
+
+      -- chains
+      within_w : (n : ℕ) (t : TypeRef) → P t → IsWithin M n t → IsWithin N n t
+      unfolding IsWithin
+      within_w n (ref.Basic b) s h = tt
+      within_w zero (ref.Named q) s h = absurd h
+      within_w (suc n) (ref.Named q) s h = by (M q) (N q) refl refl (same_w q s) h (λ t i j. within_w n t i j)
+        where
+          all : (ts : List TypeRef) → AP ts → AllByRecursion (λ t. IsWithin M n t) ts → ((t : TypeRef) → P t → IsWithin M n t → IsWithin N n t) → AllByRecursion (λ t. IsWithin N n t) ts
+          all [] o h f = tt
+          all (t ∷ ts) o h f = (f t o.0 h.0, all ts o.1 h.1 f)
+
+          by : (x y : Option Desc) → M q ≡ x → N q ≡ y → stripped (N q) ≡ stripped (M q) → MatchOption x ⊥ (λ d. IsTrue (is_type d) × AllByRecursion (λ t. IsWithin M n t) (stands_on d)) → ((t : TypeRef) → P t → IsWithin M n t → IsWithin N n t) → MatchOption (N q) ⊥ (λ d. IsTrue (is_type d) × AllByRecursion (λ t. IsWithin N n t) (stands_on d))
+          by None y f g e h r = absurd h
+          by (Some d) None f g e h r = let bad : None ≡ Some (strip d) = sym (ap stripped g) ∙ e ∙ ap stripped f in absurd cc
+          by (Some d) (Some c) f g e h r =
+              let k : Some (strip c) ≡ Some (strip d) = sym (ap stripped g) ∙ e ∙ ap stripped f in
+              let i : strip c ≡ strip d = cc in
+              let st : stands_on d ≡ stands_on c = sym (stands_stripped d) ∙ ap stands_on (sym i) ∙ stands_stripped c in
+              let ty : is_type c ≡ true = sym (type_stripped c) ∙ ap is_type i ∙ type_stripped d ∙ h.0 in
+              subst (λ o. MatchOption o ⊥ (λ d. IsTrue (is_type d) × AllByRecursion (λ t. IsWithin N n t) (stands_on d))) (sym g)
+              (ty, all (stands_on c) (stood_on P c (closed_at_w q c s g)) (subst (λ ts. AllByRecursion (λ t. IsWithin M n t) ts) st h.1) r)
+
+      chains_around : (t : TypeRef) → IsHeld N t → IsWithin N 201 t
+      chains_around (ref.Basic b) h = within_w 201 (ref.Basic b) tt (within_all (ref.Basic b) tt)
+      chains_around (ref.Named q) h = by (same_name q out_string) refl (N q) refl h
+        where
+          by : (b : Bool) → same_name q out_string ≡ b → (o : Option Desc) → N q ≡ o → MatchOption o ⊥ (λ d. IsTrue (is_type d)) → IsWithin N 201 (ref.Named q)
+          by true o x f h = out_within shown unit grounded apart out w unit_is shown_is described_w closed_w 200 q o
+          by false o None f h = absurd h
+          by false o (Some d) f h = ⊎_elim
+              (λ (k : IsOwn unit shown w unit_is shown_is q d).
+              let s : P (ref.Named q) = subst (λ (q : QName). P (ref.Named q)) (sym k.name) (own_stands unit shown out w.own k.s.name (k.s, (k.there, refl))) in
+              within_w 201 (ref.Named q) s (stands_within (ref.Named q) (to_all (ref.Named q) s)))
+              (λ (k : IsOther unit shown w unit_is shown_is q d). shown_within shown unit grounded apart out w unit_is shown_is described_w closed_w 201 (ref.Named q) (grounded.chains (ref.Named q) (subst (λ o. MatchOption o ⊥ (λ d. IsTrue (is_type d))) (sym k.is) h)))
+              (at unit shown w unit_is shown_is q o d f)
+
+      -- THE MAP AROUND IT IS GROUNDED
+      pub around_grounded : IsGrounded N
+      around_grounded = record { held = held shown unit grounded apart out w unit_is shown_is described_w closed_w; chains = chains_around; keeps = keeps_around }
 
 pub modules_are_grounded : ModulesAreGrounded
 modules_are_grounded shown tree m c =

@@ -158,7 +158,7 @@ module _ (shown : QName → Option Desc) (unit : List ℕ) (grounded : IsGrounde
       by (Some d) e h f =
           subst (λ o. MatchOption o ⊥ (λ d. IsTrue (is_type d) × AllByRecursion (λ t. IsWithin (map_of w) n t) (stands_on d))) (sym (shown_at q (subst (λ o. MatchOption o ⊥ (λ d. IsTrue (is_type d))) (sym e) h.0) ∙ e)) (h.0, all_of (λ t. IsWithin shown n t) (λ t. IsWithin (map_of w) n t) (stands_on d) f h.1)
 
-  out_within : (n : ℕ) (q : QName) → same_name q out_string ≡ true → IsWithin (map_of w) (suc n) (ref.Named q)
+  pub out_within : (n : ℕ) (q : QName) → same_name q out_string ≡ true → IsWithin (map_of w) (suc n) (ref.Named q)
   unfolding IsWithin
   out_within n q o = subst (λ o. MatchOption o ⊥ (λ d. IsTrue (is_type d) × AllByRecursion (λ t. IsWithin (map_of w) n t) (stands_on d))) (sym (out_is q o)) (refl, (tt, tt))
 

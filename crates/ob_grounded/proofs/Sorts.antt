@@ -2,13 +2,14 @@
 use Rattle.std.proofs.Common.{◌≡◌, refl, sym, ap, subst, ◌∙◌, ℕ, zero, suc, Bool, true, false, List, [], Option, Some, None, arith}
 use Rattle.std.specs.Prelude.{is_some, ◌||◌, MatchOption, IsTrue}
 use Rattle.ob_tree.specs.declared.names.QName.{QName}
+use Rattle.ob_tree.specs.declared.ident.Mark.{Mark}
 use Rattle.ob_types.specs.declared.types.Basic.{Basic}
 use Rattle.ob_types.specs.declared.types.TypeRef.{TypeRef}
 use Rattle.ob_types.specs.declared.types.TypeRef.TheVariants as ref
 use Rattle.ob_types.specs.declared.desc.Desc.{Desc}
 use Rattle.ob_types.specs.declared.desc.Desc.TheVariants as desc
 use Rattle.ob_types.specs.declared.desc.Method.{Method}
-use Rattle.ob_types.specs.Maps.{IsWithin}
+use Rattle.ob_types.specs.Maps.{is_type, stands_on, IsWithin}
 use Rattle.ob_types.specs.Relations.{IsOwn as IsOwnType, is_alias, StandsFor, itself, Is, is_structure, is_open as is_open_desc, is_record as is_record_desc}
 use Rattle.ob_types.specs.Tests.{target_of, follow, target, shape_at}
 use Rattle.ob_types.proofs.Targets.{unique, IsTarget, is_target}
@@ -99,6 +100,83 @@ solid_stripped (desc.OpenArray m t) = refl
 solid_stripped (desc.Pointer m t) = refl
 solid_stripped (desc.ProcType m s) = refl
 solid_stripped (desc.Record r) = refl
+
+pub alias_stripped : (d : Desc) → is_alias (strip d) ≡ is_alias d
+alias_stripped (desc.Const v) = refl
+alias_stripped (desc.Var m t) = refl
+alias_stripped (desc.Proc s) = refl
+alias_stripped (desc.Alias m t) = refl
+alias_stripped (desc.Array m n t) = refl
+alias_stripped (desc.OpenArray m t) = refl
+alias_stripped (desc.Pointer m t) = refl
+alias_stripped (desc.ProcType m s) = refl
+alias_stripped (desc.Record r) = refl
+
+pub type_stripped : (d : Desc) → is_type (strip d) ≡ is_type d
+type_stripped (desc.Const v) = refl
+type_stripped (desc.Var m t) = refl
+type_stripped (desc.Proc s) = refl
+type_stripped (desc.Alias m t) = refl
+type_stripped (desc.Array m n t) = refl
+type_stripped (desc.OpenArray m t) = refl
+type_stripped (desc.Pointer m t) = refl
+type_stripped (desc.ProcType m s) = refl
+type_stripped (desc.Record r) = refl
+
+pub stands_stripped : (d : Desc) → stands_on (strip d) ≡ stands_on d
+stands_stripped (desc.Const v) = refl
+stands_stripped (desc.Var m t) = refl
+stands_stripped (desc.Proc s) = refl
+stands_stripped (desc.Alias m t) = refl
+stands_stripped (desc.Array m n t) = refl
+stands_stripped (desc.OpenArray m t) = refl
+stands_stripped (desc.Pointer m t) = refl
+stands_stripped (desc.ProcType m s) = refl
+stands_stripped (desc.Record r) = refl
+
+pub structure_stripped : (d : Desc) → is_structure (strip d) ≡ is_structure d
+structure_stripped (desc.Const v) = refl
+structure_stripped (desc.Var m t) = refl
+structure_stripped (desc.Proc s) = refl
+structure_stripped (desc.Alias m t) = refl
+structure_stripped (desc.Array m n t) = refl
+structure_stripped (desc.OpenArray m t) = refl
+structure_stripped (desc.Pointer m t) = refl
+structure_stripped (desc.ProcType m s) = refl
+structure_stripped (desc.Record r) = refl
+
+pub open_desc_stripped : (d : Desc) → is_open_desc (strip d) ≡ is_open_desc d
+open_desc_stripped (desc.Const v) = refl
+open_desc_stripped (desc.Var m t) = refl
+open_desc_stripped (desc.Proc s) = refl
+open_desc_stripped (desc.Alias m t) = refl
+open_desc_stripped (desc.Array m n t) = refl
+open_desc_stripped (desc.OpenArray m t) = refl
+open_desc_stripped (desc.Pointer m t) = refl
+open_desc_stripped (desc.ProcType m s) = refl
+open_desc_stripped (desc.Record r) = refl
+
+pub record_desc_stripped : (d : Desc) → is_record_desc (strip d) ≡ is_record_desc d
+record_desc_stripped (desc.Const v) = refl
+record_desc_stripped (desc.Var m t) = refl
+record_desc_stripped (desc.Proc s) = refl
+record_desc_stripped (desc.Alias m t) = refl
+record_desc_stripped (desc.Array m n t) = refl
+record_desc_stripped (desc.OpenArray m t) = refl
+record_desc_stripped (desc.Pointer m t) = refl
+record_desc_stripped (desc.ProcType m s) = refl
+record_desc_stripped (desc.Record r) = refl
+
+pub alias_is : (m : Mark) (t : TypeRef) (c : Desc) → strip c ≡ desc.Alias m t → c ≡ desc.Alias m t
+alias_is m t (desc.Alias k u) h = h
+alias_is m t (desc.Const v) h = absurd cc
+alias_is m t (desc.Var k u) h = absurd cc
+alias_is m t (desc.Proc s) h = absurd cc
+alias_is m t (desc.Array k n u) h = absurd cc
+alias_is m t (desc.OpenArray k u) h = absurd cc
+alias_is m t (desc.Pointer k u) h = absurd cc
+alias_is m t (desc.ProcType k s) h = absurd cc
+alias_is m t (desc.Record r) h = absurd cc
 
 record_basic : (b : Basic) (o : Option Desc) → is_some (record_at (ref.Basic b) o) ≡ false
 record_basic b None = refl
