@@ -6,7 +6,7 @@ use Rattle.ob_tree.specs.declared.decl.Module.{Module as Tree}
 use Rattle.ob_types.specs.declared.desc.Desc.{Desc}
 use Rattle.ob_types.specs.declared.typed.TypedModule.{TypedModule}
 use Rattle.ob_reading.specs.Reading.{reading}
-use Rattle.ob_rules.specs.Declarations.{checked}
+use Rattle.ob_rules.specs.Declarations.{module_part, checked}
 use Rattle.ob_distinct.specs.Named.{tree_named}
 use Rattle.ob_short_names.specs.Nested.{tree_within}
 use Rattle.ob_short_names.specs.Seen.{IsSeen, AreOthers}
@@ -15,8 +15,8 @@ use Rattle.ob_short_names.specs.Seen.{IsSeen, AreOthers}
 abbrev pub ReadingsAreWithin : Type 0
 ReadingsAreWithin = (text : List ℕ) (tree : Tree) → reading text ≡ Ok tree → tree_within tree 200 ≡ true
 
--- THE NAMES OF TYPES of a checked module are shorter than 2^16, where its text is so nested, its types are seen in some map of types, and
--- those of others do not name them.
+-- THE NAMES OF TYPES of a checked module are shorter than 2^16, where its text is so nested, the types that its parts make are seen in some
+-- map of types, and those of other modules do not name them.
 abbrev pub NamesAreShort : Type 0
 NamesAreShort = (types shown : QName → Option Desc) (tree : Tree) (m : TypedModule) → checked shown tree ≡ Some m → tree_named tree ≡ true → tree_within tree 200 ≡ true → AreOthers shown tree.name.name →
-    AllByRecursion (IsSeen types tree.name.name) m.types → AllByRecursion (λ t. length t.name < 2 ^ 16) m.types
+    AllByRecursion (IsSeen types tree.name.name) (module_part shown tree).contents.types → AllByRecursion (λ t. length t.name < 2 ^ 16) m.types
