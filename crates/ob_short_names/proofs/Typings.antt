@@ -62,9 +62,9 @@ use Rattle.ob_rules.specs.Shapes.{same_name, record_at, record_of, pointed, reco
 use Rattle.ob_rules.specs.Names.{own_desc, out_string, type_desc, found_in_scope, predeclared}
 use Rattle.ob_rules.specs.Expressions.{constant_value}
 use Rattle.ob_rules.specs.Types.{nothing, is_module_level, marked}
-use Rattle.ob_rules.specs.Statements.{Judging, judging}
+use Rattle.ob_rules.specs.Statements.{Judging, judging, in_turn}
 use Rattle.ob_rules.specs.Headings.{BoundAs, received_record, is_own, if_own, own_record, bound_to, owner_of, owner_if, knows_receiver, WrittenHeading, heading_of, Head, path_by, forward_name, as_parameters, heading_parameters, head_of, entity_as, head_entity, declared_head, knows_procedure, known_behind, Heads, name_twice, types_of, add_heading, reversed, mark_or_hidden}
-use Rattle.ob_rules.specs.Declarations.{Contents, no_contents, together, Part, Declared, declare_if, declare, constant_contents, constant_entity, no_nil, constant_declared, equated, typing_as, types_made, type_entity, type_declared, variable_entity, variable_contents, paired_typing, first_name as first_declared, variables_with, made_in, variables_declared, Written_procedure, Declaration, Plain, Procedure, plain_of, procedure_of, type_name_of, in_order, headings_in_order, around_body, types_of_head, procedure_judged, procedures_judged, with_bound, binding_at, block_declared, block, procedure_declaration, decl_rule, declaration, import_entity, import_declared, target_of as target_in_import, is_system, imports_declared, around_module, module_of}
+use Rattle.ob_rules.specs.Declarations.{Contents, no_contents, together, Part, Declared, declare_if, declare, constant_contents, constant_entity, no_nil, constant_declared, equated, typing_as, types_made, type_entity, type_declared, variable_entity, variable_contents, paired_typing, first_name as first_declared, variables_with, made_in, variables_declared, Written_procedure, Declaration, Plain, Procedure, plain_of, procedure_of, type_name_of, in_order, headings_in_order, around_body, types_of_head, procedure_judged, procedures_judged, stmts_in, block_inside, with_bound, binding_at, block_declared, block, procedure_declaration, decl_rule, declaration, import_entity, import_declared, target_of as target_in_import, is_system, imports_declared, around_module, module_of}
 use Rattle.ob_distinct.specs.Named.{is_word, decl_named as decl_words}
 use Rattle.ob_short_names.specs.Nested.{decl_layer, decl_within}
 use Rattle.ob_short_names.specs.Seen.{AreOthers}
@@ -1011,10 +1011,12 @@ module _ (types : QName → Option Desc) (unit : List ℕ) (shown : QName → Op
       let bs = binding_at (is_module_level outer) hs.around (reversed hs.before) in
       let u = with_bound hs.around bs in
       let f : IsOfModule u = record { unit_is = k.around.unit_is; shown_is = k.around.shown_is } in
-      part_both b x.part.contents _ h.contents
-      (part_both b no_contents _ (part_none b)
-      (part_both b (record no_contents { bound = bs.own }) _ (λ s. tt)
-      (part_both b (procedures_judged u ps (reversed hs.before)).contents _ (procedures_good P d u f ps g (reversed hs.before) heads) (λ s. tt))))
+      let inside = block_inside u ps (reversed hs.before) body in
+      let told : Contents = record no_contents { bound = bs.own } in
+      let spoken : Contents = record no_contents { body = stmts_in (in_turn body u).node } in
+      let kept : IsShortPart b inside.contents = part_both b (procedures_judged u ps (reversed hs.before)).contents spoken (procedures_good P d u f ps g (reversed hs.before) heads) (λ s. tt) in
+      part_both b x.part.contents (together no_contents (together told inside.contents)) h.contents
+      (part_both b no_contents (together told inside.contents) (part_none b) (part_both b told inside.contents (λ s. tt) kept))
 
   -- ---- declarations
 
@@ -1103,7 +1105,7 @@ module _ (types : QName → Option Desc) (unit : List ℕ) (shown : QName → Op
   decl_good : (x : Decl) → PD x
   decl_good = ind-Decl PD (λ x y is. subst (λ z. PD (roll-Decl z)) is (decl_cases y))
 
-  decls_good : (d : ℕ) (xs : List Decl) → all_true (map decl_words xs) ≡ true → all_within (map decl_within xs) d ≡ true → AreDeclarations d (map declaration xs)
+  pub decls_good : (d : ℕ) (xs : List Decl) → all_true (map decl_words xs) ≡ true → all_within (map decl_within xs) d ≡ true → AreDeclarations d (map declaration xs)
   decls_good d [] e w = tt
   decls_good d (x ∷ xs) e w =
       let p = and_parts (decl_words x) (all_true (map decl_words xs)) e in
@@ -1126,7 +1128,7 @@ module _ (types : QName → Option Desc) (unit : List ℕ) (shown : QName → Op
   predeclared_short : AllByRecursion KnownShort predeclared
   predeclared_short = (tt, (tt, (tt, (tt, (tt, (tt, (tt, (tt, (tt, (tt, (tt, (tt, (tt, (tt, (tt, (tt, (tt, (tt, (tt, (tt, (tt, (tt, (tt, (tt, (tt, (tt, (tt, (tt, (tt, (tt, (tt, tt)))))))))))))))))))))))))))))))
 
-  module_good : (name : Ident) → name.name ≡ unit → (imports : List Import) (ds : List Declaration) → AreDeclarations 200 ds → (body : List Judging) (closing : Ident) → IsShortPart (most 0 200) (module_of shown name imports ds body closing).contents
+  pub module_good : (name : Ident) → name.name ≡ unit → (imports : List Import) (ds : List Declaration) → AreDeclarations 200 ds → (body : List Judging) (closing : Ident) → IsShortPart (most 0 200) (module_of shown name imports ds body closing).contents
   module_good name n imports ds g body closing =
       let b = most 0 200 in
       let u = around_module shown name.name ds in
