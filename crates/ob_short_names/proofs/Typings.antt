@@ -729,12 +729,12 @@ module _ (types : QName → Option Desc) (unit : List ℕ) (shown : QName → Op
   abbrev most : ℕ → ℕ → ℕ
   most n d = n + (216 + 276 * d)
 
-  record IsHeading (d : ℕ) (h : WrittenHeading) : Type 0 where
-    inside : ℕ
-    below : inside ≤ d
-    name : is_short h.name.ident.name ≡ true
-    sections : AreGoodSections (276 * inside) h.parameters.sections
-    few : 1 + names_of h.parameters.sections < 2 ^ 64
+  pub record IsHeading (d : ℕ) (h : WrittenHeading) : Type 0 where
+    pub inside : ℕ
+    pub below : inside ≤ d
+    pub name : is_short h.name.ident.name ≡ true
+    pub sections : AreGoodSections (276 * inside) h.parameters.sections
+    pub few : 1 + names_of h.parameters.sections < 2 ^ 64
 
   record IsHead (P : List ℕ) (d : ℕ) (h : Head) : Type 0 where
     path : length h.path ≤ length P + 194
@@ -835,9 +835,9 @@ module _ (types : QName → Option Desc) (unit : List ℕ) (shown : QName → Op
   part_none : (b : ℕ) → IsShortPart b no_contents
   part_none b s = tt
 
-  record IsDeclared (P : List ℕ) (b : ℕ) (d : Declared) : Type 0 where
-    contents : IsShortPart b d.part.contents
-    around : IsFine P d.around
+  pub record IsDeclared (P : List ℕ) (b : ℕ) (d : Declared) : Type 0 where
+    pub contents : IsShortPart b d.part.contents
+    pub around : IsFine P d.around
 
   abbrev IsPlain : ℕ → (Around → Declared) → Type 0
   IsPlain d f = (P : List ℕ) (u : Around) → IsFine P u → IsDeclared P (most (length P) d) (f u)
@@ -956,9 +956,9 @@ module _ (types : QName → Option Desc) (unit : List ℕ) (shown : QName → Op
 
   -- ---- procedures
 
-  record IsProcedure (d : ℕ) (p : Written_procedure) : Type 0 where
-    heading : IsHeading d p.heading
-    inside : (P : List ℕ) (u : Around) → IsFine P u → (n : ℕ) → length P ≤ n + 195 → IsShortPart (most n d) (p.inside u).contents
+  pub record IsProcedure (d : ℕ) (p : Written_procedure) : Type 0 where
+    pub heading : IsHeading d p.heading
+    pub inside : (P : List ℕ) (u : Around) → IsFine P u → (n : ℕ) → length P ≤ n + 195 → IsShortPart (most n d) (p.inside u).contents
 
   abbrev AreProcedures : ℕ → List Written_procedure → Type 0
   AreProcedures d ps = AllByRecursion (IsProcedure d) ps
