@@ -1135,4 +1135,4 @@ module _ (types : QName → Option Desc) (unit : List ℕ) (shown : QName → Op
       let f : IsFine [] u = record { unit_is = n; path = refl; shown_is = refl; known = λ p. predeclared_short; own = λ p. tt } in
       let x = imports_declared imports u in
       let k = order_good 200 (map (λ i. import_declared i (target_in_import i)) imports) (imports_good 200 imports) [] u f in
-      part_both b no_contents _ (part_none b) (part_both b x.part.contents (block ds body x.around).contents k.contents (block_good 200 ds g body [] x.around k.around))
+      part_both b no_contents (together x.part.contents (block ds body x.around).contents) (part_none b) (part_both b x.part.contents (block ds body x.around).contents k.contents (block_good 200 ds g body [] x.around k.around))
