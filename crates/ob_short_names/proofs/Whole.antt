@@ -1,12 +1,11 @@
 -- The types of a sound module are seen in its map, and those that are shown do not name them.
-use Rattle.std.proofs.Common.{◌≡◌, ◌≢◌, ◌⊎◌, ℕ, zero, suc, Bool, true, false, cond, List, [], ◌∷◌, length, map, Option, Some, None, refl, sym, ap, subst, ◌∙◌}
+use Rattle.std.proofs.Common.{◌≡◌, ◌≢◌, ℕ, zero, suc, Bool, true, false, cond, List, [], ◌∷◌, map, Option, Some, None, refl, sym, ap, subst, ◌∙◌}
 use Rattle.std.specs.Prelude.{bytes_eq, MatchOption, IsTrue}
-use Rattle.std.specs.List.{AllByRecursion, find, list_all}
+use Rattle.std.specs.List.{AllByRecursion, find}
 use Rattle.std.proofs.lemmas.Bool.{false≢true, and_parts}
 use Rattle.std.proofs.lemmas.Slice.Eq.{bytes_eq-Decides}
 use Rattle.ob_tree.specs.declared.names.QName.{QName}
 use Rattle.ob_tree.specs.declared.ident.Mark.{Mark}
-use Rattle.ob_tree.specs.declared.decl.Module.{Module as Tree}
 use Rattle.ob_types.specs.declared.types.TypeRef.{TypeRef}
 use Rattle.ob_types.specs.declared.types.TypeRef.TheVariants as ref
 use Rattle.ob_types.specs.declared.desc.Desc.{Desc}
@@ -18,13 +17,12 @@ use Rattle.ob_types.specs.Relations.{IsGrounded}
 use Rattle.ob_rules.specs.Shapes.{Map, same_name}
 use Rattle.ob_rules.specs.Names.{Around, own_desc, out_string, type_desc, map_of}
 use Rattle.ob_rules.specs.Depth.{chain_of, is_within}
-use Rattle.ob_rules.specs.Statements.{judging}
-use Rattle.ob_rules.specs.Declarations.{Part, declaration, around_module, module_of, module_part, all_described, typed_module}
+use Rattle.ob_rules.specs.Declarations.{Part, declaration, around_module, module_part, all_described, typed_module}
 use Rattle.ob_distinct.specs.Distinct.{AreDistinct}
 use Rattle.ob_recorded.specs.Told.{core}
 use Rattle.ob_recorded.proofs.Modules.{IsOf, all_are_of, described_name, with_its, distinct_back, its_core, unbroken_is, bound_are}
 use Rattle.ob_short_names.specs.Seen.{named_in, Follows, IsSeen, ShortRef, ShortDesc, AreOthers}
-use Rattle.ob_short_names.specs.Laws.{types_of, IsSound, SoundNamesAreShort}
+use Rattle.ob_short_names.specs.Laws.{SoundNamesAreShort}
 use Rattle.ob_short_names.proofs.Names.{names_are_short}
 
 -- ---- what is shown
@@ -111,11 +109,13 @@ module _ (shown : QName → Option Desc) (unit : List ℕ) (u : Around) (unit_is
   seen_are (t ∷ us) o i w =
       let y = with_its bound t in
       let n : y.name ≡ t.name = described_name (find (λ b. bytes_eq b.name t.name) bound) t in
-      let there : find (λ z. bytes_eq z.name t.name) (all_described bound ts) ≡ Some y = subst (λ (x : List ℕ). find (λ z. bytes_eq z.name x) (all_described bound ts) ≡ Some y) n i.0 in
-      (record {
-        within = subst (λ (x : List ℕ). is_within (map_of u) 200 (named_in unit x) ≡ true) n w.0;
-        follows = λ k z. follows_so (map_of u) (record { «module» = unit; object = t.name }) y.desc (found t.name y there) t.desc (its_core bound ts distinct of t o.0) k z;
-      }, seen_are us o.1 i.1 w.1)
+      let there : find (λ z. bytes_eq z.name t.name) (all_described bound ts) ≡ Some y = subst (λ (x : List ℕ). find (λ z. bytes_eq z.name x) (all_described bound ts) ≡ Some y) n i.0 in (
+        record {
+          within = subst (λ (x : List ℕ). is_within (map_of u) 200 (named_in unit x) ≡ true) n w.0;
+          follows = λ k z. follows_so (map_of u) (record { «module» = unit; object = t.name }) y.desc (found t.name y there) t.desc (its_core bound ts distinct of t o.0) k z;
+        },
+        seen_are us o.1 i.1 w.1,
+      )
 
 pub sound_names_are_short : SoundNamesAreShort
 sound_names_are_short shown tree m e words within s =
@@ -129,5 +129,5 @@ sound_names_are_short shown tree m e words within s =
     let distinct = distinct_back bound ts differ in
     let u : Around = record (around_module shown tree.name.name (map declaration tree.decls)) { own = m.types } in
     let seen = seen_are shown tree.name.name u refl bound ts own distinct (bound_are shown tree k.0 distinct) ts (all_are_of ts) (all_there (all_described bound ts) differ)
-        (subst (λ ys. AllByRecursion (λ t. is_within (map_of u) 200 (named_in tree.name.name t.name) ≡ true) ys) own s.chains) in
+    (subst (λ ys. AllByRecursion (λ t. is_within (map_of u) 200 (named_in tree.name.name t.name) ≡ true) ys) own s.chains) in
     names_are_short (map_of u) shown tree m e words within (others_are shown tree.name.name s.apart s.grounded) seen
