@@ -1,6 +1,6 @@
 -- The names of the types that declarations make are short.
 use Rattle.std.proofs.Common.{◌≡◌, ℕ, zero, suc, ◌+◌, ◌*◌, ◌<◌, ◌≤◌, ◌^◌, Bool, true, false, List, [], ◌∷◌, ◌++◌, length, length-append, map, Option, Some, None, refl, sym, ap, subst, ◌∙◌, codes, arith}
-use Rattle.std.specs.Prelude.{◌&&◌, bytes_eq, is_none, pos, cond, nat_le}
+use Rattle.std.specs.Prelude.{◌&&◌, bytes_eq, is_none, cond, nat_le}
 use Rattle.std.specs.Fmt.{decimal}
 use Rattle.std.specs.List.{AllByRecursion, cons_option, find, filter_map}
 use Rattle.std.proofs.lemmas.Bool.{false≢true, and_parts, leb-true}
