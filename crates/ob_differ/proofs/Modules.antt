@@ -16,7 +16,7 @@ use Rattle.ob_rules.specs.declared.entity.Known.{Known}
 use Rattle.ob_rules.specs.Judged.{joined}
 use Rattle.ob_rules.specs.Names.{Around, predeclared, map_of}
 use Rattle.ob_rules.specs.Expressions.{phrase_of}
-use Rattle.ob_rules.specs.Types.{written, is_module_level, nothing, with_types}
+use Rattle.ob_rules.specs.Types.{written, is_module_level}
 use Rattle.ob_rules.specs.Statements.{Judging, judging, in_turn}
 use Rattle.ob_rules.specs.Headings.{Head, Heads, forwards_judged, leaves_room, reversed}
 use Rattle.ob_rules.specs.Declarations.{Declared, Declaration, Plain, Procedure, plain_of, procedure_of, type_name_of, in_order, headings_in_order, Written_procedure, around_body, closing_judged, procedure_judged, procedures_judged, body_part, with_bound, binding_at, all_judged, field_judged, heads_later, pointers_judged, block, decl_rule, declaration, target_of, import_declared, imports_declared, around_module, module_of, name_judged, described, all_described, typed_module}
@@ -29,17 +29,15 @@ use Rattle.ob_apart.proofs.Judged.{headings_quiet}
 use Rattle.ob_worded.proofs.Reading.{readings_are_worded}
 use Rattle.ob_said.specs.Procedures.{ShowBases}
 use Rattle.ob_said.proofs.Knowing.{AreKnown}
-use Rattle.ob_said.proofs.Points.{front_covers, PointsWell, points_alike}
 use Rattle.ob_said.proofs.Written.{written_well, written_parameters_well}
 use Rattle.ob_said.proofs.Plain.{OrderIs, GoodPlain, constant_good, type_good, variables_good, imports_good, order_one}
-use Rattle.ob_said.proofs.Headings.{AreBased}
-use Rattle.ob_said.proofs.Sequences.{GoodHeads}
-use Rattle.ob_said.proofs.Blocks.{Begins}
+use Rattle.ob_said.proofs.Blocks.{Begins, heads_of, heads_are, no_level}
+use Rattle.ob_said.proofs.Modules.{based_behind}
 use Rattle.ob_unlike.specs.Unlike.{types_of_heads, IsWithin}
 use Rattle.ob_unlike.proofs.Blocks.{blocks_differ}
 use Rattle.ob_differ.specs.Differ.{TypesDiffer, ReadTypesDiffer}
 use Rattle.ob_differ.proofs.Past.{ArePast, none_forward, more_past, order_past, decls_past, imports_past, IsInner, ArePastHeads, headings_past}
-use Rattle.ob_differ.proofs.Stand.{heads_from, heads_are, word_plain, AllStand, IsWellHeading, heads_stand}
+use Rattle.ob_differ.proofs.Stand.{word_plain, AllStand, IsWellHeading, heads_stand}
 use Rattle.ob_differ.proofs.Strokes.{Differ, differ_join, differ_front, differ_back, differ_cross, front_all, back_all, BlockIs, inner_types, AreInside, covered, heading_rest, procedures_unlike}
 
 pub record GoodProcedure (p : Written_procedure) : Type 0 where
@@ -64,25 +62,6 @@ order_good (Plain o f ∷ ds) g u k e =
     let p = g.0 u k (front_empty a.part.notes.broken rest.part.notes.broken e) in
     order_one o (filter_map type_name_of ds) u a rest p (order_good ds g.1 a.around (subst (λ (v : Around). AreKnown v.known) (sym p.around) p.known) (back_empty a.part.notes.broken rest.part.notes.broken e))
 
--- behind the types of a sequence all bases are there
-based_behind : (names : List (List ℕ)) (u : Around) (d : Declared) → Begins u → OrderIs names (record u { later_types = names }) d → GoodHeads (record { around = d.around; before = [] })
-based_behind names u d s o =
-    let v : Around = record u { later_types = names } in
-    let w : Around = record v { known = o.more; own = o.made ++ v.own } in
-    let g : GoodHeads (record { around = w; before = [] }) = record { known = o.known; based = λ l. based l; plain = tt; free = tt; bound = tt } in
-    subst (λ (z : Around). GoodHeads (record { around = z; before = [] })) (sym o.around) g
-  where
-    based : is_module_level u ≡ true → AreBased (let z : Around = record u { later_types = names; known = o.more; own = o.made ++ u.own } in z)
-    based l =
-        let v : Around = record u { later_types = names } in
-        let w : Around = record u { later_types = names; known = o.more; own = o.made ++ u.own } in
-        let b = s l in
-        record {
-          pointed = all_both (λ t. PointsWell w t.desc) o.made u.own (points_alike (with_types v o.made) w (record { unit = refl; shown = refl; own = refl; later_types = refl; path = refl }) o.made o.points) (subst (λ ts. AllByRecursion (λ t. PointsWell w t.desc) ts) (sym b.0) tt);
-          later = λ x e. front_covers o.made u.own (u.path ++ x) (o.named x e);
-          shown = b.1;
-        }
-
 order_path : (names : List (List ℕ)) (u : Around) (d : Declared) → OrderIs names u d → d.around.path ≡ u.path
 order_path names u d o = ap (λ (z : Around). z.path) o.around
 
@@ -95,10 +74,6 @@ procedures_kept : (ds : List Declaration) → AreGood ds → AllByRecursion Good
 procedures_kept [] g = tt
 procedures_kept (Plain x f ∷ ds) g = procedures_kept ds g.1
 procedures_kept (Procedure p ∷ ds) g = (g.0, procedures_kept ds g.1)
-
-no_level : (x : List ℕ) → nothing (x ++ codes "/") ≡ false
-no_level [] = refl
-no_level (c ∷ x) = refl
 
 one_inside : (u : Around) (p : Written_procedure) → GoodProcedure p → (h : Head) → AreKnown (h.inside ++ h.known) → ArePast (suc u.scope) (h.inside ++ h.known) → (f : Bool) → (procedure_judged u p h f).notes.broken ≡ [] → BlockIs (h.path ++ codes "/") (inner_types f u p h)
 one_inside u p g h k l true e = record { differ = tt; behind = tt }
@@ -115,7 +90,8 @@ all_inside u path before (p ∷ ps) (h ∷ hs) g s l e =
     let b = procedures_judged u ps hs in
     (one_inside u p g.0 h s.0.1.known l.0 p.forward (front_empty a.notes.broken b.notes.broken e), all_inside u path (h ∷ before) ps hs g.1 s.1 l.1 (back_empty a.notes.broken b.notes.broken e))
 
-as_many : (ps : List Written_procedure) (hs : Heads) → length ps ≡ length (heads_from ps hs)
+as_many : (ps : List Written_procedure) (hs : Heads) → length ps ≡ length (heads_of ps hs)
+unfolding heads_of
 as_many [] hs = refl
 as_many (p ∷ ps) hs = ap suc (as_many ps _)
 
@@ -140,29 +116,29 @@ block_good xs named g body u k s l e =
     let behind : n.broken ++ (P.notes.broken ++ B.notes.broken) ≡ [] = back_empty (d.part.notes.broken ++ pointers) (n.broken ++ (P.notes.broken ++ B.notes.broken)) e in
     let first : d.part.notes.broken ≡ [] = front_empty d.part.notes.broken pointers (front_empty (d.part.notes.broken ++ pointers) (n.broken ++ (P.notes.broken ++ B.notes.broken)) e) in
     let third : P.notes.broken ≡ [] = front_empty P.notes.broken B.notes.broken (back_empty n.broken (P.notes.broken ++ B.notes.broken) behind) in
-    let same : reversed hs.before ≡ heads_from ps start = heads_are ps start in
-    let quiet : (procedures_judged w ps (heads_from ps start)).notes.broken ≡ [] = subst (λ hs. (procedures_judged w ps hs).notes.broken ≡ []) same third in
+    let same : reversed hs.before ≡ heads_of ps start = heads_are ps start in
+    let quiet : (procedures_judged w ps (heads_of ps start)).notes.broken ≡ [] = subst (λ hs. (procedures_judged w ps hs).notes.broken ≡ []) same third in
     let o : OrderIs names v d = order_good ds g v k first in
     let good = procedures_kept ds g in
     let paths : d.around.path ≡ u.path = order_path names v d o in
     let scopes : d.around.scope ≡ u.scope = order_scope names v d o in
-    let stand : AllStand u.path [] ps (heads_from ps start) = heads_stand u.path ps (all_from GoodProcedure IsWellHeading (λ p i. i.heading) ps good) start (based_behind names u d s o) paths (headings_quiet w ps (heads_from ps start) (as_many ps start) quiet) in
+    let stand : AllStand u.path [] ps (heads_of ps start) = heads_stand u.path ps (all_from GoodProcedure IsWellHeading (λ p i. i.heading) ps good) start (based_behind names u d s o) paths (headings_quiet w ps (heads_of ps start) (as_many ps start) quiet) in
     let past : ArePastHeads u.scope hs = headings_past u.scope ps start (record { scope = scopes; known = more_past u.scope d.around.known (order_past (filter_map plain_of ds) (decls_past xs) u.scope v l); before = tt }) in
-    let inner : AllByRecursion (IsInner u.scope) (heads_from ps start) = subst (AllByRecursion (IsInner u.scope)) same (reversed_good (IsInner u.scope) hs.before past.before) in
-    let inside : AreInside w ps (heads_from ps start) = all_inside w u.path [] ps (heads_from ps start) good stand (subst (λ m. AllByRecursion (IsInner m) (heads_from ps start)) (sym past.scope) inner) quiet in
+    let inner : AllByRecursion (IsInner u.scope) (heads_of ps start) = subst (AllByRecursion (IsInner u.scope)) same (reversed_good (IsInner u.scope) hs.before past.before) in
+    let inside : AreInside w ps (heads_of ps start) = all_inside w u.path [] ps (heads_of ps start) good stand (subst (λ m. AllByRecursion (IsInner m) (heads_of ps start)) (sym past.scope) inner) quiet in
     let two = blocks_differ xs named body u (record { forward = none_forward u l; own = λ i. (s i).0 }) e in
-    let heads = types_of_heads (heads_from ps start) in
+    let heads = types_of_heads (heads_of ps start) in
     let all : Differ (d.part.contents.types ++ heads) = subst (λ hs. Differ (d.part.contents.types ++ types_of_heads hs)) same two.0 in
     let within : AllByRecursion (λ (t : TypedType). IsWithin u.path t.name) (d.part.contents.types ++ heads) = subst (λ hs. AllByRecursion (λ (t : TypedType). IsWithin u.path t.name) (d.part.contents.types ++ types_of_heads hs)) same two.1 in
     let plain = front_all (λ (t : TypedType). IsWithin u.path t.name) d.part.contents.types heads within in
     let headed = back_all (λ (t : TypedType). IsWithin u.path t.name) d.part.contents.types heads within in
     let Q : TypedType → Type 0 = λ t. (r : List ℕ) × (t.name ≡ u.path ++ r) in
-    let its = (procedures_judged w ps (heads_from ps start)).contents.types in
+    let its = (procedures_judged w ps (heads_of ps start)).contents.types in
     let known : BlockIs u.path (d.part.contents.types ++ its) = record {
-      differ = differ_join d.part.contents.types its (differ_front d.part.contents.types heads all) (procedures_unlike w u.path [] ps (heads_from ps start) stand inside (differ_back d.part.contents.types heads all) headed)
-          (heading_rest w u.path [] ps (heads_from ps start) stand inside d.part.contents.types plain (differ_cross d.part.contents.types heads all));
+      differ = differ_join d.part.contents.types its (differ_front d.part.contents.types heads all) (procedures_unlike w u.path [] ps (heads_of ps start) stand inside (differ_back d.part.contents.types heads all) headed)
+          (heading_rest w u.path [] ps (heads_of ps start) stand inside d.part.contents.types plain (differ_cross d.part.contents.types heads all));
       behind = all_both Q d.part.contents.types its (all_from (λ (t : TypedType). IsWithin u.path t.name) Q (λ t i. (i.rest, i.is)) d.part.contents.types plain)
-          (covered w u.path Q [] ps (heads_from ps start) stand inside (all_from (λ (t : TypedType). IsWithin u.path t.name) Q (λ t i. (i.rest, i.is)) heads headed) (λ t i. (i.key ++ 47 ∷ i.rest, i.is)));
+          (covered w u.path Q [] ps (heads_of ps start) stand inside (all_from (λ (t : TypedType). IsWithin u.path t.name) Q (λ t i. (i.rest, i.is)) heads headed) (λ t i. (i.key ++ 47 ∷ i.rest, i.is)));
     } in
     subst (λ ts. BlockIs u.path (d.part.contents.types ++ ts)) (sym (append-nil P.contents.types))
     (subst (λ hs. BlockIs u.path (d.part.contents.types ++ (procedures_judged w ps hs).contents.types)) (sym same) known)

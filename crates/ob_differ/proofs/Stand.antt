@@ -1,49 +1,27 @@
 -- The headings of a sequence that keeps the rules: their keys are of its scope, and no two procedures have one.
-use Rattle.std.proofs.Common.{◌≡◌, ℕ, Bool, true, false, List, [], ◌∷◌, ◌++◌, Option, Some, None, refl, sym, ap, subst, ◌∙◌, append_assoc, append-nil}
-use Rattle.std.specs.Prelude.{◌==◌}
+use Rattle.std.proofs.Common.{◌≡◌, ℕ, Bool, true, false, List, [], ◌∷◌, ◌++◌, refl, sym, ap, ◌∙◌}
 use Rattle.std.specs.List.{AllByRecursion}
 use Rattle.std.proofs.lemmas.Bool.{false≢true}
 use Rattle.ob_rules.specs.Names.{Around}
 use Rattle.ob_rules.specs.Types.{with_types}
-use Rattle.ob_rules.specs.Headings.{BoundAs, Head, Heads, head_of, path_by, name_twice, declared_head, knows_procedure, known_behind, types_of, add_heading, reversed}
-use Rattle.ob_rules.specs.Declarations.{Written_procedure, headings_in_order}
+use Rattle.ob_rules.specs.Headings.{Head, Heads, head_of, name_twice, declared_head, known_behind, types_of}
+use Rattle.ob_rules.specs.Declarations.{Written_procedure}
 use Rattle.ob_distinct.specs.Parts.{is_mark, IsWord}
 use Rattle.ob_apart.specs.Once.{AreQuiet}
-use Rattle.ob_said.proofs.Judges.{IfThere, Has, has_more}
+use Rattle.ob_said.proofs.Judges.{Has, has_more}
 use Rattle.ob_said.proofs.Knowing.{IsKnown, AreKnown, all_both, all_from}
 use Rattle.ob_said.proofs.Points.{Points}
 use Rattle.ob_said.proofs.Typings.{AreWellSections}
-use Rattle.ob_said.proofs.Headings.{IsHead, IsOwner, head_good}
+use Rattle.ob_said.proofs.Headings.{IsHead, head_good}
 use Rattle.ob_said.proofs.Sequences.{key_of, GoodHeads, keys_differ, types_pointed, typed_good, added, not_twice}
-use Rattle.ob_said.proofs.Apart.{Lacks, IsPlain, dotted}
-
--- the headings of procedures, in the order of the text
-abbrev pub heads_from : List Written_procedure → Heads → List Head
-heads_from [] hs = []
-heads_from (p ∷ ps) hs =
-    let d = head_of hs.around p.heading p.forward in
-    let v = with_types hs.around (types_of d.parameters) in
-    let t = name_twice v hs.before d in
-    declared_head t d (known_behind v t d) ∷ heads_from ps (add_heading hs p.heading p.forward)
-
-pub heads_are : (ps : List Written_procedure) (hs : Heads) → reversed (headings_in_order ps hs).before ≡ reversed hs.before ++ heads_from ps hs
-heads_are [] hs = sym (append-nil (reversed hs.before))
-heads_are (p ∷ ps) hs =
-    let next = add_heading hs p.heading p.forward in
-    let d = head_of hs.around p.heading p.forward in
-    let v = with_types hs.around (types_of d.parameters) in
-    let t = name_twice v hs.before d in
-    heads_are ps next ∙ append_assoc (reversed hs.before) (declared_head t d (known_behind v t d) ∷ []) (heads_from ps next)
+use Rattle.ob_said.proofs.Apart.{Lacks, IsPlain}
+use Rattle.ob_said.proofs.Blocks.{heads_of, key_lacks, behind_path}
 
 -- ---- keys
 
 -- neither a stop nor a stroke stands in a word
 pub word_plain : (x : List ℕ) → IsWord x → IsPlain x
 word_plain x h = (all_from (λ c. is_mark c ≡ false) (λ b. b ≡ 46 → ⊥) (λ c m e. false≢true (sym m ∙ ap is_mark e)) x h, all_from (λ c. is_mark c ≡ false) (λ b. b ≡ 47 → ⊥) (λ c m e. false≢true (sym m ∙ ap is_mark e)) x h)
-
-key_lacks : (b : Option BoundAs) (x : List ℕ) → IfThere IsOwner b → IsPlain x → Lacks 47 (path_by (Some b) x)
-key_lacks None x h p = p.1
-key_lacks (Some b) x h p = subst (Lacks 47) (sym (dotted b x)) (all_both (λ b. b ≡ 47 → ⊥) b.owner.object (46 ∷ x) h ((λ e. false≢true (ap (λ n. n == 47) e)), p.1))
 
 -- a heading behind those before, the latest first
 pub record Stands (path : List ℕ) (before : List Head) (h : Head) : Type 0 where
@@ -63,14 +41,6 @@ pub record IsWellHeading (p : Written_procedure) : Type 0 where
   pub sections : AreWellSections p.heading.parameters.sections
   pub plain : IsPlain p.heading.name.ident.name
 
-behind_path : (t : Bool) (v : Around) (d : Head) → (known_behind v t d).path ≡ v.path
-behind_path true v d = refl
-behind_path false v d = by d.is_bound
-  where
-    by : (b : Bool) → (knows_procedure v d b).path ≡ v.path
-    by true = refl
-    by false = refl
-
 module _ (path : List ℕ) (x : Written_procedure) (ps : List Written_procedure) (well : IsWellHeading x) (hs : Heads) (g : GoodHeads hs) (p : hs.around.path ≡ path) where
   abbrev d : Head
   d = head_of hs.around x.heading x.forward
@@ -79,9 +49,9 @@ module _ (path : List ℕ) (x : Written_procedure) (ps : List Written_procedure)
   v = with_types hs.around (types_of d.parameters)
 
   one_stands : (t : Bool) → name_twice v hs.before d ≡ t
-      → ((a : Around) (h : Head) → GoodHeads (record { around = a; before = h ∷ hs.before }) → a.path ≡ path → AreQuiet (heads_from ps (record { around = a; before = h ∷ hs.before })) → AllStand path (h ∷ hs.before) ps (heads_from ps (record { around = a; before = h ∷ hs.before })))
-      → AreQuiet (declared_head t d (known_behind v t d) ∷ heads_from ps (record { around = known_behind v t d; before = declared_head t d (known_behind v t d) ∷ hs.before }))
-      → AllStand path hs.before (x ∷ ps) (declared_head t d (known_behind v t d) ∷ heads_from ps (record { around = known_behind v t d; before = declared_head t d (known_behind v t d) ∷ hs.before }))
+      → ((a : Around) (h : Head) → GoodHeads (record { around = a; before = h ∷ hs.before }) → a.path ≡ path → AreQuiet (heads_of ps (record { around = a; before = h ∷ hs.before })) → AllStand path (h ∷ hs.before) ps (heads_of ps (record { around = a; before = h ∷ hs.before })))
+      → AreQuiet (declared_head t d (known_behind v t d) ∷ heads_of ps (record { around = known_behind v t d; before = declared_head t d (known_behind v t d) ∷ hs.before }))
+      → AllStand path hs.before (x ∷ ps) (declared_head t d (known_behind v t d) ∷ heads_of ps (record { around = known_behind v t d; before = declared_head t d (known_behind v t d) ∷ hs.before }))
   one_stands true n more q = absurd (false≢true (sym (not_twice true d (known_behind v true d) q.0).0))
   one_stands false n more q =
       let h = declared_head false d (known_behind v false d) in
@@ -101,6 +71,7 @@ module _ (path : List ℕ) (x : Written_procedure) (ps : List Written_procedure)
         more (known_behind v false d) h next (behind_path false v d ∙ p) q.1,
       )
 
-pub heads_stand : (path : List ℕ) (ps : List Written_procedure) → AllByRecursion IsWellHeading ps → (hs : Heads) → GoodHeads hs → hs.around.path ≡ path → AreQuiet (heads_from ps hs) → AllStand path hs.before ps (heads_from ps hs)
+pub heads_stand : (path : List ℕ) (ps : List Written_procedure) → AllByRecursion IsWellHeading ps → (hs : Heads) → GoodHeads hs → hs.around.path ≡ path → AreQuiet (heads_of ps hs) → AllStand path hs.before ps (heads_of ps hs)
+unfolding heads_of
 heads_stand path [] w hs g p q = tt
 heads_stand path (x ∷ ps) w hs g p q = one_stands path x ps w.0 hs g p (name_twice (with_types hs.around (types_of (head_of hs.around x.heading x.forward).parameters)) hs.before (head_of hs.around x.heading x.forward)) refl (λ a h b i r. heads_stand path ps w.1 (record { around = a; before = h ∷ hs.before }) b i r) q

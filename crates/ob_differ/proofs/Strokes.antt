@@ -1,5 +1,5 @@
 -- Types inside procedures have a stroke behind the key of their procedure, and so differ from all others of a sequence.
-use Rattle.std.proofs.Common.{◌≡◌, ◌≢◌, ℕ, Bool, true, false, List, [], ◌∷◌, ◌++◌, refl, sym, ap, subst, ◌∙◌, codes, append_assoc, append-nil}
+use Rattle.std.proofs.Common.{◌≡◌, ◌≢◌, ℕ, Bool, true, false, List, [], ◌∷◌, ◌++◌, refl, sym, subst, ◌∙◌, codes, append-nil}
 use Rattle.std.specs.List.{AllByRecursion}
 use Rattle.std.proofs.lemmas.Bool.{false≢true}
 use Rattle.ob_types.specs.declared.typed.TypedType.{TypedType}
@@ -11,6 +11,7 @@ use Rattle.ob_distinct.specs.Parts.{IsInScope}
 use Rattle.ob_distinct.proofs.Fresh.{all_both, all_from}
 use Rattle.ob_said.proofs.Sequences.{key_of}
 use Rattle.ob_said.proofs.Apart.{Lacks, cancel, keys_agree}
+use Rattle.ob_said.proofs.Blocks.{inner_is}
 use Rattle.ob_unlike.specs.Unlike.{types_of_heads, IsWithin}
 use Rattle.ob_differ.proofs.Stand.{Stands, AllStand}
 
@@ -79,9 +80,6 @@ stems_apart path key r before h n m k l f i s e =
 
 fewer : (path : List ℕ) (before : List Head) (h : Head) (n : List ℕ) → IsStem path (h ∷ before) n → IsStem path before n
 fewer path before h n s = record { key = s.key; rest = s.rest; is = s.is; lacks = s.lacks; new = s.new.1 }
-
-inner_is : (path key h n r : List ℕ) → h ≡ path ++ key → n ≡ (h ++ codes "/") ++ r → n ≡ path ++ (key ++ 47 ∷ r)
-inner_is path key h n r e f = f ∙ append_assoc h (codes "/") r ∙ ap (λ x. x ++ 47 ∷ r) e ∙ append_assoc path key (47 ∷ r)
 
 -- ---- the types of procedures
 

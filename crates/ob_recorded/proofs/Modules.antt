@@ -436,15 +436,20 @@ module _ (shown : QName → Option Desc) (tree : Tree) where
   others_first : (q : QName) (d : Desc) → bytes_eq q.«module» unit ≡ false → shown q ≡ Some d → IsTold as_named q d
   others_first q d e h = λ l. (d, (ap (λ b. cond b (first contents.types q.object) (shown q)) e ∙ h, refl))
 
+  -- what is bound has the names and cores of the module's types
+  pub bound_are : broken ≡ [] → AreDistinct (λ t. t.name) contents.types → AllByRecursion (λ (b : TypedType). IsOf contents.types b.name (core b.desc)) contents.bound
+  bound_are e distinct =
+      let one : Setting = record { types = as_named; unit = unit; shown = shown; Has = IsOf contents.types; own = own_first distinct; others = others_first } in
+      (contents_ok one refl refl e (all_are_of contents.types)).bound
+
   its_recorded : (types : QName → Option Desc) → broken ≡ [] → AreDistinct (λ t. t.name) its.types → AreTold shown types its → ModuleRecorded types its
   its_recorded types e d told_so =
       let distinct = distinct_back contents.bound contents.types d in
       let of = all_are_of contents.types in
-      let one : Setting = record { types = as_named; unit = unit; shown = shown; Has = IsOf contents.types; own = own_first distinct; others = others_first } in
-      let before = contents_ok one refl refl e of in
-      let two : Setting = record { types = types; unit = unit; shown = shown; Has = IsOf contents.types; own = told contents.bound contents.types distinct before.bound types unit contents.types of told_so.own; others = told_so.others } in
+      let bound = bound_are e distinct in
+      let two : Setting = record { types = types; unit = unit; shown = shown; Has = IsOf contents.types; own = told contents.bound contents.types distinct bound types unit contents.types of told_so.own; others = told_so.others } in
       let c = contents_ok two refl refl e of in
-      record { types_are = recorded contents.bound contents.types distinct before.bound types unit contents.types of c.types; procedures = c.procedures; body = stmts_named two contents.body c.body }
+      record { types_are = recorded contents.bound contents.types distinct bound types unit contents.types of c.types; procedures = c.procedures; body = stmts_named two contents.body c.body }
 
 pub modules_recorded : ModulesRecorded
 modules_recorded shown types tree m e =

@@ -60,7 +60,7 @@ abbrev pub AreGoodProcedures : List Written_procedure → Type 0
 AreGoodProcedures ps = AllByRecursion GoodProcedure ps
 
 -- the headings of procedures, in the order of the text
-pub heads_of : List Written_procedure → Heads → List Head
+unfoldable pub heads_of : List Written_procedure → Heads → List Head
 heads_of [] hs = []
 heads_of (p ∷ ps) hs =
     let d = head_of hs.around p.heading p.forward in
@@ -81,11 +81,11 @@ heads_are (p ∷ ps) hs =
 lacks_join : (o x : List ℕ) → Lacks 47 o → Lacks 47 x → Lacks 47 (o ++ 46 ∷ x)
 lacks_join o x h k = all_both (λ b. b ≡ 47 → ⊥) o (46 ∷ x) h ((λ e. false≢true (ap (λ n. n == 47) e)), k)
 
-key_lacks : (b : Option BoundAs) (x : List ℕ) → IfThere IsOwner b → IsPlain x → Lacks 47 (path_by (Some b) x)
+pub key_lacks : (b : Option BoundAs) (x : List ℕ) → IfThere IsOwner b → IsPlain x → Lacks 47 (path_by (Some b) x)
 key_lacks None x h p = p.1
 key_lacks (Some b) x h p = subst (Lacks 47) (sym (dotted b x)) (lacks_join b.owner.object x h p.1)
 
-no_level : (x : List ℕ) → nothing (x ++ codes "/") ≡ false
+pub no_level : (x : List ℕ) → nothing (x ++ codes "/") ≡ false
 no_level [] = refl
 no_level (c ∷ x) = refl
 
@@ -94,7 +94,7 @@ stays_out x r e =
     let k : [] ≡ 47 ∷ r = cancel x [] (47 ∷ r) (append-nil x ∙ (e ∙ append_assoc x (codes "/") r)) in
     not_empty 47 r (sym k)
 
-inner_is : (path key h n r : List ℕ) → h ≡ path ++ key → n ≡ (h ++ codes "/") ++ r → n ≡ path ++ (key ++ 47 ∷ r)
+pub inner_is : (path key h n r : List ℕ) → h ≡ path ++ key → n ≡ (h ++ codes "/") ++ r → n ≡ path ++ (key ++ 47 ∷ r)
 inner_is path key h n r e f = f ∙ append_assoc h (codes "/") r ∙ ap (λ x. x ++ 47 ∷ r) e ∙ append_assoc path key (47 ∷ r)
 
 module _ (path : List ℕ) (before : List Head) (h : Head) (is : h.path ≡ path ++ key_of h) (lacks : Lacks 47 (key_of h)) (new : AllByRecursion (λ k. k.forward ≡ false → key_of h ≡ key_of k → ⊥) before) where
@@ -161,7 +161,7 @@ one_judged U p g path before h is lacks new k false w e rest s =
     let t = typed_group path before h is lacks new (map_of U) h.parameters c b in
     grouped path before h is lacks new w (typed_procedure (map_of U) h h.parameters c ++ c.procedures) rest t.0 t.1 s
 
-behind_path : (t : Bool) (v : Around) (d : Head) → (known_behind v t d).path ≡ v.path
+pub behind_path : (t : Bool) (v : Around) (d : Head) → (known_behind v t d).path ≡ v.path
 behind_path true v d = refl
 behind_path false v d = by d.is_bound
   where

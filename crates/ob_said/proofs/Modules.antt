@@ -59,7 +59,7 @@ procedures_good (Procedure p ∷ ds) g = (g.0, procedures_good ds g.1)
 -- ---- blocks
 
 -- behind the types of a sequence all bases are there
-based_behind : (names : List (List ℕ)) (u : Around) (d : Declared) → Begins u → OrderIs names (record u { later_types = names }) d → GoodHeads (record { around = d.around; before = [] })
+pub based_behind : (names : List (List ℕ)) (u : Around) (d : Declared) → Begins u → OrderIs names (record u { later_types = names }) d → GoodHeads (record { around = d.around; before = [] })
 based_behind names u d s o =
     let v : Around = record u { later_types = names } in
     let w : Around = record v { known = o.more; own = o.made ++ v.own } in
