@@ -1,3 +1,4 @@
 pub mod Reading
 pub mod Typings
 pub mod Names
+pub mod Whole

@@ -1,5 +1,5 @@
 -- The names of the types of a checked module are short.
-use Rattle.std.proofs.Common.{◌≡◌, ℕ, ◌<◌, ◌≤◌, ◌^◌, List, [], ◌∷◌, length, map, Option, Some, None, refl, subst, arith}
+use Rattle.std.proofs.Common.{◌≡◌, ◌<◌, ◌≤◌, ◌^◌, List, [], ◌∷◌, length, map, Option, Some, None, refl, subst, arith}
 use Rattle.std.specs.Prelude.{bytes_eq}
 use Rattle.std.specs.List.{AllByRecursion, find}
 use Rattle.ob_types.specs.declared.typed.TypedType.{TypedType}

@@ -37,10 +37,10 @@ use Rattle.ob_grammar.proofs.Verdicts.{verdict}
 use Rattle.ob_parse.specs.Parsed.{limit}
 use Rattle.ob_pexpr.specs.Left.{tokens_of}
 use Rattle.ob_reading.specs.Reading.{NoModule, fault_of, parsed, by_fault, reading}
-use Rattle.ob_format.specs.Names.{is_letters, is_identifier}
+use Rattle.ob_format.specs.Names.{is_letters}
 use Rattle.ob_written.proofs.Phrases.{Holds, holds}
 use Rattle.ob_written.proofs.Tokens.{is_name, IsNamedToken, tokens_named}
-use Rattle.ob_short_names.specs.Nested.{Within, all_within, level, is_short, first_short, node_layer, fields_layer, parameters_layer, section_layer, type_within, fields_within, parameters_within, section_within, decl_layer, decl_within, tree_within}
+use Rattle.ob_short_names.specs.Nested.{Within, all_within, is_short, first_short, node_layer, fields_layer, parameters_layer, section_layer, type_within, fields_within, parameters_within, section_within, decl_layer, decl_within, tree_within}
 use Rattle.ob_short_names.specs.Laws.{ReadingsAreWithin}
 
 both_true : (a b : Bool) → a ≡ true → b ≡ true → a && b ≡ true

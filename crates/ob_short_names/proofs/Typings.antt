@@ -1,6 +1,6 @@
 -- The names of the types that declarations make are short.
 use Rattle.std.proofs.Common.{◌≡◌, ℕ, zero, suc, ◌+◌, ◌*◌, ◌<◌, ◌≤◌, ◌^◌, Bool, true, false, List, [], ◌∷◌, ◌++◌, length, length-append, map, Option, Some, None, refl, sym, ap, subst, ◌∙◌, codes, arith}
-use Rattle.std.specs.Prelude.{◌&&◌, bytes_eq, is_none, pos, cond}
+use Rattle.std.specs.Prelude.{◌&&◌, bytes_eq, is_none, cond, nat_le}
 use Rattle.std.specs.Fmt.{decimal}
 use Rattle.std.specs.List.{AllByRecursion, cons_option, find, filter_map}
 use Rattle.std.proofs.lemmas.Bool.{false≢true, and_parts, leb-true}
@@ -23,30 +23,27 @@ use Rattle.ob_types.specs.declared.typed.OutProcedure.{OutProcedure}
 use Rattle.ob_rules.specs.declared.entity.Entity.{Entity}
 use Rattle.ob_rules.specs.declared.entity.Entity.TheVariants as entity
 use Rattle.ob_rules.specs.declared.entity.Known.{Known}
-use Rattle.ob_rules.specs.Judged.{Judged, sound, both, made, noted, each_sound, unless, ◌▷◌}
-use Rattle.ob_rules.specs.Names.{Around, map_of, in_unit, find_name, is_enclosing, variable_known, entity_known, shown_of, record_unless_hidden, export_known, exported, type_of_desc, out_type, out_procedure, type_in, type_of_entity, type_behind, unless_variable_is, unless_variable, type_by, type_named, is_out}
+use Rattle.ob_rules.specs.Judged.{Judged, sound, both, made, noted, each_sound, ◌▷◌}
+use Rattle.ob_rules.specs.Names.{Around, map_of, in_unit, find_name, is_enclosing, variable_known, entity_known, shown_of, export_known, exported, type_of_desc, out_type, out_procedure, type_in, type_of_entity, type_behind, unless_variable_is, unless_variable, type_by, type_named, is_out, own_desc, out_string, type_desc, found_in_scope, predeclared}
 use Rattle.ob_rules.specs.Phrases.{Phrase}
-use Rattle.ob_rules.specs.Shapes.{is_structured, is_pointer}
+use Rattle.ob_rules.specs.Shapes.{is_structured, is_pointer, same_name, record_at, record_of, pointed, record_if}
 use Rattle.ob_rules.specs.Depth.{is_within}
-use Rattle.ob_rules.specs.Types.{Typing, Written, typed_as, with_types, base_name, element_name, field_name, section_name, named_typing, array_length, fixed_array, array, first_of, names_behind, WrittenFields, first_name, Fields, fields_of, with_fields, field_lists, record_with, record_desc, pointer_to, base_judged, pointer_base, pointer_by, later_if, later_by, is_later, Parameters, WrittenSection, WrittenParameters, mode_of, parameter_as, knows, declare_all, parameters_of, with_made, sections, result_of, parameters_in, inner, procedure_type}
-use Rattle.ob_described.proofs.Nodes.{IfThere, Has, all_both, then_has, any_then, both_have, first_has, second_has, also_has, unless_has}
+use Rattle.ob_rules.specs.Types.{Typing, Written, typed_as, with_types, base_name, element_name, field_name, section_name, named_typing, array_length, fixed_array, array, first_of, names_behind, WrittenFields, first_name, Fields, fields_of, with_fields, field_lists, record_with, record_desc, pointer_to, base_judged, pointer_base, pointer_by, later_if, later_by, is_later, Parameters, WrittenSection, WrittenParameters, mode_of, parameter_as, knows, declare_all, parameters_of, with_made, sections, result_of, parameters_in, inner, procedure_type, array_node, record_node, pointer_node, procedure_node, base_if, node_rule, fields_rule, parameters_rule, section_rule, written, written_parameters, nothing, is_module_level, marked}
+use Rattle.ob_described.proofs.Nodes.{IfThere, Has, all_both, then_has, both_have, first_has, second_has, also_has, unless_has}
 use Rattle.ob_distinct.proofs.Typings.{names_of}
-use Rattle.ob_short_names.specs.Nested.{is_short, first_short}
-use Rattle.ob_short_names.specs.Seen.{named_in, Follows, IsSeen, ShortRef, ShortDesc}
-use Rattle.std.specs.Prelude.{nat_le}
+use Rattle.ob_short_names.specs.Nested.{is_short, first_short, Within, all_within, level, in_node, node_layer, fields_layer, parameters_layer, section_layer, type_within, fields_within, parameters_within, section_within, decl_layer, decl_within}
+use Rattle.ob_short_names.specs.Seen.{named_in, IsSeen, ShortRef, ShortDesc, AreOthers}
 use Rattle.ob_tree.specs.declared.type_node.TypeNode.{TypeNode, roll-TypeNode, map-TypeNode}
 use Rattle.ob_tree.specs.declared.type_node.FieldList.{FieldList, roll-FieldList, map-FieldList}
 use Rattle.ob_tree.specs.declared.type_node.FormalPars.{FormalPars, roll-FormalPars, map-FormalPars}
 use Rattle.ob_tree.specs.declared.type_node.Section.{Section, roll-Section, map-Section}
 use Rattle.ob_tree.specs.declared.type_node.TypeNode.TheOpen.{TypeNode-F, FieldList-F, FormalPars-F, Section-F}
 use Rattle.ob_tree.specs.declared.type_node.TypeNode.TheFolds.{fold-FieldList, fold-Section, ind-TypeNode, ind-FormalPars, fold-roll-TypeNode, fold-roll-FieldList, fold-roll-FormalPars, fold-roll-Section}
-use Rattle.ob_rules.specs.Expressions.{phrase_of}
-use Rattle.ob_rules.specs.Types.{array_node, record_node, pointer_node, procedure_node, base_if, node_rule, fields_rule, parameters_rule, section_rule, written, written_parameters}
+use Rattle.ob_rules.specs.Expressions.{phrase_of, constant_value}
 use Rattle.ob_layout.specs.Lists.{sum_of}
 use Rattle.ob_distinct.specs.Named as wo
-use Rattle.ob_distinct.specs.Named.{all_true, are_words, type_named as type_words, fields_named as fields_words, parameters_named as parameters_words, section_named as section_words}
+use Rattle.ob_distinct.specs.Named.{all_true, are_words, type_named as type_words, fields_named as fields_words, parameters_named as parameters_words, section_named as section_words, is_word, decl_named as decl_words}
 use Rattle.ob_distinct.proofs.Written.{written_parameters_good as words_good}
-use Rattle.ob_short_names.specs.Nested.{Within, all_within, level, in_node, node_layer, fields_layer, parameters_layer, section_layer, type_within, fields_within, parameters_within, section_within}
 use Rattle.ob_tree.specs.declared.ident.Import.{Import}
 use Rattle.ob_tree.specs.declared.stmt.Stmt.{Stmt}
 use Rattle.ob_tree.specs.declared.decl.Heading.{Heading}
@@ -58,16 +55,9 @@ use Rattle.ob_types.specs.declared.value.Value.{Value}
 use Rattle.ob_types.specs.declared.types.Basic.TheVariants as basic
 use Rattle.ob_types.specs.declared.types.Signature.{Signature}
 use Rattle.ob_types.specs.Tests.{target, target_of, follow, shape_at, pointer_of}
-use Rattle.ob_rules.specs.Shapes.{same_name, record_at, record_of, pointed, record_if}
-use Rattle.ob_rules.specs.Names.{own_desc, out_string, type_desc, found_in_scope, predeclared}
-use Rattle.ob_rules.specs.Expressions.{constant_value}
-use Rattle.ob_rules.specs.Types.{nothing, is_module_level, marked}
-use Rattle.ob_rules.specs.Statements.{Judging, judging}
+use Rattle.ob_rules.specs.Statements.{Judging, judging, in_turn}
 use Rattle.ob_rules.specs.Headings.{BoundAs, received_record, is_own, if_own, own_record, bound_to, owner_of, owner_if, knows_receiver, WrittenHeading, heading_of, Head, path_by, forward_name, as_parameters, heading_parameters, head_of, entity_as, head_entity, declared_head, knows_procedure, known_behind, Heads, name_twice, types_of, add_heading, reversed, mark_or_hidden}
-use Rattle.ob_rules.specs.Declarations.{Contents, no_contents, together, Part, Declared, declare_if, declare, constant_contents, constant_entity, no_nil, constant_declared, equated, typing_as, types_made, type_entity, type_declared, variable_entity, variable_contents, paired_typing, first_name as first_declared, variables_with, made_in, variables_declared, Written_procedure, Declaration, Plain, Procedure, plain_of, procedure_of, type_name_of, in_order, headings_in_order, around_body, types_of_head, procedure_judged, procedures_judged, with_bound, binding_at, block_declared, block, procedure_declaration, decl_rule, declaration, import_entity, import_declared, target_of as target_in_import, is_system, imports_declared, around_module, module_of}
-use Rattle.ob_distinct.specs.Named.{is_word, decl_named as decl_words}
-use Rattle.ob_short_names.specs.Nested.{decl_layer, decl_within}
-use Rattle.ob_short_names.specs.Seen.{AreOthers}
+use Rattle.ob_rules.specs.Declarations.{Contents, no_contents, together, Declared, declare_if, declare, constant_contents, constant_entity, no_nil, constant_declared, equated, typing_as, types_made, type_entity, type_declared, variable_entity, variable_contents, paired_typing, first_name as first_declared, variables_with, made_in, variables_declared, Written_procedure, Declaration, Plain, Procedure, plain_of, procedure_of, type_name_of, in_order, headings_in_order, around_body, types_of_head, procedure_judged, procedures_judged, stmts_in, block_inside, with_bound, binding_at, block_declared, block, procedure_declaration, decl_rule, declaration, import_entity, import_declared, target_of as target_in_import, is_system, imports_declared, around_module, module_of}
 
 -- ---- lists
 
@@ -729,12 +719,12 @@ module _ (types : QName → Option Desc) (unit : List ℕ) (shown : QName → Op
   abbrev most : ℕ → ℕ → ℕ
   most n d = n + (216 + 276 * d)
 
-  record IsHeading (d : ℕ) (h : WrittenHeading) : Type 0 where
-    inside : ℕ
-    below : inside ≤ d
-    name : is_short h.name.ident.name ≡ true
-    sections : AreGoodSections (276 * inside) h.parameters.sections
-    few : 1 + names_of h.parameters.sections < 2 ^ 64
+  pub record IsHeading (d : ℕ) (h : WrittenHeading) : Type 0 where
+    pub inside : ℕ
+    pub below : inside ≤ d
+    pub name : is_short h.name.ident.name ≡ true
+    pub sections : AreGoodSections (276 * inside) h.parameters.sections
+    pub few : 1 + names_of h.parameters.sections < 2 ^ 64
 
   record IsHead (P : List ℕ) (d : ℕ) (h : Head) : Type 0 where
     path : length h.path ≤ length P + 194
@@ -835,9 +825,9 @@ module _ (types : QName → Option Desc) (unit : List ℕ) (shown : QName → Op
   part_none : (b : ℕ) → IsShortPart b no_contents
   part_none b s = tt
 
-  record IsDeclared (P : List ℕ) (b : ℕ) (d : Declared) : Type 0 where
-    contents : IsShortPart b d.part.contents
-    around : IsFine P d.around
+  pub record IsDeclared (P : List ℕ) (b : ℕ) (d : Declared) : Type 0 where
+    pub contents : IsShortPart b d.part.contents
+    pub around : IsFine P d.around
 
   abbrev IsPlain : ℕ → (Around → Declared) → Type 0
   IsPlain d f = (P : List ℕ) (u : Around) → IsFine P u → IsDeclared P (most (length P) d) (f u)
@@ -956,9 +946,9 @@ module _ (types : QName → Option Desc) (unit : List ℕ) (shown : QName → Op
 
   -- ---- procedures
 
-  record IsProcedure (d : ℕ) (p : Written_procedure) : Type 0 where
-    heading : IsHeading d p.heading
-    inside : (P : List ℕ) (u : Around) → IsFine P u → (n : ℕ) → length P ≤ n + 195 → IsShortPart (most n d) (p.inside u).contents
+  pub record IsProcedure (d : ℕ) (p : Written_procedure) : Type 0 where
+    pub heading : IsHeading d p.heading
+    pub inside : (P : List ℕ) (u : Around) → IsFine P u → (n : ℕ) → length P ≤ n + 195 → IsShortPart (most n d) (p.inside u).contents
 
   abbrev AreProcedures : ℕ → List Written_procedure → Type 0
   AreProcedures d ps = AllByRecursion (IsProcedure d) ps
@@ -1011,10 +1001,12 @@ module _ (types : QName → Option Desc) (unit : List ℕ) (shown : QName → Op
       let bs = binding_at (is_module_level outer) hs.around (reversed hs.before) in
       let u = with_bound hs.around bs in
       let f : IsOfModule u = record { unit_is = k.around.unit_is; shown_is = k.around.shown_is } in
-      part_both b x.part.contents _ h.contents
-      (part_both b no_contents _ (part_none b)
-      (part_both b (record no_contents { bound = bs.own }) _ (λ s. tt)
-      (part_both b (procedures_judged u ps (reversed hs.before)).contents _ (procedures_good P d u f ps g (reversed hs.before) heads) (λ s. tt))))
+      let inside = block_inside u ps (reversed hs.before) body in
+      let told : Contents = record no_contents { bound = bs.own } in
+      let spoken : Contents = record no_contents { body = stmts_in (in_turn body u).node } in
+      let kept : IsShortPart b inside.contents = part_both b (procedures_judged u ps (reversed hs.before)).contents spoken (procedures_good P d u f ps g (reversed hs.before) heads) (λ s. tt) in
+      part_both b x.part.contents (together no_contents (together told inside.contents)) h.contents
+      (part_both b no_contents (together told inside.contents) (part_none b) (part_both b told inside.contents (λ s. tt) kept))
 
   -- ---- declarations
 
@@ -1103,7 +1095,7 @@ module _ (types : QName → Option Desc) (unit : List ℕ) (shown : QName → Op
   decl_good : (x : Decl) → PD x
   decl_good = ind-Decl PD (λ x y is. subst (λ z. PD (roll-Decl z)) is (decl_cases y))
 
-  decls_good : (d : ℕ) (xs : List Decl) → all_true (map decl_words xs) ≡ true → all_within (map decl_within xs) d ≡ true → AreDeclarations d (map declaration xs)
+  pub decls_good : (d : ℕ) (xs : List Decl) → all_true (map decl_words xs) ≡ true → all_within (map decl_within xs) d ≡ true → AreDeclarations d (map declaration xs)
   decls_good d [] e w = tt
   decls_good d (x ∷ xs) e w =
       let p = and_parts (decl_words x) (all_true (map decl_words xs)) e in
@@ -1126,11 +1118,11 @@ module _ (types : QName → Option Desc) (unit : List ℕ) (shown : QName → Op
   predeclared_short : AllByRecursion KnownShort predeclared
   predeclared_short = (tt, (tt, (tt, (tt, (tt, (tt, (tt, (tt, (tt, (tt, (tt, (tt, (tt, (tt, (tt, (tt, (tt, (tt, (tt, (tt, (tt, (tt, (tt, (tt, (tt, (tt, (tt, (tt, (tt, (tt, (tt, tt)))))))))))))))))))))))))))))))
 
-  module_good : (name : Ident) → name.name ≡ unit → (imports : List Import) (ds : List Declaration) → AreDeclarations 200 ds → (body : List Judging) (closing : Ident) → IsShortPart (most 0 200) (module_of shown name imports ds body closing).contents
+  pub module_good : (name : Ident) → name.name ≡ unit → (imports : List Import) (ds : List Declaration) → AreDeclarations 200 ds → (body : List Judging) (closing : Ident) → IsShortPart (most 0 200) (module_of shown name imports ds body closing).contents
   module_good name n imports ds g body closing =
       let b = most 0 200 in
       let u = around_module shown name.name ds in
       let f : IsFine [] u = record { unit_is = n; path = refl; shown_is = refl; known = λ p. predeclared_short; own = λ p. tt } in
       let x = imports_declared imports u in
       let k = order_good 200 (map (λ i. import_declared i (target_in_import i)) imports) (imports_good 200 imports) [] u f in
-      part_both b no_contents _ (part_none b) (part_both b x.part.contents (block ds body x.around).contents k.contents (block_good 200 ds g body [] x.around k.around))
+      part_both b no_contents (together x.part.contents (block ds body x.around).contents) (part_none b) (part_both b x.part.contents (block ds body x.around).contents k.contents (block_good 200 ds g body [] x.around k.around))

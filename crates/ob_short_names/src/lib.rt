@@ -1,7 +1,7 @@
 //! The names of types are short.
 #![tactic(auto)]
 
-ghost use Rattle.ob_short_names.specs.Laws.{ReadingsAreWithin, NamesAreShort};
+ghost use Rattle.ob_short_names.specs.Laws.{ReadingsAreWithin, SoundNamesAreShort};
 
 /// A law, with nothing to run: what is read is nested in at most 200 levels, and what names its
 /// types has at most 64 characters.
@@ -10,8 +10,8 @@ pub fn readings_are_within()
 {}
 
 /// A law, with nothing to run: the names of the types of a checked module are shorter than 2^16,
-/// where its text is so nested, the chains of its types have at most 200 types, and the types of
-/// other modules do not name them.
+/// where its text is so nested, the chains of its types have at most 200 types, and nothing that is
+/// shown to it is of the module itself.
 pub fn names_are_short()
-    ensures { NamesAreShort }
+    ensures { SoundNamesAreShort }
 {}
