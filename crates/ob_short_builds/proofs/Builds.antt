@@ -1,5 +1,5 @@
 -- Valid builds.
-use Rattle.std.proofs.Common.{◌≡◌, ℕ, ◌<◌, ◌^◌, Bool, true, false, List, [], ◌∷◌, length, map, Option, Some, None, Result, Ok, refl, sym, ap, subst, arith}
+use Rattle.std.proofs.Common.{◌≡◌, ℕ, ◌<◌, ◌^◌, Bool, true, false, List, [], ◌∷◌, length, map, Option, Some, Ok, refl, sym, subst, arith}
 use Rattle.std.specs.Prelude.{nat_le}
 use Rattle.std.specs.List.{AllByRecursion}
 use Rattle.std.proofs.lemmas.Bool.{leb-true}
@@ -14,14 +14,13 @@ use Rattle.ob_env.specs.Shown.{shown}
 use Rattle.ob_walk.specs.Walk.{Entry}
 use Rattle.ob_reading.specs.Reading.{reading}
 use Rattle.ob_compile.specs.Compiling.{Compiled, texts, most_source, of_short, of_reading, compiled}
-use Rattle.ob_distinct.specs.Distinct.{AreDistinct}
 use Rattle.ob_worded.proofs.Reading.{readings_are_worded}
 use Rattle.ob_short_names.specs.Laws.{IsSound}
 use Rattle.ob_short_names.proofs.Reading.{readings_within}
 use Rattle.ob_short_names.proofs.Whole.{sound_names_are_short}
 use Rattle.ob_grounded.proofs.Grounded.{modules_are_grounded}
 use Rattle.ob_firm.proofs.Views.{checked_so}
-use Rattle.ob_ages.specs.Builds.{Text, Build, IsValid, entry_of}
+use Rattle.ob_ages.specs.Builds.{Text, entry_of}
 use Rattle.ob_grounds.proofs.Builds.{build_from, build_over}
 use Rattle.ob_short_builds.specs.Laws.{BuildsHaveShortNames}
 
