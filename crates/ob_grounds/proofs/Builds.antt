@@ -45,12 +45,12 @@ no_face (f ∷ fs) x h = by (bytes_eq x f.«module») refl (no_face fs x (λ k. 
     by true e r = absurd (h (subst (Contains (each (λ (f : Face Text). f.«module») (f ∷ fs))) (sym (bytes_true x f.«module» e)) (has_head f.«module» (each (λ (f : Face Text). f.«module») fs))))
     by false e r = r
 
-pub builds_are_grounded : BuildsAreGrounded
-builds_are_grounded b c v names =
-    let k : ComesFrom b.source c = subst (ComesFrom b.source) (of_is b c v) (build_comes b c v) in
+-- a valid build is of a module that keeps the rules over its interfaces
+pub build_over : (b : Build) (c : Compiled Text) → IsValid b c → AreDistinct (λ (t : TypedType). t.name) c.tree.types → (k : ComesFrom b.source c) → IsCheckedOver c.against k.tree k.module_is
+build_over b c v names k =
     let a = apart_of c k.tree (comes_of b c k.tree v k.read) in
     let is : c.tree ≡ laid c.against k.module_is = ap (λ (x : Compiled Text). x.tree) k.is in
-    let over : IsCheckedOver c.against k.tree k.module_is = record {
+    record {
       is = k.checked_is;
       shallow = k.shallow;
       grounded = against_is_grounded b c v;
@@ -58,5 +58,15 @@ builds_are_grounded b c v names =
       out = ap (λ o. o >>= λ f. object_named f.objects out_string.object) (no_face c.against (codes "Out") a.out);
       imports = a.imports;
       names = unlaid (described c.against) (module_view k.module_is) k.module_is.types (subst (λ (m : Module). AreDistinct (λ (t : TypedType). t.name) m.types) is names);
-    } in
+    }
+
+-- what it comes from
+pub build_from : (b : Build) (c : Compiled Text) → IsValid b c → ComesFrom b.source c
+build_from b c v = subst (ComesFrom b.source) (of_is b c v) (build_comes b c v)
+
+pub builds_are_grounded : BuildsAreGrounded
+builds_are_grounded b c v names =
+    let k = build_from b c v in
+    let is : c.tree ≡ laid c.against k.module_is = ap (λ (x : Compiled Text). x.tree) k.is in
+    let over = build_over b c v names k in
     subst (λ (m : Module). IsGroundedBuild (record c { tree = m })) (sym is) (record { grounded = views_are_grounded c.against k.tree k.module_is over; short = views_are_short c.against k.tree k.module_is over })
