@@ -1,0 +1,2 @@
+//! Types stand in the order of the text.
+#![tactic(auto)]
