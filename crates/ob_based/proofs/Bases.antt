@@ -18,7 +18,7 @@ use Rattle.ob_types.specs.Relations.{StandsFor, itself, equated, Is, is_record a
 use Rattle.ob_types.proofs.Targets.{unique, is_target}
 use Rattle.ob_layout.specs.LaidOut.{type_named, viewed}
 use Rattle.ob_code.specs.Descriptions.{name_in}
-use Rattle.ob_code.specs.Context.{is_record, records_among, type_index}
+use Rattle.ob_code.specs.Context.{is_record, records_among}
 use Rattle.ob_code.specs.Object.{own, base_type}
 use Rattle.ob_relation.proofs.Names.{bytes_true, bytes_same}
 use Rattle.ob_forms.specs.Said.{IsOneOf}
@@ -30,7 +30,7 @@ use Rattle.ob_bodies.specs.Knows.{HasName, Grows, IsTypeDesc, StandsBy, Stands}
 use Rattle.ob_bodies.specs.Order.{IsBased}
 use Rattle.ob_bodies.proofs.Lists.{one_left, one_right, one_joined, one_all}
 use Rattle.ob_based.specs.Based.{AreBased}
-use Rattle.ob_based.proofs.Numbers.{counted, counted_more, index_below}
+use Rattle.ob_based.proofs.Numbers.{counted, counted_more, place, index_below}
 
 -- ---- types that differ in name
 
@@ -59,12 +59,12 @@ found (t ∷ ts) x d e = by (bytes_eq x t.name) refl e (λ k. found ts x d k)
 -- the first of a name is found
 finds : (ts : List TypedType) (t : TypedType) → IsOneOf ts t → (d : Desc) × (type_named ts t.name ≡ Some d)
 finds [] t i = absurd i
-finds (s ∷ ts) t i = by (bytes_eq t.name s.name) refl i
+finds (s ∷ ts) t i = by (bytes_eq t.name s.name) refl i (λ j. finds ts t j)
   where
-    by : (b : Bool) → bytes_eq t.name s.name ≡ b → IsOneOf (s ∷ ts) t → (d : Desc) × (cond b (Some s.desc) (type_named ts t.name) ≡ Some d)
-    by true f i = (s.desc, refl)
-    by false f (inl j) = absurd (false≢true (sym f ∙ ap (λ (y : TypedType). bytes_eq t.name y.name) j ∙ bytes_same t.name))
-    by false f (inr j) = finds ts t j
+    by : (b : Bool) → bytes_eq t.name s.name ≡ b → IsOneOf (s ∷ ts) t → (IsOneOf ts t → (d : Desc) × (type_named ts t.name ≡ Some d)) → (d : Desc) × (cond b (Some s.desc) (type_named ts t.name) ≡ Some d)
+    by true f i g = (s.desc, refl)
+    by false f (inl j) g = absurd (false≢true (sym f ∙ ap (λ (y : TypedType). bytes_eq t.name y.name) j ∙ bytes_same t.name))
+    by false f (inr j) g = g j
 
 same_record : (d : Desc) → is_record_desc d ≡ true → is_record d ≡ true
 same_record (desc.Record r) e = refl
@@ -168,7 +168,7 @@ module _ (D : QName → Option Desc) (m : Module) (shown : QName → Option Desc
           by true f h =
               let s = found_among q.object h d (sym (at_own q f) ∙ e) in
               let i = index_below ts rest q.object 0 s.0 s.1.0 s.1.1.0 (ap is_record s.1.1.1 ∙ same_record d r) in
-              ((λ g. subst (λ (l : List TypedType). Rattle.ob_code.specs.Context.before (λ (t : TypedType). t.name) (λ (t : TypedType). 1) (records_among l) q.object < counted 0 ts) all i), (λ g. absurd (false≢true (sym g ∙ f))))
+              ((λ g. subst (λ (l : List TypedType). place (records_among l) q.object < counted 0 ts) all i), (λ g. absurd (false≢true (sym g ∙ f))))
           by false f h = ((λ g. absurd (false≢true (sym f ∙ g))), p.coded q d (sym (at_other q f) ∙ e))
 
       target_below : (t u : TypeRef) → StandsFor V t u → IsAmong ts t → Is V is_record_desc t → BaseFits V m (counted 0 ts) (name_in u)

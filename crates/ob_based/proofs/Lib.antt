@@ -4,3 +4,7 @@ pub mod Plain
 pub mod Headings
 pub mod Blocks
 pub mod Modules
+pub mod Numbers
+pub mod Bases
+pub mod Views
+pub mod Builds

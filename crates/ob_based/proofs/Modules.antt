@@ -26,7 +26,8 @@ use Rattle.ob_bodies.proofs.Binding.{AreOne, IsFrom}
 use Rattle.ob_grounded.proofs.Stand.{found_name}
 use Rattle.ob_grounded.proofs.Modules.{bound_from}
 use Rattle.ob_grounded.proofs.Grounded.{one_of}
-use Rattle.ob_based.specs.Based.{AreBased, ModulesAreBased}
+use Rattle.ob_based.specs.Based.{AreBased}
+use Rattle.ob_based.specs.Laws.{ModulesAreBased}
 use Rattle.ob_grounded.proofs.Firm.{AnyValue}
 use Rattle.ob_based.proofs.Order.{AreInText, text_joined, Text}
 use Rattle.ob_based.proofs.Plain.{imports_go, order_goes}

@@ -39,13 +39,13 @@ module _ (types : QName → Option Desc) (m : Module) where
 
 at_least : (n : ℕ) (ts : List TypedType) → n ≤ counted n ts
 at_least n [] = omega arith
-at_least n (t ∷ ts) = by (is_record t.desc)
+at_least n (t ∷ ts) = by (is_record t.desc) (at_least (n + 1) ts) (at_least n ts)
   where
-    by : (b : Bool) → n ≤ counted (step b n) ts
-    by true = let h = at_least (n + 1) ts in omega (arith, h)
-    by false = at_least n ts
+    by : (b : Bool) → n + 1 ≤ counted (n + 1) ts → n ≤ counted n ts → n ≤ counted (step b n) ts
+    by true h k = omega (arith, h)
+    by false h k = k
 
-abbrev place : List TypedType → List ℕ → ℕ
+abbrev pub place : List TypedType → List ℕ → ℕ
 place ts x = before (λ (t : TypedType). t.name) (λ (t : TypedType). 1) ts x
 
 found_first : (n k c : ℕ) → n + 1 ≤ c → n + 0 < c

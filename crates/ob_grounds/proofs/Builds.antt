@@ -45,18 +45,32 @@ no_face (f ∷ fs) x h = by (bytes_eq x f.«module») refl (no_face fs x (λ k. 
     by true e r = absurd (h (subst (Contains (each (λ (f : Face Text). f.«module») (f ∷ fs))) (sym (bytes_true x f.«module» e)) (has_head f.«module» (each (λ (f : Face Text). f.«module») fs))))
     by false e r = r
 
-pub builds_are_grounded : BuildsAreGrounded
-builds_are_grounded b c v names =
+-- what a build comes from, which keeps the rules and the limit of depth against its interfaces
+pub record ComesChecked (b : Build) (c : Compiled Text) : Type 0 where
+  pub from : ComesFrom b.source c
+  pub over : IsCheckedOver c.against from.tree from.module_is
+
+pub builds_are_checked : (b : Build) (c : Compiled Text) → IsValid b c → AreDistinct (λ (t : TypedType). t.name) c.tree.types → ComesChecked b c
+builds_are_checked b c v names =
     let k : ComesFrom b.source c = subst (ComesFrom b.source) (of_is b c v) (build_comes b c v) in
     let a = apart_of c k.tree (comes_of b c k.tree v k.read) in
     let is : c.tree ≡ laid c.against k.module_is = ap (λ (x : Compiled Text). x.tree) k.is in
-    let over : IsCheckedOver c.against k.tree k.module_is = record {
-      is = k.checked_is;
-      shallow = k.shallow;
-      grounded = against_is_grounded b c v;
-      others = a.others;
-      out = ap (λ o. o >>= λ f. object_named f.objects out_string.object) (no_face c.against (codes "Out") a.out);
-      imports = a.imports;
-      names = unlaid (described c.against) (module_view k.module_is) k.module_is.types (subst (λ (m : Module). AreDistinct (λ (t : TypedType). t.name) m.types) is names);
-    } in
-    subst (λ (m : Module). IsGroundedBuild (record c { tree = m })) (sym is) (record { grounded = views_are_grounded c.against k.tree k.module_is over; short = views_are_short c.against k.tree k.module_is over })
+    record {
+      from = k;
+      over = record {
+        is = k.checked_is;
+        shallow = k.shallow;
+        grounded = against_is_grounded b c v;
+        others = a.others;
+        out = ap (λ o. o >>= λ f. object_named f.objects out_string.object) (no_face c.against (codes "Out") a.out);
+        imports = a.imports;
+        names = unlaid (described c.against) (module_view k.module_is) k.module_is.types (subst (λ (m : Module). AreDistinct (λ (t : TypedType). t.name) m.types) is names);
+      };
+    }
+
+pub builds_are_grounded : BuildsAreGrounded
+builds_are_grounded b c v names =
+    let r = builds_are_checked b c v names in
+    let k = r.from in
+    let is : c.tree ≡ laid c.against k.module_is = ap (λ (x : Compiled Text). x.tree) k.is in
+    subst (λ (m : Module). IsGroundedBuild (record c { tree = m })) (sym is) (record { grounded = views_are_grounded c.against k.tree k.module_is r.over; short = views_are_short c.against k.tree k.module_is r.over })
