@@ -1,5 +1,5 @@
 -- Bases stand before their extensions: what a record's base stands for, through aliases, is a record before it or of another module.
-use Rattle.std.proofs.Common.{◌≡◌, ◌≢◌, ⊎_elim, refl, sym, ap, subst, ◌∙◌, ℕ, ◌≤◌, ◌<◌, Bool, true, false, List, [], ◌∷◌, ◌++◌, Option, Some, None, inl, inr, cond, append_assoc, arith}
+use Rattle.std.proofs.Common.{◌≡◌, ◌≢◌, ⊎_elim, refl, sym, ap, subst, ◌∙◌, ℕ, ◌≤◌, ◌<◌, Bool, true, false, List, [], ◌∷◌, ◌++◌, map as each, Option, Some, None, inl, inr, cond, append_assoc, arith}
 use Rattle.std.specs.Prelude.{bytes_eq, MatchOption, IfSome, IsTrue}
 use Rattle.std.specs.List.{AllByRecursion}
 use Rattle.std.proofs.lemmas.Bool.{false≢true}
@@ -29,8 +29,9 @@ use Rattle.ob_written.specs.Files.{BaseFits, DescBaseFits, number_behind, BasesF
 use Rattle.ob_bodies.specs.Knows.{HasName, Grows, IsTypeDesc, StandsBy, Stands}
 use Rattle.ob_bodies.specs.Order.{IsBased}
 use Rattle.ob_bodies.proofs.Lists.{one_left, one_right, one_joined, one_all}
+use Rattle.ob_grounded.proofs.Maps.{stood_on}
 use Rattle.ob_based.specs.Based.{AreBased}
-use Rattle.ob_based.proofs.Numbers.{counted, counted_more, place, index_below}
+use Rattle.ob_based.proofs.Numbers.{counted, counted_more, place, number_below}
 
 -- ---- types that differ in name
 
@@ -167,7 +168,7 @@ module _ (D : QName → Option Desc) (m : Module) (shown : QName → Option Desc
           by : (b : Bool) → bytes_eq q.«module» m.name ≡ b → By b ts q → BaseFits V m (counted 0 ts) (Some q)
           by true f h =
               let s = found_among q.object h d (sym (at_own q f) ∙ e) in
-              let i = index_below ts rest q.object 0 s.0 s.1.0 s.1.1.0 (ap is_record s.1.1.1 ∙ same_record d r) in
+              let i = number_below ts rest s.0 s.1.0 q.object s.1.1.0 (ap is_record s.1.1.1 ∙ same_record d r) in
               ((λ g. subst (λ (l : List TypedType). place (records_among l) q.object < counted 0 ts) all i), (λ g. absurd (false≢true (sym g ∙ f))))
           by false f h = ((λ g. absurd (false≢true (sym f ∙ g))), p.coded q d (sym (at_other q f) ∙ e))
 
@@ -202,7 +203,7 @@ module _ (D : QName → Option Desc) (m : Module) (shown : QName → Option Desc
   desc_below : (ts rest before : List TypedType) → ts ++ rest ≡ m.types → ((s : TypedType) → IsOneOf ts s → IsOneOf m.types s) → Closed ts → Grows before ts → (x : List ℕ) (d : Desc) → V (record { «module» = m.name; object = x }) ≡ Some d → IsBased (Stands m.name shown before) d → DescBaseFits V m (counted 0 ts) d
   desc_below ts rest before all lies closed g x (desc.Record r) e h =
       let q : QName = record { «module» = m.name; object = x } in
-      base_below ts lies closed rest all r.base (base r.base h) (p.view.keeps q (desc.Record r) e).0 (front_held (listed r.base) _ (p.view.held q (desc.Record r) e))
+      base_below ts lies closed rest all r.base (base r.base h) (p.view.keeps q (desc.Record r) e).0 (front_held (listed r.base) (each (λ f. f.of) r.fields) (stood_on (IsHeld V) (desc.Record r) (p.view.held q (desc.Record r) e)))
     where
       base : (o : Option TypeRef) → IfThere (Stands m.name shown before) o → IfThere (IsAmong ts) o
       base None h = tt

@@ -54,7 +54,7 @@ found_first n k c h = omega (arith, h)
 found_behind : (n k c : ℕ) → (n + 1) + k < c → n + (1 + k) < c
 found_behind n k c h = omega (arith, h)
 
-pub index_below : (ts rest : List TypedType) (x : List ℕ) (n : ℕ) (s : TypedType) → IsOneOf ts s → s.name ≡ x → is_record s.desc ≡ true → n + place (records_among (ts ++ rest)) x < counted n ts
+index_below : (ts rest : List TypedType) (x : List ℕ) (n : ℕ) (s : TypedType) → IsOneOf ts s → s.name ≡ x → is_record s.desc ≡ true → n + place (records_among (ts ++ rest)) x < counted n ts
 index_below [] rest x n s i e r = absurd i
 index_below (t ∷ ts) rest x n s i e r = by (is_record t.desc) refl i (λ k j. index_below ts rest x k s j e r)
   where
@@ -67,3 +67,10 @@ index_below (t ∷ ts) rest x n s i e r = by (is_record t.desc) refl i (λ k j. 
     by true f i g = at (bytes_eq x t.name) refl i (g (n + 1))
     by false f (inl j) g = absurd (false≢true (sym f ∙ ap (λ (y : TypedType). is_record y.desc) j ∙ r))
     by false f (inr j) g = g n j
+
+from_none : (k c : ℕ) → 0 + k < c → k < c
+from_none k c h = omega (arith, h)
+
+-- counted from the first on
+pub number_below : (ts rest : List TypedType) (s : TypedType) → IsOneOf ts s → (x : List ℕ) → s.name ≡ x → is_record s.desc ≡ true → place (records_among (ts ++ rest)) x < counted 0 ts
+number_below ts rest s i x e r = from_none (place (records_among (ts ++ rest)) x) (counted 0 ts) (index_below ts rest x 0 s i e r)
