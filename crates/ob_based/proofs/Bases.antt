@@ -1,5 +1,5 @@
 -- Bases stand before their extensions: what a record's base stands for, through aliases, is a record before it or of another module.
-use Rattle.std.proofs.Common.{◌≡◌, ◌≢◌, ⊎_elim, refl, sym, ap, subst, ◌∙◌, ℕ, ◌≤◌, ◌<◌, Bool, true, false, List, [], ◌∷◌, ◌++◌, map as each, Option, Some, None, inl, inr, cond, append_assoc, arith}
+use Rattle.std.proofs.Common.{◌≡◌, ◌≢◌, ⊎_elim, refl, sym, ap, subst, ◌∙◌, ℕ, ◌<◌, Bool, true, false, List, [], ◌∷◌, ◌++◌, map as each, Option, Some, None, inl, inr, cond, append_assoc, arith}
 use Rattle.std.specs.Prelude.{bytes_eq, MatchOption, IfSome, IsTrue}
 use Rattle.std.specs.List.{AllByRecursion}
 use Rattle.std.proofs.lemmas.Bool.{false≢true}
@@ -9,10 +9,9 @@ use Rattle.ob_types.specs.declared.types.TypeRef.{TypeRef}
 use Rattle.ob_types.specs.declared.types.TypeRef.TheVariants as ref
 use Rattle.ob_types.specs.declared.desc.Desc.{Desc}
 use Rattle.ob_types.specs.declared.desc.Desc.TheVariants as desc
-use Rattle.ob_types.specs.declared.desc.RecordDesc.{RecordDesc}
 use Rattle.ob_types.specs.declared.typed.TypedType.{TypedType}
 use Rattle.ob_types.specs.TypedSyntax.{Module}
-use Rattle.ob_types.specs.Maps.{is_type, listed, named_by, IsHeld}
+use Rattle.ob_types.specs.Maps.{listed, IsHeld}
 use Rattle.ob_types.specs.Tests.{target}
 use Rattle.ob_types.specs.Relations.{StandsFor, itself, equated, Is, is_record as is_record_desc, IsGrounded}
 use Rattle.ob_types.proofs.Targets.{unique, is_target}
@@ -25,7 +24,7 @@ use Rattle.ob_forms.specs.Said.{IsOneOf}
 use Rattle.ob_typed.specs.Makes.{IfThere}
 use Rattle.ob_distinct.specs.Distinct.{AreDistinct}
 use Rattle.ob_written.specs.Coded.{RecordIsCoded}
-use Rattle.ob_written.specs.Files.{BaseFits, DescBaseFits, number_behind, BasesFit}
+use Rattle.ob_written.specs.Files.{BaseFits, DescBaseFits, BasesFit}
 use Rattle.ob_bodies.specs.Knows.{HasName, Grows, IsTypeDesc, StandsBy, Stands}
 use Rattle.ob_bodies.specs.Order.{IsBased}
 use Rattle.ob_bodies.proofs.Lists.{one_left, one_right, one_joined, one_all}
@@ -237,8 +236,7 @@ module _ (D : QName → Option Desc) (m : Module) (shown : QName → Option Desc
   all_below ts [] before all closed g h = tt
   all_below ts (t ∷ rest) before all closed g h =
       let lies : (s : TypedType) → IsOneOf ts s → IsOneOf m.types s = λ s i. subst (λ l. IsOneOf l s) all (one_left ts (t ∷ rest) s i) in
-      let mine : IsOneOf m.types t = subst (λ l. IsOneOf l t) all (one_right ts (t ∷ rest) t (inl refl)) in
-      (
+      let mine : IsOneOf m.types t = subst (λ l. IsOneOf l t) all (one_right ts (t ∷ rest) t (inl refl)) in (
         desc_below ts (t ∷ rest) before all lies closed g t.name t.desc (own_is t mine) h.0,
         subst (λ n. BasesFit V m n rest) (counted_more V m ts 0 t) (all_below (ts ++ t ∷ []) rest (t ∷ before) (append_assoc ts (t ∷ []) rest ∙ all) (closed_on before ts t closed g h.0) (grows_both before ts t g) h.1),
       )

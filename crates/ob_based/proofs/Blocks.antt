@@ -11,7 +11,7 @@ use Rattle.ob_rules.specs.declared.entity.Known.{Known}
 use Rattle.ob_rules.specs.Names.{Around, is_out}
 use Rattle.ob_rules.specs.Expressions.{phrase_of}
 use Rattle.ob_rules.specs.Types.{Parameters, is_module_level, written}
-use Rattle.ob_rules.specs.Statements.{Judging, judging, in_turn}
+use Rattle.ob_rules.specs.Statements.{Judging, judging}
 use Rattle.ob_rules.specs.Headings.{Head, Heads, reversed, types_of}
 use Rattle.ob_rules.specs.Declarations.{Part, Written_procedure, Declaration, Plain, Procedure, plain_of, type_name_of, procedure_of, in_order, headings_in_order, around_body, types_of_head, procedure_judged, procedures_judged, with_bound, binding_at, block, decl_rule, declaration}
 use Rattle.ob_typed.specs.Makes.{IfThere}

@@ -1,9 +1,9 @@
 -- Valid builds.
-use Rattle.std.proofs.Common.{◌≡◌, List, sym, ap, subst}
+use Rattle.std.proofs.Common.{◌≡◌, sym, ap, subst}
 use Rattle.std.specs.List.{AllByRecursion}
 use Rattle.ob_types.specs.TypedSyntax.{Module}
 use Rattle.ob_layout.specs.LaidOut.{viewed}
-use Rattle.ob_env.specs.Faces.{Face, described}
+use Rattle.ob_env.specs.Faces.{described}
 use Rattle.ob_compile.specs.Compiling.{Compiled}
 use Rattle.ob_written.specs.Laws.{IsSpelled}
 use Rattle.ob_written.specs.Files.{BasesFit}

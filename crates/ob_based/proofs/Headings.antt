@@ -1,6 +1,6 @@
 -- Headings: no type that one makes is known by a name.
 use Rattle.std.proofs.Common.{◌≡◌, ℕ, ◌+◌, Bool, true, false, List, [], ◌∷◌, ◌++◌, length, Option, Some, None}
-use Rattle.std.specs.Prelude.{nat_lt, is_some}
+use Rattle.std.specs.Prelude.{nat_lt}
 use Rattle.std.specs.List.{AllByRecursion}
 use Rattle.ob_tree.specs.declared.names.QName.{QName}
 use Rattle.ob_tree.specs.declared.ident.Ident.{Ident}
@@ -12,19 +12,17 @@ use Rattle.ob_types.specs.declared.types.TypeRef.{TypeRef}
 use Rattle.ob_types.specs.declared.types.Signature.{Signature}
 use Rattle.ob_types.specs.declared.desc.Desc.{Desc}
 use Rattle.ob_types.specs.declared.typed.TypedType.{TypedType}
-use Rattle.ob_rules.specs.declared.entity.Entity.{Entity}
 use Rattle.ob_rules.specs.declared.entity.Known.{Known}
 use Rattle.ob_rules.specs.Judged.{paired}
 use Rattle.ob_rules.specs.Names.{Around, in_unit, is_out}
 use Rattle.ob_rules.specs.Types.{Typing, with_types, section_name, Parameters, WrittenSection, mode_of, parameter_as, knows, declare_all, with_made, sections, marked, inner}
 use Rattle.ob_rules.specs.Headings.{WrittenHeading, Head, Heads, BoundAs, owner_if, knows_receiver, path_by, forward_name, as_parameters, heading_parameters, head_of, entity_as, head_entity, name_twice, declared_head, knows_procedure, known_behind, types_of, add_heading}
 use Rattle.ob_rules.specs.Declarations.{Written_procedure, headings_in_order}
-use Rattle.ob_described.proofs.Nodes.{Has}
 use Rattle.ob_typed.specs.Makes.{IfThere}
 use Rattle.ob_bodies.specs.Knows.{Stands, EntityStands}
 use Rattle.ob_bodies.specs.Order.{IsOver}
 use Rattle.ob_bodies.proofs.Lists.{all_of, all_filtered}
-use Rattle.ob_bodies.proofs.Over.{AreSectionsOver, ParametersOver, parameters_over}
+use Rattle.ob_bodies.proofs.Over.{AreSectionsOver, parameters_over}
 use Rattle.ob_grounded.proofs.Firm.{AnyValue}
 use Rattle.ob_based.proofs.Order.{names_of, Text, known_over, over_back}
 

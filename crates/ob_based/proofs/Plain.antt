@@ -1,5 +1,5 @@
 -- Constants, types, variables and imports: what is known behind each is known by what stands before it and what it makes.
-use Rattle.std.proofs.Common.{◌≡◌, refl, sym, ap, ◌∙◌, subst, ℕ, Bool, true, false, List, [], ◌∷◌, ◌++◌, map, Option, Some, None, inl}
+use Rattle.std.proofs.Common.{◌≡◌, refl, sym, ap, subst, ℕ, Bool, true, false, List, [], ◌∷◌, ◌++◌, map, Option, Some, None, inl}
 use Rattle.std.specs.Prelude.{bytes_eq, codes, is_some}
 use Rattle.std.specs.List.{AllByRecursion}
 use Rattle.ob_tree.specs.declared.names.QName.{QName}
@@ -17,7 +17,7 @@ use Rattle.ob_types.specs.declared.desc.Desc.TheVariants as desc
 use Rattle.ob_types.specs.declared.typed.TypedType.{TypedType}
 use Rattle.ob_rules.specs.declared.entity.Entity.{Entity}
 use Rattle.ob_rules.specs.declared.entity.Known.{Known}
-use Rattle.ob_rules.specs.Judged.{Judged, sound, both, made, ◌▷◌}
+use Rattle.ob_rules.specs.Judged.{sound, both, ◌▷◌}
 use Rattle.ob_rules.specs.Names.{Around, in_unit, found_in_scope, is_out}
 use Rattle.ob_rules.specs.Phrases.{Phrase}
 use Rattle.ob_rules.specs.Expressions.{constant_value}

@@ -1,10 +1,9 @@
 -- A module with its records laid out: the bases of its records stand before them.
-use Rattle.std.proofs.Common.{◌≡◌, ◌≢◌, refl, sym, ap, subst, ◌∙◌, ℕ, Bool, true, false, List, [], ◌∷◌, map as each, Option, Some, None, inl, inr}
+use Rattle.std.proofs.Common.{◌≡◌, ◌≢◌, refl, ap, subst, ◌∙◌, ℕ, List, [], ◌∷◌, map as each, Option, Some, None, inl, inr}
 use Rattle.std.specs.Prelude.{bytes_eq}
 use Rattle.std.specs.Option.{option_map}
 use Rattle.std.specs.List.{AllByRecursion}
 use Rattle.ob_tree.specs.declared.names.QName.{QName}
-use Rattle.ob_tree.specs.declared.decl.Module.{Module as Tree}
 use Rattle.ob_types.specs.declared.types.TypeRef.{TypeRef}
 use Rattle.ob_types.specs.declared.desc.Desc.{Desc}
 use Rattle.ob_types.specs.declared.desc.Desc.TheVariants as desc
@@ -14,7 +13,7 @@ use Rattle.ob_types.specs.TypedSyntax.{Module}
 use Rattle.ob_types.specs.TypedView.{module_view}
 use Rattle.ob_rules.specs.Declarations.{declaration, module_part, typed_module}
 use Rattle.ob_layout.specs.LaidOut.{laid_desc, laid_type}
-use Rattle.ob_env.specs.Faces.{Face, described}
+use Rattle.ob_env.specs.Faces.{described}
 use Rattle.ob_env.specs.Shown.{blank, shown}
 use Rattle.ob_typed.specs.Makes.{IfThere}
 use Rattle.ob_written.proofs.Names.{described_fits}
@@ -23,7 +22,7 @@ use Rattle.ob_distinct.proofs.Blocks.{unbroken_is}
 use Rattle.ob_bodies.specs.Knows.{Grows, IsTypeDesc, Stands}
 use Rattle.ob_bodies.specs.Order.{IsBased}
 use Rattle.ob_bodies.proofs.Standing.{grows_same, stands_grown}
-use Rattle.ob_firm.specs.Laws.{Text, IsCheckedOver, laid}
+use Rattle.ob_firm.specs.Laws.{laid}
 use Rattle.ob_firm.proofs.Views.{checked_so, views_are_grounded}
 use Rattle.ob_based.specs.Based.{AreBased}
 use Rattle.ob_based.specs.Laws.{ViewsAreBased}
