@@ -70,3 +70,11 @@ builds_are_grounded b c v names =
     let is : c.tree ≡ laid c.against k.module_is = ap (λ (x : Compiled Text). x.tree) k.is in
     let over = build_over b c v names k in
     subst (λ (m : Module). IsGroundedBuild (record c { tree = m })) (sym is) (record { grounded = views_are_grounded c.against k.tree k.module_is over; short = views_are_short c.against k.tree k.module_is over })
+
+-- a build comes from a module that keeps the rules and the limit of depth against its interfaces
+pub record ComesChecked (b : Build) (c : Compiled Text) : Type 0 where
+  pub from : ComesFrom b.source c
+  pub over : IsCheckedOver c.against from.tree from.module_is
+
+pub builds_are_checked : (b : Build) (c : Compiled Text) → IsValid b c → AreDistinct (λ (t : TypedType). t.name) c.tree.types → ComesChecked b c
+builds_are_checked b c v names = record { from = build_from b c v; over = build_over b c v names (build_from b c v) }

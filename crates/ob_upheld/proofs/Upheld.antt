@@ -14,6 +14,7 @@ use Rattle.ob_ages.specs.Builds.{Text, Build, IsSpelled, IsValid, entry_of}
 use Rattle.ob_ages.proofs.Apart.{entry_named}
 use Rattle.ob_locality.proofs.Following.{locality_holds}
 use Rattle.ob_grounds.proofs.Builds.{builds_are_grounded}
+use Rattle.ob_based.proofs.Builds.{builds_are_based}
 use Rattle.ob_upheld.specs.Upheld.{WrittenFollows, SimulationSuffices}
 
 fresh : (x : List ℕ) (ts : List TypedType) → AllByRecursion (λ y. bytes_eq x y ≡ false) (map (λ t. t.name) ts) → AllByRecursion (λ t. t.name ≢ x) ts
@@ -30,12 +31,13 @@ pub builds_differ : (b : Build) (c : Compiled Text) → IsValid b c → AreDisti
 builds_differ b c v = distinct c.tree.types (compiled_types_differ (λ name. entry_of (face_named b.against name)) (entry_named b.against) (Some b.source) c v.is)
 
 pub builds_are_written : WrittenFollows
-builds_are_written short bases b c v =
-    let g = builds_are_grounded b c v (builds_differ b c v) in
+builds_are_written short b c v =
+    let d = builds_differ b c v in
+    let g = builds_are_grounded b c v d in
     let w = left_written (λ name. entry_of (face_named b.against name)) (λ m f e. sym (entry_named b.against m f e)) (Some b.source) c v.is
     (subst (AllByRecursion IsSpelled) (sym v.whole) v.spelled)
-    (record { short = short b c v; grounded = g.short; bases = bases b c v }) in
+    (record { short = short b c v; grounded = g.short; bases = builds_are_based b c v d }) in
     record { object = w.object; symbols = w.symbols }
 
 pub simulation_suffices : SimulationSuffices
-simulation_suffices simulation short bases = record { locality = locality_holds; simulation = simulation; written = builds_are_written short bases }
+simulation_suffices simulation short = record { locality = locality_holds; simulation = simulation; written = builds_are_written short }

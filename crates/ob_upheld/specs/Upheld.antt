@@ -1,10 +1,7 @@
 -- Laws of builds that are kept, and what of the headline's premises is left.
 use Rattle.std.specs.Prelude.{◌<◌, ◌^◌, length}
 use Rattle.std.specs.List.{AllByRecursion}
-use Rattle.ob_layout.specs.LaidOut.{viewed}
-use Rattle.ob_env.specs.Faces.{described}
 use Rattle.ob_compile.specs.Compiling.{Compiled}
-use Rattle.ob_written.specs.Files.{BasesFit}
 use Rattle.ob_ages.specs.Builds.{Text, Build, IsValid}
 use Rattle.ob_ages.specs.Laws.{Simulation, BuildsAreWritten}
 use Rattle.ob_ages.specs.Holds.{Promises}
@@ -15,14 +12,10 @@ use Rattle.ob_ages.specs.Holds.{Promises}
 abbrev pub NamesAreShort : Type 0
 NamesAreShort = (b : Build) (c : Compiled Text) → IsValid b c → AllByRecursion (λ t. length t.name < 2 ^ 16) c.tree.types
 
--- a base stands before its extensions
-abbrev pub BasesStand : Type 0
-BasesStand = (b : Build) (c : Compiled Text) → IsValid b c → BasesFit (viewed (described c.against) c.tree) c.tree 0 c.tree.types
-
 -- WHAT IS WRITTEN of a build has a spelling, where that is seen.
 abbrev pub WrittenFollows : Type 0
-WrittenFollows = NamesAreShort → BasesStand → BuildsAreWritten
+WrittenFollows = NamesAreShort → BuildsAreWritten
 
 -- WHAT IS LEFT to be taken for granted: that commands by the machine's table are those of the meaning, and what is still to be seen.
 abbrev pub SimulationSuffices : Type 0
-SimulationSuffices = Simulation → NamesAreShort → BasesStand → Promises
+SimulationSuffices = Simulation → NamesAreShort → Promises

@@ -1,0 +1,10 @@
+pub mod Order
+pub mod Written
+pub mod Plain
+pub mod Headings
+pub mod Blocks
+pub mod Modules
+pub mod Numbers
+pub mod Bases
+pub mod Views
+pub mod Builds
