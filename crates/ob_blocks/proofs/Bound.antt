@@ -133,7 +133,7 @@ module _ (P : QName → Type 0) (u : Around) where
 abbrev pub Signed : List Bound → Type 0
 Signed bs = AllByRecursion (λ (b : Bound). is_some b.signature ≡ true) bs
 
-abbrev Quiet : Binding → Type 0
+abbrev pub Quiet : Binding → Type 0
 Quiet st = st.notes.broken ≡ []
 
 -- a procedure that is judged, with its parameters
@@ -146,7 +146,7 @@ has_signature (Some p) h = refl
 
 module _ (u : Around) where
   -- where nothing is broken in the end, nothing was before, and each that is added has its parameters
-  abbrev Added : Binding → Binding → Type 0
+  abbrev pub Added : Binding → Binding → Type 0
   Added st more = Quiet more → Quiet st × (Signed st.bound → Signed more.bound)
 
   redefined_signed : (b : Bool) (st : Binding) (h : Head) (o : BoundAs) → IsJudged h → Added st (redefined b st h o)
@@ -166,18 +166,18 @@ module _ (u : Around) where
   by_signed map st h o (Some (AField owner f)) i = λ e. absurd (clash_not st h h.forward refl i.0 e)
   by_signed map st h o (Some (AMethod owner m)) i = method_signed (bytes_eq owner.object o.owner.object && bytes_eq owner.module u.unit) map st h o owner m i
 
-  one_signed : (st : Binding) (h : Head) (o : Option BoundAs) → IsJudged h → Added st (bind_one u st h o)
+  pub one_signed : (st : Binding) (h : Head) (o : Option BoundAs) → IsJudged h → Added st (bind_one u st h o)
   one_signed st h None i = λ e. (e, λ s. s)
   one_signed st h (Some b) i = by_signed (map_of (record u { own = st.own })) st h b (member (map_of (record u { own = st.own })) b.owner h.name) i
 
-  all_signed : (hs : List Head) → AllByRecursion IsJudged hs → (st : Binding) → Added st (bind_all u st hs)
+  pub all_signed : (hs : List Head) → AllByRecursion IsJudged hs → (st : Binding) → Added st (bind_all u st hs)
   all_signed [] i st = λ e. (e, λ s. s)
   all_signed (h ∷ hs) i st = λ e.
       let next = all_signed hs i.1 (bind_one u st h h.bound) e in
       let one = one_signed st h h.bound i.0 next.0 in
       (one.0, λ s. next.1 (one.1 s))
 
-  records_signed : (hs : List Head) → AllByRecursion IsJudged hs → (ts : List TypedType) (st : Binding) → Added st (bind_records u hs st ts)
+  pub records_signed : (hs : List Head) → AllByRecursion IsJudged hs → (ts : List TypedType) (st : Binding) → Added st (bind_records u hs st ts)
   records_signed hs i [] st = λ e. (e, λ s. s)
   records_signed hs i (t ∷ ts) st = λ e.
       let next = records_signed hs i ts (bind_all u st (filter (of_record t.name) hs)) e in

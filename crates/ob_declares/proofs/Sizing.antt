@@ -34,7 +34,7 @@ use Rattle.ob_declares.proofs.Summed.{laid_found, has_more, words_more}
 use Rattle.ob_declares.proofs.Places.{places_sum, offset_behind}
 
 -- a record that is laid out was one before
-laid_of : (w p : TypeRef → ℕ) (q : QName) (d : Desc) (s : RecordDesc) → laid_desc w p q d ≡ desc.Record s → (r : RecordDesc) × ((d ≡ desc.Record r) × (laid_record w p q r ≡ s))
+pub laid_of : (w p : TypeRef → ℕ) (q : QName) (d : Desc) (s : RecordDesc) → laid_desc w p q d ≡ desc.Record s → (r : RecordDesc) × ((d ≡ desc.Record r) × (laid_record w p q r ≡ s))
 laid_of w p q (desc.Const v) s e = absurd cc
 laid_of w p q (desc.Var m t) s e = absurd cc
 laid_of w p q (desc.Proc g) s e = absurd cc

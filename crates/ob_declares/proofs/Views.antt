@@ -52,7 +52,7 @@ type_found (t ∷ ts) x d e = by (bytes_eq x t.name) refl e (λ e. type_found ts
     by true n e r = let k : t.desc ≡ d = cc in record { t = t; there = inl refl; name = sym (bytes_true x t.name n); desc = k }
     by false n e r = let k = r e in record { t = k.t; there = inr k.there; name = k.name; desc = k.desc }
 
-own_found : (ts : List TypedType) (x : List ℕ) (d : Desc) → own_desc (find (λ t. bytes_eq t.name x) ts) ≡ Some d → TypeFound ts x d
+pub own_found : (ts : List TypedType) (x : List ℕ) (d : Desc) → own_desc (find (λ t. bytes_eq t.name x) ts) ≡ Some d → TypeFound ts x d
 own_found [] x d e = absurd cc
 own_found (t ∷ ts) x d e = by (bytes_eq t.name x) refl e (λ e. own_found ts x d e)
   where
@@ -108,7 +108,7 @@ module _ (program : Program) (sound : IsSound program) where
       by (desc.Record s) e t = (s, (e, part_itself s))
 
   -- so it does as it was checked
-  checked_said : (types : QName → Option Desc) (c : Module) (q p : QName) (d : Desc) → description program q ≡ Some (laid_desc (words_in types c) (procedures_in types c) p d) → IsSaid program q d
+  pub checked_said : (types : QName → Option Desc) (c : Module) (q p : QName) (d : Desc) → description program q ≡ Some (laid_desc (words_in types c) (procedures_in types c) p d) → IsSaid program q d
   checked_said types c q p (desc.Const v) e = tt
   checked_said types c q p (desc.Var m u) e = let t = a_type q (desc.Var m u) e in absurd cc
   checked_said types c q p (desc.Proc s) e = let t = a_type q (desc.Proc s) e in absurd cc
@@ -120,7 +120,7 @@ module _ (program : Program) (sound : IsSound program) where
   checked_said types c q p (desc.Record r) e = (laid_record (words_in types c) (procedures_in types c) p r, (e, part_laid (words_in types c) (procedures_in types c) p r))
 
   -- so it does without places and numbers
-  blank_said : (q : QName) (d : Desc) → IsSaid program q d → IsSaid program q (blank d)
+  pub blank_said : (q : QName) (d : Desc) → IsSaid program q d → IsSaid program q (blank d)
   blank_said q (desc.Const v) h = h
   blank_said q (desc.Var m u) h = h
   blank_said q (desc.Proc s) h = h

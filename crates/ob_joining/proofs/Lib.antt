@@ -3,7 +3,7 @@ mod Joins
 mod Shifts
 mod Stops
 mod Images
-mod Settings
+pub mod Settings
 mod Entered
 mod Found
 mod Runs

@@ -77,7 +77,7 @@ pub either : {A B C : Type 0} → (B → C) → A ⊎ B → A ⊎ C
 either f (inl a) = inl a
 either f (inr b) = inr (f b)
 
-filter_among : {A : Type 0} (test : A → Bool) (x : A) → test x ≡ true → (ys : List A) → Among x ys → Among x (filter test ys)
+pub filter_among : {A : Type 0} (test : A → Bool) (x : A) → test x ≡ true → (ys : List A) → Among x ys → Among x (filter test ys)
 filter_among test x t [] h = h
 filter_among test x t (y ∷ ys) h = filter_if (test y) x y (filter test ys) (λ e. ap test e ∙ t) (either (filter_among test x t ys) h)
 
@@ -110,7 +110,7 @@ named_parts x [] us h = inr h
 named_parts x (t ∷ ts) us (inl e) = inl (inl e)
 named_parts x (t ∷ ts) us (inr h) = ⊎_elim (λ k. inl (inr k)) (λ k. inr k) (named_parts x ts us h)
 
-named_reversed : (x : List ℕ) (ts : List TypedType) → Named x ts → Named x (reversed ts)
+pub named_reversed : (x : List ℕ) (ts : List TypedType) → Named x ts → Named x (reversed ts)
 named_reversed x [] h = h
 named_reversed x (t ∷ ts) (inl e) = named_back x (reversed ts) (t ∷ []) (inl e)
 named_reversed x (t ∷ ts) (inr h) = named_front x (reversed ts) (t ∷ []) (named_reversed x ts h)
@@ -127,13 +127,13 @@ record_grows a b r (inr g) i = (g.s, g.is)
 -- ---- one procedure, bound to a record of the module
 
 module _ (u : Around) (h0 : Head) (b0 : BoundAs) (own : bytes_eq b0.owner.«module» u.unit ≡ true) (bound : h0.bound ≡ Some b0) (forward : h0.forward ≡ false) where
-  abbrev map_in : List TypedType → Map
+  abbrev pub map_in : List TypedType → Map
   map_in ts = map_of (record u { own = ts })
 
-  abbrev Is : List TypedType → Type 0
+  abbrev pub Is : List TypedType → Type 0
   Is ts = IsMethod (member (map_in ts) b0.owner h0.name)
 
-  record Step (s t : Binding) : Type 0 where
+  pub record Step (s t : Binding) : Type 0 where
     pub quiet : t.notes.broken ≡ [] → s.notes.broken ≡ []
     pub keeps : Is s.own → Is t.own
     pub there : HasRecord s.own b0.owner.object → HasRecord t.own b0.owner.object
@@ -172,21 +172,21 @@ module _ (u : Around) (h0 : Head) (b0 : BoundAs) (own : bytes_eq b0.owner.«modu
   by_step map s h b (Some (AField q f)) = record { quiet = λ e. front_empty s.notes.broken _ e; keeps = λ i. i; there = λ r. r }
   by_step map s h b (Some (AMethod q m)) = method_step _ map s h b q m
 
-  one_step : (s : Binding) (h : Head) (o : Option BoundAs) → Step s (bind_one u s h o)
+  pub one_step : (s : Binding) (h : Head) (o : Option BoundAs) → Step s (bind_one u s h o)
   one_step s h None = stays s
   one_step s h (Some b) = by_step (map_in s.own) s h b (member (map_in s.own) b.owner h.name)
 
-  all_step : (hs : List Head) (s : Binding) → Step s (bind_all u s hs)
+  pub all_step : (hs : List Head) (s : Binding) → Step s (bind_all u s hs)
   all_step [] s = stays s
   all_step (h ∷ hs) s = then s (bind_one u s h h.bound) (bind_all u (bind_one u s h h.bound) hs) (one_step s h h.bound) (all_step hs (bind_one u s h h.bound))
 
-  records_step : (hs : List Head) (ts : List TypedType) (s : Binding) → Step s (bind_records u hs s ts)
+  pub records_step : (hs : List Head) (ts : List TypedType) (s : Binding) → Step s (bind_records u hs s ts)
   records_step hs [] s = stays s
   records_step hs (t ∷ ts) s = then s (bind_all u s (filter (of_record t.name) hs)) (bind_records u hs (bind_all u s (filter (of_record t.name) hs)) ts) (all_step (filter (of_record t.name) hs) s) (records_step hs ts (bind_all u s (filter (of_record t.name) hs)))
 
   -- ---- itself
 
-  at_own : (ts : List TypedType) → map_in ts b0.owner ≡ desc_in ts b0.owner.object
+  pub at_own : (ts : List TypedType) → map_in ts b0.owner ≡ desc_in ts b0.owner.object
   at_own ts = ap (λ b. type_desc b (same_name b0.owner out_string) (record u { own = ts }) b0.owner) own
 
   said : (f : Bool) (at : Pos) → f ≡ false → (notes_if (not f) 1 at).broken ≡ [] → ⊥
@@ -214,7 +214,7 @@ module _ (u : Around) (h0 : Head) (b0 : BoundAs) (own : bytes_eq b0.owner.«modu
       (all_step hs n).keeps (subst (λ (z : Binding). Is z.own) same (one_gains s r (subst (λ (z : Binding). z.notes.broken ≡ []) (sym same) q)))
   all_gains (h ∷ hs) (inr a) s r e = all_gains hs a (bind_one u s h h.bound) ((one_step s h h.bound).there r) e
 
-  of_owner : (x : List ℕ) → bytes_eq b0.owner.object x ≡ true → of_record x h0 ≡ true
+  pub of_owner : (x : List ℕ) → bytes_eq b0.owner.object x ≡ true → of_record x h0 ≡ true
   of_owner x e = ap (owner_is x) bound ∙ e
 
   records_gain : (hs : List Head) → Among h0 hs → (ts : List TypedType) → Named b0.owner.object ts → (s : Binding) → HasRecord s.own b0.owner.object → (bind_records u hs s ts).notes.broken ≡ [] → Is (bind_records u hs s ts).own
@@ -225,7 +225,7 @@ module _ (u : Around) (h0 : Head) (b0 : BoundAs) (own : bytes_eq b0.owner.«modu
       (records_step hs ts k).keeps (all_gains some (filter_among (of_record t.name) h0 (of_owner t.name i) hs a) s r ((records_step hs ts k).quiet e))
   records_gain hs a (t ∷ ts) (inr n) s r e = records_gain hs a ts n (bind_all u s (filter (of_record t.name) hs)) ((all_step (filter (of_record t.name) hs) s).there r) e
 
-  counts_true : (all : List Head) → h0.is_bound ≡ true → counts all h0 ≡ true
+  pub counts_true : (all : List Head) → h0.is_bound ≡ true → counts all h0 ≡ true
   counts_true all b = ap (λ a. a && is_some h0.bound && counts_if h0.forward all h0) b ∙ ap (λ o. is_some o && counts_if h0.forward all h0) bound ∙ ap (λ f. counts_if f all h0) forward
 
   same_around : (b : Binding) → MapGrows (map_in b.own) (map_of (with_bound u b))

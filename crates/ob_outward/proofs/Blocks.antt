@@ -276,21 +276,21 @@ hidden_good Good nested (p ∷ ps) h = (nested p h.0, hidden_good Good nested ps
 
 -- what is so of the procedure of each heading of the module
 abbrev pub TypedSo : (TypedProcedure → Type 0) → Around → List Head → Type 0
-TypedSo Good U all = (h : Head) → IsHeaded U.unit U.own h → Among h all → h.forward ≡ false → (p : Parameters) (c : Contents) → AllByRecursion Good (typed_procedure (map_of (with_bound U (bindings U all))) h (Some p) c)
+TypedSo Good U all = (h : Head) → IsHeaded U.unit U.own h → Among h all → h.forward ≡ false → (p : Parameters) → h.parameters ≡ Some p → (c : Contents) → AllByRecursion Good (typed_procedure (map_of (with_bound U (bindings U all))) h (Some p) c)
 
 module _ (Good : TypedProcedure → Type 0) (nested : (p : TypedProcedure) → IsHidden p → Good p) (U : Around) (all : List Head) (so : TypedSo Good U all) where
   abbrev V : Around
   V = with_bound U (bindings U all)
 
-  typed_good : (h : Head) → IsHeaded U.unit U.own h → Among h all → h.forward ≡ false → (o : Option Parameters) (c : Contents) → AllByRecursion Good (typed_procedure (map_of V) h o c)
-  typed_good h i a f None c = tt
-  typed_good h i a f (Some p) c = so h i a f p c
+  typed_good : (h : Head) → IsHeaded U.unit U.own h → Among h all → h.forward ≡ false → (o : Option Parameters) → h.parameters ≡ o → (c : Contents) → AllByRecursion Good (typed_procedure (map_of V) h o c)
+  typed_good h i a f None e c = tt
+  typed_good h i a f (Some p) e c = so h i a f p e c
 
   judged_good : (p : Written_procedure) → GoodProcedure p → (h : Head) → IsHeaded U.unit U.own h → Among h all → (forward : Bool) → h.forward ≡ forward → AllByRecursion Good (procedure_judged V p h forward).contents.procedures
   judged_good p g h i a true f = tt
   judged_good p g h i a false f =
       let c = (p.inside (around_body V h)).contents in
-      all_both Good (typed_procedure (map_of V) h h.parameters c) c.procedures (typed_good h i a f h.parameters c) (hidden_good Good nested c.procedures (g.inside (around_body V h) (no_level h.path)))
+      all_both Good (typed_procedure (map_of V) h h.parameters c) c.procedures (typed_good h i a f h.parameters refl c) (hidden_good Good nested c.procedures (g.inside (around_body V h) (no_level h.path)))
 
   same_forward : (t : Bool) (d : Head) (u : Around) → (declared_head t d u).forward ≡ d.forward
   same_forward true d u = refl

@@ -248,11 +248,11 @@ module _ (shown : QName → Option Desc) (tree : Tree) (named : AllByRecursion (
       })
 
   typed_so : TypedSo Good U (heads_of (ps shown tree named) (start shown tree named))
-  typed_so h (inl k) a w p c = ((λ b e. none b (sym (ap (bound_to f h) k.0) ∙ e)), tt)
+  typed_so h (inl k) a w p has c = ((λ b e. none b (sym (ap (bound_to f h) k.0) ∙ e)), tt)
     where
       none : (b : BoundTo) → None ≡ Some b → IsFamily g tree.name.name b
       none b e = absurd cc
-  typed_so h (inr k) a w p c = ((λ b e. family h k.0 k.1.1.1.0 (member f k.0.owner h.name) refl b (sym (ap (bound_to f h) k.1.0) ∙ e)), tt)
+  typed_so h (inr k) a w p has c = ((λ b e. family h k.0 k.1.1.1.0 (member f k.0.owner h.name) refl b (sym (ap (bound_to f h) k.1.0) ∙ e)), tt)
 
   hidden : (p : TypedProcedure) → IsHidden p → Good p
   hidden p h b e = absurd (no (sym h.1 ∙ e))

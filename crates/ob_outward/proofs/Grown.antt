@@ -136,11 +136,11 @@ none_own : (o : Option Member) (a : Option QName) (h : QName → Option Member) 
 none_own None a h e = refl
 none_own (Some m) a h e = absurd cc
 
-none_within : (f : Map) (n : ℕ) (q : QName) (x : List ℕ) → member_within f (suc n) q x ≡ None → own_member q (f q) x ≡ None
+pub none_within : (f : Map) (n : ℕ) (q : QName) (x : List ℕ) → member_within f (suc n) q x ≡ None → own_member q (f q) x ≡ None
 unfolding member_within
 none_within f n q x e = none_own (own_member q (f q) x) (base_record f q) (λ b. member_within f n b x) e
 
-no_field : (q : QName) (f : Option Field) (m : Option Method) → field_or q f m ≡ None → (f ≡ None) × (m ≡ None)
+pub no_field : (q : QName) (f : Option Field) (m : Option Method) → field_or q f m ≡ None → (f ≡ None) × (m ≡ None)
 no_field q None None e = (refl, refl)
 no_field q None (Some m) e = absurd cc
 no_field q (Some f) m e = absurd cc
@@ -149,7 +149,7 @@ last_if : (b : Bool) (m : Method) (o p : Option Method) → (o ≡ None → p �
 last_if true m o p h n e = absurd cc
 last_if false m o p h n e = h e
 
-find_last : (test : Method → Bool) (ms : List Method) (m : Method) → test m ≡ true → find test ms ≡ None → find test (ms ++ m ∷ []) ≡ Some m
+pub find_last : (test : Method → Bool) (ms : List Method) (m : Method) → test m ≡ true → find test ms ≡ None → find test (ms ++ m ∷ []) ≡ Some m
 find_last test [] m i e = ap (λ b. cond b (Some m) None) i
 find_last test (n ∷ ms) m i e = last_if (test n) m (find test ms) (find test (ms ++ m ∷ [])) (find_last test ms m i) n e
 

@@ -18,7 +18,7 @@ use Rattle.ob_redefined.proofs.Members.{members_stay}
 
 module _ (u : Around) where
   -- each member that is found in these types is found in those
-  abbrev Stay : List TypedType → List TypedType → Type 0
+  abbrev pub Stay : List TypedType → List TypedType → Type 0
   Stay a b = (q : QName) (x : List ℕ) (r : Member) → member (with_own u a) q x ≡ Some r → member (with_own u b) q x ≡ Some r
 
   redefined_same : (c : Bool) (st : Binding) (h : Head) (b : BoundAs) → (redefined c st h b).own ≡ st.own
@@ -32,22 +32,22 @@ module _ (u : Around) where
   stay_same : (a b : List TypedType) → b ≡ a → Stay a b
   stay_same a b e q x r h = subst (λ z. member (with_own u z) q x ≡ Some r) (sym e) h
 
-  by_stays : (st : Binding) (h : Head) (b : BoundAs) → bytes_eq b.owner.«module» u.unit ≡ true → (o : Option Member) → member (with_own u st.own) b.owner h.name ≡ o → Stay st.own (bind_by u (with_own u st.own) st h b o).own
+  pub by_stays : (st : Binding) (h : Head) (b : BoundAs) → bytes_eq b.owner.«module» u.unit ≡ true → (o : Option Member) → member (with_own u st.own) b.owner h.name ≡ o → Stay st.own (bind_by u (with_own u st.own) st h b o).own
   by_stays st h b own None e = members_stay u st.own b.owner (new_method h b) own e
   by_stays st h b own (Some (AField owner f)) e = stay_same st.own st.own refl
   by_stays st h b own (Some (AMethod owner m)) e =
       let c = bytes_eq owner.object b.owner.object && bytes_eq owner.module u.unit in
       stay_same st.own (bind_method c u (with_own u st.own) st h b owner m).own (method_same c (with_own u st.own) st h b owner m)
 
-  one_stays : (st : Binding) (h : Head) (o : Option BoundAs) → IsOwned u.unit o → Stay st.own (bind_one u st h o).own
+  pub one_stays : (st : Binding) (h : Head) (o : Option BoundAs) → IsOwned u.unit o → Stay st.own (bind_one u st h o).own
   one_stays st h None own = stay_same st.own st.own refl
   one_stays st h (Some b) own = by_stays st h b own (member (with_own u st.own) b.owner h.name) refl
 
-  all_stays : (hs : List Head) → AllByRecursion (λ (h : Head). IsOwned u.unit h.bound) hs → (st : Binding) → Stay st.own (bind_all u st hs).own
+  pub all_stays : (hs : List Head) → AllByRecursion (λ (h : Head). IsOwned u.unit h.bound) hs → (st : Binding) → Stay st.own (bind_all u st hs).own
   all_stays [] own st = stay_same st.own st.own refl
   all_stays (h ∷ hs) own st = λ q x r e. all_stays hs own.1 (bind_one u st h h.bound) q x r (one_stays st h h.bound own.0 q x r e)
 
-  records_stay : (hs : List Head) → AllByRecursion (λ (h : Head). IsOwned u.unit h.bound) hs → (ts : List TypedType) (st : Binding) → Stay st.own (bind_records u hs st ts).own
+  pub records_stay : (hs : List Head) → AllByRecursion (λ (h : Head). IsOwned u.unit h.bound) hs → (ts : List TypedType) (st : Binding) → Stay st.own (bind_records u hs st ts).own
   records_stay hs own [] st = stay_same st.own st.own refl
   records_stay hs own (t ∷ ts) st = λ q x r e.
       let fs = filter (of_record t.name) hs in

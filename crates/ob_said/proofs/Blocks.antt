@@ -60,7 +60,7 @@ abbrev pub AreGoodProcedures : List Written_procedure → Type 0
 AreGoodProcedures ps = AllByRecursion GoodProcedure ps
 
 -- the headings of procedures, in the order of the text
-pub heads_of : List Written_procedure → Heads → List Head
+unfoldable pub heads_of : List Written_procedure → Heads → List Head
 heads_of [] hs = []
 heads_of (p ∷ ps) hs =
     let d = head_of hs.around p.heading p.forward in
@@ -146,7 +146,7 @@ grouped path before h is lacks new f gs rest a g s = record {
       (all_from (λ n. (r : List ℕ) × (n ≡ path ++ (key_of h ++ r)) × IsRest r) (IsStem path before) (group_stem path before h is lacks new) (names_of gs) g) (all_fewer path before h (names_of rest) s.stems));
 }
 
-head_notes : (U : Around) (p : Written_procedure) (h : Head) (f : Bool) → (procedure_judged U p h f).notes.broken ≡ [] → h.notes.broken ≡ []
+pub head_notes : (U : Around) (p : Written_procedure) (h : Head) (f : Bool) → (procedure_judged U p h f).notes.broken ≡ [] → h.notes.broken ≡ []
 head_notes U p h true e = e
 head_notes U p h false e = front_empty h.notes.broken (joined (closing_judged h.name p.closing) (p.inside (around_body U h)).notes).broken e
 

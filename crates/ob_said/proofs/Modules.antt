@@ -35,14 +35,14 @@ use Rattle.ob_said.proofs.Blocks.{names_of, IsStem, SequenceIs, BlockIs, Begins,
 
 -- ---- declarations
 
-abbrev GoodDeclaration : Declaration → Type 0
+abbrev pub GoodDeclaration : Declaration → Type 0
 GoodDeclaration (Plain o f) = GoodPlain o f
 GoodDeclaration (Procedure p) = GoodProcedure p
 
-abbrev AreGood : List Declaration → Type 0
+abbrev pub AreGood : List Declaration → Type 0
 AreGood ds = AllByRecursion GoodDeclaration ds
 
-order_good : (ds : List Declaration) → AreGood ds → (u : Around) → AreKnown u.known → (in_order (filter_map plain_of ds) u).part.notes.broken ≡ [] → OrderIs (filter_map type_name_of ds) u (in_order (filter_map plain_of ds) u)
+pub order_good : (ds : List Declaration) → AreGood ds → (u : Around) → AreKnown u.known → (in_order (filter_map plain_of ds) u).part.notes.broken ≡ [] → OrderIs (filter_map type_name_of ds) u (in_order (filter_map plain_of ds) u)
 order_good [] g u k e = record { more = u.known; made = []; around = refl; known = k; points = tt; named = λ x h. absurd (false≢true h); none = refl }
 order_good (Procedure p ∷ ds) g u k e = order_good ds g.1 u k e
 order_good (Plain o f ∷ ds) g u k e =
@@ -51,7 +51,7 @@ order_good (Plain o f ∷ ds) g u k e =
     let p = g.0 u k (front_empty a.part.notes.broken rest.part.notes.broken e) in
     order_one o (filter_map type_name_of ds) u a rest p (order_good ds g.1 a.around (subst (λ (v : Around). AreKnown v.known) (sym p.around) p.known) (rest_empty a.part.notes.broken rest.part.notes.broken e))
 
-procedures_good : (ds : List Declaration) → AreGood ds → AreGoodProcedures (filter_map procedure_of ds)
+pub procedures_good : (ds : List Declaration) → AreGood ds → AreGoodProcedures (filter_map procedure_of ds)
 procedures_good [] g = tt
 procedures_good (Plain o f ∷ ds) g = procedures_good ds g.1
 procedures_good (Procedure p ∷ ds) g = (g.0, procedures_good ds g.1)
@@ -59,7 +59,7 @@ procedures_good (Procedure p ∷ ds) g = (g.0, procedures_good ds g.1)
 -- ---- blocks
 
 -- behind the types of a sequence all bases are there
-based_behind : (names : List (List ℕ)) (u : Around) (d : Declared) → Begins u → OrderIs names (record u { later_types = names }) d → GoodHeads (record { around = d.around; before = [] })
+pub based_behind : (names : List (List ℕ)) (u : Around) (d : Declared) → Begins u → OrderIs names (record u { later_types = names }) d → GoodHeads (record { around = d.around; before = [] })
 based_behind names u d s o =
     let v : Around = record u { later_types = names } in
     let w : Around = record v { known = o.more; own = o.made ++ v.own } in
@@ -155,7 +155,7 @@ decl_cases (Decl-F.Forward h) = layer (Decl-F.Forward h) (λ e. record {
 decl_good : (x : Decl) → PD x
 decl_good = ind-Decl PD (λ x y is. subst (λ z. PD (roll-Decl z)) is (decl_cases y))
 
-decls_good : (xs : List Decl) → all_true (map is_named_plainly xs) ≡ true → AreGood (map declaration xs)
+pub decls_good : (xs : List Decl) → all_true (map is_named_plainly xs) ≡ true → AreGood (map declaration xs)
 decls_good [] e = tt
 decls_good (x ∷ xs) e =
     let p = and_parts (is_named_plainly x) (all_true (map is_named_plainly xs)) e in
@@ -180,7 +180,7 @@ module_good shown name imports ds g body closing s e =
     known : AreKnown predeclared
     known = (tt, (tt, (tt, (tt, (tt, (tt, (tt, (tt, (tt, (tt, (tt, (tt, (tt, (tt, (tt, (tt, (tt, (tt, (tt, (tt, (tt, (tt, (tt, (tt, (tt, (tt, (tt, (tt, (tt, (tt, (tt, tt)))))))))))))))))))))))))))))))
 
-unbroken_parts : (bs : List Broken) (x m : TypedModule) → if_unbroken bs x ≡ Some m → (bs ≡ []) × (x ≡ m)
+pub unbroken_parts : (bs : List Broken) (x m : TypedModule) → if_unbroken bs x ≡ Some m → (bs ≡ []) × (x ≡ m)
 unbroken_parts [] x m e = (refl, cc)
 unbroken_parts (b ∷ bs) x m e = absurd cc
 

@@ -33,7 +33,7 @@ family_same f = ap (λ b. b && bytes_eq f.name f.name) (name_same f.owner) ∙ b
 bound_same : (b : Binding) → is_bound (Some b) b.owner b.family ≡ true
 bound_same b = ap (λ z. z && same_family b.family b.family) (name_same b.owner) ∙ family_same b.family
 
-bound_family : (b : Binding) (q : QName) (f : Family) → is_bound (Some b) q f ≡ true → (b.owner ≡ q) × (b.family ≡ f)
+pub bound_family : (b : Binding) (q : QName) (f : Family) → is_bound (Some b) q f ≡ true → (b.owner ≡ q) × (b.family ≡ f)
 bound_family b q f e = let h = and_both (same_name b.owner q) (same_family b.family f) e in (name_true b.owner q h.0, family_true b.family f h.1)
 
 -- what is said of a list's first procedure

@@ -118,7 +118,7 @@ module _ (program : Program) (settled : TypesSettled program) where
   -- THE TYPES OF A MODULE
 
   module _ (types : QName → Option Desc) (md : Module) (says : IsDescribed types program) (whole : (q : QName) → types q ≡ description program q) where
-    base_named : (q : QName) (r : RecordDesc) → IsSettled program q r → base_type types md r.base ≡ base_of program q
+    pub base_named : (q : QName) (r : RecordDesc) → IsSettled program q r → base_type types md r.base ≡ base_of program q
     base_named q r s = go r.base refl s.base ∙ sym (ap (λ t. head (above (line_of t))) s.is)
       where
         go : (o : Option TypeRef) → r.base ≡ o → IfSome o (λ t. IsRecordForm (form_in program t)) → base_type types md r.base ≡ head (base_line (form_in program) r.base)

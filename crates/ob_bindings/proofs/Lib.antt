@@ -1,0 +1,4 @@
+pub mod Introduced
+pub mod Once
+pub mod Named
+pub mod Like

@@ -1,0 +1,4 @@
+pub mod Settled
+pub mod Declared
+pub mod Fit
+pub mod Numbered
