@@ -20,7 +20,7 @@ use Rattle.ob_matched.proofs.Matching.{bindings_match}
 use Rattle.ob_matched.proofs.Judged.{headings_are_judged}
 
 -- the map with what is bound
-map_same : (u : Around) (b : Binding) → map_of (with_bound u b) ≡ with_own u b.own
+pub map_same : (u : Around) (b : Binding) → map_of (with_bound u b) ≡ with_own u b.own
 map_same u b = λ i q. go (bytes_eq q.«module» u.unit) (same_name q out_string) q i
   where
     go : (c d : Bool) (q : QName) → type_desc c d (with_bound u b) q ≡ type_desc c d (record u { own = b.own }) q

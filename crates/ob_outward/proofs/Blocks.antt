@@ -316,7 +316,7 @@ all_differ : (bound : List TypedType) (x : List ℕ) (ts : List TypedType) → A
 all_differ bound x [] h = tt
 all_differ bound x (t ∷ ts) h = (subst (λ n. n ≢ x) (described_name (find (λ b. bytes_eq b.name t.name) bound) t) h.0, all_differ bound x ts h.1)
 
-undescribed : (bound ts : List TypedType) → Differ (all_described bound ts) → Differ ts
+pub undescribed : (bound ts : List TypedType) → Differ (all_described bound ts) → Differ ts
 undescribed bound [] h = tt
 undescribed bound (t ∷ ts) h = (all_differ bound t.name ts (subst (λ n. AllByRecursion (λ y. y.name ≢ n) (all_described bound ts)) (described_name (find (λ b. bytes_eq b.name t.name) bound) t) h.0), undescribed bound ts h.1)
 
@@ -375,6 +375,29 @@ module _ (shown : QName → Option Desc) (tree : Tree) (named : AllByRecursion (
 
   pub final_is : final ≡ bindings behind.around (heads_of ps start)
   final_is = ap (λ l. binding_at l behind.around (reversed behind.before)) (ap nothing imports_are.path) ∙ ap (bindings behind.around) (heads_are ps start)
+
+  abbrev Headed : List Head → Binding → Type 0
+  Headed hs b = (whole hs b).notes.broken ≡ [] → Differ (plain.around.own ++ ((judged hs b).contents.types ++ [])) → AllByRecursion (IsHeaded behind.around.unit behind.around.own) (heads_of ps start)
+
+  headed_heads : Headed (heads_of ps start) (bindings behind.around (heads_of ps start))
+  headed_heads q d =
+      let hs = heads_of ps start in
+      let b = bindings behind.around hs in
+      let second = front_empty (judged hs b).notes.broken (body_part (in_turn body (with_bound behind.around b))).notes.broken (back_empty (b.notes.broken ++ _) _ q) in
+      let differ : Differ behind.around.own = subst Differ (append-nil behind.around.own) (heads_move (with_bound behind.around b) ps start second [] d) in
+      all_headed behind.around.unit ps (procedures ds good) start (record { path = plain_is.path ∙ imports_are.path; unit_is = sym (heads_gain ps start).unit }) differ
+
+  headed_module : Headed (reversed behind.before) final
+  headed_module = subst (λ l. Headed (reversed behind.before) (binding_at l behind.around (reversed behind.before))) (sym (ap nothing imports_are.path)) (subst (λ hs. Headed hs (bindings behind.around hs)) (sym (heads_are ps start)) headed_heads)
+
+  -- each heading has a name of the text, or is bound to a record of the module
+  pub headed_all : parts.notes.broken ≡ [] → Differ parts.contents.types → AllByRecursion (IsHeaded behind.around.unit behind.around.own) (heads_of ps start)
+  headed_all q d =
+      let a = back_empty _ _ q in
+      let b = back_empty imports.part.notes.broken _ a in
+      let c : (whole (reversed behind.before) final).notes.broken ≡ [] = back_empty (plain.part.notes.broken ++ _) _ b in
+      let e = imports_are.own (plain.part.contents.types ++ ((judged (reversed behind.before) final).contents.types ++ [])) d in
+      headed_module c (plain_is.own ((judged (reversed behind.before) final).contents.types ++ []) e)
 
   module _ (Good : TypedProcedure → Type 0) (nested : (p : TypedProcedure) → IsHidden p → Good p) (so : So Good) where
     at_heads : At Good (heads_of ps start) (bindings behind.around (heads_of ps start))

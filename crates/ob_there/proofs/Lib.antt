@@ -1,0 +1,2 @@
+pub mod Introduced
+pub mod Modules
