@@ -376,28 +376,31 @@ module _ (shown : QName → Option Desc) (tree : Tree) (named : AllByRecursion (
   pub final_is : final ≡ bindings behind.around (heads_of ps start)
   final_is = ap (λ l. binding_at l behind.around (reversed behind.before)) (ap nothing imports_are.path) ∙ ap (bindings behind.around) (heads_are ps start)
 
-  abbrev Headed : List Head → Binding → Type 0
-  Headed hs b = (whole hs b).notes.broken ≡ [] → Differ (plain.around.own ++ ((judged hs b).contents.types ++ [])) → AllByRecursion (IsHeaded behind.around.unit behind.around.own) (heads_of ps start)
+  abbrev Differing : List Head → Binding → Type 0
+  Differing hs b = (whole hs b).notes.broken ≡ [] → Differ (plain.around.own ++ ((judged hs b).contents.types ++ [])) → Differ behind.around.own
 
-  headed_heads : Headed (heads_of ps start) (bindings behind.around (heads_of ps start))
-  headed_heads q d =
+  heads_differ : Differing (heads_of ps start) (bindings behind.around (heads_of ps start))
+  heads_differ q d =
       let hs = heads_of ps start in
       let b = bindings behind.around hs in
       let second = front_empty (judged hs b).notes.broken (body_part (in_turn body (with_bound behind.around b))).notes.broken (back_empty (b.notes.broken ++ _) _ q) in
-      let differ : Differ behind.around.own = subst Differ (append-nil behind.around.own) (heads_move (with_bound behind.around b) ps start second [] d) in
-      all_headed behind.around.unit ps (procedures ds good) start (record { path = plain_is.path ∙ imports_are.path; unit_is = sym (heads_gain ps start).unit }) differ
+      subst Differ (append-nil behind.around.own) (heads_move (with_bound behind.around b) ps start second [] d)
 
-  headed_module : Headed (reversed behind.before) final
-  headed_module = subst (λ l. Headed (reversed behind.before) (binding_at l behind.around (reversed behind.before))) (sym (ap nothing imports_are.path)) (subst (λ hs. Headed hs (bindings behind.around hs)) (sym (heads_are ps start)) headed_heads)
+  module_differs : Differing (reversed behind.before) final
+  module_differs = subst (λ l. Differing (reversed behind.before) (binding_at l behind.around (reversed behind.before))) (sym (ap nothing imports_are.path)) (subst (λ hs. Differing hs (bindings behind.around hs)) (sym (heads_are ps start)) heads_differ)
 
-  -- each heading has a name of the text, or is bound to a record of the module
-  pub headed_all : parts.notes.broken ≡ [] → Differ parts.contents.types → AllByRecursion (IsHeaded behind.around.unit behind.around.own) (heads_of ps start)
-  headed_all q d =
+  -- the types that headings know have different names
+  pub own_differ : parts.notes.broken ≡ [] → Differ parts.contents.types → Differ behind.around.own
+  own_differ q d =
       let a = back_empty _ _ q in
       let b = back_empty imports.part.notes.broken _ a in
       let c : (whole (reversed behind.before) final).notes.broken ≡ [] = back_empty (plain.part.notes.broken ++ _) _ b in
       let e = imports_are.own (plain.part.contents.types ++ ((judged (reversed behind.before) final).contents.types ++ [])) d in
-      headed_module c (plain_is.own ((judged (reversed behind.before) final).contents.types ++ []) e)
+      module_differs c (plain_is.own ((judged (reversed behind.before) final).contents.types ++ []) e)
+
+  -- each heading has a name of the text, or is bound to a record of the module
+  pub headed_all : Differ behind.around.own → AllByRecursion (IsHeaded behind.around.unit behind.around.own) (heads_of ps start)
+  headed_all differ = all_headed behind.around.unit ps (procedures ds good) start (record { path = plain_is.path ∙ imports_are.path; unit_is = sym (heads_gain ps start).unit }) differ
 
   module _ (Good : TypedProcedure → Type 0) (nested : (p : TypedProcedure) → IsHidden p → Good p) (so : So Good) where
     at_heads : At Good (heads_of ps start) (bindings behind.around (heads_of ps start))

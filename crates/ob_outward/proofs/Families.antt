@@ -179,7 +179,7 @@ module _ (shown : QName → Option Desc) (tree : Tree) (named : AllByRecursion (
       (subst (λ zs. desc_in (zs ++ (B.own ++ (j ++ []))) x ≡ Some d) (sym (plain_is shown tree named).bound) (front_found B.own (j ++ []) x d e))
 
   -- what is known of a type is what the module has
-  own_there : (x : List ℕ) (d : Desc) → desc_in B.own x ≡ Some d → desc_in M.types x ≡ Some d
+  pub own_there : (x : List ℕ) (d : Desc) → desc_in B.own x ≡ Some d → desc_in M.types x ≡ Some d
   own_there x d e =
       let n : Named x U.own = bound_names x U (heads_of (ps shown tree named) (start shown tree named)) (subst (λ (b : Binding). Named x b.own) (final_is shown tree named) (found_named x B.own d e)) in
       described_found P.contents.bound x d (bound_there x d e) P.contents.types (all_there x n)

@@ -1,5 +1,5 @@
 -- What is bound: the methods of each record are found in it, and each comes from a heading.
-use Rattle.std.proofs.Common.{◌≡◌, refl, sym, ap, ◌∙◌, subst, ℕ, suc, Bool, true, false, not, List, [], ◌∷◌, ◌++◌, Option, Some, None, cond, inl, inr}
+use Rattle.std.proofs.Common.{◌≡◌, ◌≢◌, refl, sym, ap, ◌∙◌, subst, ℕ, suc, Bool, true, false, not, List, [], ◌∷◌, ◌++◌, Option, Some, None, cond, inl, inr}
 use Rattle.std.specs.Prelude.{bytes_eq, ◌&&◌, is_some}
 use Rattle.std.specs.List.{AllByRecursion, find, filter}
 use Rattle.std.proofs.lemmas.Slice.Eq.{bytes_eq-Decides}
@@ -12,18 +12,20 @@ use Rattle.ob_types.specs.declared.desc.RecordDesc.{RecordDesc}
 use Rattle.ob_types.specs.declared.typed.TypedType.{TypedType}
 use Rattle.ob_rules.specs.Judged.{no_notes}
 use Rattle.ob_rules.specs.Shapes.{Map, Member, AField, AMethod, field_or, own_member, or_in_base, base_record, member_within, member}
-use Rattle.ob_rules.specs.Names.{Around, map_of}
+use Rattle.ob_rules.specs.Names.{Around, own_desc}
 use Rattle.ob_rules.specs.Operators.{signatures_match}
 use Rattle.ob_rules.specs.Headings.{Head, BoundAs, Binding, signature_if, same_kind, introduced_sound, change_desc, changed_if, change_type, with_method, new_method, introduce, redefined, bind_method, bind_by, bind_one, bind_all, of_record, bind_records, counted, reversed, bindings}
 use Rattle.ob_forms.specs.Said.{IsOneOf}
-use Rattle.ob_bodies.proofs.Lists.{all_both, all_of}
-use Rattle.ob_outward.proofs.Grown.{none_within, no_field, find_last}
-use Rattle.ob_outward.proofs.Binding.{HasRecord, one_step, at_own, changed_there}
+use Rattle.ob_bodies.proofs.Lists.{one_all, all_both, all_of}
+use Rattle.ob_outward.proofs.Grown.{DescGrows, none_within, no_field, find_last}
+use Rattle.ob_outward.proofs.Binding.{HasRecord, desc_in, one_step, at_own, change_grows, changed_there}
 use Rattle.ob_redefined.specs.Laws.{with_own, IsOwned}
 use Rattle.ob_redefined.proofs.Bindings.{Stay, by_stays}
+use Rattle.ob_distinct.specs.Distinct.{AreDistinct}
 use Rattle.ob_bound.specs.Bound.{methods_of}
 use Rattle.ob_bound.proofs.Typings.{AreRaw}
 use Rattle.ob_bound.proofs.Binding.{one_filtered}
+use Rattle.ob_there.specs.There.{is_record}
 
 -- ---- a record that introduces a procedure has it
 
@@ -143,3 +145,69 @@ pub bindings_new : (u : Around) (hs : List Head) (ready : (h : Head) → IsOneOf
 bindings_new u hs ready g =
     let s : Binding = record { own = u.own; bound = []; notes = no_notes } in
     (records_new u (counted hs) ready s (reversed u.own) (started u (counted hs) ready s refl g)).0
+
+-- ---- what is no record stays
+
+abbrev pub Says : List TypedType → List TypedType → Type 0
+Says a b = (x : List ℕ) (d : Desc) → is_record d ≡ false → desc_in a x ≡ Some d → desc_in b x ≡ Some d
+
+grown_says : (o p : Option Desc) → DescGrows o p → (d : Desc) → is_record d ≡ false → o ≡ Some d → p ≡ Some d
+grown_says o p (inl e) d n k = sym e ∙ k
+grown_says o p (inr g) d n k =
+    let both : Some (desc.Record g.r) ≡ Some d = sym g.was ∙ k in
+    let same : desc.Record g.r ≡ d = cc in
+    absurd (true_false (ap is_record same ∙ n))
+  where
+    true_false : true ≡ false → ⊥
+    true_false e = absurd cc
+
+says_same : (a b : List TypedType) → b ≡ a → Says a b
+says_same a b e x d n k = ap (λ ts. desc_in ts x) e ∙ k
+
+module _ (u : Around) where
+  redefined_own : (c : Bool) (s : Binding) (h : Head) (a : BoundAs) → (redefined c s h a).own ≡ s.own
+  redefined_own true s h a = refl
+  redefined_own false s h a = refl
+
+  method_own : (c : Bool) (map : Map) (s : Binding) (h : Head) (a : BoundAs) (owner : QName) (m : Method) → (bind_method c u map s h a owner m).own ≡ s.own
+  method_own true map s h a owner m = refl
+  method_own false map s h a owner m = redefined_own (introduced_sound u s.bound owner m.name && is_some h.parameters && not (same_kind m.receiver a.receiver && signatures_match map (Some m.signature) (signature_if h.parameters))) s h a
+
+  by_says : (s : Binding) (h : Head) (a : BoundAs) (map : Map) (o : Option Member) → Says s.own (bind_by u map s h a o).own
+  by_says s h a map None = λ x d n e. grown_says (desc_in s.own x) (desc_in (introduce s h a).own x) (change_grows a.owner.object (new_method h a) s.own x) d n e
+  by_says s h a map (Some (AField owner f)) = says_same s.own s.own refl
+  by_says s h a map (Some (AMethod owner m)) =
+      let c = bytes_eq owner.object a.owner.object && bytes_eq owner.«module» u.unit in
+      says_same s.own (bind_method c u map s h a owner m).own (method_own c map s h a owner m)
+
+  one_says : (s : Binding) (h : Head) (o : Option BoundAs) → Says s.own (bind_one u s h o).own
+  one_says s h None = says_same s.own s.own refl
+  one_says s h (Some a) = by_says s h a (with_own u s.own) (member (with_own u s.own) a.owner h.name)
+
+  all_say : (s : Binding) (hs : List Head) → Says s.own (bind_all u s hs).own
+  all_say s [] = says_same s.own s.own refl
+  all_say s (h ∷ hs) = λ x d n e. all_say (bind_one u s h h.bound) hs x d n (one_says s h h.bound x d n e)
+
+  pub records_say : (hs : List Head) (s : Binding) (ts : List TypedType) → Says s.own (bind_records u hs s ts).own
+  records_say hs s [] = says_same s.own s.own refl
+  records_say hs s (t ∷ ts) = λ x d n e. let v = bind_all u s (filter (of_record t.name) hs) in records_say hs v ts x d n (all_say s (filter (of_record t.name) hs) x d n e)
+
+-- ---- a type by its name
+
+pub found_one : (ts : List TypedType) (x : List ℕ) (d : Desc) → desc_in ts x ≡ Some d → (t : TypedType) × (IsOneOf ts t × ((t.name ≡ x) × (t.desc ≡ d)))
+found_one [] x d e = absurd cc
+found_one (t ∷ ts) x d e = by (bytes_eq t.name x) refl e (λ e. found_one ts x d e)
+  where
+    by : (b : Bool) → bytes_eq t.name x ≡ b → own_desc (cond b (Some t) (find (λ t. bytes_eq t.name x) ts)) ≡ Some d → (desc_in ts x ≡ Some d → (t : TypedType) × (IsOneOf ts t × ((t.name ≡ x) × (t.desc ≡ d)))) → (s : TypedType) × (IsOneOf (t ∷ ts) s × ((s.name ≡ x) × (s.desc ≡ d)))
+    by true n e r = let same : t.desc ≡ d = cc in (t, (inl refl, ((bytes_eq-Decides t.name x).0 n, same)))
+    by false n e r = let k = r e in (k.0, (inr k.1.0, k.1.1))
+
+pub one_found : (ts : List TypedType) → AreDistinct (λ t. t.name) ts → (t : TypedType) → IsOneOf ts t → desc_in ts t.name ≡ Some t.desc
+one_found [] d t i = absurd i
+one_found (s ∷ ts) d t (inl e) = subst (λ (z : TypedType). desc_in (s ∷ ts) z.name ≡ Some z.desc) e (ap (λ b. own_desc (cond b (Some s) (find (λ t. bytes_eq t.name s.name) ts))) ((bytes_eq-Decides s.name s.name).1 refl))
+one_found (s ∷ ts) d t (inr i) =
+    ap (λ b. own_desc (cond b (Some s) (find (λ z. bytes_eq z.name t.name) ts))) (other (bytes_eq s.name t.name) refl) ∙ one_found ts d.1 t i
+  where
+    other : (b : Bool) → bytes_eq s.name t.name ≡ b → bytes_eq s.name t.name ≡ false
+    other true n = absurd (one_all (λ (y : TypedType). y.name ≢ s.name) ts t d.0 i (sym ((bytes_eq-Decides s.name t.name).0 n)))
+    other false n = n

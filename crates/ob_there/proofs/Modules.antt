@@ -30,20 +30,20 @@ use Rattle.ob_distinct.specs.Distinct.{AreDistinct}
 use Rattle.ob_distinct.proofs.Blocks.{not_out}
 use Rattle.ob_written.specs.Raw.{decl_named}
 use Rattle.ob_said.proofs.Judges.{Has}
-use Rattle.ob_declares.specs.Views.{IsEarly}
 use Rattle.ob_bodies.specs.Judged.{AreOf}
-use Rattle.ob_bodies.proofs.Lists.{one_left, one_right, one_all, all_one, all_both, all_of}
+use Rattle.ob_bodies.proofs.Lists.{one_left, one_right, one_all, all_both, all_of}
+use Rattle.ob_bodies.proofs.Standing.{Lies}
 use Rattle.ob_bodies.proofs.Headings.{Aligned}
 use Rattle.ob_bodies.proofs.Receivers.{received_as, IsBoundAmong, bound_in_order}
 use Rattle.ob_bodies.proofs.Blocks.{procedures_bound}
 use Rattle.ob_bodies.proofs.Modules.{unbroken_is}
-use Rattle.ob_outward.proofs.Binding.{HasRecord}
+use Rattle.ob_outward.proofs.Binding.{HasRecord, desc_in}
 use Rattle.ob_outward.proofs.Heads.{IsHeaded}
 use Rattle.ob_outward.proofs.Blocks as outward
+use Rattle.ob_outward.proofs.Families as families
 use Rattle.ob_redefined.specs.Laws.{with_own, IsOwned}
 use Rattle.ob_blocks.proofs.Bound.{IsJudged}
 use Rattle.ob_matched.specs.Matched.{HeadingsAre}
-use Rattle.ob_matched.proofs.Early.{Later, early_self, records_back}
 use Rattle.ob_matched.proofs.Judged.{headings_are_judged}
 use Rattle.ob_matched.proofs.Procedures.{map_same}
 use Rattle.ob_bound.specs.Bound.{methods_of}
@@ -52,8 +52,8 @@ use Rattle.ob_bound.proofs.Heads.{GoodHead}
 use Rattle.ob_bound.proofs.Blocks.{reversed_good}
 use Rattle.ob_bound.proofs.Binding.{one_filtered}
 use Rattle.ob_bound.proofs.Modules.{parts, M, whole, made, imports, plain, ps, hs, heads, B, w, judged, imports_are, plain_is, level, heads_are, known_raw, aligned, all_types, among, found_has}
-use Rattle.ob_there.specs.There.{passed_as, Receives, introducing, IsIntroduced, type_in, bound_types, MethodsAreIntroduced}
-use Rattle.ob_there.proofs.Introduced.{IsReady, IsNew, AreNew, bindings_new}
+use Rattle.ob_there.specs.There.{passed_as, Receives, IsIntroduced, type_in, MethodsAreIntroduced}
+use Rattle.ob_there.proofs.Introduced.{IsReady, IsNew, AreNew, bindings_new, Says, records_say, found_one, one_found}
 
 -- ---- a bound heading has a name for its receiver
 
@@ -157,9 +157,11 @@ module _ (shown : QName → Option Desc) (tree : Tree) (out : is_out (M shown tr
   plain_shown : (plain shown tree out).around.shown ≡ shown
   plain_shown = (outward.plain_is shown tree named).shown ∙ (outward.imports_are shown tree named).shown
 
+  own_differ : AreDistinct (λ t. t.name) U.own
+  own_differ = outward.own_differ shown tree named quiet (outward.undescribed (whole shown tree out).contents.bound (whole shown tree out).contents.types differ)
+
   headed : AllByRecursion (IsHeaded U.unit U.own) all
-  headed = subst (AllByRecursion (IsHeaded U.unit U.own)) (sym (outward.heads_are (ps shown tree out) (outward.start shown tree named)))
-      (outward.headed_all shown tree named quiet (outward.undescribed (whole shown tree out).contents.bound (whole shown tree out).contents.types differ))
+  headed = subst (AllByRecursion (IsHeaded U.unit U.own)) (sym (outward.heads_are (ps shown tree out) (outward.start shown tree named))) (outward.headed_all shown tree named own_differ)
 
   in_all : (h : Head) → IsOneOf (counted all) h → IsOneOf all h
   in_all h i = one_filtered (counts all) all h i
@@ -195,9 +197,13 @@ module _ (shown : QName → Option Desc) (tree : Tree) (out : is_out (M shown tr
       ap (λ g. member g b.owner h.name) (map_same U (B shown tree out))
       ∙ (ap (λ (x : Binding). member (with_own U x.own) b.owner h.name) final ∙ e)
 
-  -- types that are known before all is bound
-  early : AllByRecursion (IsEarly last) U.own
-  early = records_back U last (counted all) (reversed U.own) (record { own = U.own; bound = []; notes = no_notes }) (early_self last)
+  -- types that headings know are types of the module
+  told : (own : List TypedType) → Lies own U.own → Says own m.types
+  told own lies x d n e =
+      let f = found_one own x d e in
+      let known : desc_in U.own x ≡ Some d = subst (λ y. desc_in U.own y ≡ Some d) f.1.1.0 (one_found U.own own_differ f.0 (lies f.0 f.1.0) ∙ ap (λ (z : Desc). Some z) f.1.1.1) in
+      let behind : desc_in last x ≡ Some d = records_say U (counted all) (record { own = U.own; bound = []; notes = no_notes }) (reversed U.own) x d n known in
+      families.own_there shown tree named quiet x d (ap (λ (z : Binding). desc_in z.own x) final ∙ behind)
 
   selfed : AllByRecursion IsSelfed all
   selfed = reversed_good IsSelfed (hs shown tree out).before (heads_selfed (ps shown tree out) (record { around = (plain shown tree out).around; before = [] }) tt)
@@ -206,18 +212,18 @@ module _ (shown : QName → Option Desc) (tree : Tree) (out : is_out (M shown tr
   received = reversed_good (λ (h : Head). IfThere (IsBoundAmong m.name shown U.own) h.bound) (hs shown tree out).before
       (bound_in_order m.name shown (ps shown tree out) (record { around = (plain shown tree out).around; before = [] }) plain_unit plain_shown tt)
 
-  receives : (x : Ident) (b : BoundAs) → IsBoundAmong m.name shown U.own b → Receives m.name shown last b.owner b.receiver (self_parameter x b)
+  receives : (x : Ident) (b : BoundAs) → IsBoundAmong m.name shown U.own b → Receives m.name shown m.types b.owner b.receiver (self_parameter x b)
   receives x b i = record {
     passed = self_passed x b b.receiver;
     w = i.w;
     unit_is = i.unit_is;
     shown_is = i.shown_is;
-    early = all_one (IsEarly last) i.w.own (λ t j. one_all (IsEarly last) U.own t early (i.lies t j));
+    told = told i.w.own i.lies;
     is = ap (λ t. received_as (map_of i.w) b.receiver t) (self_of_type x b b.receiver) ∙ i.is;
   }
 
   -- the procedure of a heading that introduces a method
-  introduced : (h : Head) → IsOneOf (counted all) h → (b : BoundAs) → h.bound ≡ Some b → member (with_own U last) b.owner h.name ≡ Some (AMethod b.owner (new_method h b)) → (o : Option Parameters) → h.parameters ≡ o → Has (λ p. Unit {0}) o → IsIntroduced shown last m b.owner (new_method h b)
+  introduced : (h : Head) → IsOneOf (counted all) h → (b : BoundAs) → h.bound ≡ Some b → member (with_own U last) b.owner h.name ≡ Some (AMethod b.owner (new_method h b)) → (o : Option Parameters) → h.parameters ≡ o → Has (λ p. Unit {0}) o → IsIntroduced shown m b.owner (new_method h b)
   introduced h i b e f None g has = absurd has
   introduced h i b e f (Some q) g has =
       let here = in_all h i in
@@ -241,17 +247,17 @@ module _ (shown : QName → Option Desc) (tree : Tree) (out : is_out (M shown tr
         result = ap (λ (s : Signature). s.result) (sym sig);
       }
 
-  from_new : (x : List ℕ) (k : Method) → New x k → IsIntroduced shown last m (record { «module» = m.name; object = x }) k
+  from_new : (x : List ℕ) (k : Method) → New x k → IsIntroduced shown m (record { «module» = m.name; object = x }) k
   from_new x k n =
       let unit : n.b.owner.«module» ≡ m.name = (bytes_eq-Decides n.b.owner.«module» U.unit).0 ((ready n.h n.there).own n.b n.bound) ∙ unit_is in
       let owner : n.b.owner ≡ record { «module» = m.name; object = x } =
           ap (λ (y : List ℕ). let q : QName = record { «module» = y; object = n.b.owner.object } in q) unit
           ∙ ap (λ (y : List ℕ). let q : QName = record { «module» = m.name; object = y } in q) (sym n.name) in
       let it = introduced n.h n.there n.b n.bound n.found n.h.parameters refl (one_all IsJudged (counted all) n.h is.judged n.there).1 in
-      subst (λ q. IsIntroduced shown last m q k) owner (subst (IsIntroduced shown last m n.b.owner) (sym n.is) it)
+      subst (λ q. IsIntroduced shown m q k) owner (subst (IsIntroduced shown m n.b.owner) (sym n.is) it)
 
   abbrev Good : TypedType → Type 0
-  Good t = AllByRecursion (IsIntroduced shown last m (type_in m t)) (methods_of t.desc)
+  Good t = AllByRecursion (IsIntroduced shown m (type_in m t)) (methods_of t.desc)
 
   abbrev TypeNew : TypedType → Type 0
   TypeNew t = AllByRecursion (New t.name) (methods_of t.desc)
@@ -267,10 +273,10 @@ module _ (shown : QName → Option Desc) (tree : Tree) (out : is_out (M shown tr
       (subst (λ bs. AllByRecursion TypeNew (bs ++ [])) (sym (procedures_bound (λ v. Unit {0}) shown m no_contents out (w shown tree out) (ps shown tree out) all)) tt)))
 
   described_good : (t : TypedType) → IsRaw t → (o : Option TypedType) → IfThere (λ b. TypeNew b × (bytes_eq b.name t.name ≡ true)) o → Good (described o t)
-  described_good t e None h = subst (AllByRecursion (IsIntroduced shown last m (type_in m t))) (sym e.0) tt
+  described_good t e None h = subst (AllByRecursion (IsIntroduced shown m (type_in m t))) (sym e.0) tt
   described_good t e (Some b) h =
       let same : b.name ≡ t.name = (bytes_eq-Decides b.name t.name).0 h.1 in
-      all_of (New b.name) (IsIntroduced shown last m (type_in m t)) (methods_of b.desc) (λ k n. from_new t.name k (subst (λ x. New x k) same n)) h.0
+      all_of (New b.name) (IsIntroduced shown m (type_in m t)) (methods_of b.desc) (λ k n. from_new t.name k (subst (λ x. New x k) same n)) h.0
 
   types_good : (ts : List TypedType) → AreRaw ts → AllByRecursion Good (all_described (whole shown tree out).contents.bound ts)
   types_good [] h = tt
@@ -283,5 +289,5 @@ pub methods_introduced : MethodsAreIntroduced
 methods_introduced shown tree m bases plainly e differ named =
     let k = unbroken_is (parts shown tree).notes.broken (M shown tree) m e in
     let out : is_out (M shown tree).name ≡ false = ap (λ (x : TypedModule). is_out x.name) k.1 ∙ not_out shown tree m e in
-    subst (λ (x : TypedModule). AllByRecursion (λ t. AllByRecursion (IsIntroduced shown (bound_types shown tree) x (type_in x t)) (methods_of t.desc)) x.types) k.1
+    subst (λ (x : TypedModule). AllByRecursion (λ t. AllByRecursion (IsIntroduced shown x (type_in x t)) (methods_of t.desc)) x.types) k.1
     (methods_good shown tree out named k.0 (subst (λ (x : TypedModule). AreDistinct (λ t. t.name) x.types) (sym k.1) differ) (headings_are_judged shown tree m bases plainly e))
