@@ -50,16 +50,16 @@ use Rattle.ob_inherited.proofs.Checked.{checked_at}
 
 -- ---- one build
 
-abbrev IsSome : Build → Type 0
+abbrev pub IsSome : Build → Type 0
 IsSome b = (c : Compiled Text) × IsValid b c
 
-tree_in : (xs : List Build) (b : Build) → In xs b → IsOneOf (program_of xs) (tree_of b)
+pub tree_in : (xs : List Build) (b : Build) → In xs b → IsOneOf (program_of xs) (tree_of b)
 tree_in [] b i = absurd i
 tree_in (x ∷ xs) b (inl e) = inl (ap tree_of e)
 tree_in (x ∷ xs) b (inr i) = inr (tree_in xs b i)
 
 -- it shows its module
-shows_module : (all : List Build) (b : Build) → In all b → IsSome b → IsShownBy (program_of all) (shows_of b)
+pub shows_module : (all : List Build) (b : Build) → In all b → IsSome b → IsShownBy (program_of all) (shows_of b)
 shows_module all b i v =
     let is = (comes texts _ (Some b.source) v.0 v.1.is).is in
     let same = sym (of_is b v.0 v.1) in
@@ -70,16 +70,16 @@ shows_module all b i v =
       objects = subst (λ (x : Compiled Text). x.shows.objects ≡ objects_of x.tree) same (subst (λ (x : Compiled Text). x.shows.objects ≡ objects_of x.tree) (sym is) refl);
     }
 
-all_shown : (all xs : List Build) → ((b : Build) → In xs b → In all b) → ((b : Build) → In all b → IsSome b) → AreShown (program_of all) (map shows_of xs)
+pub all_shown : (all xs : List Build) → ((b : Build) → In xs b → In all b) → ((b : Build) → In all b → IsSome b) → AreShown (program_of all) (map shows_of xs)
 all_shown all [] i v = tt
 all_shown all (b ∷ xs) i v = (shows_module all b (i b (inl refl)) (v b (i b (inl refl))), all_shown all xs (λ x j. i x (inr j)) v)
 
-in_front : (xs ys : List Build) (b : Build) → In xs b → In (xs ++ ys) b
+pub in_front : (xs ys : List Build) (b : Build) → In xs b → In (xs ++ ys) b
 in_front [] ys b i = absurd i
 in_front (x ∷ xs) ys b (inl e) = inl e
 in_front (x ∷ xs) ys b (inr i) = inr (in_front xs ys b i)
 
-in_middle : (xs : List Build) (b : Build) (ys : List Build) → In (xs ++ b ∷ ys) b
+pub in_middle : (xs : List Build) (b : Build) (ys : List Build) → In (xs ++ b ∷ ys) b
 in_middle [] b ys = inl refl
 in_middle (x ∷ xs) b ys = inr (in_middle xs b ys)
 

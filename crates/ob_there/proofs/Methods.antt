@@ -73,12 +73,12 @@ module _ (map : QName → Option Desc) (program : Program) (ends : ChainsEnd pro
           let k = said q (desc.Pointer m u) e in
           sym (target_form 201 t) ∙ ap form is ∙ form_ends program ends q (desc.Pointer k.0 u) k.1
 
-  pointer_record : (t : TypeRef) (q : QName) → pointed_record map t ≡ Some q → (u : TypeRef) × ((form t ≡ PointerForm u) × (form u ≡ record_in program q))
+  pointer_record : (t : TypeRef) (q : QName) → pointed_record map t ≡ Some q → (u : TypeRef) × (form t ≡ PointerForm u) × (form u ≡ record_in program q)
   pointer_record t q e = by (pointed map t) refl e
     where
-      by : (o : Option TypeRef) → pointed map t ≡ o → record_if map o ≡ Some q → (u : TypeRef) × ((form t ≡ PointerForm u) × (form u ≡ record_in program q))
+      by : (o : Option TypeRef) → pointed map t ≡ o → record_if map o ≡ Some q → (u : TypeRef) × (form t ≡ PointerForm u) × (form u ≡ record_in program q)
       by None is e = absurd cc
-      by (Some u) is e = (u, (pointer_form t u is, record_form u q e))
+      by (Some u) is e = (u, pointer_form t u is, record_form u q e)
 
   received : (kind : Receiver) (q : QName) (x : TypedParameter) (rest : List TypedParameter) → x.passing ≡ passed_as kind → received_as map kind x.of ≡ Some q → ReceiverOk program kind q (x ∷ rest)
   received receiver.Record q x rest p e = (p, record_form x.of q e)

@@ -71,13 +71,13 @@ declared_selfed : (twice : Bool) (h : Head) (u : Around) → IsSelfed h → IsSe
 declared_selfed true h u s = s
 declared_selfed false h u s = s
 
-heads_selfed : (ps : List Written_procedure) (hs : Heads) → AllByRecursion IsSelfed hs.before → AllByRecursion IsSelfed (headings_in_order ps hs).before
-heads_selfed [] hs s = s
-heads_selfed (p ∷ ps) hs s =
-    let d = head_of hs.around p.heading p.forward in
-    let u = with_types hs.around (types_of d.parameters) in
-    let t = name_twice u hs.before d in
-    heads_selfed ps (add_heading hs p.heading p.forward) (declared_selfed t d (known_behind u t d) (head_selfed hs.around p.heading p.forward), s)
+heads_selfed : (xs : List Written_procedure) (ys : Heads) → AllByRecursion IsSelfed ys.before → AllByRecursion IsSelfed (headings_in_order xs ys).before
+heads_selfed [] ys s = s
+heads_selfed (p ∷ xs) ys s =
+    let d = head_of ys.around p.heading p.forward in
+    let u = with_types ys.around (types_of d.parameters) in
+    let t = name_twice u ys.before d in
+    heads_selfed xs (add_heading ys p.heading p.forward) (declared_selfed t d (known_behind u t d) (head_selfed ys.around p.heading p.forward), s)
 
 -- ---- the procedure of a heading
 
@@ -94,7 +94,7 @@ typed_of types h q c = record {
 }
 
 abbrev HasTyped : Map → Head → Parameters → List TypedProcedure → Type 0
-HasTyped types h q ps = (c : Contents) × IsOneOf ps (typed_of types h q c)
+HasTyped types h q xs = (c : Contents) × IsOneOf xs (typed_of types h q c)
 
 typed_there : (types : Map) (h : Head) (o : Option Parameters) (c : Contents) (q : Parameters) → o ≡ Some q → HasTyped types h q (typed_procedure types h o c)
 typed_there types h None c q e = absurd cc
@@ -107,20 +107,20 @@ judged_there u p h q e false f =
     let r = typed_there (map_of u) h h.parameters c q e in
     (r.0, one_left (typed_procedure (map_of u) h h.parameters c) c.procedures (typed_of (map_of u) h q r.0) r.1)
 
-heading_typed : (u : Around) (ps : List Written_procedure) (hs : List Head) → Aligned ps hs → (h : Head) → IsOneOf hs h → (q : Parameters) → h.parameters ≡ Some q → h.forward ≡ false → HasTyped (map_of u) h q (procedures_judged u ps hs).contents.procedures
+heading_typed : (u : Around) (xs : List Written_procedure) (ys : List Head) → Aligned xs ys → (h : Head) → IsOneOf ys h → (q : Parameters) → h.parameters ≡ Some q → h.forward ≡ false → HasTyped (map_of u) h q (procedures_judged u xs ys).contents.procedures
 heading_typed u [] [] a h i q e f = absurd i
-heading_typed u [] (g ∷ hs) a h i q e f = absurd a
-heading_typed u (p ∷ ps) [] a h i q e f = absurd a
-heading_typed u (p ∷ ps) (g ∷ hs) a h (inl d) q e f =
+heading_typed u [] (g ∷ ys) a h i q e f = absurd a
+heading_typed u (p ∷ xs) [] a h i q e f = absurd a
+heading_typed u (p ∷ xs) (g ∷ ys) a h (inl d) q e f =
     let same : g.parameters ≡ Some q = ap (λ (x : Head). x.parameters) d ∙ e in
     let r = judged_there u p g q same p.forward (sym a.0 ∙ ap (λ (x : Head). x.forward) d ∙ f) in
     let all = (procedure_judged u p g p.forward).contents.procedures in
-    let rest = (procedures_judged u ps hs).contents.procedures in
+    let rest = (procedures_judged u xs ys).contents.procedures in
     subst (λ (x : Head). HasTyped (map_of u) x q (all ++ rest)) d (r.0, one_left all rest (typed_of (map_of u) g q r.0) r.1)
-heading_typed u (p ∷ ps) (g ∷ hs) a h (inr i) q e f =
-    let r = heading_typed u ps hs a.1 h i q e f in
+heading_typed u (p ∷ xs) (g ∷ ys) a h (inr i) q e f =
+    let r = heading_typed u xs ys a.1 h i q e f in
     let all = (procedure_judged u p g p.forward).contents.procedures in
-    let rest = (procedures_judged u ps hs).contents.procedures in
+    let rest = (procedures_judged u xs ys).contents.procedures in
     (r.0, one_right all rest (typed_of (map_of u) h q r.0) r.1)
 
 -- ---- receivers
