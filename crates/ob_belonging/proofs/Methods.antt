@@ -116,8 +116,8 @@ module _ (program : Program) (ends : ChainsEnd program) (whole : IsWhole program
       let at : description program (record { «module» = m.name; object = k.t.name }) ≡ Some laid.desc = type_there program whole m laid there in_m in (
         record { «module» = c.name; object = k.t.name },
         ap (λ (x : List ℕ). description program (let p : QName = record { «module» = x; object = q.object } in p)) (unit ∙ sym name_is)
-        ∙ ap (λ (x : List ℕ). description program (let p : QName = record { «module» = m.name; object = x } in p)) (sym k.name) ∙ at
-        ∙ ap (λ (d : Desc). Some (laid_desc (words_in types c) (procedures_in types c) (record { «module» = c.name; object = k.t.name }) d)) k.desc,
+            ∙ ap (λ (x : List ℕ). description program (let p : QName = record { «module» = m.name; object = x } in p)) (sym k.name) ∙ at
+            ∙ ap (λ (d : Desc). Some (laid_desc (words_in types c) (procedures_in types c) (record { «module» = c.name; object = k.t.name }) d)) k.desc,
       )
 
   own_said : (own : List TypedType) → ((x : List ℕ) (d : Desc) → is_record d ≡ false → type_of own x ≡ Some d → type_of checked.types x ≡ Some d) → (q : QName) (d : Desc) → q.«module» ≡ checked.name → type_of own q.object ≡ Some d → IsTypeSaid program q d
@@ -179,7 +179,7 @@ found_in program (m ∷ ms) h q r e = by (bytes_eq q.«module» m.name) refl e (
     by true n e rest =
         let k = type_found m.types q.object (desc.Record r) e in
         let same : record { «module» = m.name; object = k.t.name } ≡ q =
-            ap (λ (x : List ℕ). let z : QName = record { «module» = m.name; object = x } in z) k.name
-            ∙ ap (λ (x : List ℕ). let z : QName = record { «module» = x; object = q.object } in z) (sym (bytes_true q.«module» m.name n)) in
+        ap (λ (x : List ℕ). let z : QName = record { «module» = m.name; object = x } in z) k.name
+        ∙ ap (λ (x : List ℕ). let z : QName = record { «module» = x; object = q.object } in z) (sym (bytes_true q.«module» m.name n)) in
         subst (λ d. AreMethods program q (methods_of d)) k.desc (subst (λ z. AreMethods program z (methods_of k.t.desc)) same (one m.types h.0 k.t k.there))
     by false n e rest = rest e

@@ -251,8 +251,8 @@ module _ (shown : QName → Option Desc) (tree : Tree) (out : is_out (M shown tr
   from_new x k n =
       let unit : n.b.owner.«module» ≡ m.name = (bytes_eq-Decides n.b.owner.«module» U.unit).0 ((ready n.h n.there).own n.b n.bound) ∙ unit_is in
       let owner : n.b.owner ≡ record { «module» = m.name; object = x } =
-          ap (λ (y : List ℕ). let q : QName = record { «module» = y; object = n.b.owner.object } in q) unit
-          ∙ ap (λ (y : List ℕ). let q : QName = record { «module» = m.name; object = y } in q) (sym n.name) in
+      ap (λ (y : List ℕ). let q : QName = record { «module» = y; object = n.b.owner.object } in q) unit
+      ∙ ap (λ (y : List ℕ). let q : QName = record { «module» = m.name; object = y } in q) (sym n.name) in
       let it = introduced n.h n.there n.b n.bound n.found n.h.parameters refl (one_all IsJudged (counted all) n.h is.judged n.there).1 in
       subst (λ q. IsIntroduced shown m q k) owner (subst (IsIntroduced shown m n.b.owner) (sym n.is) it)
 
