@@ -16,6 +16,8 @@ use Rattle.ob_types.specs.declared.typed.TypedType.{TypedType}
 use Rattle.ob_env.specs.Shown.{shown}
 use Rattle.ob_typed.specs.Known.{ConstantIs}
 use Rattle.ob_bodies.specs.Knows.{LengthIs, IsDescribed}
+use Rattle.ob_said.proofs.Faces.{faces_show}
+use Rattle.ob_said.proofs.Texts.{headings_are_named}
 use Rattle.ob_bodies.proofs.Whole.{bodies_known}
 use Rattle.ob_constants.proofs.Expressions.{constants_stand}
 use Rattle.ob_strings.proofs.Trees.{readings_spelled}
@@ -64,6 +66,6 @@ values_fit [] h = tt
 values_fit (c ∷ cs) h = (value_fits c.value h.0, values_fit cs h.1)
 
 pub modules_in_range : ModulesAreInRange
-modules_in_range faces spelled text tree read others m is =
-    let all = bodies_known (shown faces) tree m is (readings_spelled text tree read) others (constants_stand tree.name.name (shown faces) (spelled_shown faces spelled)) in
+modules_in_range faces spelled text tree read others apart fit m is =
+    let all = bodies_known (shown faces) tree m is (readings_spelled text tree read) (faces_show tree.name.name faces apart fit) (headings_are_named text tree read) others (constants_stand tree.name.name (shown faces) (spelled_shown faces spelled)) in
     record { constants = values_fit m.constants all.constants; lengths = lengths_fit m.types all.types }

@@ -193,5 +193,5 @@ pub compiled_in_range : CompiledAreInRange
 compiled_in_range entry entries source c e =
     let k = compiled_is entry entries source c e in
     subst InRange k.same (λ s.
-    let r : IsInRange k.m = modules_in_range k.faces s k.text k.tree k.read (others_are k.tree.name.name (name_plain (shown k.faces) k.tree k.m k.is) k.tree.imports k.others) k.m k.is in
+    let r : IsInRange k.m = modules_in_range k.faces s k.text k.tree k.read (others_are k.tree.name.name (name_plain (shown k.faces) k.tree k.m k.is) k.tree.imports k.others) k.apart k.fit k.m k.is in
     record { constants = r.constants; lengths = lengths_laid (described k.faces) (module_view k.m) k.m.types r.lengths })

@@ -1,10 +1,11 @@
 -- The laws of constants and lengths: those that interfaces show, and those of a module that is read and keeps the rules.
-use Rattle.std.specs.Prelude.{◌≡◌, ℕ, List, Option, Some, Ok}
+use Rattle.std.specs.Prelude.{◌≡◌, ℕ, List, Option, Some, None, Ok, false, bytes_eq}
 use Rattle.std.specs.List.{AllByRecursion}
 use Rattle.ob_tree.specs.declared.decl.Module.{Module as Tree}
 use Rattle.ob_types.specs.declared.typed.TypedModule.{TypedModule}
 use Rattle.ob_types.specs.TypedSyntax.{Module}
 use Rattle.ob_env.specs.Faces.{Face}
+use Rattle.ob_env.specs.Fit.{first_unfit}
 use Rattle.ob_env.specs.Shown.{shown}
 use Rattle.ob_walk.specs.Walk.{Entry}
 use Rattle.ob_reading.specs.Reading.{reading}
@@ -24,9 +25,9 @@ pub record IsInRange (m : TypedModule) : Type 0 where
   pub constants : AllByRecursion (λ c. ValueFits c.value) m.constants
   pub lengths : AllByRecursion (λ t. LengthFits t.desc) m.types
 
--- SO THEY ARE of a module that is read, imports others than itself, and keeps the rules against such interfaces.
+-- SO THEY ARE of a module that is read, imports others than itself, and keeps the rules against such interfaces, which fit together.
 abbrev pub ModulesAreInRange : Type 0
-ModulesAreInRange = (faces : List (Face Text)) → AllByRecursion IsSpelled faces → (text : List ℕ) (tree : Tree) → reading text ≡ Ok tree → AreOthers tree.name.name tree.imports → (m : TypedModule) → checked (shown faces) tree ≡ Some m → IsInRange m
+ModulesAreInRange = (faces : List (Face Text)) → AllByRecursion IsSpelled faces → (text : List ℕ) (tree : Tree) → reading text ≡ Ok tree → AreOthers tree.name.name tree.imports → AllByRecursion (λ f. bytes_eq f.«module» tree.name.name ≡ false) faces → first_unfit faces ≡ None → (m : TypedModule) → checked (shown faces) tree ≡ Some m → IsInRange m
 
 -- so is a module that is laid out
 pub record AreInRange (m : Module) : Type 0 where
