@@ -55,11 +55,11 @@ bound_named f h called k bound (Some (AMethod q m)) i b e =
     called k bound ∙ ap (λ y. k.owner.object ++ codes "." ++ y) n ∙ ap (λ (z : BoundTo). z.owner.object ++ codes "." ++ z.family.name) same
 
 typed_so : (U : Around) (all : List Head) → ((h : Head) → Among h all → IsCalled h) → TypedSo IsNamed U all
-typed_so U all called h (inl k) a w p c = ((λ b e. none b (sym (ap (bound_to (map_of (with_bound U (bindings U all))) h) k.0) ∙ e)), tt)
+typed_so U all called h (inl k) a w p has c = ((λ b e. none b (sym (ap (bound_to (map_of (with_bound U (bindings U all))) h) k.0) ∙ e)), tt)
   where
     none : (b : BoundTo) → None ≡ Some b → h.path ≡ b.owner.object ++ codes "." ++ b.family.name
     none b e = absurd cc
-typed_so U all called h (inr k) a w p c =
+typed_so U all called h (inr k) a w p has c =
     let f = map_of (with_bound U (bindings U all)) in
     ((λ b e. bound_named f h (called h a) k.0 k.1.0 (member f k.0.owner h.name) refl b (sym (ap (bound_to f h) k.1.0) ∙ e)), tt)
 

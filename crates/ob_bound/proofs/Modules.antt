@@ -31,68 +31,68 @@ use Rattle.ob_bound.proofs.Binding.{one_filtered, counted_whole, IsNew, TypeNew,
 use Rattle.ob_bound.proofs.Blocks.{GoodDeclared, order_good, imports_good, plains_good, all_procedures, decls_good, headings_good, headings_raw, reversed_good, block_good}
 
 -- the parts of a module
-abbrev parts : (QName → Option Desc) → Tree → Part
+abbrev pub parts : (QName → Option Desc) → Tree → Part
 parts shown tree = module_of shown tree.name tree.imports (map declaration tree.decls) (map judging tree.body) tree.closing
 
-abbrev M : (QName → Option Desc) → Tree → TypedModule
+abbrev pub M : (QName → Option Desc) → Tree → TypedModule
 M shown tree = typed_module shown tree.name tree.imports (map declaration tree.decls) (parts shown tree)
 
 module _ (shown : QName → Option Desc) (tree : Tree) (out : is_out (M shown tree).name ≡ false) where
-  abbrev whole : Part
+  abbrev pub whole : Part
   whole = parts shown tree
 
-  abbrev made : TypedModule
+  abbrev pub made : TypedModule
   made = M shown tree
 
-  abbrev start : Around
+  abbrev pub start : Around
   start = around_module shown tree.name.name (map declaration tree.decls)
 
-  abbrev imports : Declared
+  abbrev pub imports : Declared
   imports = imports_declared tree.imports start
 
-  abbrev base : Around
+  abbrev pub base : Around
   base = record imports.around { later_types = filter_map type_name_of (map declaration tree.decls) }
 
-  abbrev plain : Declared
+  abbrev pub plain : Declared
   plain = in_order (filter_map plain_of (map declaration tree.decls)) base
 
-  abbrev ps : List Written_procedure
+  abbrev pub ps : List Written_procedure
   ps = filter_map procedure_of (map declaration tree.decls)
 
-  abbrev hs : Heads
+  abbrev pub hs : Heads
   hs = headings_in_order ps (record { around = plain.around; before = [] })
 
-  abbrev heads : List Head
+  abbrev pub heads : List Head
   heads = reversed hs.before
 
-  abbrev B : Binding
+  abbrev pub B : Binding
   B = binding_at (is_module_level imports.around) hs.around heads
 
-  abbrev w : Around
+  abbrev pub w : Around
   w = with_bound hs.around B
 
-  abbrev judged : Part
+  abbrev pub judged : Part
   judged = procedures_judged w ps heads
 
-  imports_are : GoodDeclared start imports
+  pub imports_are : GoodDeclared start imports
   imports_are = order_good (map (λ i. import_declared i (target_of i)) tree.imports) (imports_good tree.imports) start
 
-  plain_is : GoodDeclared base plain
+  pub plain_is : GoodDeclared base plain
   plain_is = order_good (filter_map plain_of (map declaration tree.decls)) (plains_good (map declaration tree.decls) (decls_good tree.decls)) base
 
-  level : imports.around.path ≡ []
+  pub level : imports.around.path ≡ []
   level = imports_are.path
 
-  heads_are : GoodHeads [] hs
+  pub heads_are : GoodHeads [] hs
   heads_are = headings_good [] ps (all_procedures (map declaration tree.decls) (decls_good tree.decls)) (record { around = plain.around; before = [] }) (record { path_is = plain_is.path ∙ level; before = tt })
 
-  known_raw : AreRaw hs.around.own
+  pub known_raw : AreRaw hs.around.own
   known_raw = headings_raw ps (all_procedures (map declaration tree.decls) (decls_good tree.decls)) (record { around = plain.around; before = [] }) (plain_is.own (imports_are.own tt))
 
   bound_new : AreNew (counted heads) B.own
   bound_new = subst (λ (p : List ℕ). AreNew (counted heads) (binding_at (nothing p) hs.around heads).own) (sym level) (bindings_new hs.around heads known_raw)
 
-  aligned : Aligned ps heads
+  pub aligned : Aligned ps heads
   aligned = let a = aligned_in_order ps (record { around = plain.around; before = [] }) in subst (Aligned ps) (sym a.is) a.aligned
 
   all_bound : AreNew (counted heads) whole.contents.bound
@@ -102,7 +102,7 @@ module _ (shown : QName → Option Desc) (tree : Tree) (out : is_out (M shown tr
       (all_both (TypeNew (counted heads)) B.own (judged.contents.bound ++ []) bound_new
       (subst (λ bs. AreNew (counted heads) (bs ++ [])) (sym (procedures_bound (λ v. Unit {0}) shown made no_contents out w ps heads)) tt)))
 
-  all_types : AreRaw whole.contents.types
+  pub all_types : AreRaw whole.contents.types
   all_types = all_both IsRaw imports.part.contents.types _ imports_are.types (block_good (map declaration tree.decls) (decls_good tree.decls) (map judging tree.body) imports.around)
 
   module _ (quiet : whole.notes.broken ≡ []) where
@@ -113,7 +113,7 @@ module _ (shown : QName → Option Desc) (tree : Tree) (out : is_out (M shown tr
         let told = first_empty (B.notes.broken ++ ((all_judged (field_judged (map_of w)) (plain.part.notes.later ++ heads_later hs.before)).broken ++ (forwards_judged (map_of hs.around) heads heads).broken)) _ headed in
         second_empty (all_judged (field_judged (map_of w)) (plain.part.notes.later ++ heads_later hs.before)).broken _ (second_empty B.notes.broken _ told)
 
-    among : (p : TypedProcedure) → IsOneOf judged.contents.procedures p → IsOneOf made.procedures p
+    pub among : (p : TypedProcedure) → IsOneOf judged.contents.procedures p → IsOneOf made.procedures p
     among p i = one_right imports.part.contents.procedures _ p (one_right plain.part.contents.procedures _ p (one_left judged.contents.procedures [] p i))
 
     from_head : (t : TypedType) (k : Method) → IsNew (counted heads) t.name k → IsThere made.procedures t k
@@ -155,7 +155,7 @@ module _ (shown : QName → Option Desc) (tree : Tree) (out : is_out (M shown tr
     first_if true P test x o e h k = (h, e)
     first_if false P test x o e h k = k
 
-    found_has : (P : TypedType → Type 0) (test : TypedType → Bool) (xs : List TypedType) → AllByRecursion P xs → IfThere (λ x. P x × (test x ≡ true)) (find test xs)
+    pub found_has : (P : TypedType → Type 0) (test : TypedType → Bool) (xs : List TypedType) → AllByRecursion P xs → IfThere (λ x. P x × (test x ≡ true)) (find test xs)
     found_has P test [] h = tt
     found_has P test (x ∷ xs) h = first_if (test x) P test x (find test xs) refl h.0 (found_has P test xs h.1)
 

@@ -12,7 +12,7 @@ use Rattle.ob_types.specs.TypedSyntax.{Module}
 use Rattle.ob_types.proofs.Targets.{more}
 use Rattle.ob_meaning.specs.Values.{same_name, Program, type_named, description, number_of_types}
 use Rattle.ob_relation.proofs.Names.{bytes_true, name_true, name_same}
-use Rattle.ob_forms.specs.Said.{IsOneOf, IsSound}
+use Rattle.ob_forms.specs.Said.{IsOneOf, ChainsEnd, IsSound}
 
 -- ---- a list without one of its items
 
@@ -166,5 +166,8 @@ all_named (m ∷ ms) q d e = by (bytes_eq q.«module» m.name) refl e (λ e. all
     by false s e r = one_right (each (named m) m.types) (names_of ms) q (r e)
 
 -- NO TYPE OF A PROGRAM stands on more than all others
+pub chains_end : (program : Program) → ChainsEnd program → (q : QName) (d : Desc) → description program q ≡ Some d → IsWithin (description program) (number_of_types program) (ref.Named q)
+chains_end program ends q d e = let n = ends q d e in no_longer (number_of_types program) (description program) (names_of program) (as_many program) (all_named program) n.0 (ref.Named q) n.1
+
 pub chains : (program : Program) → IsSound program → (q : QName) (d : Desc) → description program q ≡ Some d → IsWithin (description program) (number_of_types program) (ref.Named q)
-chains program sound q d e = let n = sound.ends q d e in no_longer (number_of_types program) (description program) (names_of program) (as_many program) (all_named program) n.0 (ref.Named q) n.1
+chains program sound q d e = chains_end program sound.ends q d e

@@ -28,7 +28,7 @@ other_name x y n = by (bytes_eq x y) refl
 
 -- what is sought by its name, the first of that name being it
 module _ {A B : Type 0} (name : A → List ℕ) (sought : List A → List ℕ → B) (give : A → B) (steps : (x : A) (xs : List A) (n : List ℕ) → sought (x ∷ xs) n ≡ (if bytes_eq n (name x) then give x else sought xs n)) where
-  sought_there : (xs : List A) (x : A) → Different name xs → IsOneOf xs x → sought xs (name x) ≡ give x
+  pub sought_there : (xs : List A) (x : A) → Different name xs → IsOneOf xs x → sought xs (name x) ≡ give x
   sought_there [] x d i = absurd i
   sought_there (y ∷ ys) x d i =
       ⊎_elim

@@ -12,8 +12,8 @@ use Rattle.ob_types.specs.declared.desc.Desc.TheVariants as desc
 use Rattle.ob_types.specs.declared.desc.Field.{Field}
 use Rattle.ob_types.specs.Maps.{is_type, stands_on, listed, signature_types, IsWithin}
 use Rattle.ob_meaning.specs.Values.{Program, Form, ProcedureForm, ArrayForm, OpenForm, RecordForm, AField, Formals, AResult, AFormal, result_formals, formals_before, formals_of, joined, own_fields, base_line, base_fields, line_of, fields_of, described, form_within, form_in, record_in, description, number_of_types}
-use Rattle.ob_forms.proofs.Chains.{chains}
-use Rattle.ob_forms.specs.Said.{IsSound}
+use Rattle.ob_forms.proofs.Chains.{chains_end}
+use Rattle.ob_forms.specs.Said.{ChainsEnd, IsSound}
 
 pub all_right : {A : Type 0} (P : A → Type 0) (xs ys : List A) → AllByRecursion P (xs ++ ys) → AllByRecursion P ys
 all_right P [] ys h = h
@@ -99,5 +99,8 @@ module _ (types : QName → Option Desc) where
   form_at (suc n) q d e h = ap (λ o. described (form_within types n) q o) e ∙ agree (form_within types n) (form_within types (suc n)) q d (all_from (λ t. IsWithin types n t) (λ t. form_within types n t ≡ form_within types (suc n) t) (form_more n) (stands_on d) (parts_within n q d e h))
 
 -- WHAT A DECLARED TYPE IS
+pub form_ends : (program : Program) → ChainsEnd program → (q : QName) (d : Desc) → description program q ≡ Some d → record_in program q ≡ described (form_in program) q (Some d)
+form_ends program ends q d e = form_at (description program) (number_of_types program) q d e (chains_end program ends q d e)
+
 pub form_described : (program : Program) → IsSound program → (q : QName) (d : Desc) → description program q ≡ Some d → record_in program q ≡ described (form_in program) q (Some d)
-form_described program sound q d e = form_at (description program) (number_of_types program) q d e (chains program sound q d e)
+form_described program sound q d e = form_ends program sound.ends q d e

@@ -67,6 +67,10 @@ abbrev pub HaveNames : List Field → Type 0
 HaveNames [] = Unit {0}
 HaveNames (f ∷ fs) = IsFreshName f.name fs × HaveNames fs
 
+-- each chain of types from one that a program declares on ends
+abbrev pub ChainsEnd : Program → Type 0
+ChainsEnd program = (q : QName) (d : Desc) → description program q ≡ Some d → (n : ℕ) × IsWithin (description program) n (ref.Named q)
+
 -- The types that a program declares are sound: each type that one names is declared, each chain from one on ends, each keeps what it has
 -- to; arrays have lengths, the fields of a record differ, its bound procedures are there, and no module is Out.
 pub record IsSound (program : Program) : Type 0 where

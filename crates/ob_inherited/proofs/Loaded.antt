@@ -53,13 +53,13 @@ use Rattle.ob_inherited.proofs.Checked.{checked_at}
 abbrev pub IsSome : Build → Type 0
 IsSome b = (c : Compiled Text) × IsValid b c
 
-tree_in : (xs : List Build) (b : Build) → In xs b → IsOneOf (program_of xs) (tree_of b)
+pub tree_in : (xs : List Build) (b : Build) → In xs b → IsOneOf (program_of xs) (tree_of b)
 tree_in [] b i = absurd i
 tree_in (x ∷ xs) b (inl e) = inl (ap tree_of e)
 tree_in (x ∷ xs) b (inr i) = inr (tree_in xs b i)
 
 -- it shows its module
-shows_module : (all : List Build) (b : Build) → In all b → IsSome b → IsShownBy (program_of all) (shows_of b)
+pub shows_module : (all : List Build) (b : Build) → In all b → IsSome b → IsShownBy (program_of all) (shows_of b)
 shows_module all b i v =
     let is = (comes texts _ (Some b.source) v.0 v.1.is).is in
     let same = sym (of_is b v.0 v.1) in

@@ -1,3 +1,4 @@
 pub mod Early
 pub mod Matching
 pub mod Judged
+pub mod Procedures

@@ -2,6 +2,7 @@
 #![tactic(auto)]
 
 ghost use Rattle.ob_matched.specs.Matched.{BindingsMatch, HeadingsAreJudged};
+ghost use Rattle.ob_matched.specs.Procedures.{ProceduresMatch};
 
 /// A law, with nothing to run. Where the bound procedures of a module have their parameters and nothing
 /// is broken, each whose method is introduced by another record than its own matches that method, and
@@ -15,4 +16,11 @@ pub fn bindings_match()
 /// pointers that they show.
 pub fn headings_are_judged()
     ensures { HeadingsAreJudged }
+{}
+
+/// A law, with nothing to run: each bound procedure of a checked module is that of a heading, with its
+/// parameters behind the receiver, and matches the method of its family where another record introduces
+/// that.
+pub fn procedures_match()
+    ensures { ProceduresMatch }
 {}

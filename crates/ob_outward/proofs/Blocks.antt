@@ -276,21 +276,21 @@ hidden_good Good nested (p ∷ ps) h = (nested p h.0, hidden_good Good nested ps
 
 -- what is so of the procedure of each heading of the module
 abbrev pub TypedSo : (TypedProcedure → Type 0) → Around → List Head → Type 0
-TypedSo Good U all = (h : Head) → IsHeaded U.unit U.own h → Among h all → h.forward ≡ false → (p : Parameters) (c : Contents) → AllByRecursion Good (typed_procedure (map_of (with_bound U (bindings U all))) h (Some p) c)
+TypedSo Good U all = (h : Head) → IsHeaded U.unit U.own h → Among h all → h.forward ≡ false → (p : Parameters) → h.parameters ≡ Some p → (c : Contents) → AllByRecursion Good (typed_procedure (map_of (with_bound U (bindings U all))) h (Some p) c)
 
 module _ (Good : TypedProcedure → Type 0) (nested : (p : TypedProcedure) → IsHidden p → Good p) (U : Around) (all : List Head) (so : TypedSo Good U all) where
   abbrev V : Around
   V = with_bound U (bindings U all)
 
-  typed_good : (h : Head) → IsHeaded U.unit U.own h → Among h all → h.forward ≡ false → (o : Option Parameters) (c : Contents) → AllByRecursion Good (typed_procedure (map_of V) h o c)
-  typed_good h i a f None c = tt
-  typed_good h i a f (Some p) c = so h i a f p c
+  typed_good : (h : Head) → IsHeaded U.unit U.own h → Among h all → h.forward ≡ false → (o : Option Parameters) → h.parameters ≡ o → (c : Contents) → AllByRecursion Good (typed_procedure (map_of V) h o c)
+  typed_good h i a f None e c = tt
+  typed_good h i a f (Some p) e c = so h i a f p e c
 
   judged_good : (p : Written_procedure) → GoodProcedure p → (h : Head) → IsHeaded U.unit U.own h → Among h all → (forward : Bool) → h.forward ≡ forward → AllByRecursion Good (procedure_judged V p h forward).contents.procedures
   judged_good p g h i a true f = tt
   judged_good p g h i a false f =
       let c = (p.inside (around_body V h)).contents in
-      all_both Good (typed_procedure (map_of V) h h.parameters c) c.procedures (typed_good h i a f h.parameters c) (hidden_good Good nested c.procedures (g.inside (around_body V h) (no_level h.path)))
+      all_both Good (typed_procedure (map_of V) h h.parameters c) c.procedures (typed_good h i a f h.parameters refl c) (hidden_good Good nested c.procedures (g.inside (around_body V h) (no_level h.path)))
 
   same_forward : (t : Bool) (d : Head) (u : Around) → (declared_head t d u).forward ≡ d.forward
   same_forward true d u = refl
@@ -316,7 +316,7 @@ all_differ : (bound : List TypedType) (x : List ℕ) (ts : List TypedType) → A
 all_differ bound x [] h = tt
 all_differ bound x (t ∷ ts) h = (subst (λ n. n ≢ x) (described_name (find (λ b. bytes_eq b.name t.name) bound) t) h.0, all_differ bound x ts h.1)
 
-undescribed : (bound ts : List TypedType) → Differ (all_described bound ts) → Differ ts
+pub undescribed : (bound ts : List TypedType) → Differ (all_described bound ts) → Differ ts
 undescribed bound [] h = tt
 undescribed bound (t ∷ ts) h = (all_differ bound t.name ts (subst (λ n. AllByRecursion (λ y. y.name ≢ n) (all_described bound ts)) (described_name (find (λ b. bytes_eq b.name t.name) bound) t) h.0), undescribed bound ts h.1)
 
@@ -375,6 +375,32 @@ module _ (shown : QName → Option Desc) (tree : Tree) (named : AllByRecursion (
 
   pub final_is : final ≡ bindings behind.around (heads_of ps start)
   final_is = ap (λ l. binding_at l behind.around (reversed behind.before)) (ap nothing imports_are.path) ∙ ap (bindings behind.around) (heads_are ps start)
+
+  abbrev Differing : List Head → Binding → Type 0
+  Differing hs b = (whole hs b).notes.broken ≡ [] → Differ (plain.around.own ++ ((judged hs b).contents.types ++ [])) → Differ behind.around.own
+
+  heads_differ : Differing (heads_of ps start) (bindings behind.around (heads_of ps start))
+  heads_differ q d =
+      let hs = heads_of ps start in
+      let b = bindings behind.around hs in
+      let second = front_empty (judged hs b).notes.broken (body_part (in_turn body (with_bound behind.around b))).notes.broken (back_empty (b.notes.broken ++ _) _ q) in
+      subst Differ (append-nil behind.around.own) (heads_move (with_bound behind.around b) ps start second [] d)
+
+  module_differs : Differing (reversed behind.before) final
+  module_differs = subst (λ l. Differing (reversed behind.before) (binding_at l behind.around (reversed behind.before))) (sym (ap nothing imports_are.path)) (subst (λ hs. Differing hs (bindings behind.around hs)) (sym (heads_are ps start)) heads_differ)
+
+  -- the types that headings know have different names
+  pub own_differ : parts.notes.broken ≡ [] → Differ parts.contents.types → Differ behind.around.own
+  own_differ q d =
+      let a = back_empty _ _ q in
+      let b = back_empty imports.part.notes.broken _ a in
+      let c : (whole (reversed behind.before) final).notes.broken ≡ [] = back_empty (plain.part.notes.broken ++ _) _ b in
+      let e = imports_are.own (plain.part.contents.types ++ ((judged (reversed behind.before) final).contents.types ++ [])) d in
+      module_differs c (plain_is.own ((judged (reversed behind.before) final).contents.types ++ []) e)
+
+  -- each heading has a name of the text, or is bound to a record of the module
+  pub headed_all : Differ behind.around.own → AllByRecursion (IsHeaded behind.around.unit behind.around.own) (heads_of ps start)
+  headed_all differ = all_headed behind.around.unit ps (procedures ds good) start (record { path = plain_is.path ∙ imports_are.path; unit_is = sym (heads_gain ps start).unit }) differ
 
   module _ (Good : TypedProcedure → Type 0) (nested : (p : TypedProcedure) → IsHidden p → Good p) (so : So Good) where
     at_heads : At Good (heads_of ps start) (bindings behind.around (heads_of ps start))

@@ -18,8 +18,8 @@ hidden : (p : TypedProcedure) → IsHidden p → Good p
 hidden p h e = absurd (false≢true (sym (ap (λ m. not (is_hidden m) && is_none p.binding) h.0) ∙ e))
 
 typed_so : (U : Around) (all : List Head) → (bindings U all).notes.broken ≡ [] → TypedSo Good U all
-typed_so U all quiet h (inl k) a f p c = ((λ e. k.1), tt)
-typed_so U all quiet h (inr k) a f p c =
+typed_so U all quiet h (inl k) a f p e c = ((λ x. k.1), tt)
+typed_so U all quiet h (inr k) a f p e c =
     let V = with_bound U (bindings U all) in
     let b = is_bound U h k.0 k.1.1.1.0 k.1.0 f all a k.1.1.0 k.1.1.1.1 quiet in
     ((λ e. absurd (false≢true (sym b ∙ (and_parts (not (is_hidden h.mark)) (is_none (bound_to (map_of V) h h.bound)) e).1))), tt)

@@ -179,7 +179,7 @@ module _ (shown : QName → Option Desc) (tree : Tree) (named : AllByRecursion (
       (subst (λ zs. desc_in (zs ++ (B.own ++ (j ++ []))) x ≡ Some d) (sym (plain_is shown tree named).bound) (front_found B.own (j ++ []) x d e))
 
   -- what is known of a type is what the module has
-  own_there : (x : List ℕ) (d : Desc) → desc_in B.own x ≡ Some d → desc_in M.types x ≡ Some d
+  pub own_there : (x : List ℕ) (d : Desc) → desc_in B.own x ≡ Some d → desc_in M.types x ≡ Some d
   own_there x d e =
       let n : Named x U.own = bound_names x U (heads_of (ps shown tree named) (start shown tree named)) (subst (λ (b : Binding). Named x b.own) (final_is shown tree named) (found_named x B.own d e)) in
       described_found P.contents.bound x d (bound_there x d e) P.contents.types (all_there x n)
@@ -248,11 +248,11 @@ module _ (shown : QName → Option Desc) (tree : Tree) (named : AllByRecursion (
       })
 
   typed_so : TypedSo Good U (heads_of (ps shown tree named) (start shown tree named))
-  typed_so h (inl k) a w p c = ((λ b e. none b (sym (ap (bound_to f h) k.0) ∙ e)), tt)
+  typed_so h (inl k) a w p has c = ((λ b e. none b (sym (ap (bound_to f h) k.0) ∙ e)), tt)
     where
       none : (b : BoundTo) → None ≡ Some b → IsFamily g tree.name.name b
       none b e = absurd cc
-  typed_so h (inr k) a w p c = ((λ b e. family h k.0 k.1.1.1.0 (member f k.0.owner h.name) refl b (sym (ap (bound_to f h) k.1.0) ∙ e)), tt)
+  typed_so h (inr k) a w p has c = ((λ b e. family h k.0 k.1.1.1.0 (member f k.0.owner h.name) refl b (sym (ap (bound_to f h) k.1.0) ∙ e)), tt)
 
   hidden : (p : TypedProcedure) → IsHidden p → Good p
   hidden p h b e = absurd (no (sym h.1 ∙ e))

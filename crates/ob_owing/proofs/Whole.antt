@@ -9,23 +9,25 @@ use Rattle.ob_ordered.proofs.Owing.{loaded_variables, loaded_describe}
 use Rattle.ob_whole.proofs.Whole.{loaded_whole}
 use Rattle.ob_whole.proofs.Passing.{loaded_passed}
 use Rattle.ob_laying.proofs.Loaded.{loaded_laid}
+use Rattle.ob_belonging.proofs.Loaded.{bound_there}
 use Rattle.ob_owing.specs.Left.{LeftGives, LeftStands}
 use Rattle.ob_owing.proofs.Builds.{builds_ruled}
 
 pub left_gives : LeftGives
 left_gives l =
     let r = builds_ruled in
+    let bound = bound_there l.written r locality_holds l.bases in
     record {
       values = values;
       different = modules_differ;
       enterable = loaded_enter l.written l.linked;
       same = l.same;
-      described = loaded_describe l.written r l.bound (loaded_whole r (loaded_passed l.written r l.bound)) (loaded_laid l.written r locality_holds);
+      described = loaded_describe l.written r bound (loaded_whole r (loaded_passed l.written r)) (loaded_laid l.written r locality_holds);
       rules = l.rules;
       names = names_are_shown;
       words = words_are_counted;
       commands = commands_are_there;
-      variables = loaded_variables l.written r l.bound;
+      variables = loaded_variables l.written r bound;
       forms_stay = loaded_forms_stay l.written r;
       values_stay = loaded_values_stay l.written r;
     }

@@ -17,8 +17,8 @@ use Rattle.ob_types.specs.Tests.{target_of, follow, target, shape_at}
 use Rattle.ob_meaning.specs.Values.{Program, BasicForm, PointerForm, ProcedureForm, ArrayForm, OpenForm, RecordForm, Fields, form_in, formals_in, description}
 use Rattle.ob_rules.specs.Shapes.{array_at, open_at, record_at, by_value, by_var, passing_of}
 use Rattle.ob_relation.specs.Typed.{passing_for}
-use Rattle.ob_forms.specs.Said.{IsSound}
-use Rattle.ob_forms.proofs.Within.{form_described}
+use Rattle.ob_forms.specs.Said.{ChainsEnd}
+use Rattle.ob_forms.proofs.Within.{form_ends}
 use Rattle.ob_forms.proofs.Shapes.{basic_is}
 use Rattle.ob_declares.specs.Near.{core}
 use Rattle.ob_ordered.proofs.Closed.{core_alias}
@@ -50,7 +50,7 @@ core_passing k q (desc.OpenArray m t) = refl
 core_passing k q (desc.Pointer m t) = refl
 core_passing k q (desc.ProcType m s) = refl
 
-module _ (program : Program) (sound : IsSound program) (one : QName → Option Desc) (P : TypeRef → Type 0) (N : ℕ → TypeRef → Type 0) (never : (q : QName) → N zero (ref.Named q) → ⊥) where
+module _ (program : Program) (chained : ChainsEnd program) (one : QName → Option Desc) (P : TypeRef → Type 0) (N : ℕ → TypeRef → Type 0) (never : (q : QName) → N zero (ref.Named q) → ⊥) where
   -- the map says of a type what the program declares
   pub record SaidBy (q : QName) : Type 0 where
     pub d : Desc
@@ -68,27 +68,27 @@ module _ (program : Program) (sound : IsSound program) (one : QName → Option D
   described_passing k q (desc.Var m t) h ty a = absurd cc
   described_passing k q (desc.Proc s) h ty a = absurd cc
   described_passing k q (desc.Alias m t) h ty a = absurd cc
-  described_passing k q (desc.Array m n t) h ty a = by k ∙ sym (ap (passing_for k) (form_described program sound q (desc.Array m n t) h))
+  described_passing k q (desc.Array m n t) h ty a = by k ∙ sym (ap (passing_for k) (form_ends program chained q (desc.Array m n t) h))
     where
       by : (k : Mode) → passing_at k (ref.Named q) (Some (desc.Array m n t)) ≡ passing_for k (ArrayForm n (form_in program t))
       by mode.Value = refl
       by mode.Var = refl
-  described_passing k q (desc.OpenArray m t) h ty a = by k ∙ sym (ap (passing_for k) (form_described program sound q (desc.OpenArray m t) h))
+  described_passing k q (desc.OpenArray m t) h ty a = by k ∙ sym (ap (passing_for k) (form_ends program chained q (desc.OpenArray m t) h))
     where
       by : (k : Mode) → passing_at k (ref.Named q) (Some (desc.OpenArray m t)) ≡ passing_for k (OpenForm (form_in program t))
       by mode.Value = refl
       by mode.Var = refl
-  described_passing k q (desc.Pointer m t) h ty a = by k ∙ sym (ap (passing_for k) (form_described program sound q (desc.Pointer m t) h))
+  described_passing k q (desc.Pointer m t) h ty a = by k ∙ sym (ap (passing_for k) (form_ends program chained q (desc.Pointer m t) h))
     where
       by : (k : Mode) → passing_at k (ref.Named q) (Some (desc.Pointer m t)) ≡ passing_for k (PointerForm t)
       by mode.Value = refl
       by mode.Var = refl
-  described_passing k q (desc.ProcType m s) h ty a = by k ∙ sym (ap (passing_for k) (form_described program sound q (desc.ProcType m s) h))
+  described_passing k q (desc.ProcType m s) h ty a = by k ∙ sym (ap (passing_for k) (form_ends program chained q (desc.ProcType m s) h))
     where
       by : (k : Mode) → passing_at k (ref.Named q) (Some (desc.ProcType m s)) ≡ passing_for k (ProcedureForm (formals_in program s))
       by mode.Value = refl
       by mode.Var = refl
-  described_passing k q (desc.Record r) h ty a = by k _ _ ∙ sym (ap (passing_for k) (form_described program sound q (desc.Record r) h))
+  described_passing k q (desc.Record r) h ty a = by k _ _ ∙ sym (ap (passing_for k) (form_ends program chained q (desc.Record r) h))
     where
       by : (k : Mode) (line : List QName) (fs : Fields) → passing_at k (ref.Named q) (Some (desc.Record r)) ≡ passing_for k (RecordForm line fs)
       by mode.Value line fs = refl
@@ -139,7 +139,7 @@ module _ (program : Program) (sound : IsSound program) (one : QName → Option D
     by_ends : (k : Mode) (n : ℕ) (q : QName) (s : SaidBy q) → N (suc n) (ref.Named q) → (d : Desc) → s.d ≡ d → ((t : TypeRef) → P t → N n t → Goal k n t) → Goal k (suc n) (ref.Named q)
     by_ends k n q s w (desc.Alias m t) i r =
         let e : s.e ≡ desc.Alias m t = core_alias s.e m t (sym s.alike ∙ ap core i) in
-        let same : form_in program (ref.Named q) ≡ form_in program t = form_described program sound q (desc.Alias m t) (s.there ∙ ap (λ x. Some x) e) in
+        let same : form_in program (ref.Named q) ≡ form_in program t = form_ends program chained q (desc.Alias m t) (s.there ∙ ap (λ x. Some x) e) in
         ap (λ u. passing_at k u (shape_at one u)) (step n q m t (s.of ∙ ap (λ x. Some x) i)) ∙ r t (s.onward m t i) (s.within m t i n w) ∙ sym (ap (passing_for k) same)
     by_ends k n q s w (desc.Const v) i r = own_ends k (suc n) q s (ap is_alias i)
     by_ends k n q s w (desc.Var m t) i r = own_ends k (suc n) q s (ap is_alias i)

@@ -29,7 +29,7 @@ use Rattle.ob_ages.specs.Builds.{Text, Build, IsValid, of, tree_of}
 use Rattle.ob_ages.specs.Laws.{IsBehind, AreTogether, BuildsAreWritten}
 use Rattle.ob_joining.specs.Builds.{program_of}
 use Rattle.ob_forms.specs.Formed.{IsDeclared}
-use Rattle.ob_forms.specs.Said.{IsSound}
+use Rattle.ob_forms.specs.Said.{ChainsEnd}
 use Rattle.ob_forms.specs.Whole.{IsPassed, HeadingOk}
 use Rattle.ob_bodies.specs.Knows.{Stands}
 use Rattle.ob_local.specs.Laws.{HaveNoOut}
@@ -41,9 +41,9 @@ use Rattle.ob_sized.proofs.Grounded.{against_is_grounded}
 use Rattle.ob_ruled.specs.Ruled.{types_of, BuildsAreRuled}
 use Rattle.ob_ruled.proofs.Builds.{names_laid}
 use Rattle.ob_ruled.proofs.Closed as standing
+use Rattle.ob_declares.proofs.Ordered.{program_sound}
 use Rattle.ob_ordered.proofs.Closed as closed
-use Rattle.ob_ordered.proofs.Loaded.{Before, none, map_last, valid_of, before_more, more_all, uses}
-use Rattle.ob_ordered.proofs.Owing.{loaded_are_sound}
+use Rattle.ob_ordered.proofs.Loaded.{Before, none, map_last, valid_of, before_more, more_all, uses, in_order}
 use Rattle.ob_passed.specs.Passed.{IsPassedWell, HeadIsWell}
 use Rattle.ob_passed.proofs.Modules.{parameters_passed}
 use Rattle.ob_whole.specs.Whole.{LoadedPassed}
@@ -73,7 +73,7 @@ declared unit shown own (ref.Basic b) h = tt
 declared unit shown own (ref.Named q) h = h.0
 
 module _ (written : BuildsAreWritten) (ruled : BuildsAreRuled) where
-  module _ (before rest : List Build) (b : Build) (k : Before before) (h : IsBehind before b) (together : AreTogether (before ++ b ∷ []) rest) (program : Program) (is : program_of ((before ++ b ∷ []) ++ rest) ≡ program) (sound : IsSound program) where
+  module _ (before rest : List Build) (b : Build) (k : Before before) (h : IsBehind before b) (together : AreTogether (before ++ b ∷ []) rest) (program : Program) (is : program_of ((before ++ b ∷ []) ++ rest) ≡ program) (ends : ChainsEnd program) where
     abbrev V : QName → Option Desc
     V = types_of (of b)
 
@@ -99,7 +99,7 @@ module _ (written : BuildsAreWritten) (ruled : BuildsAreRuled) where
           let S : TypeRef → Type 0 = λ t. Stands m.name (shown (of b).against) g.w.own t in
           let held : (t : TypeRef) → S t → IsHeld V t = λ t s. held_same t (standing.held_here (of b).against m types differ outside others no_out g.w g.unit_is g.shown_is g.aliases g.told t s) in
           let P : TypeRef → Type 0 = λ t. S t × (declares.IsNear (tree_of b) u.near t × IsHeld V t) in
-          let said : (q : QName) → P (ref.Named q) → SaidBy program sound (map_of g.w) P (IsWithin V) (within_none V) q =
+          let said : (q : QName) → P (ref.Named q) → SaidBy program ends (map_of g.w) P (IsWithin V) (within_none V) q =
           λ q p.
           let two = closed.look (of b) (program_of before) u.over u.near u.used r.grounded u.types q p.1.0 p.1.1 in
           let one = standing.look (of b).against m types differ outside others no_out g.w g.unit_is g.shown_is g.aliases g.told q two.d p.0 (sym (same_view q) ∙ two.of) in
@@ -124,7 +124,7 @@ module _ (written : BuildsAreWritten) (ruled : BuildsAreRuled) where
           let there = held x.of g.stands in
           record {
             mode = g.mode;
-            passing = g.passing ∙ passed_alike program sound (map_of g.w) P (IsWithin V) (within_none V) said g.mode x.of (g.stands, (near there, there)) (r.grounded.chains x.of there);
+            passing = g.passing ∙ passed_alike program ends (map_of g.w) P (IsWithin V) (within_none V) said g.mode x.of (g.stands, (near there, there)) (r.grounded.chains x.of there);
             declared = declared m.name (shown (of b).against) g.w.own x.of g.stands;
           }
         where
@@ -157,11 +157,11 @@ module _ (written : BuildsAreWritten) (ruled : BuildsAreRuled) where
         let near = subst (λ (x : Module). AllByRecursion (λ p. AllByRecursion (λ x. IsHeld V x.of → declares.IsNear (tree_of b) (uses written ruled before b k h).near x.of) p.parameters) x.procedures) tree_is (uses written ruled before b k h).passed in
         subst (λ (x : Module). AllByRecursion (HeadingOk program) x.procedures) (sym tree_is) (headings_ok m tree_is types differ others away.out m.procedures well near)
 
-  all_headings : (before bs : List Build) → Before before → AreTogether before bs → (program : Program) → program_of (before ++ bs) ≡ program → IsSound program → AllByRecursion (λ (m : Module). AllByRecursion (HeadingOk program) m.procedures) (program_of bs)
-  all_headings before [] k h program is sound = tt
-  all_headings before (b ∷ bs) k h program is sound =
+  all_headings : (before bs : List Build) → Before before → AreTogether before bs → (program : Program) → program_of (before ++ bs) ≡ program → ChainsEnd program → AllByRecursion (λ (m : Module). AllByRecursion (HeadingOk program) m.procedures) (program_of bs)
+  all_headings before [] k h program is ends = tt
+  all_headings before (b ∷ bs) k h program is ends =
       let e : program_of ((before ++ b ∷ []) ++ bs) ≡ program = ap program_of (append_assoc before (b ∷ []) bs) ∙ is in
-      (one_passed before bs b k h.0 h.1 program e sound, all_headings (before ++ b ∷ []) bs (before_more written ruled before b k h.0) h.1 program e sound)
+      (one_passed before bs b k h.0 h.1 program e ends, all_headings (before ++ b ∷ []) bs (before_more written ruled before b k h.0) h.1 program e ends)
 
 pub loaded_passed : LoadedPassed
-loaded_passed written ruled bound bs l = all_headings written ruled [] bs (none written ruled) l.together (program_of bs) refl (loaded_are_sound written ruled bound bs l)
+loaded_passed written ruled bs l = all_headings written ruled [] bs (none written ruled) l.together (program_of bs) refl (program_sound (program_of bs) (in_order written ruled bs l.together)).ends

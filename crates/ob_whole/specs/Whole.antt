@@ -6,7 +6,7 @@ use Rattle.ob_ages.specs.Builds.{Build}
 use Rattle.ob_ages.specs.Laws.{BuildsAreWritten}
 use Rattle.ob_joining.specs.Builds.{program_of, AreLoaded}
 use Rattle.ob_ruled.specs.Ruled.{BuildsAreRuled}
-use Rattle.ob_ordered.specs.Loaded.{BoundAreThere, LoadedAreWhole}
+use Rattle.ob_ordered.specs.Loaded.{LoadedAreWhole}
 
 -- parameters of procedures are passed as their types ask for
 abbrev pub LoadedArePassed : Type 0
@@ -16,6 +16,6 @@ LoadedArePassed = (bs : List Build) → AreLoaded bs → AllByRecursion (λ m. A
 abbrev pub LoadedWhole : Type 0
 LoadedWhole = BuildsAreRuled → LoadedArePassed → LoadedAreWhole
 
--- So they are, where bound procedures are there.
+-- So they are.
 abbrev pub LoadedPassed : Type 0
-LoadedPassed = BuildsAreWritten → BuildsAreRuled → BoundAreThere → LoadedArePassed
+LoadedPassed = BuildsAreWritten → BuildsAreRuled → LoadedArePassed

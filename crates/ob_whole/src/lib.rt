@@ -11,7 +11,7 @@ pub fn loaded_whole()
 {}
 
 /// A law, with nothing to run: parameters are passed as their types ask for in the program
-/// (`LoadedArePassed`), where the bound procedures of its records are there.
+/// (`LoadedArePassed`).
 pub fn loaded_passed()
     ensures { LoadedPassed }
 {}

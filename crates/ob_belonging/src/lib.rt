@@ -1,0 +1,12 @@
+//! The bound procedures that the records of a program introduce are methods of the program, where
+//! its modules are those of builds that are loaded together.
+#![tactic(auto)]
+
+ghost use Rattle.ob_belonging.specs.Loaded.LoadedBelong;
+
+/// A law, with nothing to run: the bound procedures that the records of builds that are loaded
+/// together introduce are there, where those before a build show the bases of the pointers that they
+/// show.
+pub fn loaded_belong()
+    ensures { LoadedBelong }
+{}

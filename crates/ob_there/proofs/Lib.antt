@@ -1,0 +1,3 @@
+pub mod Introduced
+pub mod Modules
+pub mod Methods
