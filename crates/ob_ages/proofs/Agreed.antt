@@ -5,8 +5,8 @@ use Rattle.ob_tree.specs.declared.print.Print.{Print}
 use Rattle.ob_walk.specs.Walk.{symbol_name, symbol_entry}
 use Rattle.ob_cmp.specs.Check.{Checked, check_of, check_text, is_refused}
 use Rattle.ob_link.specs.Files.{Files}
-use Rattle.ob_compile.specs.Compiling as compile
-use Rattle.ob_compile.specs.Compiling.{Compiled, compiled, texts, prints}
+use Rattle.ob_compiling.specs.Compiling as compile
+use Rattle.ob_compiling.specs.Compiling.{Compiled, compiled, texts, prints}
 use Rattle.ob_lines.specs.Lines.{Line, Compile, Compare, Check, Show, Demo, Command, Unknown, Nothing, line_of, is_identifier}
 use Rattle.ob_words.specs.declared.asked.Settings.{Settings}
 use Rattle.ob_printing.specs.Texts.{refused}

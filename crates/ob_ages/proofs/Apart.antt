@@ -4,7 +4,7 @@ use Rattle.std.specs.Prelude.{bytes_eq}
 use Rattle.std.proofs.lemmas.Slice.Eq.{bytes_eq-Decides}
 use Rattle.ob_env.specs.Faces.{Face, face_named}
 use Rattle.ob_walk.specs.Walk.{Holds}
-use Rattle.ob_compile.specs.Compiling.{Compiled}
+use Rattle.ob_compiling.specs.Compiling.{Compiled}
 use Rattle.ob_said.specs.Named.{AreEntriesNamed, AreNamedApart}
 use Rattle.ob_said.proofs.Compiled.{compiled_apart}
 use Rattle.ob_ages.specs.Builds.{Text, Build, IsValid, entry_of}

@@ -28,7 +28,7 @@ use Rattle.ob_cmp.specs.Check.{Checked, IsStale, NoObject, DamagedFile, LongFile
 use Rattle.ob_link.specs.Plan.{Entry, Missing, TooLong, Junk, Holds}
 use Rattle.ob_link.specs.Files as objects
 use Rattle.ob_link.specs.Files.{Files, object_file_name, most_bytes, decoded, decoded_as, when_all}
-use Rattle.ob_compile.specs.Compiling.{Compiled, texts, object_by, object_bytes, interface_by}
+use Rattle.ob_compiling.specs.Compiling.{Compiled, texts, object_by, object_bytes, interface_by}
 use Rattle.ob_lines.specs.Lines.{is_identifier}
 use Rattle.ob_ages.specs.Builds.{Text, Build, IsValid, of, shows_of, name_of, file_of, bytes_of, symbols_of as written_symbols}
 use Rattle.ob_ages.specs.Library.{Library, IsLibrary, IsEntry, Kept, ObjectKept, SymbolKept}

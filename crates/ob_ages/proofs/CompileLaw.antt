@@ -3,8 +3,8 @@ use Rattle.std.proofs.Common.{◌≡◌, Result, Ok, Err, refl, ap, ◌∙◌}
 use Rattle.ob_tree.specs.declared.print.Print.{Print}
 use Rattle.ob_env.specs.Stale.{Found, AsWanted, IsAbsent, IsChanged, StaleUse}
 use Rattle.ob_walk.specs.Walk.{Walked, Left, NoInterface, Damaged, Cycle, TooMany, symbol_entry}
-use Rattle.ob_compile.specs.Compiling as c
-use Rattle.ob_compile.specs.Compiling.{Compiled, Refusal, compiled, prints, texts}
+use Rattle.ob_compiling.specs.Compiling as c
+use Rattle.ob_compiling.specs.Compiling.{Compiled, Refusal, compiled, prints, texts}
 use Rattle.ob_printing.specs.Texts.{walk_text, unmet_text, compile_reason}
 use Rattle.ob_lines.specs.Lines.{is_identifier}
 use Rattle.ob_alike.specs.Printed.{Text, walked_printed, found_printed, stale_printed, refusal_printed}

@@ -18,8 +18,8 @@ use Rattle.ob_env.specs.Answer.{Standing, Stands, Stale, Unfit}
 use Rattle.ob_walk.specs.Walk.{Entry, file_limit}
 use Rattle.ob_walk.specs.Answer.{Reached, Stopped, Whole, env_answer}
 use Rattle.ob_reading.specs.Reading.{NoModule, reading}
-use Rattle.ob_compile.specs.Compiling as c
-use Rattle.ob_compile.specs.Compiling.{Keeping, Refusal, Compiled, compiled, made, within, exceeds, exceeded, or_first, limit_of_operands, limit_of_code, limit_of_files, object_bytes, symbol_bytes, object_by, most_code, of_checked, of_break, by_rules, and_limits, unless_deep, is_deep, of_faces, of_standing, of_reached, of_few, of_tree, of_reading, of_short, most_imports, most_source, imported}
+use Rattle.ob_compiling.specs.Compiling as c
+use Rattle.ob_compiling.specs.Compiling.{Keeping, Refusal, Compiled, compiled, made, within, exceeds, exceeded, or_first, limit_of_operands, limit_of_code, limit_of_files, object_bytes, symbol_bytes, object_by, most_code, of_checked, of_break, by_rules, and_limits, unless_deep, is_deep, of_faces, of_standing, of_reached, of_few, of_tree, of_reading, of_short, most_imports, most_source, imported}
 
 -- it is made of a checked module over its interfaces, and keeps all limits
 pub record Comes {K : Type 0} (keeping : Keeping K) (x : Compiled K) : Type 0 where

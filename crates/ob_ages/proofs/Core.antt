@@ -9,8 +9,8 @@ use Rattle.ob_walk.specs.Walk.{symbol_name, symbol_entry}
 use Rattle.ob_cmp.specs.Verdicts.{compiled_text}
 use Rattle.ob_link.specs.Plan.{Entry, Missing, TooLong, Junk, Holds}
 use Rattle.ob_link.specs.Files.{Files, object_file_name}
-use Rattle.ob_compile.specs.Compiling as compile
-use Rattle.ob_compile.specs.Compiling.{Compiled, compiled, texts, prints, object_bytes, symbol_bytes}
+use Rattle.ob_compiling.specs.Compiling as compile
+use Rattle.ob_compiling.specs.Compiling.{Compiled, compiled, texts, prints, object_bytes, symbol_bytes}
 use Rattle.ob_words.specs.declared.asked.Settings.{Settings}
 use Rattle.ob_printing.specs.Texts.{compile_reason}
 use Rattle.ob_ages.specs.Bytes as bytes

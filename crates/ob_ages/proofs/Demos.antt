@@ -11,8 +11,8 @@ use Rattle.ob_walk.specs.Walk.{symbol_entry}
 use Rattle.ob_demo.specs.Source.{source, module_name}
 use Rattle.ob_link.specs.Plan.{Entry, Missing, TooLong, Junk, Holds}
 use Rattle.ob_link.specs.Files.{Files}
-use Rattle.ob_compile.specs.Compiling as compile
-use Rattle.ob_compile.specs.Compiling.{Compiled, compiled, texts, prints}
+use Rattle.ob_compiling.specs.Compiling as compile
+use Rattle.ob_compiling.specs.Compiling.{Compiled, compiled, texts, prints}
 use Rattle.ob_words.specs.declared.asked.Settings.{Settings}
 use Rattle.ob_printing.specs.Texts.{demo_text}
 use Rattle.ob_ages.specs.Bytes as bytes

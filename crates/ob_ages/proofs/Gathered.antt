@@ -14,8 +14,8 @@ use Rattle.ob_env.specs.Faces.{Face, Wanted, face_named, object_named, text_in}
 use Rattle.ob_walk.specs.Walk.{Entry}
 use Rattle.ob_rules.specs.Names.{is_out}
 use Rattle.ob_reading.specs.Reading.{NoModule, reading}
-use Rattle.ob_compile.specs.Compiling as c
-use Rattle.ob_compile.specs.Compiling.{Compiled, compiled, texts, of_reading, of_short, most_source}
+use Rattle.ob_compiling.specs.Compiling as c
+use Rattle.ob_compiling.specs.Compiling.{Compiled, compiled, texts, of_reading, of_short, most_source}
 use Rattle.ob_ages.specs.Builds.{Text, Build, IsSpelled, IsValid, of, shows_of, tree_of, name_of}
 use Rattle.ob_ages.specs.Laws.{Together, IsBehind, AreTogether, AreAround, AreAsWanted, Locality, Afresh, BuildsAreWritten, and_one, on_reading, of_source, and_all, taken_afresh}
 use Rattle.ob_ages.proofs.Apart.{build_apart}

@@ -11,7 +11,7 @@ use Rattle.ob_format.specs.Format.{◌>>=◌}
 use Rattle.ob_desc.specs.Grammar.{text_of}
 use Rattle.ob_env.specs.Faces.{Face, Wanted, face_named, object_named, text_in}
 use Rattle.ob_link.specs.Plan.{named, is_there, kept_by, present, words_of}
-use Rattle.ob_compile.specs.Compiling.{Compiled}
+use Rattle.ob_compiling.specs.Compiling.{Compiled}
 use Rattle.ob_planned.specs.Seen.{IsAmong, is_among, IsMet, GoesBehind, GoInTurn}
 use Rattle.ob_ages.specs.Builds.{Text, Build, IsValid, shows_of, name_of, asks}
 use Rattle.ob_ages.specs.Laws.{AreAsWanted, IsBehind, AreTogether}

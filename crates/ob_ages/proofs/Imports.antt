@@ -19,7 +19,7 @@ use Rattle.ob_grammar.proofs.Verdicts.{verdict}
 use Rattle.ob_parse.specs.Parsed.{limit}
 use Rattle.ob_pexpr.specs.Left.{tokens_of}
 use Rattle.ob_reading.specs.Reading.{NoModule, fault_of, parsed, by_fault, reading}
-use Rattle.ob_compile.specs.Compiling.{target_of, imported}
+use Rattle.ob_compiling.specs.Compiling.{target_of, imported}
 use Rattle.ob_lines.specs.Lines.{is_identifier}
 use Rattle.ob_ages.specs.Named.{AreIdentifiers, ImportsAreNamed}
 use Rattle.ob_said.proofs.Tokens.{is_name, tokens_named}

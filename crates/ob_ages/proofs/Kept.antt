@@ -13,7 +13,7 @@ use Rattle.ob_desc.specs.Grammar.{text_of}
 use Rattle.ob_env.specs.Faces.{Face, Wanted, face_named, object_named, text_in}
 use Rattle.ob_uses.specs.declared.pair.Pair.{Pair}
 use Rattle.ob_uses.specs.Uses.{with_kept}
-use Rattle.ob_compile.specs.Compiling.{Compiled, texts, made}
+use Rattle.ob_compiling.specs.Compiling.{Compiled, texts, made}
 use Rattle.ob_ages.specs.Builds.{Text, Build, IsValid}
 use Rattle.ob_ages.specs.Laws.{AreAsWanted, IsTextOf, IsTextOfBuild}
 use Rattle.ob_ages.proofs.Members.{has_head, has_more}

@@ -15,7 +15,7 @@ use Rattle.ob_link.specs.Walk as walk
 use Rattle.ob_link.specs.Walk.{first_of as first_refusal}
 use Rattle.ob_link.specs.Plan.{Asks, most_globals, named, kept_by, present, use_against, use_fails}
 use Rattle.ob_link.specs.Files as files
-use Rattle.ob_compile.specs.Compiling.{Compiled, texts, or_first, limit_of_operands, exceeds, exports_of, interface_by}
+use Rattle.ob_compiling.specs.Compiling.{Compiled, texts, or_first, limit_of_operands, exceeds, exports_of, interface_by}
 use Rattle.ob_planned.specs.Alike.{FindsAlike, AreAskedAlike}
 use Rattle.ob_types.specs.Maps.{is_type}
 use Rattle.ob_planned.specs.Compiled.{IsKnown, AreLinksUsed, AreProceduresNamed, asks_by}

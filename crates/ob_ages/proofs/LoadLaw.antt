@@ -10,7 +10,7 @@ use Rattle.ob_link.specs.Plan as load
 use Rattle.ob_link.specs.Plan.{Entry, Missing, TooLong, Junk, Holds, plan}
 use Rattle.ob_link.specs.Files as files
 use Rattle.ob_link.specs.Files.{Files, object_entry, file_plan}
-use Rattle.ob_compile.specs.Compiling.{Compiled}
+use Rattle.ob_compiling.specs.Compiling.{Compiled}
 use Rattle.ob_lines.specs.Lines.{is_identifier}
 use Rattle.ob_printing.specs.Texts.{load_refused}
 use Rattle.ob_planned.specs.Alike.{refusal_as, answer_as, EntryHas, AreEntriesAlike, Agrees}

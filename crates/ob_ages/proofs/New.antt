@@ -22,8 +22,8 @@ use Rattle.ob_walk.specs.Walk.{Walked, Left, NoInterface, Damaged, Cycle, TooMan
 use Rattle.ob_walk.specs.Answer.{after_walk, env_answer}
 use Rattle.ob_reading.specs.Reading.{NoModule, reading}
 use Rattle.ob_link.specs.Plan.{Entry, Missing, TooLong, Junk, Holds}
-use Rattle.ob_compile.specs.Compiling as c
-use Rattle.ob_compile.specs.Compiling.{Refusal, Compiled, compiled, texts, made, within, exceeds, of_checked, of_break, by_rules, and_limits, unless_deep, is_deep, of_faces, of_standing, of_reached, of_few, of_tree, of_reading, of_short, most_imports, most_source, imported}
+use Rattle.ob_compiling.specs.Compiling as c
+use Rattle.ob_compiling.specs.Compiling.{Refusal, Compiled, compiled, texts, made, within, exceeds, of_checked, of_break, by_rules, and_limits, unless_deep, is_deep, of_faces, of_standing, of_reached, of_few, of_tree, of_reading, of_short, most_imports, most_source, imported}
 use Rattle.ob_ages.specs.Builds.{Text, Build, IsValid, IsSpelled, shows_of, name_of}
 use Rattle.ob_ages.specs.Library.{Library, IsLibrary, IsEntry}
 use Rattle.ob_ages.specs.Model.{face_entry, interface_in, new_build}

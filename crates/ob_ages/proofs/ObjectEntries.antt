@@ -8,7 +8,7 @@ use Rattle.ob_link.specs.Plan.{Entry, Missing, TooLong, Junk, Holds}
 use Rattle.ob_link.specs.Files as objects
 use Rattle.ob_link.specs.Files.{Files, most_bytes, decoded, decoded_as, object_entry, object_file_name}
 use Rattle.ob_link.proofs.Decoded.{decoded_again}
-use Rattle.ob_compile.specs.Compiling.{Compiled, texts, object_by, object_bytes}
+use Rattle.ob_compiling.specs.Compiling.{Compiled, texts, object_by, object_bytes}
 use Rattle.ob_lines.specs.Lines.{is_identifier}
 use Rattle.ob_planned.specs.Alike.{entry_as}
 use Rattle.ob_ages.specs.Builds.{Text, Build, IsValid, of, shows_of, name_of, file_of, bytes_of}

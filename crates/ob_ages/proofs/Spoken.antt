@@ -13,7 +13,7 @@ use Rattle.ob_uses.specs.declared.pair.Pair.{Pair}
 use Rattle.ob_uses.specs.Uses.{with_kept}
 use Rattle.ob_walk.specs.Walk as walk
 use Rattle.ob_link.specs.Plan.{Entry, Missing, TooLong, Junk, Holds}
-use Rattle.ob_compile.specs.Compiling.{Compiled, texts, made}
+use Rattle.ob_compiling.specs.Compiling.{Compiled, texts, made}
 use Rattle.ob_lines.specs.Lines.{is_identifier}
 use Rattle.ob_alike.specs.Printed.{Text}
 use Rattle.ob_alike.specs.Alike.{IsShownBy, IsKeptBy, IsSpokenOfAmong}

@@ -16,7 +16,7 @@ use Rattle.ob_walk.specs.Walk.{file_limit, entry_from, named_face, symbol_name}
 use Rattle.ob_cmp.specs.Verdicts.{no_face, compiled_text}
 use Rattle.ob_link.specs.Plan.{Entry, Missing, TooLong, Junk, Holds}
 use Rattle.ob_link.specs.Files.{Files}
-use Rattle.ob_compile.specs.Compiling.{Compiled, texts, interface_by, symbol_bytes}
+use Rattle.ob_compiling.specs.Compiling.{Compiled, texts, interface_by, symbol_bytes}
 use Rattle.ob_ages.specs.Files.{SymFile, IsMissing, IsLong, IsDamaged, IsOf, sym_file, sym_file_of, decoded_file, stood}
 use Rattle.ob_ages.specs.Builds.{Text, Build, IsValid, or_none, of, shows_of, name_of, symbols_of}
 use Rattle.ob_ages.specs.Library.{Library, IsLibrary, IsEntry, Kept, SymbolKept}

@@ -15,7 +15,7 @@ use Rattle.ob_walk.specs.Walk as walk
 use Rattle.ob_walk.specs.Walk.{file_limit, entry_from, named_face, symbol_name, symbol_entry}
 use Rattle.ob_link.specs.Plan.{Entry, Missing, TooLong, Junk, Holds}
 use Rattle.ob_link.specs.Files.{Files}
-use Rattle.ob_compile.specs.Compiling.{Compiled, texts, interface_by}
+use Rattle.ob_compiling.specs.Compiling.{Compiled, texts, interface_by}
 use Rattle.ob_lines.specs.Lines.{is_letter_or_digit, is_identifier}
 use Rattle.ob_alike.specs.Printed.{Text, entry_printed}
 use Rattle.ob_ages.specs.Builds.{Build, IsValid, shows_of, name_of, symbols_of}

@@ -10,7 +10,7 @@ use Rattle.ob_sym.specs.Grammar.{face}
 use Rattle.ob_env.specs.Faces.{Face, face_named, text_in, described, printed, interface_of}
 use Rattle.ob_walk.specs.Walk as walk
 use Rattle.ob_link.specs.Plan.{Asks, is_there}
-use Rattle.ob_compile.specs.Compiling.{Compiled, Refusal, texts, compiled, object_by, object_bytes, symbol_bytes}
+use Rattle.ob_compiling.specs.Compiling.{Compiled, Refusal, texts, compiled, object_by, object_bytes, symbol_bytes}
 
 abbrev pub Text : Type 0
 Text = List ℕ

@@ -14,8 +14,8 @@ use Rattle.ob_demo.specs.Source.{source, module_name}
 use Rattle.ob_link.specs.Plan.{Refusal}
 use Rattle.ob_link.specs.Files.{Files, object_file_name, file_plan, planned}
 use Rattle.ob_load.specs.Command.{Ran, ran}
-use Rattle.ob_compile.specs.Compiling as compile
-use Rattle.ob_compile.specs.Compiling.{Compiled, compiled, prints, object_bytes, symbol_bytes}
+use Rattle.ob_compiling.specs.Compiling as compile
+use Rattle.ob_compiling.specs.Compiling.{Compiled, compiled, prints, object_bytes, symbol_bytes}
 use Rattle.ob_lines.specs.Lines as line
 use Rattle.ob_lines.specs.Lines.{Line}
 use Rattle.ob_words.specs.declared.asked.Settings.{Settings}

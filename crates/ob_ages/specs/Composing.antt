@@ -7,8 +7,8 @@ use Rattle.ob_walk.specs.Walk.{symbol_name, symbol_entry}
 use Rattle.ob_cmp.specs.Check.{check_of}
 use Rattle.ob_link.specs.Plan as load
 use Rattle.ob_link.specs.Files.{Files, object_file_name, file_plan}
-use Rattle.ob_compile.specs.Compiling as compile
-use Rattle.ob_compile.specs.Compiling.{Compiled, compiled, texts, prints, object_bytes, symbol_bytes}
+use Rattle.ob_compiling.specs.Compiling as compile
+use Rattle.ob_compiling.specs.Compiling.{Compiled, compiled, texts, prints, object_bytes, symbol_bytes}
 use Rattle.ob_lines.specs.Lines.{is_identifier, done_lines}
 use Rattle.ob_words.specs.declared.asked.Settings.{Settings}
 use Rattle.ob_printing.specs.Texts.{compile_reason, load_refused}

@@ -15,7 +15,7 @@ use Rattle.ob_link.specs.Plan.{most_modules, most_globals, words_of, has_command
 use Rattle.ob_link.specs.Files.{planned}
 use Rattle.ob_load.specs.Command.{Ran, ran}
 use Rattle.ob_reading.specs.Reading.{NoModule, reading}
-use Rattle.ob_compile.specs.Compiling.{Compiled, Refusal, texts, compiled, by_rules, object_by, interface_by}
+use Rattle.ob_compiling.specs.Compiling.{Compiled, Refusal, texts, compiled, by_rules, object_by, interface_by}
 use Rattle.ob_words.specs.declared.asked.Settings.{Settings}
 use Rattle.ob_ages.specs.Builds.{Text, Build, IsSpelled, IsValid, shows_of, tree_of, name_of, file_of, asks}
 use Rattle.ob_ages.specs.Library.{Library, IsLibrary}

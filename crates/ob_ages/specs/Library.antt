@@ -5,7 +5,7 @@ use Rattle.ob_walk.specs.Walk.{file_limit, symbol_name, entry_from}
 use Rattle.ob_link.specs.Plan.{Entry, Missing, TooLong, Junk, Holds}
 use Rattle.ob_link.specs.Files as objects
 use Rattle.ob_link.specs.Files.{Files, most_bytes, object_file_name}
-use Rattle.ob_compile.specs.Compiling.{Compiled}
+use Rattle.ob_compiling.specs.Compiling.{Compiled}
 use Rattle.ob_lines.specs.Lines.{is_identifier}
 use Rattle.ob_ages.specs.Builds.{Text, Build, IsValid, name_of, bytes_of, symbols_of}
 

@@ -1,5 +1,5 @@
 -- A load over files that keep a library is a load over the library.
-use Rattle.ob_compile.specs.Compiling.{Compiled}
+use Rattle.ob_compiling.specs.Compiling.{Compiled}
 use Rattle.ob_planned.specs.Compiled.{Text, AreLinksUsed}
 use Rattle.ob_ages.specs.Builds.{Build, IsValid}
 use Rattle.ob_ages.specs.Laws.{BuildsAreWritten}

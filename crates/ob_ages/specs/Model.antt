@@ -17,8 +17,8 @@ use Rattle.ob_demo.specs.Source.{source, module_name}
 use Rattle.ob_link.specs.Plan as load
 use Rattle.ob_link.specs.Plan.{Entry, Missing, TooLong, Junk, Holds, plan}
 use Rattle.ob_link.specs.Files.{Files, object_file_name}
-use Rattle.ob_compile.specs.Compiling as compile
-use Rattle.ob_compile.specs.Compiling.{Compiled, compiled, texts}
+use Rattle.ob_compiling.specs.Compiling as compile
+use Rattle.ob_compiling.specs.Compiling.{Compiled, compiled, texts}
 use Rattle.ob_lines.specs.Lines as line
 use Rattle.ob_lines.specs.Lines.{Line}
 use Rattle.ob_words.specs.declared.asked.Settings.{Settings}

@@ -3,7 +3,7 @@ use Rattle.std.specs.Prelude.{◌≡◌, ℕ, true, List, map as each, Ok}
 use Rattle.std.specs.List.{AllByRecursion}
 use Rattle.ob_tree.specs.declared.decl.Module.{Module as Tree}
 use Rattle.ob_reading.specs.Reading.{reading}
-use Rattle.ob_compile.specs.Compiling.{imported}
+use Rattle.ob_compiling.specs.Compiling.{imported}
 use Rattle.ob_lines.specs.Lines.{is_identifier}
 
 abbrev pub AreIdentifiers : List (List ℕ) → Type 0

@@ -3,7 +3,7 @@ use Rattle.std.proofs.Common.{◌≡◌, ℕ, zero, suc, true, List, [], ◌∷�
 use Rattle.std.specs.Prelude.{map as each}
 use Rattle.std.specs.List.{AllByRecursion}
 use Rattle.ob_tree.specs.declared.print.Print.{Print}
-use Rattle.ob_compile.specs.Compiling.{Refusal, Compiled, compiled, texts, imported}
+use Rattle.ob_compiling.specs.Compiling.{Refusal, Compiled, compiled, texts, imported}
 use Rattle.ob_alike.specs.Printed.{Text, result_printed}
 use Rattle.ob_alike.specs.Alike.{IsSpokenOfAmong, ComeToTheSame, CompilesAlike, CompilesAlikeAmong}
 use Rattle.ob_alike.proofs.Walking.{Known}

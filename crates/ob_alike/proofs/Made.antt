@@ -32,7 +32,7 @@ use Rattle.ob_env.specs.Shown.{shown}
 use Rattle.ob_uses.specs.declared.pair.Pair.{Pair}
 use Rattle.ob_uses.specs.Uses.{with_kept, pairs_of}
 use Rattle.ob_uses.specs.Made.{face_over, face_of_laid}
-use Rattle.ob_compile.specs.Compiling.{Refusal, Compiled, prints, texts, exports_of, or_first, exceeded, most_code, limit_of_files, object_bytes, exceeds, within, made, of_checked, of_break, by_rules, and_limits, is_deep, unless_deep, of_faces}
+use Rattle.ob_compiling.specs.Compiling.{Refusal, Compiled, prints, texts, exports_of, or_first, exceeded, most_code, limit_of_files, object_bytes, exceeds, within, made, of_checked, of_break, by_rules, and_limits, is_deep, unless_deep, of_faces}
 use Rattle.ob_alike.specs.Printed.{Text, wanted_printed, compiled_printed, result_printed}
 use Rattle.ob_alike.proofs.Faces.{described_same, shown_same, print_is, count_same}
 

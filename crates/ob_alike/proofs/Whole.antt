@@ -10,7 +10,7 @@ use Rattle.ob_env.specs.Answer.{Standing, Stands, Stale, Unfit, standing}
 use Rattle.ob_walk.specs.Walk.{Entry, Walked, Left, NoInterface, Damaged, Cycle, TooMany, walk}
 use Rattle.ob_walk.specs.Answer.{Reached, Stopped, Whole, after_walk, env_answer}
 use Rattle.ob_reading.specs.Reading.{NoModule, reading}
-use Rattle.ob_compile.specs.Compiling.{Refusal, Compiled, compiled, prints, texts, imported, most_imports, of_standing, of_reached, of_few, of_tree, of_reading, most_source, of_short}
+use Rattle.ob_compiling.specs.Compiling.{Refusal, Compiled, compiled, prints, texts, imported, most_imports, of_standing, of_reached, of_few, of_tree, of_reading, most_source, of_short}
 use Rattle.ob_alike.specs.Printed.{Text, walked_printed, standing_printed, reached_printed, result_printed}
 use Rattle.ob_alike.specs.Alike.{Apart}
 use Rattle.ob_alike.proofs.Walking.{Known, AreKnown, Alike, walks}

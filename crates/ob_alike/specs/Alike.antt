@@ -9,7 +9,7 @@ use Rattle.ob_fprint.specs.Print.{print_from}
 use Rattle.ob_env.specs.Faces.{Wanted, Face, text_in, printed}
 use Rattle.ob_walk.specs.Walk.{Entry, Holds}
 use Rattle.ob_reading.specs.Reading.{reading}
-use Rattle.ob_compile.specs.Compiling.{Refusal, Compiled, compiled, texts, prints, imported, object_bytes, symbol_bytes}
+use Rattle.ob_compiling.specs.Compiling.{Refusal, Compiled, compiled, texts, prints, imported, object_bytes, symbol_bytes}
 use Rattle.ob_alike.specs.Printed.{Text, entry_printed, refusal_printed}
 
 -- ---- the texts that are spoken of

@@ -7,8 +7,8 @@ use Rattle.ob_env.specs.Stale.{Found, AsWanted, IsAbsent, IsChanged, StaleUse}
 use Rattle.ob_env.specs.Answer.{Standing, Stands, Stale, Unfit}
 use Rattle.ob_walk.specs.Walk.{Entry, Missing, Junk, Holds, Walked, Left, NoInterface, Damaged, Cycle, TooMany}
 use Rattle.ob_walk.specs.Answer.{Reached, Stopped, Whole}
-use Rattle.ob_compile.specs.Compiling as c
-use Rattle.ob_compile.specs.Compiling.{Refusal, Compiled}
+use Rattle.ob_compiling.specs.Compiling as c
+use Rattle.ob_compiling.specs.Compiling.{Refusal, Compiled}
 
 abbrev pub Text : Type 0
 Text = List ℕ

@@ -4,7 +4,7 @@ use Rattle.std.specs.List.{AllByRecursion}
 use Rattle.ob_types.specs.TypedSyntax.{Module}
 use Rattle.ob_env.specs.Faces.{described}
 use Rattle.ob_env.specs.Shown.{shown}
-use Rattle.ob_compile.specs.Compiling.{Compiled, texts}
+use Rattle.ob_compiling.specs.Compiling.{Compiled, texts}
 use Rattle.ob_said.specs.Procedures.{ShowBases}
 use Rattle.ob_said.proofs.Texts.{headings_are_named}
 use Rattle.ob_strings.proofs.Trees.{readings_spelled}

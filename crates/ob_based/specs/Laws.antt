@@ -7,7 +7,7 @@ use Rattle.ob_types.specs.declared.desc.Desc.{Desc}
 use Rattle.ob_types.specs.declared.typed.TypedModule.{TypedModule}
 use Rattle.ob_layout.specs.LaidOut.{viewed}
 use Rattle.ob_env.specs.Faces.{Face, described}
-use Rattle.ob_compile.specs.Compiling.{Compiled}
+use Rattle.ob_compiling.specs.Compiling.{Compiled}
 use Rattle.ob_distinct.specs.Distinct.{AreDistinct}
 use Rattle.ob_written.specs.Laws.{IsSpelled}
 use Rattle.ob_written.specs.Files.{BasesFit}

@@ -9,7 +9,7 @@ use Rattle.ob_layout.specs.LaidOut.{laid_out}
 use Rattle.ob_env.specs.Faces.{described}
 use Rattle.ob_env.specs.Shown.{shown}
 use Rattle.ob_distinct.specs.Distinct.{AreDistinct}
-use Rattle.ob_compile.specs.Compiling.{Compiled, texts}
+use Rattle.ob_compiling.specs.Compiling.{Compiled, texts}
 use Rattle.ob_said.specs.Procedures.{ShowBases}
 use Rattle.ob_said.proofs.Texts.{headings_are_named}
 use Rattle.ob_written.proofs.Reading.{readings_named}

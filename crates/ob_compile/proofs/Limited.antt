@@ -13,10 +13,10 @@ use Rattle.ob_code.specs.Procedures.{module_code}
 use Rattle.ob_code.specs.Object.{own_words}
 use Rattle.ob_code.proofs.Appends.{instrs_length}
 use Rattle.ob_compile.specs.declared.shape.Built.{Built}
-use Rattle.ob_compile.specs.declared.fault.CompileRefusal.TheVariants as refusal
-use Rattle.ob_compile.specs.declared.fault.CompileFault.{CompileFault}
-use Rattle.ob_compile.specs.declared.fault.CompileFault.TheVariants as fault
-use Rattle.ob_compile.specs.Compiling.{Compiled, within, or_first, exceeded, most_code, limit_of_code, limit_of_files, object_by, object_with, object_bytes, symbol_bytes, interface_by, prints}
+use Rattle.ob_compiling.specs.declared.fault.CompileRefusal.TheVariants as refusal
+use Rattle.ob_compiling.specs.declared.fault.CompileFault.{CompileFault}
+use Rattle.ob_compiling.specs.declared.fault.CompileFault.TheVariants as fault
+use Rattle.ob_compiling.specs.Compiling.{Compiled, within, or_first, exceeded, most_code, limit_of_code, limit_of_files, object_by, object_with, object_bytes, symbol_bytes, interface_by, prints}
 use Rattle.ob_compile.specs.Contract.{Makes}
 use Rattle.ob_compile.specs.Steps.{short_code}
 

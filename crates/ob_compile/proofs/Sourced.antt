@@ -10,10 +10,10 @@ use Rattle.ob_io.specs.declared.traits.FolderFault.TheVariants as folder
 use Rattle.ob_reading.specs.Reading.{reading}
 use Rattle.ob_walk.specs.Walk.{symbol_entry}
 use Rattle.ob_compile.specs.declared.shape.Built.{Built}
-use Rattle.ob_compile.specs.declared.fault.CompileRefusal.TheVariants as refusal
-use Rattle.ob_compile.specs.declared.fault.CompileFault.{CompileFault}
-use Rattle.ob_compile.specs.declared.fault.CompileFault.TheVariants as fault
-use Rattle.ob_compile.specs.Compiling.{Refusal, Long, Compiled, compiled, of_short, of_reading, prints}
+use Rattle.ob_compiling.specs.declared.fault.CompileRefusal.TheVariants as refusal
+use Rattle.ob_compiling.specs.declared.fault.CompileFault.{CompileFault}
+use Rattle.ob_compiling.specs.declared.fault.CompileFault.TheVariants as fault
+use Rattle.ob_compiling.specs.Compiling.{Refusal, Long, Compiled, compiled, of_short, of_reading, prints}
 use Rattle.ob_compile.specs.Contract.{Compiles}
 use Rattle.ob_compile.specs.Steps.{Sources}
 

@@ -12,10 +12,10 @@ use Rattle.ob_env.specs.Building.{stands_as}
 use Rattle.ob_walk.specs.Walk.{Entry, Walked, Left, walk}
 use Rattle.ob_walk.specs.Answer.{after_walk}
 use Rattle.ob_compile.specs.declared.shape.Built.{Built}
-use Rattle.ob_compile.specs.declared.fault.CompileRefusal.TheVariants as refusal
-use Rattle.ob_compile.specs.declared.fault.CompileFault.{CompileFault}
-use Rattle.ob_compile.specs.declared.fault.CompileFault.TheVariants as fault
-use Rattle.ob_compile.specs.Compiling.{Refusal, Compiled, of_few, of_tree, of_reading, of_reached, of_standing, prints}
+use Rattle.ob_compiling.specs.declared.fault.CompileRefusal.TheVariants as refusal
+use Rattle.ob_compiling.specs.declared.fault.CompileFault.{CompileFault}
+use Rattle.ob_compiling.specs.declared.fault.CompileFault.TheVariants as fault
+use Rattle.ob_compiling.specs.Compiling.{Refusal, Compiled, of_few, of_tree, of_reading, of_reached, of_standing, prints}
 use Rattle.ob_compile.specs.Contract.{Compiles, Makes}
 use Rattle.ob_compile.specs.Steps.{stood}
 use Rattle.ob_compile.proofs.Answered.{made_compiles}

@@ -12,12 +12,12 @@ use Rattle.ob_sym.specs.Grammar.{face as face_form}
 use Rattle.ob_obj.specs.declared.file.ObjFile.{ObjFile}
 use Rattle.ob_obj.specs.Grammar.{file as file_form}
 use Rattle.ob_compile.specs.declared.shape.Built.{Built}
-use Rattle.ob_compile.specs.declared.fault.CompileRefusal.{CompileRefusal}
-use Rattle.ob_compile.specs.declared.fault.CompileRefusal.TheVariants as refusal
-use Rattle.ob_compile.specs.declared.fault.CompileFault.{CompileFault}
-use Rattle.ob_compile.specs.declared.fault.CompileFault.TheVariants as fault
-use Rattle.ob_compile.specs.Compiling as c
-use Rattle.ob_compile.specs.Compiling.{Refusal, Compiled, prints, interface_by, object_bytes, symbol_bytes}
+use Rattle.ob_compiling.specs.declared.fault.CompileRefusal.{CompileRefusal}
+use Rattle.ob_compiling.specs.declared.fault.CompileRefusal.TheVariants as refusal
+use Rattle.ob_compiling.specs.declared.fault.CompileFault.{CompileFault}
+use Rattle.ob_compiling.specs.declared.fault.CompileFault.TheVariants as fault
+use Rattle.ob_compiling.specs.Compiling as c
+use Rattle.ob_compiling.specs.Compiling.{Refusal, Compiled, prints, interface_by, object_bytes, symbol_bytes}
 
 -- a refusal as it is answered; no reading of a text is a want of memory, and no walk that ended early left all
 abbrev pub unread : NoModule → Option CompileRefusal

@@ -1,4 +1,3 @@
-pub mod Compiling
 pub mod Contract
 pub mod Steps
 pub mod Ruled

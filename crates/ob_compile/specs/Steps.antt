@@ -12,8 +12,8 @@ use Rattle.ob_env.specs.Faces.{Face, faces_of, described, print_in}
 use Rattle.ob_env.specs.Stale.{prints_agree}
 use Rattle.ob_env.specs.Answer.{Standing, standing}
 use Rattle.ob_walk.specs.Walk.{Entry}
-use Rattle.ob_compile.specs.declared.fault.CompileFault.{CompileFault}
-use Rattle.ob_compile.specs.Compiling.{Compiled, compiled, of_reading, made, prints}
+use Rattle.ob_compiling.specs.declared.fault.CompileFault.{CompileFault}
+use Rattle.ob_compiling.specs.Compiling.{Compiled, compiled, of_reading, made, prints}
 use Rattle.ob_compile.specs.Contract.{Compiles}
 
 -- a source that may be read whole

@@ -9,11 +9,11 @@ ghost use Rattle.ob_reading.specs.Reading.{NoModule, Scan, Parse, IsReading};
 ghost use Rattle.ob_walk.specs.Walk.{Walked, Entry};
 ghost use Rattle.ob_walk.specs.Walking.{StopsAs};
 ghost use Rattle.ob_walk.specs.Answer.{after_walk};
-ghost use Rattle.ob_compile.specs.Compiling.{Unread, of_reading, of_reached, of_standing, prints};
+ghost use Rattle.ob_compiling.specs.Compiling.{Unread, of_reading, of_reached, of_standing, prints};
 ghost use Rattle.ob_compile.specs.Contract.{Compiles, Makes};
 ghost use Rattle.ob_compile.specs.Steps.{stood};
 
-use crate::fault::{CompileFault, CompileRefusal};
+use ob_compiling::{CompileFault, CompileRefusal};
 use ob_env::EnvFault;
 use ob_pexpr::ParseFault;
 use ob_scan::ScanFault;

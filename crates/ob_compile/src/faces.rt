@@ -8,12 +8,12 @@ ghost use Rattle.ob_env.specs.Building.{stands_as};
 ghost use Rattle.ob_env.specs.Found.{CarryPrints};
 ghost use Rattle.ob_walk.specs.Walk.{symbol_entry, walk as walking};
 ghost use Rattle.ob_walk.specs.Answer.{after_walk};
-ghost use Rattle.ob_compile.specs.Compiling.{of_reading, of_tree, of_reached, of_standing, prints, imported};
+ghost use Rattle.ob_compiling.specs.Compiling.{of_reading, of_tree, of_reached, of_standing, prints, imported};
 ghost use Rattle.ob_compile.specs.Contract.{AreFile, Compiles, Makes, CompileHasCause};
 ghost use Rattle.ob_compile.specs.Steps.{stood};
 
 use crate::answers::{fault_of_env, fault_of_text, fault_of_walk, over_limit};
-use crate::fault::CompileFault;
+use ob_compiling::CompileFault;
 use crate::held::SourceTree;
 use crate::rules::judged;
 use crate::shape::Built;

@@ -6,11 +6,11 @@ ghost use Rattle.ob_sym.specs.Grammar.{face as face_form};
 ghost use Rattle.ob_obj.specs.Grammar.{file as file_form};
 ghost use Rattle.ob_spelled.specs.Prints.{AllHavePrints};
 ghost use Rattle.ob_walk.specs.Walk.{file_limit};
-ghost use Rattle.ob_compile.specs.Compiling.{Compiled, within, limit_of_files, object_by, object_bytes, symbol_bytes, interface_by, prints};
+ghost use Rattle.ob_compiling.specs.Compiling.{Compiled, within, limit_of_files, object_by, object_bytes, symbol_bytes, interface_by, prints};
 ghost use Rattle.ob_compile.specs.Contract.{AreFile, Makes};
 
 use crate::answers::over_limit;
-use crate::fault::CompileFault;
+use ob_compiling::CompileFault;
 use crate::held::ShownFace;
 use crate::shape::Built;
 use ob_obj::{ObjFile, write_obj};

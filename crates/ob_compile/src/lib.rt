@@ -4,7 +4,6 @@
 mod answers;
 mod compiling;
 mod faces;
-mod fault;
 mod files;
 mod held;
 mod limits;
@@ -15,5 +14,4 @@ mod shown;
 mod source;
 
 pub use compiling::compile;
-pub use fault::{CompileFault, CompileRefusal};
 pub use shape::Built;

@@ -7,13 +7,13 @@ ghost use Rattle.ob_tree.specs.declared.which.Which.TheVariants as which;
 ghost use Rattle.ob_types.specs.declared.desc.Desc.{Desc};
 ghost use Rattle.ob_types.specs.TypedView.{module_view};
 ghost use Rattle.ob_code.specs.Needs.{has_few_operands as few_operands};
-ghost use Rattle.ob_compile.specs.Compiling.{within, exceeds, exceeded, limit_of_operands, limit_of_code, object_with, prints};
+ghost use Rattle.ob_compiling.specs.Compiling.{within, exceeds, exceeded, limit_of_operands, limit_of_code, object_with, prints};
 ghost use Rattle.ob_compile.specs.Contract.{Makes};
 ghost use Rattle.ob_compile.specs.Steps.{compiled_of, short_code};
 ghost use Rattle.ob_compile.specs.Showing.{IsShown};
 
 use crate::answers::over_limit;
-use crate::fault::CompileFault;
+use ob_compiling::CompileFault;
 use crate::files::written;
 use crate::held::{ObjectFile, ShownFace};
 use crate::shape::Built;

@@ -7,12 +7,12 @@ ghost use Rattle.ob_rules.specs.Declarations.{checked, first_break};
 ghost use Rattle.ob_layout.specs.LaidOut.{laid_out};
 ghost use Rattle.ob_env.specs.Faces.{faces_of, described};
 ghost use Rattle.ob_env.specs.Shown.{shown};
-ghost use Rattle.ob_compile.specs.Compiling.{of_faces, unless_deep, is_deep, and_limits, of_break, of_checked, made as made_by, prints};
+ghost use Rattle.ob_compiling.specs.Compiling.{of_faces, unless_deep, is_deep, and_limits, of_break, of_checked, made as made_by, prints};
 ghost use Rattle.ob_compile.specs.Contract.{Makes};
 ghost use Rattle.ob_compile.specs.Ruled.{IsChecked};
 
 use crate::answers::over_limit;
-use crate::fault::{CompileFault, CompileRefusal};
+use ob_compiling::{CompileFault, CompileRefusal};
 use crate::limits::measured;
 use crate::shape::Built;
 use ob_cmodule::{Checked, check_module};

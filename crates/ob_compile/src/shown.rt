@@ -2,7 +2,7 @@
 
 ghost use Rattle.std.specs.Prelude.{◌≡◌, [], ◌∷◌, ◌++◌, IfOk, OnOk};
 ghost use Rattle.std.specs.List.{flat_map};
-ghost use Rattle.ob_compile.specs.Compiling.{object_exports, layout_export};
+ghost use Rattle.ob_compiling.specs.Compiling.{object_exports, layout_export};
 ghost use Rattle.ob_compile.specs.Showing.{IsShown};
 
 use crate::held::ShownFace;

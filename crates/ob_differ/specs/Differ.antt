@@ -8,7 +8,7 @@ use Rattle.ob_types.specs.declared.typed.TypedModule.{TypedModule}
 use Rattle.ob_rules.specs.Declarations.{checked}
 use Rattle.ob_walk.specs.Walk.{Entry}
 use Rattle.ob_reading.specs.Reading.{reading}
-use Rattle.ob_compile.specs.Compiling.{Compiled, compiled, texts}
+use Rattle.ob_compiling.specs.Compiling.{Compiled, compiled, texts}
 use Rattle.ob_distinct.specs.Distinct.{AreDistinct}
 use Rattle.ob_distinct.specs.Named.{tree_named}
 use Rattle.ob_said.specs.Procedures.{ShowBases}

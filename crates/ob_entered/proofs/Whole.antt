@@ -2,7 +2,7 @@
 use Rattle.std.proofs.Common.{List, [], ◌∷◌, subst, inl, inr}
 use Rattle.std.specs.Prelude.{Contains}
 use Rattle.std.specs.List.{AllByRecursion}
-use Rattle.ob_compile.specs.Compiling.{Compiled}
+use Rattle.ob_compiling.specs.Compiling.{Compiled}
 use Rattle.ob_ages.specs.Builds.{Text, Build, IsValid}
 use Rattle.ob_ages.specs.Laws.{AreTogether}
 use Rattle.ob_ages.proofs.Members.{In, to_in}

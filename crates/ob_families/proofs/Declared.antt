@@ -26,7 +26,7 @@ use Rattle.ob_linking.proofs.SameFile.{files_same}
 use Rattle.ob_tables.specs.Declared.{typed, IsBefore, past}
 use Rattle.ob_tables.specs.Settled.{TypesSettled, IsInOrder, AreInOrder, AllDeclared}
 use Rattle.ob_tables.proofs.Settled.{TypesDiffer as NamesDiffer, types_differ, named_here, description_here, base_named}
-use Rattle.ob_compile.specs.Compiling.{Compiled, texts, object_by, exports_of, interface_by}
+use Rattle.ob_compiling.specs.Compiling.{Compiled, texts, object_by, exports_of, interface_by}
 use Rattle.ob_layout.specs.LaidOut.{viewed}
 use Rattle.ob_env.specs.Faces.{described}
 use Rattle.ob_ages.specs.Builds.{Text, Build, IsValid, of, tree_of, file_of}

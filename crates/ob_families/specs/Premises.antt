@@ -8,7 +8,7 @@ use Rattle.ob_forms.specs.Said.{IsSound}
 use Rattle.ob_standing.specs.Described.{IsDescribed}
 use Rattle.ob_linking.specs.Files as linking
 use Rattle.ob_linking.specs.Same.{ModuleSame}
-use Rattle.ob_compile.specs.Compiling.{Compiled}
+use Rattle.ob_compiling.specs.Compiling.{Compiled}
 use Rattle.ob_ages.specs.Builds.{Text, Build, IsValid, of, tree_of}
 use Rattle.ob_joining.specs.Builds.{program_of, AreLoaded}
 use Rattle.ob_stand.specs.Owed.{in_program}

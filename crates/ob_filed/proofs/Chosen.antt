@@ -16,7 +16,7 @@ use Rattle.ob_layout.specs.LaidOut.{viewed}
 use Rattle.ob_layout.specs.Room.{globals_words}
 use Rattle.ob_env.specs.Faces.{Face, Wanted, described, face_named, object_named, text_in}
 use Rattle.ob_uses.specs.Made.{face_of_laid}
-use Rattle.ob_compile.specs.Compiling.{Compiled, texts, exports_of, interface_by}
+use Rattle.ob_compiling.specs.Compiling.{Compiled, texts, exports_of, interface_by}
 use Rattle.ob_link.specs.Walk.{first_of, or_first}
 use Rattle.ob_link.specs.Plan.{Asks, Refusal, Changed, named, kept_by, present, use_against, use_fails, most_globals}
 use Rattle.ob_link.specs.Files as files

@@ -8,7 +8,7 @@ use Rattle.ob_fprint.specs.Print.{print_from}
 use Rattle.ob_obj.specs.declared.file.ObjFile.{ObjFile}
 use Rattle.ob_obj.specs.Grammar.{file}
 use Rattle.ob_obj.specs.Images.{global_words}
-use Rattle.ob_compile.specs.Compiling.{Compiled, texts, object_by}
+use Rattle.ob_compiling.specs.Compiling.{Compiled, texts, object_by}
 use Rattle.ob_link.specs.Walk.{first_of, or_first}
 use Rattle.ob_link.specs.Plan.{Refusal, TooMany, fails, use_fails, absent, too_many, is_there, most_modules, words_of}
 use Rattle.ob_link.specs.Files as files

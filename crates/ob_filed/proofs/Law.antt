@@ -13,7 +13,7 @@ use Rattle.ob_layout.specs.LaidOut.{viewed}
 use Rattle.ob_layout.specs.Room.{globals_words}
 use Rattle.ob_env.specs.Faces.{described}
 use Rattle.ob_code.specs.Context.{before}
-use Rattle.ob_compile.specs.Compiling.{Compiled, texts, object_by, exports_of, interface_by}
+use Rattle.ob_compiling.specs.Compiling.{Compiled, texts, object_by, exports_of, interface_by}
 use Rattle.ob_link.specs.Files.{command_in}
 use Rattle.ob_planned.specs.Laws.{IsMarked}
 use Rattle.ob_planned.proofs.Checked.{compiled_marked}

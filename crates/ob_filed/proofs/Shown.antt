@@ -13,7 +13,7 @@ use Rattle.ob_desc.specs.Grammar.{is_shown}
 use Rattle.ob_meaning.specs.Values.{type_named, description}
 use Rattle.ob_env.specs.Faces.{described, face_named, object_named}
 use Rattle.ob_uses.specs.Objects.{by_name, is_exported, constant_object, variable_object, procedure_object, type_object, types_among, reached_types, objects_of}
-use Rattle.ob_compile.specs.Compiling.{Compiled, texts}
+use Rattle.ob_compiling.specs.Compiling.{Compiled, texts}
 use Rattle.ob_planned.proofs.Asked.{all_joined}
 use Rattle.ob_planned.proofs.Orders.{all_in_order}
 use Rattle.ob_planned.proofs.Shown.{object_has}

@@ -1,7 +1,7 @@
 -- The strings of a build's object file.
 use Rattle.std.proofs.Common.{sym, subst}
 use Rattle.ob_obj.specs.Grammar.{file}
-use Rattle.ob_compile.specs.Compiling.{Compiled, texts, object_by}
+use Rattle.ob_compiling.specs.Compiling.{Compiled, texts, object_by}
 use Rattle.ob_planned.proofs.Fitting.{long_strings}
 use Rattle.ob_ages.specs.Builds.{Text, file_of}
 use Rattle.ob_ages.proofs.Stood.{of_is}

@@ -4,7 +4,7 @@ use Rattle.ob_types.specs.TypedSyntax.{Procedure}
 use Rattle.ob_obj.specs.Images.{global_words}
 use Rattle.ob_meaning.specs.Commands.{command_named}
 use Rattle.ob_relation.specs.Layout.{procedure_index}
-use Rattle.ob_compile.specs.Compiling.{Compiled}
+use Rattle.ob_compiling.specs.Compiling.{Compiled}
 use Rattle.ob_link.specs.Files.{command_in}
 use Rattle.ob_ages.specs.Builds.{Text, Build, IsValid, tree_of, name_of, file_of, asks}
 

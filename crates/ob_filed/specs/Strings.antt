@@ -1,7 +1,7 @@
 -- The strings of a build's object file.
 use Rattle.std.specs.Prelude.{◌≤◌, length}
 use Rattle.std.specs.List.{AllByRecursion}
-use Rattle.ob_compile.specs.Compiling.{Compiled}
+use Rattle.ob_compiling.specs.Compiling.{Compiled}
 use Rattle.ob_ages.specs.Builds.{Text, Build, IsValid, file_of}
 use Rattle.ob_ages.specs.Laws.{BuildsAreWritten}
 

@@ -13,7 +13,7 @@ use Rattle.ob_env.specs.Fit.{is_within}
 use Rattle.ob_env.specs.Shown.{shown}
 use Rattle.ob_rules.specs.Names.{out_string}
 use Rattle.ob_rules.specs.Declarations.{target_of, checked}
-use Rattle.ob_compile.specs.Compiling.{is_deep}
+use Rattle.ob_compiling.specs.Compiling.{is_deep}
 use Rattle.ob_distinct.specs.Distinct.{AreDistinct}
 
 abbrev pub Text : Type 0

@@ -14,7 +14,7 @@ use Rattle.ob_format.specs.Format.{◌>>=◌}
 use Rattle.ob_env.specs.Faces.{Face, object_named, face_named, described}
 use Rattle.ob_rules.specs.Names.{out_string}
 use Rattle.ob_relation.proofs.Names.{bytes_true}
-use Rattle.ob_compile.specs.Compiling.{Compiled}
+use Rattle.ob_compiling.specs.Compiling.{Compiled}
 use Rattle.ob_distinct.specs.Distinct.{AreDistinct}
 use Rattle.ob_firm.specs.Laws.{Text, IsCheckedOver, laid}
 use Rattle.ob_firm.proofs.Views.{views_are_grounded, views_are_short}

@@ -2,7 +2,7 @@
 use Rattle.ob_types.specs.Relations.{IsGrounded}
 use Rattle.ob_layout.specs.LaidOut.{viewed}
 use Rattle.ob_env.specs.Faces.{described}
-use Rattle.ob_compile.specs.Compiling.{Compiled}
+use Rattle.ob_compiling.specs.Compiling.{Compiled}
 use Rattle.ob_distinct.specs.Distinct.{AreDistinct}
 use Rattle.ob_firm.specs.Laws.{Text, AreShort}
 use Rattle.ob_ages.specs.Builds.{Build, IsValid}

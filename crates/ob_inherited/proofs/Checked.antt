@@ -11,7 +11,7 @@ use Rattle.ob_env.specs.Shown.{shown}
 use Rattle.ob_rules.specs.declared.broken.Broken.{Broken}
 use Rattle.ob_rules.specs.Declarations.{checked, first_break}
 use Rattle.ob_reading.specs.Reading.{NoModule, reading}
-use Rattle.ob_compile.specs.Compiling.{Compiled, Refusal, texts, made, of_break, by_rules}
+use Rattle.ob_compiling.specs.Compiling.{Compiled, Refusal, texts, made, of_break, by_rules}
 use Rattle.ob_ages.specs.Builds.{Text, Build, shows_of, tree_of}
 use Rattle.ob_ages.specs.Laws.{Together, and_one, on_reading, of_source, and_all, taken_afresh, Locality, BuildsAreWritten}
 use Rattle.ob_ages.proofs.Gathered.{afresh_so}

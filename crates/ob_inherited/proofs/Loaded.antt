@@ -24,7 +24,7 @@ use Rattle.ob_tables.specs.Settled.{TypesSettled, AllDeclared}
 use Rattle.ob_tables.specs.Counted.{FamiliesNumbered, number, AllBoundOnce}
 use Rattle.ob_tables.specs.Redefined.{RedefinitionsKept}
 use Rattle.ob_tables.proofs.Counted.{families_from_declarations}
-use Rattle.ob_compile.specs.Compiling.{Compiled, texts}
+use Rattle.ob_compiling.specs.Compiling.{Compiled, texts}
 use Rattle.ob_ages.specs.Builds.{Text, Build, IsValid, shows_of, tree_of}
 use Rattle.ob_ages.specs.Laws.{Locality, BuildsAreWritten}
 use Rattle.ob_ages.proofs.Compiled.{comes}

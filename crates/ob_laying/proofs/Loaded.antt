@@ -20,7 +20,7 @@ use Rattle.ob_layout.specs.LaidOut.{is_own, laid_type, laid_out}
 use Rattle.ob_env.specs.Faces.{Face, described}
 use Rattle.ob_env.specs.Shown.{shown}
 use Rattle.ob_uses.specs.Uses.{near_types}
-use Rattle.ob_compile.specs.Compiling.{texts, Compiled, made, of_break, by_rules}
+use Rattle.ob_compiling.specs.Compiling.{texts, Compiled, made, of_break, by_rules}
 use Rattle.ob_distinct.specs.Fields.{FieldsDiffer, AreApart}
 use Rattle.ob_distinct.specs.Distinct.{AreDistinct}
 use Rattle.ob_distinct.proofs.FieldBlocks.{fields_differ}

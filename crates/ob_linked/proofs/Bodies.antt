@@ -22,7 +22,7 @@ use Rattle.ob_code.specs.Operations.{update_line}
 use Rattle.ob_code.specs.Expressions.{end_desig, end_expr, desig_code, expr_code}
 use Rattle.ob_code.specs.Statements.{has_tag, record_want, target_want, source_want, copy_record, assign_line, new_line, for_place, for_value, end_for_test, end_label, label_code, labels_code, end_labels, result_code, end_stmt, end_stmts, end_branches, end_cases, end_else, next_stmt, next_stmts, next_branches, next_cases, stmt_code, stmts_code, branches_code, cases_code, else_code}
 use Rattle.ob_code.specs.Procedures.{body_of, closing, within, end_procedure, procedure_code, procedures_code}
-use Rattle.ob_compile.specs.Compiling.{Compiled}
+use Rattle.ob_compiling.specs.Compiling.{Compiled}
 use Rattle.ob_planned.specs.Compiled.{Text, is_variable, is_procedure, is_record}
 use Rattle.ob_linked.specs.Linked.{types_of, IsCounted, IsOperandCounted, IsLineCounted}
 use Rattle.ob_named.specs.Trees.{IfOther, VariableNamed, TagNamed, AssignedNamed, MadeNamed, ResultNamed, StmtNamed, StmtsNamed, BranchesNamed, CasesNamed, ElseNamed, DesigNamed, ExprNamed}

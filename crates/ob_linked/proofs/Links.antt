@@ -11,7 +11,7 @@ use Rattle.ob_code.specs.Numbers.{Named, nothing_named, same_link, same_type, wi
 use Rattle.ob_code.specs.Context.{is_own}
 use Rattle.ob_code.specs.Object.{own, own_words, base_type, with_base, with_record, with_bases, all_named}
 use Rattle.ob_code.specs.Procedures.{module_code}
-use Rattle.ob_compile.specs.Compiling.{Compiled}
+use Rattle.ob_compiling.specs.Compiling.{Compiled}
 use Rattle.ob_link.specs.Files.{linked}
 use Rattle.ob_planned.specs.Compiled.{Text, is_variable, is_procedure, is_record, IsUsedAs}
 use Rattle.ob_linked.specs.Linked.{types_of, IsCounted, IsOperandCounted, IsLineCounted, IsBaseCounted, IsTypeCounted, LinksFollow}

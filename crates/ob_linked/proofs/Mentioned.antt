@@ -24,7 +24,7 @@ use Rattle.ob_counts.specs.Noted.{names_of, shape_starts}
 use Rattle.ob_uses.specs.Closed.{is_among, of_found, new_before, unseen, reached, reached_from}
 use Rattle.ob_uses.specs.Uses.{near_types}
 use Rattle.ob_uses.proofs.Searching.{itself, no_both, known, either, left_of, right_of, in_front}
-use Rattle.ob_compile.specs.Compiling.{Compiled, made, texts}
+use Rattle.ob_compiling.specs.Compiling.{Compiled, made, texts}
 use Rattle.ob_planned.specs.Compiled.{Text, is_variable, is_procedure}
 use Rattle.ob_named.specs.Mentions.{IsAmong, IsVariable, IsProcedure}
 use Rattle.ob_linked.specs.Linked.{types_of, names_counted, IsCounted}

@@ -25,7 +25,7 @@ use Rattle.ob_code.specs.Context.{Context, first_hidden}
 use Rattle.ob_code.specs.Statements.{stmts_code}
 use Rattle.ob_code.specs.Procedures.{body_of, closing, within as within_procedure, end_procedure, procedure_code, procedures_code, module_code}
 use Rattle.ob_code.specs.Object.{own_words, all_named}
-use Rattle.ob_compile.specs.Compiling.{texts, Compiled, exceeds, within, of_checked, of_break, by_rules, and_limits, is_deep, unless_deep, of_standing, of_reached, most_imports, of_few, imported, of_reading, most_source, of_short, compiled}
+use Rattle.ob_compiling.specs.Compiling.{texts, Compiled, exceeds, within, of_checked, of_break, by_rules, and_limits, is_deep, unless_deep, of_standing, of_reached, most_imports, of_few, imported, of_reading, most_source, of_short, compiled}
 use Rattle.ob_link.specs.Files.{linked}
 use Rattle.ob_planned.specs.Compiled.{Text, is_variable, is_procedure, IsUsedAs}
 use Rattle.ob_named.specs.Trees.{StmtsNamed}

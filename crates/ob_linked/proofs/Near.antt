@@ -24,7 +24,7 @@ use Rattle.ob_uses.specs.Reaching.{Reaches, first, onward, AreEnough}
 use Rattle.ob_uses.specs.Held.{held_names}
 use Rattle.ob_uses.proofs.Searching.{itself, left_of, right_of, exact_here}
 use Rattle.ob_uses.proofs.Holding.{view_held}
-use Rattle.ob_compile.specs.Compiling.{Compiled}
+use Rattle.ob_compiling.specs.Compiling.{Compiled}
 use Rattle.ob_planned.specs.Compiled.{Text, is_record}
 use Rattle.ob_recorded.specs.Trees.{IsRecordType, StandsFor, PointsTo, IsBase}
 use Rattle.ob_linked.specs.Linked.{types_of, names_counted, IsCounted}

@@ -26,7 +26,7 @@ use Rattle.ob_types.specs.TypedSyntax.{Desig, OfVariable, Field, Index, Deref, G
 use Rattle.ob_env.specs.Faces.{described}
 use Rattle.ob_counts.specs.Counts.{Count, Shapes, Layouts, both, own_name, counts_of_designator, counts_of_expr, counts_of_actuals, counts_of_call, counts_of_held_call, counts_of_optional, target_counts, made_counts, counts_of, counts_of_all, counts_of_branches, counts_of_cases, counts_of_else}
 use Rattle.ob_code.specs.Descriptions.{name_in}
-use Rattle.ob_compile.specs.Compiling.{Compiled}
+use Rattle.ob_compiling.specs.Compiling.{Compiled}
 use Rattle.ob_planned.specs.Compiled.{Text, is_variable, is_procedure, is_record}
 use Rattle.ob_named.specs.Mentions.{Any}
 use Rattle.ob_named.specs.Trees.{VariableNamed, NameNamed, TypeNamed, TagNamed, GuardNamed, CalleeNamed, PassedNamed, DesigNamed, ExprNamed, ActualsNamed, AssignedNamed, MadeNamed, ResultNamed, StmtNamed, StmtsNamed, BranchesNamed, CasesNamed, ElseNamed}

@@ -29,7 +29,7 @@ use Rattle.ob_reading.specs.Reading.{NoModule, reading}
 use Rattle.ob_counts.specs.Counts.{own_name as counted_name, both, shapes, counts_of_mentioned, counts_of_desc, counts_of_type, counts_of_variable, counts_of_parameter, counts_of_binding, counts_of_procedure, counts_of_all}
 use Rattle.ob_code.specs.Descriptions.{name_in, own_name}
 use Rattle.ob_code.specs.Object.{base_type}
-use Rattle.ob_compile.specs.Compiling.{texts, Compiled, exceeds, within, of_checked, of_break, by_rules, and_limits, is_deep, unless_deep, of_standing, of_reached, most_imports, of_few, imported, of_reading, most_source, of_short, compiled}
+use Rattle.ob_compiling.specs.Compiling.{texts, Compiled, exceeds, within, of_checked, of_break, by_rules, and_limits, is_deep, unless_deep, of_standing, of_reached, most_imports, of_few, imported, of_reading, most_source, of_short, compiled}
 use Rattle.ob_planned.specs.Compiled.{Text, file_of, is_variable, is_procedure, is_record, IsUsedAs}
 use Rattle.ob_distinct.specs.Distinct.{AreDistinct}
 use Rattle.ob_differ.proofs.Modules.{read_types_differ}

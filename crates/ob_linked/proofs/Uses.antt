@@ -23,7 +23,7 @@ use Rattle.ob_uses.specs.Made.{face_of_laid}
 use Rattle.ob_uses.proofs.Sorting.{Has}
 use Rattle.ob_uses.proofs.SamePairs.{pair_same}
 use Rattle.ob_uses.proofs.Pairing.{has_of_among}
-use Rattle.ob_compile.specs.Compiling.{Compiled}
+use Rattle.ob_compiling.specs.Compiling.{Compiled}
 use Rattle.ob_planned.specs.Compiled.{Text, IsUsedAs}
 use Rattle.ob_linked.specs.Linked.{types_of, names_counted, IsCounted}
 

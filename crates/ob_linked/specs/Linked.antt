@@ -16,7 +16,7 @@ use Rattle.ob_code.specs.Lines.{Operand, Number, StringHere, OtherVariable, Othe
 use Rattle.ob_code.specs.Context.{is_own}
 use Rattle.ob_code.specs.Object.{own, base_type}
 use Rattle.ob_code.specs.Procedures.{module_code}
-use Rattle.ob_compile.specs.Compiling.{Compiled}
+use Rattle.ob_compiling.specs.Compiling.{Compiled}
 use Rattle.ob_planned.specs.Compiled.{Text, is_variable, is_procedure, is_record, AreLinksUsed}
 
 -- the descriptions that a module is compiled with

@@ -3,7 +3,7 @@ use Rattle.std.specs.Prelude.{◌≡◌}
 use Rattle.std.specs.List.{AllByRecursion}
 use Rattle.ob_env.specs.Faces.{text_in}
 use Rattle.ob_uses.specs.Made.{face_of_laid}
-use Rattle.ob_compile.specs.Compiling.{Compiled}
+use Rattle.ob_compiling.specs.Compiling.{Compiled}
 use Rattle.ob_planned.specs.Compiled.{Text, is_variable, is_procedure, is_record, AreLinksUsed}
 use Rattle.ob_named.specs.Trees.{StmtsNamed}
 use Rattle.ob_linked.specs.Linked.{types_of, IsCounted, IsTypeCounted}

@@ -2,7 +2,7 @@
 use Rattle.std.specs.Prelude.{◌≡◌, ℕ, List, Option, Ok}
 use Rattle.std.specs.List.{AllByRecursion}
 use Rattle.ob_walk.specs.Walk.{Entry}
-use Rattle.ob_compile.specs.Compiling.{Compiled, compiled, texts}
+use Rattle.ob_compiling.specs.Compiling.{Compiled, compiled, texts}
 use Rattle.ob_said.specs.Named.{AreEntriesNamed}
 use Rattle.ob_planned.specs.Compiled.{Text, file_of, is_record, IsUsedAs}
 

@@ -27,8 +27,8 @@ use Rattle.ob_walk.specs.Walk as walk
 use Rattle.ob_walk.specs.Walk.{Walked, Left, NoInterface, Damaged, Cycle, TooMany, walk as walked_from}
 use Rattle.ob_walk.specs.Answer.{after_walk}
 use Rattle.ob_reading.specs.Reading.{reading}
-use Rattle.ob_compile.specs.Compiling as c
-use Rattle.ob_compile.specs.Compiling.{Refusal, Compiled, compiled, texts, made, within, exceeds, of_break, by_rules, and_limits, unless_deep, is_deep, of_faces, of_standing, of_reached, of_few, of_tree, of_reading, of_short, most_imports, most_source, imported}
+use Rattle.ob_compiling.specs.Compiling as c
+use Rattle.ob_compiling.specs.Compiling.{Refusal, Compiled, compiled, texts, made, within, exceeds, of_break, by_rules, and_limits, unless_deep, is_deep, of_faces, of_standing, of_reached, of_few, of_tree, of_reading, of_short, most_imports, most_source, imported}
 use Rattle.ob_ages.specs.Builds.{Text, Build, IsValid, entry_of}
 use Rattle.std.proofs.lemmas.Bool.{false≢true, leb-true}
 use Rattle.ob_locality.proofs.Walked.{IsBelow, LeavesBelow, AreNamed, IsNoRoot, is_built_in, walk_below, walk_other, have_none, only_named}

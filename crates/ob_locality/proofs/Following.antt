@@ -17,7 +17,7 @@ use Rattle.ob_env.specs.Shown.{blank, shown}
 use Rattle.ob_uses.specs.Made.{face_from}
 use Rattle.ob_code.specs.Object.{object_file}
 use Rattle.ob_reading.specs.Reading.{reading}
-use Rattle.ob_compile.specs.Compiling.{Compiled, texts, made, of_break, by_rules, object_by, exports_of}
+use Rattle.ob_compiling.specs.Compiling.{Compiled, texts, made, of_break, by_rules, object_by, exports_of}
 use Rattle.ob_ages.specs.Builds.{Text, Build, IsValid, IsSpelled}
 use Rattle.ob_ages.specs.Laws.{AreAsWanted, IsSame, AreAround, Locality}
 use Rattle.ob_local.specs.Agreeing.{IsNear}

@@ -22,7 +22,7 @@ use Rattle.ob_declares.specs.Ordered.{StandsOver}
 use Rattle.ob_declares.proofs.Keeping.{core_bare}
 use Rattle.ob_declares.proofs.Ordered.{has_more, sees, types_named}
 use Rattle.ob_declares.proofs.Views.{type_found}
-use Rattle.ob_compile.specs.Compiling.{Compiled}
+use Rattle.ob_compiling.specs.Compiling.{Compiled}
 use Rattle.ob_ages.specs.Builds.{Text}
 use Rattle.ob_ruled.specs.Ruled.{types_of}
 use Rattle.ob_ordered.proofs.Used.{near_named}

@@ -30,7 +30,7 @@ use Rattle.ob_declares.specs.Ordered.{bare, StandsOver, StandInOrder}
 use Rattle.ob_declares.proofs.Near.{users_stand, used_seen}
 use Rattle.ob_declares.proofs.Keeping.{open_kind, kind_back}
 use Rattle.ob_declares.proofs.Ordered.{AreSound, has_more, view_held, held_more, in_order_sound, program_sound}
-use Rattle.ob_compile.specs.Compiling.{Compiled}
+use Rattle.ob_compiling.specs.Compiling.{Compiled}
 use Rattle.ob_planned.proofs.Checked.{compiled_marked}
 use Rattle.ob_ages.specs.Builds.{Text, Build, IsValid, IsSpelled, of, shows_of, tree_of, name_of}
 use Rattle.ob_ages.specs.Laws.{AreAsWanted, AreTogether, IsBehind, BuildsAreWritten}

@@ -24,7 +24,7 @@ use Rattle.ob_declares.specs.Ordered.{StandInOrder}
 use Rattle.ob_declares.specs.Words.{AreLaidInOrder}
 use Rattle.ob_standing.specs.Described.{IsDescribed}
 use Rattle.ob_valued.specs.Valued.{values}
-use Rattle.ob_compile.specs.Compiling.{Compiled}
+use Rattle.ob_compiling.specs.Compiling.{Compiled}
 use Rattle.ob_ages.specs.Builds.{Text, Build, IsValid, tree_of}
 use Rattle.ob_ages.specs.Laws.{BuildsAreWritten}
 use Rattle.ob_joining.specs.Builds.{program_of, AreLoaded, FormsStay}

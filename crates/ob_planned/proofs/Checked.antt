@@ -28,7 +28,7 @@ use Rattle.ob_walk.specs.Walk.{Entry}
 use Rattle.ob_walk.specs.Answer.{Reached, Stopped, Whole, env_answer}
 use Rattle.ob_reading.specs.Reading.{NoModule, reading}
 use Rattle.ob_code.specs.Object.{is_full}
-use Rattle.ob_compile.specs.Compiling.{texts, Refusal, Compiled, exceeds, within, made, of_checked, of_break, by_rules, and_limits, is_deep, unless_deep, of_standing, of_reached, most_imports, of_few, imported, of_reading, most_source, of_short, compiled}
+use Rattle.ob_compiling.specs.Compiling.{texts, Refusal, Compiled, exceeds, within, made, of_checked, of_break, by_rules, and_limits, is_deep, unless_deep, of_standing, of_reached, most_imports, of_few, imported, of_reading, most_source, of_short, compiled}
 use Rattle.ob_described.specs.Described.{AreTypes, is_whole, AreWhole}
 use Rattle.ob_described.proofs.Blocks.{types_described, procedures_marked}
 use Rattle.ob_planned.specs.Compiled.{Text}

@@ -23,7 +23,7 @@ use Rattle.ob_env.specs.Faces.{Face, object_named, object_of, interface_of, prin
 use Rattle.ob_uses.specs.Objects.{by_name, is_exported, constant_object, variable_object, procedure_object, in_places, type_object, types_among, reached_types, objects_of}
 use Rattle.ob_planned.proofs.Orders.{all_in_order, order_strict}
 use Rattle.ob_uses.proofs.Objecting.{seen_twice}
-use Rattle.ob_compile.specs.Compiling.{layout_export, object_exports, exports_of}
+use Rattle.ob_compiling.specs.Compiling.{layout_export, object_exports, exports_of}
 use Rattle.ob_link.specs.Files.{same_aspect, exported}
 use Rattle.ob_planned.specs.Compiled.{text_shown}
 use Rattle.ob_planned.proofs.Asked.{all_joined}

@@ -9,7 +9,7 @@ use Rattle.ob_fprint.specs.Print.{print_from}
 use Rattle.ob_obj.specs.declared.file.ObjFile.{ObjFile}
 use Rattle.ob_layout.specs.LaidOut.{viewed}
 use Rattle.ob_env.specs.Faces.{Wanted, wanted_of, use_of, described}
-use Rattle.ob_compile.specs.Compiling.{Compiled, texts, exports_of, interface_by}
+use Rattle.ob_compiling.specs.Compiling.{Compiled, texts, exports_of, interface_by}
 use Rattle.ob_link.specs.Files as files
 use Rattle.ob_link.specs.Files.{agrees}
 use Rattle.ob_planned.specs.Alike.{wanted_as, FindsAlike, AreAskedAlike}

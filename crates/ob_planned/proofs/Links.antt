@@ -14,7 +14,7 @@ use Rattle.ob_layout.specs.LaidOut.{viewed}
 use Rattle.ob_env.specs.Faces.{Face, Wanted, object_named, described}
 use Rattle.ob_uses.specs.Objects.{objects_of}
 use Rattle.ob_code.specs.Object.{type_links}
-use Rattle.ob_compile.specs.Compiling.{Compiled}
+use Rattle.ob_compiling.specs.Compiling.{Compiled}
 use Rattle.ob_link.specs.Walk.{first_of, or_first}
 use Rattle.ob_link.specs.Plan.{named, kept_by, present}
 use Rattle.ob_link.specs.Files.{has_variable, has_procedure, has_type, file_named, holds, unless, linked, unlinked_variable, unlinked_procedure, unlinked_type}

@@ -18,7 +18,7 @@ use Rattle.ob_layout.specs.Room.{globals_words}
 use Rattle.ob_env.specs.Faces.{Face, text_in, described}
 use Rattle.ob_uses.specs.Made.{face_of_laid}
 use Rattle.ob_code.specs.Object.{is_full, is_free}
-use Rattle.ob_compile.specs.Compiling.{Compiled, texts, object_by}
+use Rattle.ob_compiling.specs.Compiling.{Compiled, texts, object_by}
 use Rattle.ob_link.specs.Plan.{Asks, is_there, most_globals}
 use Rattle.ob_link.specs.Files as files
 use Rattle.ob_link.specs.Files.{linked}

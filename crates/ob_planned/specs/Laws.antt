@@ -14,7 +14,7 @@ use Rattle.ob_layout.specs.Room.{globals_words}
 use Rattle.ob_walk.specs.Walk as walk
 use Rattle.ob_code.specs.Context.{procedure_index}
 use Rattle.ob_code.specs.Object.{is_full, own, object_file}
-use Rattle.ob_compile.specs.Compiling.{Compiled, compiled, texts}
+use Rattle.ob_compiling.specs.Compiling.{Compiled, compiled, texts}
 use Rattle.ob_link.specs.Plan.{Entry, Asks, plan}
 use Rattle.ob_link.specs.Files as files
 use Rattle.ob_link.specs.Files.{Files, object_entry, file_plan}

@@ -13,9 +13,9 @@ use Rattle.ob_reading.specs.Reading.{NoModule, Scan, Parse}
 use Rattle.ob_rules.specs.declared.broken.Broken.{Broken}
 use Rattle.ob_env.specs.Stale.{Found, StaleUse, AsWanted, IsAbsent, IsChanged}
 use Rattle.ob_walk.specs.Walk.{Walked, Left, NoInterface, Damaged, Cycle, TooMany}
-use Rattle.ob_compile.specs.Compiling as compile
-use Rattle.ob_compile.specs.declared.fault.CompileRefusal.{CompileRefusal}
-use Rattle.ob_compile.specs.declared.fault.CompileRefusal.TheVariants as why
+use Rattle.ob_compiling.specs.Compiling as compile
+use Rattle.ob_compiling.specs.declared.fault.CompileRefusal.{CompileRefusal}
+use Rattle.ob_compiling.specs.declared.fault.CompileRefusal.TheVariants as why
 use Rattle.ob_link.specs.Plan as load
 use Rattle.ob_link.specs.declared.fault.LoadRefusal.{LoadRefusal}
 use Rattle.ob_link.specs.declared.fault.LoadRefusal.TheVariants as refusal

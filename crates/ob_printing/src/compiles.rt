@@ -9,7 +9,7 @@ use crate::files::refuse;
 use crate::printing::tell;
 use crate::stop::Stop;
 use itoa::Buffer;
-use ob_compile::CompileRefusal;
+use ob_compiling::CompileRefusal;
 use ob_io::Sink;
 use ob_rules::Broken;
 use ob_tree::{Name, Pos, QName, Which};

@@ -8,7 +8,7 @@ use Rattle.ob_layout.specs.LaidOut.{viewed}
 use Rattle.ob_env.specs.Faces.{Face, described}
 use Rattle.ob_env.specs.Shown.{shown}
 use Rattle.ob_walk.specs.Walk.{Entry}
-use Rattle.ob_compile.specs.Compiling.{Compiled, texts, compiled, most_source}
+use Rattle.ob_compiling.specs.Compiling.{Compiled, texts, compiled, most_source}
 use Rattle.ob_constants.specs.Laws.{AreShown}
 use Rattle.ob_written.specs.Laws.{Text, IsSpelled}
 use Rattle.ob_written.specs.Seen.{AreNamedEntries}

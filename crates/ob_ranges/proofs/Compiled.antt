@@ -30,7 +30,7 @@ use Rattle.ob_env.specs.Shown.{shown}
 use Rattle.ob_walk.specs.Walk.{Entry, Walked, Left, NoInterface, Damaged, Cycle, TooMany, walk}
 use Rattle.ob_walk.specs.Answer.{after_walk, env_answer}
 use Rattle.ob_reading.specs.Reading.{NoModule, reading}
-use Rattle.ob_compile.specs.Compiling.{texts, Compiled, exceeds, within, of_checked, of_break, by_rules, and_limits, is_deep, unless_deep, of_standing, of_reached, most_imports, of_few, of_reading, most_source, of_short, compiled, imported as imported_name}
+use Rattle.ob_compiling.specs.Compiling.{texts, Compiled, exceeds, within, of_checked, of_break, by_rules, and_limits, is_deep, unless_deep, of_standing, of_reached, most_imports, of_few, of_reading, most_source, of_short, compiled, imported as imported_name}
 use Rattle.ob_bodies.specs.Laws.{AreOthers}
 use Rattle.ob_written.specs.Laws.{Text, IsSpelled, compiled_from}
 use Rattle.ob_written.specs.Seen.{AreNamedEntries, LengthFits}

@@ -9,7 +9,7 @@ use Rattle.ob_env.specs.Faces.{described}
 use Rattle.ob_env.specs.Fit.{is_within}
 use Rattle.ob_env.specs.Shown.{shown}
 use Rattle.ob_walk.specs.Walk.{Entry}
-use Rattle.ob_compile.specs.Compiling.{Compiled, texts, compiled}
+use Rattle.ob_compiling.specs.Compiling.{Compiled, texts, compiled}
 use Rattle.ob_outward.proofs.Families.{families_there}
 use Rattle.ob_numbered.proofs.Below.{numbers_below_all}
 use Rattle.ob_written.specs.Files.{NumbersFit}

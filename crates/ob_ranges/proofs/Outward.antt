@@ -19,7 +19,7 @@ use Rattle.ob_env.specs.Faces.{described}
 use Rattle.ob_env.specs.Shown.{shown}
 use Rattle.ob_uses.specs.Objects.{is_exported}
 use Rattle.ob_walk.specs.Walk.{Entry}
-use Rattle.ob_compile.specs.Compiling.{Compiled, texts, compiled}
+use Rattle.ob_compiling.specs.Compiling.{Compiled, texts, compiled}
 use Rattle.ob_distinct.specs.Distinct.{AreDistinct}
 use Rattle.ob_outward.specs.Laws.{is_outward}
 use Rattle.ob_outward.proofs.Exported.{outward_named}

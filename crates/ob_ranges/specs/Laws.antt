@@ -9,7 +9,7 @@ use Rattle.ob_env.specs.Fit.{first_unfit}
 use Rattle.ob_env.specs.Shown.{shown}
 use Rattle.ob_walk.specs.Walk.{Entry}
 use Rattle.ob_reading.specs.Reading.{reading}
-use Rattle.ob_compile.specs.Compiling.{Compiled, texts, compiled}
+use Rattle.ob_compiling.specs.Compiling.{Compiled, texts, compiled}
 use Rattle.ob_rules.specs.Declarations.{checked}
 use Rattle.ob_bodies.specs.Laws.{AreOthers}
 use Rattle.ob_constants.specs.Laws.{AreShown}

@@ -9,7 +9,7 @@ use Rattle.ob_layout.specs.LaidOut.{viewed}
 use Rattle.ob_env.specs.Faces.{described}
 use Rattle.ob_env.specs.Fit.{is_within}
 use Rattle.ob_walk.specs.Walk.{Entry}
-use Rattle.ob_compile.specs.Compiling.{Compiled, texts, compiled}
+use Rattle.ob_compiling.specs.Compiling.{Compiled, texts, compiled}
 use Rattle.ob_written.specs.Files.{BasesFit}
 use Rattle.ob_written.specs.Laws.{Text, IsSpelled, IsWritten}
 use Rattle.ob_written.specs.Seen.{AreNamedEntries}

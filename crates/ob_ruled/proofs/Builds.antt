@@ -14,7 +14,7 @@ use Rattle.ob_layout.specs.LaidOut.{laid_desc, laid_type, laid_out, words_in, pr
 use Rattle.ob_env.specs.Faces.{Face, face_named, described}
 use Rattle.ob_env.specs.Shown.{shown}
 use Rattle.ob_walk.specs.Walk.{Holds}
-use Rattle.ob_compile.specs.Compiling.{Compiled}
+use Rattle.ob_compiling.specs.Compiling.{Compiled}
 use Rattle.ob_relation.proofs.Names.{bytes_true}
 use Rattle.ob_distinct.specs.Distinct.{AreDistinct}
 use Rattle.ob_described.proofs.Blocks.{types_described}

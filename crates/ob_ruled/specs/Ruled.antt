@@ -11,7 +11,7 @@ use Rattle.ob_layout.specs.LaidOut.{viewed}
 use Rattle.ob_env.specs.Faces.{described}
 use Rattle.ob_distinct.specs.Distinct.{AreDistinct}
 use Rattle.ob_local.specs.Agreeing.{Map, IsNear, On}
-use Rattle.ob_compile.specs.Compiling.{Compiled}
+use Rattle.ob_compiling.specs.Compiling.{Compiled}
 use Rattle.ob_ages.specs.Builds.{Text, Build, IsValid}
 
 -- the descriptions that a module was compiled with

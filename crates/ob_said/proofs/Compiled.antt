@@ -19,7 +19,7 @@ use Rattle.ob_env.specs.Shown.{shown}
 use Rattle.ob_walk.specs.Walk.{Entry, Walked, Left, NoInterface, Damaged, Cycle, TooMany, walk}
 use Rattle.ob_walk.specs.Answer.{after_walk}
 use Rattle.ob_reading.specs.Reading.{NoModule, reading}
-use Rattle.ob_compile.specs.Compiling.{texts, Compiled, exceeds, within, made, of_checked, of_break, by_rules, and_limits, is_deep, unless_deep, of_standing, of_reached, most_imports, of_few, imported, of_reading, most_source, of_short, compiled}
+use Rattle.ob_compiling.specs.Compiling.{texts, Compiled, exceeds, within, made, of_checked, of_break, by_rules, and_limits, is_deep, unless_deep, of_standing, of_reached, most_imports, of_few, imported, of_reading, most_source, of_short, compiled}
 use Rattle.ob_said.specs.Procedures.{all_true, is_named_plainly, ShowBases}
 use Rattle.ob_said.specs.Named.{AreEntriesNamed, AreNamedApart, CompiledNamesDiffer}
 use Rattle.ob_said.proofs.Faces.{LeavesOthers, walk_others, faces_show}

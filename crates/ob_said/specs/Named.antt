@@ -6,7 +6,7 @@ use Rattle.ob_env.specs.Faces.{Face}
 use Rattle.ob_walk.specs.Walk.{Entry, Holds}
 use Rattle.ob_rules.specs.Names.{is_out}
 use Rattle.ob_reading.specs.Reading.{reading}
-use Rattle.ob_compile.specs.Compiling.{Compiled, compiled, texts}
+use Rattle.ob_compiling.specs.Compiling.{Compiled, compiled, texts}
 use Rattle.ob_said.specs.Procedures.{all_true, is_named_plainly}
 
 -- The procedures of a module that is read are named without stops and strokes.

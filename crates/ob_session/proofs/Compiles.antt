@@ -13,11 +13,11 @@ use Rattle.ob_io.specs.Io.{put, Replaces}
 use Rattle.ob_io.specs.declared.traits.Failed.{Failed}
 use Rattle.ob_cmp.specs.Verdicts.{compiled_text}
 use Rattle.ob_link.specs.Files.{Files, object_file_name}
-use Rattle.ob_compile.specs.Compiling as compile
-use Rattle.ob_compile.specs.Compiling.{Compiled}
+use Rattle.ob_compiling.specs.Compiling as compile
+use Rattle.ob_compiling.specs.Compiling.{Compiled}
 use Rattle.ob_compile.specs.Contract.{IsBuilt, IsRefused, answered, unread, stopped, stale, built}
 use Rattle.ob_compile.specs.declared.shape.Built.{Built}
-use Rattle.ob_compile.specs.declared.fault.CompileRefusal.{CompileRefusal}
+use Rattle.ob_compiling.specs.declared.fault.CompileRefusal.{CompileRefusal}
 use Rattle.ob_printing.specs.declared.stop.Stop.{Stop}
 use Rattle.ob_printing.specs.Prints.{PrintDoes}
 use Rattle.ob_printing.specs.Texts.{refused, compile_refused, compile_reason, reason_answered, unread_text, walk_text, unmet_text, compiled_line}

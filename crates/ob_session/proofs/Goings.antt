@@ -10,8 +10,8 @@ use Rattle.ob_tree.specs.declared.print.Print.{Print}
 use Rattle.ob_link.specs.Plan.{Refusal}
 use Rattle.ob_link.specs.Files.{Files, file_plan}
 use Rattle.ob_load.specs.Standing.{Standing}
-use Rattle.ob_compile.specs.Compiling as compile
-use Rattle.ob_compile.specs.Compiling.{Compiled}
+use Rattle.ob_compiling.specs.Compiling as compile
+use Rattle.ob_compiling.specs.Compiling.{Compiled}
 use Rattle.ob_printing.specs.declared.stop.Stop.{Stop}
 use Rattle.ob_printing.specs.declared.stop.Stop.TheVariants.{Sink, Folder, Memory}
 use Rattle.ob_words.specs.declared.asked.Settings.{Settings}

@@ -4,8 +4,8 @@ use Rattle.ob_tree.specs.declared.print.Print.{Print}
 use Rattle.ob_link.specs.Files.{Files}
 use Rattle.ob_load.specs.Standing.{Standing}
 use Rattle.ob_cmp.specs.Check.{Checked, check_text, is_refused}
-use Rattle.ob_compile.specs.Compiling as compile
-use Rattle.ob_compile.specs.Compiling.{Compiled}
+use Rattle.ob_compiling.specs.Compiling as compile
+use Rattle.ob_compiling.specs.Compiling.{Compiled}
 use Rattle.ob_printing.specs.declared.stop.Stop.{Stop}
 use Rattle.ob_printing.specs.declared.stop.Stop.TheVariants.{Sink, Folder, Memory}
 use Rattle.ob_printing.specs.Prints.{PrintDoes}

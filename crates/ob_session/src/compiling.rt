@@ -14,7 +14,8 @@ ghost use Rattle.ob_ages.specs.Files.{stood, sym_file};
 
 use crate::counting::count_objects;
 use crate::files::{object_file, read_symbols, symbol_file};
-use ob_compile::{Built, CompileFault, compile};
+use ob_compile::{Built, compile};
+use ob_compiling::CompileFault;
 use ob_io::{Failed, Folder, Sink};
 use ob_printing::{Counts, Stop, put_compiled, refuse_compile};
 use std::alloc::Global;

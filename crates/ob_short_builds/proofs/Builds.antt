@@ -13,7 +13,7 @@ use Rattle.ob_env.specs.Faces.{face_named, described}
 use Rattle.ob_env.specs.Shown.{shown}
 use Rattle.ob_walk.specs.Walk.{Entry}
 use Rattle.ob_reading.specs.Reading.{reading}
-use Rattle.ob_compile.specs.Compiling.{Compiled, texts, most_source, of_short, of_reading, compiled}
+use Rattle.ob_compiling.specs.Compiling.{Compiled, texts, most_source, of_short, of_reading, compiled}
 use Rattle.ob_worded.proofs.Reading.{readings_are_worded}
 use Rattle.ob_short_names.specs.Laws.{IsSound}
 use Rattle.ob_short_names.proofs.Reading.{readings_within}

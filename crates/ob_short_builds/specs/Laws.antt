@@ -1,7 +1,7 @@
 -- The law of the names of types of a valid build.
 use Rattle.std.specs.Prelude.{◌<◌, ◌^◌, length}
 use Rattle.std.specs.List.{AllByRecursion}
-use Rattle.ob_compile.specs.Compiling.{Compiled}
+use Rattle.ob_compiling.specs.Compiling.{Compiled}
 use Rattle.ob_distinct.specs.Distinct.{AreDistinct}
 use Rattle.ob_ages.specs.Builds.{Text, Build, IsValid}
 

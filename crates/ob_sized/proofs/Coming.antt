@@ -17,7 +17,7 @@ use Rattle.ob_env.specs.Shown.{shown}
 use Rattle.ob_walk.specs.Walk.{Entry, Walked, Left, NoInterface, Damaged, Cycle, TooMany, walk}
 use Rattle.ob_walk.specs.Answer.{Reached, Stopped, Whole, after_walk, env_answer}
 use Rattle.ob_reading.specs.Reading.{NoModule, reading}
-use Rattle.ob_compile.specs.Compiling.{texts, Refusal, Compiled, exceeds, within, made, of_checked, of_break, by_rules, and_limits, is_deep, unless_deep, of_faces, of_standing, of_reached, most_imports, of_few, imported, of_reading, most_source, of_short, compiled}
+use Rattle.ob_compiling.specs.Compiling.{texts, Refusal, Compiled, exceeds, within, made, of_checked, of_break, by_rules, and_limits, is_deep, unless_deep, of_faces, of_standing, of_reached, most_imports, of_few, imported, of_reading, most_source, of_short, compiled}
 use Rattle.ob_ages.specs.Builds.{Text}
 
 pub record ComesFrom (source : List ℕ) (c : Compiled Text) : Type 0 where

@@ -9,7 +9,7 @@ use Rattle.ob_meaning.specs.Values.{Program}
 use Rattle.ob_meaning.specs.Calls.{held_variable}
 use Rattle.ob_relation.specs.Relation.{Fresh, AreDifferent, FreshModule, ModulesOk}
 use Rattle.ob_relation.proofs.Names.{bytes_true}
-use Rattle.ob_compile.specs.Compiling.{Compiled}
+use Rattle.ob_compiling.specs.Compiling.{Compiled}
 use Rattle.ob_distinct.specs.Distinct.{AreDistinct}
 use Rattle.ob_distinct.proofs.Blocks.{variables_differ}
 use Rattle.ob_ages.specs.Builds.{Text, Build, IsValid, of, tree_of, name_of}

@@ -17,7 +17,7 @@ use Rattle.ob_layout.specs.LaidOut.{base_of, words_in, procedures_in, placed, la
 use Rattle.ob_env.specs.Faces.{described}
 use Rattle.ob_rules.specs.Names.{is_out, out_string}
 use Rattle.ob_forms.specs.Said.{IsFreshName, HaveNames}
-use Rattle.ob_compile.specs.Compiling.{Compiled}
+use Rattle.ob_compiling.specs.Compiling.{Compiled}
 use Rattle.ob_distinct.specs.Distinct.{AreDistinct}
 use Rattle.ob_distinct.specs.Fields.{FieldsDiffer, AreApart}
 use Rattle.ob_distinct.proofs.Blocks.{not_out}

@@ -13,7 +13,7 @@ use Rattle.ob_env.specs.Stale.{first_among}
 use Rattle.ob_env.specs.Fit.{misfit, steps_of, first_unfit}
 use Rattle.ob_env.proofs.Grounded.{fit_grounded}
 use Rattle.ob_alike.proofs.Faces.{described_same, steps_same}
-use Rattle.ob_compile.specs.Compiling.{Compiled}
+use Rattle.ob_compiling.specs.Compiling.{Compiled}
 use Rattle.ob_ages.specs.Builds.{Text, Build, IsValid, of}
 use Rattle.ob_ages.proofs.Stood.{of_is, face_back}
 use Rattle.ob_sized.specs.Sizes.{AgainstIsGrounded}

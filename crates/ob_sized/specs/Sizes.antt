@@ -11,7 +11,7 @@ use Rattle.ob_forms.specs.Said.{HaveNames}
 use Rattle.ob_forms.specs.Whole.{Different}
 use Rattle.ob_types.specs.Relations.{IsGrounded}
 use Rattle.ob_env.specs.Faces.{described}
-use Rattle.ob_compile.specs.Compiling.{Compiled}
+use Rattle.ob_compiling.specs.Compiling.{Compiled}
 use Rattle.ob_ages.specs.Builds.{Text, Build, IsValid}
 use Rattle.ob_joining.specs.Builds.{program_of, AreLoaded}
 

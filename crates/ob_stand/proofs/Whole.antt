@@ -18,7 +18,7 @@ use Rattle.ob_slices.proofs.Whole.{procedures_are_in, bodies_are_in}
 use Rattle.ob_tables.specs.Image as tables
 use Rattle.ob_tables.proofs.Image.{program_from_files}
 use Rattle.ob_link.specs.Members.{empty_image}
-use Rattle.ob_compile.specs.Compiling.{texts, exports_of, interface_by}
+use Rattle.ob_compiling.specs.Compiling.{texts, exports_of, interface_by}
 use Rattle.ob_ages.specs.Builds.{Build, of, tree_of, file_of}
 use Rattle.ob_ages.proofs.Members.{In, to_in, of_in}
 use Rattle.ob_joining.specs.Builds.{program_of, AreLoaded, HasModule, IsOf, BodyStands, AllStand, BuildsStand}

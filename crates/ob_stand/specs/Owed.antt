@@ -17,7 +17,7 @@ use Rattle.ob_linking.specs.Same.{ModuleSame}
 use Rattle.ob_tables.specs.Image.{RulesKept}
 use Rattle.ob_link.specs.Files.{command_in}
 use Rattle.ob_link.specs.Members.{empty_image}
-use Rattle.ob_compile.specs.Compiling.{texts, exports_of, interface_by}
+use Rattle.ob_compiling.specs.Compiling.{texts, exports_of, interface_by}
 use Rattle.ob_ages.specs.Builds.{Build, of, tree_of, name_of, file_of, asks}
 use Rattle.ob_joining.specs.Builds.{program_of, AreLoaded, FormsStay, Values, IsOf, BuildsStand}
 

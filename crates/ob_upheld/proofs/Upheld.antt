@@ -7,15 +7,17 @@ use Rattle.std.proofs.lemmas.Slice.Eq.{bytes_eq-Decides}
 use Rattle.ob_types.specs.declared.typed.TypedType.{TypedType}
 use Rattle.ob_distinct.specs.Distinct.{AreDistinct}
 use Rattle.ob_env.specs.Faces.{face_named}
-use Rattle.ob_compile.specs.Compiling.{Compiled}
+use Rattle.ob_compiling.specs.Compiling.{Compiled}
 use Rattle.ob_differ.proofs.Compiled.{compiled_types_differ}
 use Rattle.ob_ranges.proofs.Left.{left_written}
 use Rattle.ob_ages.specs.Builds.{Text, Build, IsSpelled, IsValid, entry_of}
+use Rattle.ob_ages.specs.Laws.{BuildsAreWritten}
 use Rattle.ob_ages.proofs.Apart.{entry_named}
 use Rattle.ob_locality.proofs.Following.{locality_holds}
 use Rattle.ob_grounds.proofs.Builds.{builds_are_grounded}
 use Rattle.ob_based.proofs.Builds.{builds_are_based}
-use Rattle.ob_upheld.specs.Upheld.{WrittenFollows, SimulationSuffices}
+use Rattle.ob_short_builds.proofs.Builds.{builds_short}
+use Rattle.ob_upheld.specs.Upheld.{SimulationSuffices}
 
 fresh : (x : List ℕ) (ts : List TypedType) → AllByRecursion (λ y. bytes_eq x y ≡ false) (map (λ t. t.name) ts) → AllByRecursion (λ t. t.name ≢ x) ts
 fresh x [] h = tt
@@ -30,14 +32,14 @@ distinct (t ∷ ts) h = (fresh t.name ts h.0, distinct ts h.1)
 pub builds_differ : (b : Build) (c : Compiled Text) → IsValid b c → AreDistinct (λ t. t.name) c.tree.types
 builds_differ b c v = distinct c.tree.types (compiled_types_differ (λ name. entry_of (face_named b.against name)) (entry_named b.against) (Some b.source) c v.is)
 
-pub builds_are_written : WrittenFollows
-builds_are_written short b c v =
+pub builds_are_written : BuildsAreWritten
+builds_are_written b c v =
     let d = builds_differ b c v in
     let g = builds_are_grounded b c v d in
     let w = left_written (λ name. entry_of (face_named b.against name)) (λ m f e. sym (entry_named b.against m f e)) (Some b.source) c v.is
     (subst (AllByRecursion IsSpelled) (sym v.whole) v.spelled)
-    (record { short = short b c v; grounded = g.short; bases = builds_are_based b c v d }) in
+    (record { short = builds_short b c v d; grounded = g.short; bases = builds_are_based b c v d }) in
     record { object = w.object; symbols = w.symbols }
 
 pub simulation_suffices : SimulationSuffices
-simulation_suffices simulation short = record { locality = locality_holds; simulation = simulation; written = builds_are_written short }
+simulation_suffices simulation = record { locality = locality_holds; simulation = simulation; written = builds_are_written }

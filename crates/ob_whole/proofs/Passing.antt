@@ -21,7 +21,7 @@ use Rattle.ob_layout.specs.LaidOut.{viewed, laid_out}
 use Rattle.ob_env.specs.Faces.{Face, described}
 use Rattle.ob_env.specs.Shown.{shown}
 use Rattle.ob_uses.specs.Uses.{near_types}
-use Rattle.ob_compile.specs.Compiling.{Compiled}
+use Rattle.ob_compiling.specs.Compiling.{Compiled}
 use Rattle.ob_distinct.specs.Distinct.{AreDistinct}
 use Rattle.ob_described.proofs.Blocks.{types_described}
 use Rattle.ob_strings.proofs.Trees.{readings_spelled}

@@ -19,7 +19,7 @@ use Rattle.ob_env.specs.Faces.{described}
 use Rattle.ob_relation.proofs.Names.{bytes_sym}
 use Rattle.ob_distinct.specs.Distinct.{AreDistinct}
 use Rattle.ob_local.proofs.Agreed.{out_none}
-use Rattle.ob_compile.specs.Compiling.{Compiled}
+use Rattle.ob_compiling.specs.Compiling.{Compiled}
 use Rattle.ob_ages.specs.Builds.{Text, Build, IsValid, of, tree_of}
 use Rattle.ob_ages.specs.Laws.{AreTogether}
 use Rattle.ob_ages.proofs.Apart.{build_apart}

@@ -36,7 +36,7 @@ use Rattle.ob_walk.specs.Walk.{Entry, Walked, Left, NoInterface, Damaged, Cycle,
 use Rattle.ob_walk.specs.Answer.{after_walk, env_answer}
 use Rattle.ob_reading.specs.Reading.{NoModule, reading}
 use Rattle.ob_uses.specs.Objects.{formal_of, is_exported}
-use Rattle.ob_compile.specs.Compiling.{texts, Compiled, exceeds, within, of_checked, of_break, by_rules, and_limits, is_deep, unless_deep, of_standing, of_reached, most_imports, of_few, of_reading, most_source, of_short, compiled, imported as imported_name}
+use Rattle.ob_compiling.specs.Compiling.{texts, Compiled, exceeds, within, of_checked, of_break, by_rules, and_limits, is_deep, unless_deep, of_standing, of_reached, most_imports, of_few, of_reading, most_source, of_short, compiled, imported as imported_name}
 use Rattle.ob_written.specs.Trees.{ConstantIsSpelled, IsNamed, TypeIsSpelled, TypedTypeIsSpelled, ProcedureIsSpelled, AreImports}
 use Rattle.ob_written.specs.Raw.{IsNamedTree}
 use Rattle.ob_written.specs.Ruled.{TypeNames, TypeOk, ShownOk, IsValue, ConstantOk, ProcedureTypes}

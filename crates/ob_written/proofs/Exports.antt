@@ -16,7 +16,7 @@ use Rattle.ob_format.specs.Names.{object_name}
 use Rattle.ob_sym.specs.Grammar as sym
 use Rattle.ob_obj.specs.declared.parts.Export.{Export}
 use Rattle.ob_obj.specs.Grammar.{by_name, export, by_export, repeats, names_in}
-use Rattle.ob_compile.specs.Compiling.{layout_export, object_exports}
+use Rattle.ob_compiling.specs.Compiling.{layout_export, object_exports}
 use Rattle.ob_written.proofs.Lists.{all_joined}
 
 pub record ObjectIsPrinted (o : Object) : Type 0 where

@@ -30,7 +30,7 @@ use Rattle.ob_code.specs.Numbers.{nothing_named}
 use Rattle.ob_code.specs.Context.{records_among, own_types}
 use Rattle.ob_code.specs.Procedures.{body_of, all_procedures, within, module_code}
 use Rattle.ob_code.specs.Object.{own, own_words, all_named, type_links, variables, commands}
-use Rattle.ob_compile.specs.Compiling.{Compiled, texts, exports_of, object_by, interface_by}
+use Rattle.ob_compiling.specs.Compiling.{Compiled, texts, exports_of, object_by, interface_by}
 use Rattle.ob_planned.proofs.Globals.{globals_are}
 use Rattle.ob_written.specs.Trees.{TypedTypeIsSpelled, IsLaid}
 use Rattle.ob_written.specs.Coded.{BodyIsCoded}

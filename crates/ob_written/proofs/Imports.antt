@@ -13,7 +13,7 @@ use Rattle.ob_tree.specs.declared.ident.Import.{Import}
 use Rattle.ob_rules.specs.Judged.{notes_if}
 use Rattle.ob_rules.specs.Names.{Around, is_out, is_among}
 use Rattle.ob_rules.specs.Declarations.{twice, in_order, is_system, import_declared, target_of, import_if, imported}
-use Rattle.ob_compile.specs.Compiling.{imported as imported_name}
+use Rattle.ob_compiling.specs.Compiling.{imported as imported_name}
 use Rattle.ob_written.specs.Trees.{IsNamed, AreImports}
 
 neither : (a b : Bool) → (a || b) ≡ false → (a ≡ false) × (b ≡ false)

@@ -18,7 +18,7 @@ use Rattle.ob_layout.specs.LaidOut.{viewed}
 use Rattle.ob_env.specs.Fit.{count_of}
 use Rattle.ob_env.specs.Faces.{described, object_of}
 use Rattle.ob_uses.specs.Objects.{by_name, objects_of}
-use Rattle.ob_compile.specs.Compiling.{texts, interface_by}
+use Rattle.ob_compiling.specs.Compiling.{texts, interface_by}
 use Rattle.ob_written.specs.Trees.{IsNamed, AreImports}
 use Rattle.ob_written.specs.Laws.{compiled_from, InterfacesAreWritten}
 use Rattle.ob_written.proofs.Lists.{all_map, each_strict, flat_long}

@@ -14,7 +14,7 @@ use Rattle.ob_layout.specs.Room.{globals_words, hidden_of_all, frame_words, abov
 use Rattle.ob_env.specs.Faces.{described}
 use Rattle.ob_code.specs.Needs.{has_few_operands}
 use Rattle.ob_walk.specs.Walk.{file_limit}
-use Rattle.ob_compile.specs.Compiling.{Compiled, texts, or_first, exceeded, most_code, limit_of_files, limit_of_code, limit_of_operands, exceeds, object_by, object_bytes, symbol_bytes}
+use Rattle.ob_compiling.specs.Compiling.{Compiled, texts, or_first, exceeded, most_code, limit_of_files, limit_of_code, limit_of_operands, exceeds, object_by, object_bytes, symbol_bytes}
 use Rattle.ob_written.specs.Laws.{Text}
 
 abbrev pub types_of : Compiled Text → QName → Option Desc

@@ -38,7 +38,7 @@ use Rattle.ob_parse.specs.Parsed.{limit}
 use Rattle.ob_pexpr.specs.Left.{tokens_of}
 use Rattle.ob_reading.specs.Reading.{NoModule, fault_of, parsed, by_fault, reading}
 use Rattle.ob_format.specs.Names.{is_identifier}
-use Rattle.ob_compile.specs.Compiling.{target_of, imported}
+use Rattle.ob_compiling.specs.Compiling.{target_of, imported}
 use Rattle.ob_written.specs.Raw.{all_true, is_named, all_named, are_named, node_layer, fields_layer, parameters_layer, section_layer, type_named, fields_named, parameters_named, section_named, heading_named, decl_layer, decl_named, IsNamedTree, ReadingsAreNamed}
 use Rattle.ob_written.proofs.Phrases.{Holds, holds}
 use Rattle.ob_written.proofs.Tokens.{is_name, IsNamedToken, tokens_named}

@@ -37,7 +37,7 @@ use Rattle.ob_layout.specs.LaidOut.{viewed, laid_out}
 use Rattle.ob_types.specs.TypedSyntax.{Module}
 use Rattle.ob_env.specs.Faces.{Face, described, printed, interface_of}
 use Rattle.ob_env.specs.Fit.{first_unfit}
-use Rattle.ob_compile.specs.Compiling.{Compiled, texts, exceeds, made, object_by, interface_by}
+use Rattle.ob_compiling.specs.Compiling.{Compiled, texts, exceeds, made, object_by, interface_by}
 use Rattle.ob_written.specs.Trees.{IsSpelledTree}
 use Rattle.ob_written.specs.Files.{IsCodedTree}
 

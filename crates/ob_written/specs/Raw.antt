@@ -15,7 +15,7 @@ use Rattle.ob_tree.specs.declared.decl.Decl.TheFolds.{fold-Decl}
 use Rattle.ob_tree.specs.declared.decl.Module.{Module as Tree}
 use Rattle.ob_format.specs.Names.{is_identifier}
 use Rattle.ob_reading.specs.Reading.{reading}
-use Rattle.ob_compile.specs.Compiling.{imported}
+use Rattle.ob_compiling.specs.Compiling.{imported}
 
 abbrev pub all_true : List Bool → Bool
 all_true [] = true

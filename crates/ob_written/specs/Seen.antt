@@ -15,7 +15,7 @@ use Rattle.ob_env.specs.Fit.{is_within}
 use Rattle.ob_walk.specs.Walk.{Entry, Holds}
 use Rattle.ob_uses.specs.Objects.{is_exported}
 use Rattle.ob_code.specs.Procedures.{body_of, within}
-use Rattle.ob_compile.specs.Compiling.{Compiled, texts, compiled}
+use Rattle.ob_compiling.specs.Compiling.{Compiled, texts, compiled}
 use Rattle.ob_written.specs.Trees.{IsNamed}
 use Rattle.ob_written.specs.Coded.{BodyIsCoded, StmtsAreCoded}
 use Rattle.ob_written.specs.Files.{BasesFit, NumbersFit}

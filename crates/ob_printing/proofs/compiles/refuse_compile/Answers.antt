@@ -1,6 +1,6 @@
 use Rattle.std.proofs.Common.{sym, subst, true, List, ℕ}
-use Rattle.ob_compile.specs.declared.fault.CompileRefusal.{CompileRefusal}
-use Rattle.ob_compile.specs.declared.fault.CompileRefusal.TheVariants as why
+use Rattle.ob_compiling.specs.declared.fault.CompileRefusal.{CompileRefusal}
+use Rattle.ob_compiling.specs.declared.fault.CompileRefusal.TheVariants as why
 use Rattle.ob_printing.specs.Prints.{PrintDoes}
 use Rattle.ob_printing.specs.Texts.{refused, reason_answered}
 use Rattle.ob_printing.proofs.compiles.refuse_compile.Goals as goal

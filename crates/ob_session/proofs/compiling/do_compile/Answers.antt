@@ -2,10 +2,10 @@ use Rattle.std.proofs.Common.{◌∙◌, subst, true, false, Err}
 use Rattle.ob_walk.specs.Walk.{symbol_entry}
 use Rattle.ob_env.specs.Faces.{face_of}
 use Rattle.ob_link.specs.Files.{Files}
-use Rattle.ob_compile.specs.Compiling.{compiled, prints}
+use Rattle.ob_compiling.specs.Compiling.{compiled, prints}
 use Rattle.ob_compile.specs.Contract.{Compiles, IsBuilt, IsRefused}
-use Rattle.ob_compile.specs.declared.fault.CompileFault.{CompileFault}
-use Rattle.ob_compile.specs.declared.fault.CompileRefusal.{CompileRefusal}
+use Rattle.ob_compiling.specs.declared.fault.CompileFault.{CompileFault}
+use Rattle.ob_compiling.specs.declared.fault.CompileRefusal.{CompileRefusal}
 use Rattle.ob_printing.specs.Prints.{PrintDoes}
 use Rattle.ob_printing.specs.Texts.{refused, reason_answered}
 use Rattle.ob_ages.specs.Bytes.{compiled_in, counted}
