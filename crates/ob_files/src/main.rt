@@ -26,33 +26,37 @@ fn main(rt: HostRuntime) -> anyhow::Result<()> {
 fn tell(alloc: Global, printed: &mut String, parts: &[&str]) -> anyhow::Result<()> {
     match parts {
         [] | [""] => Ok(()),
-        [head] => put(printed, &[head]),
+        [head] => put(printed, head, "\n"),
         ["description", shape] => {
             let answer = again::description(alloc, shape, None)?;
-            put(printed, &[shape, ": ", answer.said()])
+            put_answer(printed, shape, answer)
         }
         ["record", shape, layout] => {
             let answer = again::description(alloc, shape, Some(layout))?;
-            put(printed, &[shape, " and ", layout, ": ", answer.said()])
+            put(printed, shape, " and ")?;
+            put_answer(printed, layout, answer)
         }
         ["symbols", name, digits] => {
             let bytes = hex::decode(alloc, digits)?;
             let answer = again::symbols(alloc, &bytes)?;
-            put(printed, &[name, ": ", answer.said()])
+            put_answer(printed, name, answer)
         }
         ["object", name, digits] => {
             let bytes = hex::decode(alloc, digits)?;
             let answer = again::object(alloc, &bytes)?;
-            put(printed, &[name, ": ", answer.said()])
+            put_answer(printed, name, answer)
         }
         _ => anyhow::bail!("no line of this kind"),
     }
 }
 
-fn put(printed: &mut String, texts: &[&str]) -> anyhow::Result<()> {
-    for text in texts {
-        printed.push_str(text)?;
-    }
-    printed.push_str("\n")?;
+fn put(printed: &mut String, text: &str, behind: &str) -> anyhow::Result<()> {
+    printed.push_str(text)?;
+    printed.push_str(behind)?;
     Ok(())
+}
+
+fn put_answer(printed: &mut String, of: &str, answer: Answer) -> anyhow::Result<()> {
+    put(printed, of, ": ")?;
+    put(printed, answer.said(), "\n")
 }
