@@ -73,5 +73,6 @@ pub(crate) fn pointers_told<E: Imports>(
     ensures { (n : ℕ) (hs : heading.Heads) → around_of E.types scope.now ≡ hs.around → AreKept n heads.now (heading.reversed hs.before) → OnOk result (book.new ≡ book_after book.old (spec.pointers_judged hs.around (later.now ++ spec.heads_later hs.before))) }
 {
     let left = all_left(alloc, later, heads)?;
-    pointers_judged(alloc, scope, book, left.as_slice())
+    pointers_judged(alloc, scope, book, left.as_slice())?;
+    Ok(())
 }
