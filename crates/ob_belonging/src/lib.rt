@@ -2,7 +2,7 @@
 //! its modules are those of builds that are loaded together.
 #![tactic(auto)]
 
-ghost use Rattle.ob_belonging.specs.Loaded.LoadedBelong;
+ghost use Rattle.ob_belonging.specs.Loaded.{LoadedBelong};
 
 /// A law, with nothing to run: the bound procedures that the records of builds that are loaded
 /// together introduce are there, where those before a build show the bases of the pointers that they

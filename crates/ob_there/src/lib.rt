@@ -2,8 +2,8 @@
 //! module's procedures, bound to its record, and in a program that has the module it is a method.
 #![tactic(auto)]
 
-ghost use Rattle.ob_there.specs.Methods.IntroducedAreMethods;
-ghost use Rattle.ob_there.specs.There.MethodsAreIntroduced;
+ghost use Rattle.ob_there.specs.Methods.{IntroducedAreMethods};
+ghost use Rattle.ob_there.specs.There.{MethodsAreIntroduced};
 
 /// A law, with nothing to run: a bound procedure that a record of a checked module introduces is one
 /// of the module's procedures, which is bound to the record, is named by both, receives the record,
