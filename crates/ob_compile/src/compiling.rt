@@ -8,9 +8,9 @@ ghost use Rattle.ob_compiling.specs.Compiling.{compiled, prints};
 ghost use Rattle.ob_compile.specs.Contract.{AreFile, Compiles, CompileHasCause};
 
 use crate::faces::compile_text;
-use ob_compiling::CompileFault;
 use crate::shape::Built;
 use crate::source::read_source;
+use ob_compiling::CompileFault;
 use ob_io::Shelf;
 use std::alloc::Global;
 

@@ -13,10 +13,10 @@ ghost use Rattle.ob_compile.specs.Contract.{AreFile, Compiles, Makes, CompileHas
 ghost use Rattle.ob_compile.specs.Steps.{stood};
 
 use crate::answers::{fault_of_env, fault_of_text, fault_of_walk, over_limit};
-use ob_compiling::CompileFault;
 use crate::held::SourceTree;
 use crate::rules::judged;
 use crate::shape::Built;
+use ob_compiling::CompileFault;
 use ob_env::Env;
 use ob_io::Shelf;
 use ob_reading::read_module;

@@ -10,9 +10,9 @@ ghost use Rattle.ob_compiling.specs.Compiling.{Compiled, within, limit_of_files,
 ghost use Rattle.ob_compile.specs.Contract.{AreFile, Makes};
 
 use crate::answers::over_limit;
-use ob_compiling::CompileFault;
 use crate::held::ShownFace;
 use crate::shape::Built;
+use ob_compiling::CompileFault;
 use ob_obj::{ObjFile, write_obj};
 use ob_spelled::{has_object_file, has_symbol_file};
 use ob_sym::write_sym;

@@ -13,11 +13,11 @@ ghost use Rattle.ob_compile.specs.Steps.{compiled_of, short_code};
 ghost use Rattle.ob_compile.specs.Showing.{IsShown};
 
 use crate::answers::over_limit;
-use ob_compiling::CompileFault;
 use crate::files::written;
 use crate::held::{ObjectFile, ShownFace};
 use crate::shape::Built;
 use crate::shown::{copy_uses, exports_of, shown};
+use ob_compiling::CompileFault;
 use ob_env::{Env, View};
 use ob_gcode::GenFault;
 use ob_gproc::object_file;

@@ -12,10 +12,10 @@ ghost use Rattle.ob_compile.specs.Contract.{Makes};
 ghost use Rattle.ob_compile.specs.Ruled.{IsChecked};
 
 use crate::answers::over_limit;
-use ob_compiling::{CompileFault, CompileRefusal};
 use crate::limits::measured;
 use crate::shape::Built;
 use ob_cmodule::{Checked, check_module};
+use ob_compiling::{CompileFault, CompileRefusal};
 use ob_env::Env;
 use ob_laid::lay_out;
 use ob_rules::Broken;
