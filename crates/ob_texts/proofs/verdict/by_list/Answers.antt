@@ -6,7 +6,7 @@ use Rattle.ob_texts.proofs.Scanned.{ends_once, names_fit}
 use Rattle.ob_texts.proofs.verdict.by_list.Goals as goal
 
 pub parse-requires-clause-ends : goal.parse-requires-clause-ends
-parse-requires-clause-ends c = subst EndsOnce (sym c.as_slice.ensures) (ends_once (start_of c.as_bytes-bytes.result.now) c.in-Ok.tokens c.in-Ok.ensures)
+parse-requires-clause-ends c = subst EndsOnce (sym c.as_slice.ensures) (ends_once (start_of c.args.bytes.now) c.in-Ok.tokens c.in-Ok.ensures)
 
 pub parse-requires-clause-names : goal.parse-requires-clause-names
-parse-requires-clause-names c = subst NamesFit (sym c.as_slice.ensures) (names_fit (start_of c.as_bytes-bytes.result.now) c.in-Ok.tokens c.in-Ok.ensures)
+parse-requires-clause-names c = subst NamesFit (sym c.as_slice.ensures) (names_fit (start_of c.args.bytes.now) c.in-Ok.tokens c.in-Ok.ensures)
