@@ -1,6 +1,6 @@
 -- Objects are found by their names, in an interface and in one more behind others.
-use Rattle.std.proofs.Common.{◌≡◌, ◌⊎◌, ⊎_elim, inl, inr, ℕ, Bool, true, false, List, [], ◌∷◌, ◌++◌, map as each, Option, Some, None, refl, sym, ap, subst, ◌∙◌}
-use Rattle.std.specs.Prelude.{◌||◌, cond, bytes_eq, IsSome, Contains}
+use Rattle.std.proofs.Common.{◌≡◌, ◌⊎◌, inl, inr, ℕ, Bool, true, false, List, [], ◌∷◌, ◌++◌, map as each, Option, Some, None, refl, sym, ap, subst, ◌∙◌}
+use Rattle.std.specs.Prelude.{cond, bytes_eq, IsSome, Contains}
 use Rattle.std.specs.List.{filter}
 use Rattle.std.specs.Ordering.{is_eq}
 use Rattle.std.specs.declared.cmp.Ordering.{Ordering}
@@ -79,12 +79,22 @@ found_in_order os o h = order_found o.0 os (member_found os o h)
 
 -- ---- interfaces of builds
 
+abbrev in_face : Option (Face Text) → QName → Option Desc
+in_face o q = o >>= λ (f : Face Text). object_named f.objects q.object
+
+-- where an interface is the first of some, or the others are asked
+abbrev first_or : Bool → Build → List Build → QName → Option Desc
+first_or t x xs q = in_face (cond t (Some (shows_of x)) (face_named (each shows_of xs) q.«module»)) q
+
+abbrev shows : List Build → QName → Option Desc
+shows xs q = described (each shows_of xs) q
+
 -- what is shown has a module among them
 pub named_among : (xs : List Build) (q : QName) → IsSome (described (each shows_of xs) q) → Contains (each name_of xs) q.«module»
 named_among [] q h = let bad : false ≡ true = h in absurd cc
 named_among (x ∷ xs) q h = by (bytes_eq q.«module» (name_of x)) refl h (named_among xs q)
   where
-    by : (b : Bool) → bytes_eq q.«module» (name_of x) ≡ b → IsSome (cond b (Some (shows_of x)) (face_named (each shows_of xs) q.«module») >>= λ (f : Face Text). object_named f.objects q.object) → (IsSome (described (each shows_of xs) q) → Contains (each name_of xs) q.«module») → Contains (name_of x ∷ each name_of xs) q.«module»
+    by : (t : Bool) → bytes_eq q.«module» (name_of x) ≡ t → IsSome (first_or t x xs q) → (IsSome (shows xs q) → Contains (each name_of xs) q.«module») → Contains (name_of x ∷ each name_of xs) q.«module»
     by true e h f = subst (λ (n : List ℕ). Contains (name_of x ∷ each name_of xs) n) (sym (bytes_true q.«module» (name_of x) e)) (has_head (name_of x) (each name_of xs))
     by false e h f = has_more (name_of x) (each name_of xs) q.«module» (f h)
 
@@ -93,28 +103,31 @@ pub shown_before : (xs : List Build) (b : Build) (q : QName) → IsSome (describ
 shown_before [] b q h = let bad : false ≡ true = h in absurd cc
 shown_before (x ∷ xs) b q h = by (bytes_eq q.«module» (name_of x)) h (shown_before xs b q)
   where
-    by : (t : Bool) → IsSome (cond t (Some (shows_of x)) (face_named (each shows_of xs) q.«module») >>= λ (f : Face Text). object_named f.objects q.object) → (IsSome (described (each shows_of xs) q) → IsSome (described (each shows_of (xs ++ b ∷ [])) q)) → IsSome (cond t (Some (shows_of x)) (face_named (each shows_of (xs ++ b ∷ [])) q.«module») >>= λ (f : Face Text). object_named f.objects q.object)
+    by : (t : Bool) → IsSome (first_or t x xs q) → (IsSome (shows xs q) → IsSome (shows (xs ++ b ∷ []) q)) → IsSome (first_or t x (xs ++ b ∷ []) q)
     by true h f = h
     by false h f = f h
 
 -- and so is what the one behind shows, where none of the others has its name
 pub shown_last : (xs : List Build) (b : Build) (q : QName) → (Contains (each name_of xs) (name_of b) → ⊥) → q.«module» ≡ name_of b → IsSome (object_named (shows_of b).objects q.object) → IsSome (described (each shows_of (xs ++ b ∷ [])) q)
-shown_last [] b q new e h = subst (λ (t : Bool). IsSome (cond t (Some (shows_of b)) None >>= λ (f : Face Text). object_named f.objects q.object)) (sym (ap (λ (n : List ℕ). bytes_eq n (name_of b)) e ∙ bytes_same (name_of b))) h
+shown_last [] b q new e h = subst (λ (t : Bool). IsSome (first_or t b [] q)) (sym (ap (λ (n : List ℕ). bytes_eq n (name_of b)) e ∙ bytes_same (name_of b))) h
 shown_last (x ∷ xs) b q new e h = by (bytes_eq q.«module» (name_of x)) refl (shown_last xs b q (λ c. new (has_more (name_of x) (each name_of xs) (name_of b) c)) e h)
   where
-    by : (t : Bool) → bytes_eq q.«module» (name_of x) ≡ t → IsSome (described (each shows_of (xs ++ b ∷ [])) q) → IsSome (cond t (Some (shows_of x)) (face_named (each shows_of (xs ++ b ∷ [])) q.«module») >>= λ (f : Face Text). object_named f.objects q.object)
+    by : (t : Bool) → bytes_eq q.«module» (name_of x) ≡ t → IsSome (shows (xs ++ b ∷ []) q) → IsSome (first_or t x (xs ++ b ∷ []) q)
     by true i f = absurd (new (subst (λ (n : List ℕ). Contains (name_of x ∷ each name_of xs) n) (sym (bytes_true q.«module» (name_of x) i) ∙ e) (has_head (name_of x) (each name_of xs))))
     by false i f = f
+
+abbrev IsLast : Build → QName → Desc → Type 0
+IsLast b q d = object_named (shows_of b).objects q.object ≡ Some d
 
 -- what is shown with one more behind is shown without it, or is an object of that one
 pub shown_either : (xs : List Build) (b : Build) (q : QName) (d : Desc) → described (each shows_of (xs ++ b ∷ [])) q ≡ Some d → (described (each shows_of xs) q ≡ Some d) ⊎ (object_named (shows_of b).objects q.object ≡ Some d)
 shown_either [] b q d e = by (bytes_eq q.«module» (name_of b)) e
   where
-    by : (t : Bool) → (cond t (Some (shows_of b)) None >>= λ (f : Face Text). object_named f.objects q.object) ≡ Some d → (described (each shows_of []) q ≡ Some d) ⊎ (object_named (shows_of b).objects q.object ≡ Some d)
+    by : (t : Bool) → first_or t b [] q ≡ Some d → (shows [] q ≡ Some d) ⊎ IsLast b q d
     by true i = inr i
     by false i = absurd cc
 shown_either (x ∷ xs) b q d e = by (bytes_eq q.«module» (name_of x)) e (shown_either xs b q d)
   where
-    by : (t : Bool) → (cond t (Some (shows_of x)) (face_named (each shows_of (xs ++ b ∷ [])) q.«module») >>= λ (f : Face Text). object_named f.objects q.object) ≡ Some d → (described (each shows_of (xs ++ b ∷ [])) q ≡ Some d → (described (each shows_of xs) q ≡ Some d) ⊎ (object_named (shows_of b).objects q.object ≡ Some d)) → ((cond t (Some (shows_of x)) (face_named (each shows_of xs) q.«module») >>= λ (f : Face Text). object_named f.objects q.object) ≡ Some d) ⊎ (object_named (shows_of b).objects q.object ≡ Some d)
+    by : (t : Bool) → first_or t x (xs ++ b ∷ []) q ≡ Some d → (shows (xs ++ b ∷ []) q ≡ Some d → (shows xs q ≡ Some d) ⊎ IsLast b q d) → (first_or t x xs q ≡ Some d) ⊎ IsLast b q d
     by true i f = inl i
     by false i f = f i

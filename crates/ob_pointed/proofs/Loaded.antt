@@ -30,7 +30,7 @@ use Rattle.ob_ages.specs.Builds.{Build, of, shows_of, tree_of, name_of}
 use Rattle.ob_ages.specs.Laws.{IsBehind, AreTogether, BuildsAreWritten}
 use Rattle.ob_ruled.specs.Ruled.{types_of, IsRuled, BuildsAreRuled}
 use Rattle.ob_ordered.proofs.Shown.{Showing, found_type}
-use Rattle.ob_ordered.proofs.Loaded.{Before, Uses, valid_of, before_more, uses, none}
+use Rattle.ob_ordered.proofs.Loaded.{Before, valid_of, before_more, uses, none}
 use Rattle.ob_pointed.specs.Pointed.{LoadedBases}
 use Rattle.ob_pointed.proofs.Found.{one_behind, named_among, shown_before, shown_last, shown_either}
 use Rattle.ob_pointed.proofs.Reached.{base_reached}

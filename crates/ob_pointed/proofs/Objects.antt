@@ -1,5 +1,5 @@
 -- The objects of a module: its types that are reached, and no other types.
-use Rattle.std.proofs.Common.{◌≡◌, ℕ, Bool, true, false, List, [], ◌∷◌, ◌++◌, map as each, Option, Some, None, refl, sym, ap, subst, ◌∙◌}
+use Rattle.std.proofs.Common.{◌≡◌, ℕ, true, List, [], ◌∷◌, ◌++◌, map as each, Some, refl}
 use Rattle.std.specs.Prelude.{IsSome}
 use Rattle.std.specs.List.{filter, AllByRecursion}
 use Rattle.ob_tree.specs.declared.ident.Mark.{Mark}
@@ -50,14 +50,21 @@ module _ (m : Module) where
 
   -- a type that is reached is an object
   pub type_shown : (t : TypedType) → IsOneOf m.types t → is_among (reached_types m) (own_name m t) ≡ true → IsSome (object_named (objects_of m) t.name)
-  type_shown t there e = found_in_order (constants ++ variables ++ procedures ++ types) (type_object t) (one_behind (constants ++ variables ++ procedures) types (type_object t) (one_each type_object (types_among m (reached_types m)) t (one_kept (λ t. is_among (reached_types m) (own_name m t)) m.types t e there)))
+  type_shown t there e =
+      let others = constants ++ variables ++ procedures in
+      let kept = one_kept (λ t. is_among (reached_types m) (own_name m t)) m.types t e there in
+      found_in_order (others ++ types) (type_object t) (one_behind others types (type_object t) (one_each type_object (types_among m (reached_types m)) t kept))
 
-  -- what the types that are reached have, each pointer type among the objects has
-  module _ (P : Mark → TypeRef → Type 0) (given : AllByRecursion (λ t. is_among (reached_types m) (own_name m t) ≡ true → (k : Mark) (u : TypeRef) → t.desc ≡ desc.Pointer k u → P k u) m.types) where
+  -- what each base of a pointer type that is reached has
+  abbrev pub AreGiven : (Mark → TypeRef → Type 0) → List TypedType → Type 0
+  AreGiven P ts = AllByRecursion (λ t. is_among (reached_types m) (own_name m t) ≡ true → (k : Mark) (u : TypeRef) → t.desc ≡ desc.Pointer k u → P k u) ts
+
+  -- what bases have that are reached, those of all pointer types among the objects have
+  module _ (P : Mark → TypeRef → Type 0) (given : AreGiven P m.types) where
     abbrev Has : Object → Type 0
     Has o = (k : Mark) (u : TypeRef) → o.1 ≡ desc.Pointer k u → P k u
 
-    seen_has : (ts : List TypedType) → AllByRecursion (λ t. is_among (reached_types m) (own_name m t) ≡ true → (k : Mark) (u : TypeRef) → t.desc ≡ desc.Pointer k u → P k u) ts → AllByRecursion (λ t. is_among (reached_types m) (own_name m t) ≡ true → Has (type_object t)) ts
+    seen_has : (ts : List TypedType) → AreGiven P ts → AllByRecursion (λ t. is_among (reached_types m) (own_name m t) ≡ true → Has (type_object t)) ts
     seen_has [] h = tt
     seen_has (t ∷ ts) h = (λ i k u e. h.0 i k u (pointer_seen t.desc k u e), seen_has ts h.1)
 

@@ -1,5 +1,5 @@
 -- The base of a pointer type that is reached in a module is reached too, if it is a type of the module.
-use Rattle.std.proofs.Common.{◌≡◌, ◌⊎◌, ⊎_elim, inl, inr, Bool, true, List, [], ◌∷◌, ◌++◌, length, map as each, Option, Some, None, refl, sym, ap, subst, ◌∙◌}
+use Rattle.std.proofs.Common.{◌≡◌, ◌⊎◌, ⊎_elim, inl, inr, Bool, true, List, [], ◌∷◌, ◌++◌, map as each, Option, Some, None, refl, sym, ap, subst, ◌∙◌}
 use Rattle.std.specs.Prelude.{cond}
 use Rattle.std.specs.List.{filter, flat_map}
 use Rattle.ob_tree.specs.declared.names.QName.{QName}
@@ -58,7 +58,10 @@ module _ (m : Module) where
   led_own p q None e = absurd cc
   led_own p q (Some d) e = own_kept (names_of (shown_types d)) q e
 
-  own_reached : (q : QName) → Reaches (leads_by way.Shown (λ q. type_named m.types q.object) m.name) (first_shown m) q → is_own m q ≡ true
+  abbrev IsReached : QName → Type 0
+  IsReached q = Reaches leads (first_shown m) q
+
+  own_reached : (q : QName) → IsReached q → is_own m q ≡ true
   own_reached q (first e) = first_own q e
   own_reached q (onward {p} r l) = led_own p q (type_named m.types p.object) l
 
@@ -66,11 +69,8 @@ module _ (m : Module) where
   enough_at q None e own = inl refl
   enough_at q (Some d) e own = inr (subst (λ (p : QName). is_among (each (own_name m) m.types) p ≡ true) (sym (full_name m q own)) (named_there m q.object m.types d e))
 
-  enough : AreEnough (leads_by way.Shown (λ q. type_named m.types q.object) m.name) (first_shown m) (each (own_name m) m.types)
+  enough : AreEnough leads (first_shown m) (each (own_name m) m.types)
   enough q r = enough_at q (type_named m.types q.object) refl (own_reached q r)
-
-  abbrev IsReached : QName → Type 0
-  IsReached q = Reaches (leads_by way.Shown (λ q. type_named m.types q.object) m.name) (first_shown m) q
 
   to_reached : (q : QName) → is_among (reached_types m) q ≡ true → IsReached q
   to_reached q e = (exact_here leads (first_shown m) (each (own_name m) m.types) enough q).0 (ap (λ k. is_among (reached_from leads k (first_shown m)) q) (length_each (own_name m) m.types) ∙ e)
@@ -78,6 +78,7 @@ module _ (m : Module) where
   from_reached : (q : QName) → IsReached q → is_among (reached_types m) q ≡ true
   from_reached q r = sym (ap (λ k. is_among (reached_from leads k (first_shown m)) q) (length_each (own_name m) m.types)) ∙ (exact_here leads (first_shown m) (each (own_name m) m.types) enough q).1 r
 
+  -- the base of a pointer type that is reached
   pub base_reached : (t : TypedType) (k : Mark) (p : QName) → type_named m.types t.name ≡ Some t.desc → t.desc ≡ desc.Pointer k (ref.Named p) → is_own m p ≡ true → is_among (reached_types m) (own_name m t) ≡ true → is_among (reached_types m) p ≡ true
   base_reached t k p found is own there =
       let named : type_named m.types t.name ≡ Some (desc.Pointer k (ref.Named p)) = found ∙ ap (λ (d : Desc). Some d) is in
