@@ -22,7 +22,8 @@ use Rattle.ob_ages.proofs.Members.{In}
 use Rattle.ob_joining.specs.Builds.{program_of, AreLoaded}
 use Rattle.ob_inherited.proofs.Checked.{checked_at}
 use Rattle.ob_inherited.proofs.Loaded.{IsSome, in_front, in_middle, all_shown}
-use Rattle.ob_assured.specs.Judged.{LoadedShowBases, LoadedAreJudged}
+use Rattle.ob_pointed.specs.Pointed.{LoadedShowBases}
+use Rattle.ob_assured.specs.Judged.{LoadedAreJudged}
 
 map_both : {A B : Type 0} (f : A → B) (xs ys : List A) → map f (xs ++ ys) ≡ map f xs ++ map f ys
 map_both f [] ys = refl

@@ -34,7 +34,8 @@ use Rattle.ob_bindings.proofs.Named.{bindings_are_named}
 use Rattle.ob_inherited.proofs.Checked.{checked_at}
 use Rattle.ob_inherited.proofs.Loaded.{IsSome, tree_in, all_shown, in_front, in_middle}
 use Rattle.ob_there.proofs.Modules.{methods_introduced}
-use Rattle.ob_belonging.specs.Loaded.{LoadedShowBases, LoadedBelong}
+use Rattle.ob_pointed.proofs.Loaded.{loaded_bases}
+use Rattle.ob_belonging.specs.Loaded.{LoadedBelong}
 use Rattle.ob_belonging.proofs.Methods.{TypesHave, module_has, found_in}
 
 -- a build shows the name of its module
@@ -44,7 +45,7 @@ shows_name b v = subst (λ (x : Compiled Text). x.shows.«module» ≡ x.tree.na
 abbrev Has : Program → Module → Type 0
 Has program m = TypesHave program m.name m.types
 
-module _ (written : BuildsAreWritten) (ruled : BuildsAreRuled) (locality : Locality) (bases : LoadedShowBases) where
+module _ (written : BuildsAreWritten) (ruled : BuildsAreRuled) (locality : Locality) where
   has_methods : (before : List Build) (b : Build) (after : List Build) → AreLoaded (before ++ b ∷ after) → Has (program_of (before ++ b ∷ after)) (tree_of b)
   has_methods before b after l =
       let all = before ++ b ∷ after in
@@ -60,7 +61,7 @@ module _ (written : BuildsAreWritten) (ruled : BuildsAreRuled) (locality : Local
       let distinct : AreDistinct (λ t. t.name) (tree_of b).types = subst (λ (x : Compiled Text). AreDistinct (λ t. t.name) x.tree.types) (sym (of_is b v.0 v.1)) (ruled b v.0 v.1).names in
       let apart : AreDistinct (λ t. t.name) k.t.types = names_laid (described faces) (module_view k.t) k.t.types (subst (λ (x : Module). AreDistinct (λ t. t.name) x.types) k.is distinct) in
       let named = (readings_named b.source k.tree k.read).decls in
-      let introduced = methods_introduced (shown faces) k.tree k.t (subst (λ (n : List ℕ). ShowBases (shown faces) n) name (bases before b after l)) (headings_are_named b.source k.tree k.read) k.checked_is apart named in
+      let introduced = methods_introduced (shown faces) k.tree k.t (subst (λ (n : List ℕ). ShowBases (shown faces) n) name (loaded_bases written ruled before b after l)) (headings_are_named b.source k.tree k.read) k.checked_is apart named in
       module_has program ends whole faces (all_shown all before (λ x i. in_front before (b ∷ after) x i) valid) (tree_of b) (tree_in all b (in_middle before b after)) k.t (described faces) k.is (bindings_are_named (shown faces) k.tree k.t k.checked_is apart named) introduced
 
   all_have : (all before after : List Build) → all ≡ before ++ after → AreLoaded all → AllByRecursion (Has (program_of all)) (program_of after)
@@ -71,4 +72,4 @@ module _ (written : BuildsAreWritten) (ruled : BuildsAreRuled) (locality : Local
   )
 
 pub bound_there : LoadedBelong
-bound_there written ruled locality bases bs l q r e = found_in (program_of bs) (program_of bs) (all_have written ruled locality bases bs [] bs refl l) q r e
+bound_there written ruled locality bs l q r e = found_in (program_of bs) (program_of bs) (all_have written ruled locality bs [] bs refl l) q r e

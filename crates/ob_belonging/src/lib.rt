@@ -5,8 +5,7 @@
 ghost use Rattle.ob_belonging.specs.Loaded.{LoadedBelong};
 
 /// A law, with nothing to run: the bound procedures that the records of builds that are loaded
-/// together introduce are there, where those before a build show the bases of the pointers that they
-/// show.
+/// together introduce are there.
 pub fn loaded_belong()
     ensures { LoadedBelong }
 {}

@@ -16,7 +16,7 @@ use Rattle.ob_owing.proofs.Builds.{builds_ruled}
 pub left_gives : LeftGives
 left_gives l =
     let r = builds_ruled in
-    let bound = bound_there l.written r locality_holds l.bases in
+    let bound = bound_there l.written r locality_holds in
     record {
       values = values;
       different = modules_differ;

@@ -12,15 +12,12 @@ use Rattle.ob_ages.specs.Laws.{BuildsAreWritten}
 use Rattle.ob_ages.specs.Loads.{BuildsAreLinked}
 use Rattle.ob_joining.specs.Builds.{program_of, AreLoaded, IsOf, BuildsStand}
 use Rattle.ob_stand.specs.Owed.{in_program, Owed}
-use Rattle.ob_belonging.specs.Loaded.{LoadedShowBases}
 
 pub record Left : Type 0 where
   -- of each build alone
   pub written : BuildsAreWritten
   pub linked : BuildsAreLinked
-  -- of builds that are loaded together: they show the bases of the pointers that they show
-  pub bases : LoadedShowBases
-  -- the descriptions that a module was compiled with say of what it names what its declarations in the program say
+  -- of builds that are loaded together: the descriptions that a module was compiled with say of what it names what its declarations in the program say
   pub same : (bs more : List Build) → AreLoaded (bs ++ more) → (b : Build) → Contains bs b → ModuleSame (viewed (described (of b).against) (tree_of b)) (description (program_of bs)) (tree_of b)
   -- the modules keep the rules
   pub rules : (bs more : List Build) → AreLoaded (bs ++ more) → (c : Setting) → IsOf c values bs more → RulesKept c (map (in_program (program_of bs)) bs)

@@ -1,0 +1,4 @@
+pub mod Found
+pub mod Reached
+pub mod Objects
+pub mod Loaded
