@@ -1,5 +1,5 @@
 -- The headings of the bound procedures of a checked module, over early types of the module.
-use Rattle.std.proofs.Common.{◌≡◌, refl, sym, ap, ◌∙◌, subst, true, false, ℕ, List, [], ◌∷◌, ◌++◌, map, Option, Some, None}
+use Rattle.std.proofs.Common.{◌≡◌, sym, ap, ◌∙◌, subst, true, false, ℕ, List, [], ◌∷◌, ◌++◌, map, Option, Some}
 use Rattle.std.specs.List.{AllByRecursion}
 use Rattle.ob_tree.specs.declared.names.QName.{QName}
 use Rattle.ob_tree.specs.declared.ident.Ident.{Ident}
@@ -14,9 +14,8 @@ use Rattle.ob_rules.specs.Shapes.{AMethod, member}
 use Rattle.ob_rules.specs.Names.{Around, map_of, is_out}
 use Rattle.ob_rules.specs.Types.{Parameters}
 use Rattle.ob_rules.specs.Operators.{signatures_match}
-use Rattle.ob_rules.specs.Headings.{BoundAs, Head, same_kind, signature_if, self_parameter, bindings}
+use Rattle.ob_rules.specs.Headings.{BoundAs, Head, same_kind, signature_if, self_parameter}
 use Rattle.ob_rules.specs.Declarations.{checked, self_parameters}
-use Rattle.ob_forms.specs.Said.{IsOneOf}
 use Rattle.ob_typed.specs.Makes.{IfThere}
 use Rattle.ob_distinct.specs.Distinct.{AreDistinct}
 use Rattle.ob_distinct.proofs.Blocks.{not_out}

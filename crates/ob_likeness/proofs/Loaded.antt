@@ -1,10 +1,9 @@
 -- The bound procedures of builds that are loaded together are like the methods of their families.
-use Rattle.std.proofs.Common.{◌≡◌, refl, sym, ap, subst, ◌∙◌, ℕ, List, [], ◌∷◌, ◌++◌, map, Some, append_assoc}
+use Rattle.std.proofs.Common.{◌≡◌, refl, sym, ap, subst, ◌∙◌, ℕ, List, [], ◌∷◌, ◌++◌, map, append_assoc}
 use Rattle.std.specs.Prelude.{bytes_eq}
 use Rattle.std.specs.List.{AllByRecursion, IsDistinct}
 use Rattle.ob_types.specs.TypedSyntax.{Module}
 use Rattle.ob_types.specs.TypedView.{module_view}
-use Rattle.ob_meaning.specs.Values.{Program}
 use Rattle.ob_env.specs.Faces.{described}
 use Rattle.ob_env.specs.Shown.{shown}
 use Rattle.ob_forms.proofs.Modules.{of_all}
@@ -13,10 +12,9 @@ use Rattle.ob_said.proofs.Texts.{headings_are_named}
 use Rattle.ob_written.proofs.Reading.{readings_named}
 use Rattle.ob_ranges.proofs.Outward.{laid_differ}
 use Rattle.ob_locality.proofs.Compiled.{checked_name}
-use Rattle.ob_compiling.specs.Compiling.{Compiled, texts}
+use Rattle.ob_compiling.specs.Compiling.{Compiled}
 use Rattle.ob_ages.specs.Builds.{Text, Build, shows_of, tree_of, name_of}
 use Rattle.ob_ages.specs.Laws.{Locality, BuildsAreWritten}
-use Rattle.ob_ages.proofs.Compiled.{comes}
 use Rattle.ob_ages.proofs.Gone.{all_valid}
 use Rattle.ob_ages.proofs.Members.{In}
 use Rattle.ob_ages.proofs.Stood.{of_is}
@@ -27,13 +25,10 @@ use Rattle.ob_bindings.specs.Like.{AreLike}
 use Rattle.ob_inherited.proofs.Checked.{checked_at}
 use Rattle.ob_inherited.proofs.Loaded.{IsSome, tree_in, all_shown, in_front, in_middle}
 use Rattle.ob_belonging.specs.Loaded.{LoadedShowBases}
+use Rattle.ob_belonging.proofs.Loaded.{shows_name}
 use Rattle.ob_likeness.specs.Checked.{HasText}
 use Rattle.ob_likeness.specs.Loaded.{LoadedLike}
 use Rattle.ob_likeness.proofs.Modules.{checked_like}
-
--- a build shows the name of its module
-shows_name : (b : Build) → IsSome b → name_of b ≡ (tree_of b).name
-shows_name b v = subst (λ (x : Compiled Text). x.shows.«module» ≡ x.tree.name) (sym (of_is b v.0 v.1)) (subst (λ (x : Compiled Text). x.shows.«module» ≡ x.tree.name) (sym (comes texts _ (Some b.source) v.0 v.1.is).is) refl)
 
 module _ (written : BuildsAreWritten) (locality : Locality) (differ : TypesDiffer) (sound : LoadedAreSound) (whole : LoadedAreWhole) (bases : LoadedShowBases) where
   -- a build among others

@@ -1,5 +1,5 @@
 -- A bound procedure of a program is like the method of its family.
-use Rattle.std.proofs.Common.{◌≡◌, refl, sym, ap, ◌∙◌, subst, ℕ, List, [], ◌∷◌, map as each, Option, Some, None, inl, inr}
+use Rattle.std.proofs.Common.{◌≡◌, refl, sym, ap, ◌∙◌, subst, ℕ, List, [], ◌∷◌, map as each, Option, Some, inl, inr}
 use Rattle.std.specs.Prelude.{Bool, true, false, bytes_eq, cond}
 use Rattle.std.specs.List.{AllByRecursion}
 use Rattle.ob_tree.specs.declared.names.QName.{QName}
@@ -16,7 +16,7 @@ use Rattle.ob_types.specs.declared.typed.Passing.{Passing}
 use Rattle.ob_types.specs.declared.typed.TypedParameter.{TypedParameter}
 use Rattle.ob_types.specs.Maps.{listed, signature_types}
 use Rattle.ob_types.specs.TypedSyntax.{Procedure}
-use Rattle.ob_meaning.specs.Values.{Program, form_in, procedure_of}
+use Rattle.ob_meaning.specs.Values.{Program, procedure_of}
 use Rattle.ob_meaning.specs.Meaning.{declared_for}
 use Rattle.ob_layout.specs.Members.{method_named}
 use Rattle.ob_relation.specs.Typed.{ReceiverOk, result_form}
@@ -111,9 +111,9 @@ module _ (program : Program) (q : QName) where
     pub parameters : AreParameters program (behind ps) k.signature.params
 
   -- what is like one of two methods of one name is like the other
-  other_likely : (k m : Method) → k.name ≡ m.name → IsMethodOf program q k → IsMethodOf program q m → (o : QName) (ps : List TypedParameter) (result : Option TypeRef) (s : Signature) →
+  other_likely : (k m : Method) → k.name ≡ m.name → IsMethodOf program q k → IsMethodOf program q m → (o : QName) (ps : List TypedParameter) (result : Option TypeRef) →
       ReceiverOk program m.receiver o ps → result_form program result ≡ result_form program m.signature.result → ((xs : List TypedParameter) → AreParameters program xs m.signature.params → Alike program xs (behind ps)) → IsLikely o ps result k
-  other_likely k m n a b o ps result s receives result_is alike =
+  other_likely k m n a b o ps result receives result_is alike =
       let one : a.p ≡ b.p = one_name k m n a b in
       let mine : ReceiverOk program k.receiver q b.p.parameters = subst (λ (p : Procedure). ReceiverOk program k.receiver q p.parameters) one a.receives in
       let gives : result_form program b.p.result ≡ result_form program k.signature.result = subst (λ (p : Procedure). result_form program p.result ≡ result_form program k.signature.result) one a.result in
@@ -132,4 +132,4 @@ module _ (program : Program) (map : QName → Option Desc) (formed : Formed map 
       let h = member_is map program formed 201 at x (AMethod q m) found in
       let b : IsMethodOf program q m = h.1.0 in
       let alike = redefinitions_are_alike program map formed m.signature s (declared_first m.signature h.1.1.1.0) declared match in
-      other_likely program q k m n a b o (self ∷ rest) s.result s (subst (λ j. ReceiverOk program j o (self ∷ rest)) (sym (kinds_are m.receiver kind same)) receives) (sym alike.0) (λ xs i. alike.1 xs rest i are)
+      other_likely program q k m n a b o (self ∷ rest) s.result (subst (λ j. ReceiverOk program j o (self ∷ rest)) (sym (kinds_are m.receiver kind same)) receives) (sym alike.0) (λ xs i. alike.1 xs rest i are)

@@ -1,6 +1,6 @@
 -- The bound procedures of a checked module of a program are like the methods of their families.
-use Rattle.std.proofs.Common.{◌≡◌, ◌≢◌, refl, sym, ap, ◌∙◌, subst, ℕ, List, [], ◌∷◌, map as each, Option, Some, None, inl, inr}
-use Rattle.std.specs.Prelude.{Bool, true, false, bytes_eq, codes}
+use Rattle.std.proofs.Common.{◌≡◌, ◌≢◌, refl, sym, ap, ◌∙◌, subst, ℕ, List, [], ◌∷◌, map as each, Some, inl, inr}
+use Rattle.std.specs.Prelude.{Bool, true, false}
 use Rattle.std.specs.List.{AllByRecursion}
 use Rattle.std.proofs.lemmas.Bool.{false≢true}
 use Rattle.std.proofs.lemmas.Slice.Eq.{bytes_eq-Decides}
@@ -13,13 +13,11 @@ use Rattle.ob_types.specs.declared.desc.RecordDesc.{RecordDesc}
 use Rattle.ob_types.specs.declared.typed.Binding.{Binding}
 use Rattle.ob_types.specs.declared.typed.Family.{Family}
 use Rattle.ob_types.specs.declared.typed.TypedType.{TypedType}
-use Rattle.ob_types.specs.declared.typed.TypedParameter.{TypedParameter}
 use Rattle.ob_types.specs.declared.typed.TypedProcedure.{TypedProcedure}
 use Rattle.ob_types.specs.TypedSyntax.{Procedure, Module}
 use Rattle.ob_types.specs.TypedView.{module_view, procedure_view}
 use Rattle.ob_meaning.specs.Values.{same_name, Program, description, procedure_of}
 use Rattle.ob_meaning.specs.Meaning.{is_bound, declared_for}
-use Rattle.ob_layout.specs.LaidOut.{laid_type}
 use Rattle.ob_layout.specs.Members.{method_named}
 use Rattle.ob_env.specs.Shown.{shown}
 use Rattle.ob_relation.specs.Typed.{ReceiverOk, result_form}
@@ -33,15 +31,15 @@ use Rattle.ob_forms.specs.Formed.{AreParameters, behind, IsMethodOf, Formed}
 use Rattle.ob_forms.specs.Said.{IsOneOf, IsSound, IsFreshName, HaveNames}
 use Rattle.ob_forms.specs.Whole.{IsPassed, HeadingOk, IsWhole}
 use Rattle.ob_forms.proofs.Modules.{of_all, own, procedure_there}
-use Rattle.ob_declares.specs.Views.{FieldsDiffer, IsAround}
+use Rattle.ob_declares.specs.Views.{FieldsDiffer}
 use Rattle.ob_declares.proofs.Views.{one_each, ruled_formed}
 use Rattle.ob_outward.specs.Families.{view, IsFamily}
 use Rattle.ob_outward.proofs.Families.{families_there}
-use Rattle.ob_bindings.specs.Named.{IsNamed}
-use Rattle.ob_bindings.specs.Like.{IsLike, AreLike}
+use Rattle.ob_bindings.specs.Like.{IsLike}
 use Rattle.ob_bindings.proofs.Named.{bindings_are_named}
 use Rattle.ob_there.specs.Methods.{IsNamedSo}
 use Rattle.ob_there.proofs.Methods.{parameters_are, bound_same, called, declared_one, declared_in}
+use Rattle.ob_belonging.proofs.Methods.{viewed_named}
 use Rattle.ob_likeness.specs.Checked.{HasText, CheckedAreLike}
 use Rattle.ob_likeness.proofs.Headings.{IsIn, IsMatched, IsHeading, headed}
 use Rattle.ob_likeness.proofs.Methods.{method_found, self_received, passed_declared, matching_likely}
@@ -71,11 +69,7 @@ all_differ : (ts : List TypedType) → distinct.AreApart ts → AllByRecursion (
 all_differ [] h = tt
 all_differ (t ∷ ts) h = (desc_differs t.desc h.0, all_differ ts h.1)
 
--- ---- procedures of the view
-
-viewed_named : (ps : List TypedProcedure) → AllByRecursion IsNamed ps → AllByRecursion IsNamedSo (each procedure_view ps)
-viewed_named [] h = tt
-viewed_named (p ∷ ps) h = (h.0, viewed_named ps h.1)
+-- ---- a module
 
 module _ (program : Program) (sound : IsSound program) (whole : IsWhole program) (m : Module) (there : IsOneOf program m) (text : HasText program m) where
   name_is : m.name ≡ text.typed.name

@@ -5,11 +5,9 @@ use Rattle.std.specs.List.{AllByRecursion, filter}
 use Rattle.ob_tree.specs.declared.names.QName.{QName}
 use Rattle.ob_tree.specs.declared.decl.Module.{Module as Tree}
 use Rattle.ob_types.specs.declared.desc.Desc.{Desc}
-use Rattle.ob_types.specs.declared.desc.Desc.TheVariants as desc
 use Rattle.ob_types.specs.declared.desc.RecordDesc.{RecordDesc}
 use Rattle.ob_types.specs.declared.desc.Method.{Method}
 use Rattle.ob_types.specs.declared.typed.TypedType.{TypedType}
-use Rattle.ob_types.specs.declared.typed.TypedModule.{TypedModule}
 use Rattle.ob_rules.specs.Judged.{no_notes}
 use Rattle.ob_rules.specs.Shapes.{Map, Member, AField, AMethod, member}
 use Rattle.ob_rules.specs.Names.{Around, map_of, is_out}
@@ -17,7 +15,6 @@ use Rattle.ob_rules.specs.Operators.{signatures_match}
 use Rattle.ob_rules.specs.Types.{nothing}
 use Rattle.ob_rules.specs.Headings.{BoundAs, Head, Binding, signature_if, same_kind, introduced_sound, new_method, with_method, changed_if, change_type, redefined, bind_method, bind_by, bind_one, bind_all, of_record, bind_records, counted, reversed, bindings}
 use Rattle.ob_rules.specs.Declarations.{binding_at}
-use Rattle.ob_forms.specs.Said.{IsOneOf}
 use Rattle.ob_distinct.specs.Distinct.{AreDistinct}
 use Rattle.ob_written.specs.Raw.{decl_named}
 use Rattle.ob_declares.specs.Views.{SaysNoMore, IsEarly}
@@ -26,7 +23,7 @@ use Rattle.ob_outward.proofs.Binding.{desc_in}
 use Rattle.ob_outward.proofs.Blocks as outward
 use Rattle.ob_outward.proofs.Families as families
 use Rattle.ob_matched.proofs.Early.{early_self, records_back}
-use Rattle.ob_bound.proofs.Modules.{M, whole, imports, hs, heads, B, level}
+use Rattle.ob_bound.proofs.Modules.{M, whole, hs, heads, B, level}
 use Rattle.ob_there.proofs.Introduced.{found_one, one_found}
 
 -- ---- types differ in name while procedures are bound to them
