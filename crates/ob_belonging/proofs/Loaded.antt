@@ -39,7 +39,7 @@ use Rattle.ob_belonging.specs.Loaded.{LoadedBelong}
 use Rattle.ob_belonging.proofs.Methods.{TypesHave, module_has, found_in}
 
 -- a build shows the name of its module
-shows_name : (b : Build) → IsSome b → name_of b ≡ (tree_of b).name
+pub shows_name : (b : Build) → IsSome b → name_of b ≡ (tree_of b).name
 shows_name b v = subst (λ (x : Compiled Text). x.shows.«module» ≡ x.tree.name) (sym (of_is b v.0 v.1)) (subst (λ (x : Compiled Text). x.shows.«module» ≡ x.tree.name) (sym (comes texts _ (Some b.source) v.0 v.1.is).is) refl)
 
 abbrev Has : Program → Module → Type 0

@@ -41,7 +41,7 @@ use Rattle.ob_there.specs.There.{is_record, type_of, IsIntroduced, type_in}
 use Rattle.ob_there.specs.Methods.{IsTypeSaid, TypesAreSaid, IsNamedSo, HasChecked}
 use Rattle.ob_there.proofs.Methods.{introduced_are_methods}
 
-viewed_named : (ps : List TypedProcedure) → AllByRecursion IsNamed ps → AllByRecursion IsNamedSo (each procedure_view ps)
+pub viewed_named : (ps : List TypedProcedure) → AllByRecursion IsNamed ps → AllByRecursion IsNamedSo (each procedure_view ps)
 viewed_named [] h = tt
 viewed_named (p ∷ ps) h = (h.0, viewed_named ps h.1)
 

@@ -100,7 +100,7 @@ mode_is mode.Var (BasicForm b) = refl
 mode_is mode.Var (PointerForm t) = refl
 mode_is mode.Var (ProcedureForm s) = refl
 
-parameters_are : (program : Program) (xs : List TypedParameter) (ks : List (Mode × TypeRef)) → AreOf xs ks → AllByRecursion (IsPassed program) xs → AreParameters program xs ks
+pub parameters_are : (program : Program) (xs : List TypedParameter) (ks : List (Mode × TypeRef)) → AreOf xs ks → AllByRecursion (IsPassed program) xs → AreParameters program xs ks
 parameters_are program [] [] a p = tt
 parameters_are program [] (k ∷ ks) a p = absurd a
 parameters_are program (x ∷ xs) [] a p = absurd a
@@ -110,7 +110,7 @@ parameters_are program (x ∷ xs) (k ∷ ks) a p =
 
 -- ---- the procedure that is bound
 
-bound_same : (b : Binding) → is_bound (Some b) b.owner b.family ≡ true
+pub bound_same : (b : Binding) → is_bound (Some b) b.owner b.family ≡ true
 bound_same b = ap (λ z. z && same_family b.family b.family) (name_same b.owner) ∙ ap (λ z. z && bytes_eq b.family.name b.family.name) (name_same b.family.owner) ∙ bytes_same b.family.name
 
 named_by : (p : Procedure) → IsNamedSo p → (o : Option Binding) → p.binding ≡ o → (q : QName) (f : Family) → is_bound o q f ≡ true → p.name ≡ q.object ++ codes "." ++ f.name
@@ -120,10 +120,10 @@ named_by p n (Some b) e q f is =
     let k = and_parts (same_name b.family.owner f.owner) (bytes_eq b.family.name f.name) h.1 in
     n b e ∙ ap (λ (x : QName). x.object ++ codes "." ++ b.family.name) (name_true b.owner q h.0) ∙ ap (λ (x : List ℕ). q.object ++ codes "." ++ x) (bytes_true b.family.name f.name k.1)
 
-abbrev called : QName → Family → QName
+abbrev pub called : QName → Family → QName
 called q f = record { «module» = q.«module»; object = q.object ++ codes "." ++ f.name }
 
-declared_one : (ps : List Procedure) → AllByRecursion IsNamedSo ps → (q : QName) (f : Family) (p : Procedure) → IsOneOf ps p → is_bound p.binding q f ≡ true → declared_among ps q f ≡ Some (called q f)
+pub declared_one : (ps : List Procedure) → AllByRecursion IsNamedSo ps → (q : QName) (f : Family) (p : Procedure) → IsOneOf ps p → is_bound p.binding q f ≡ true → declared_among ps q f ≡ Some (called q f)
 declared_one [] n q f p i is = absurd i
 declared_one (x ∷ ps) n q f p i is = by (is_bound x.binding q f) refl i (λ j. declared_one ps n.1 q f p j is)
   where
@@ -132,7 +132,7 @@ declared_one (x ∷ ps) n q f p i is = by (is_bound x.binding q f) refl i (λ j.
     by false e (inl s) r = absurd (false≢true (sym e ∙ ap (λ (z : Procedure). is_bound z.binding q f) s ∙ is))
     by false e (inr j) r = r j
 
-declared_in : (ms : List Module) → Different (λ m. m.name) ms → (m : Module) → IsOneOf ms m → (x : List ℕ) (f : Family) → (let q : QName = record { «module» = m.name; object = x } in declared_for ms q f ≡ declared_among m.procedures q f)
+pub declared_in : (ms : List Module) → Different (λ m. m.name) ms → (m : Module) → IsOneOf ms m → (x : List ℕ) (f : Family) → (let q : QName = record { «module» = m.name; object = x } in declared_for ms q f ≡ declared_among m.procedures q f)
 declared_in [] d m i x f = absurd i
 declared_in (y ∷ ms) d m (inl e) x f =
     subst (λ (m : Module). let q : QName = record { «module» = m.name; object = x } in declared_for (y ∷ ms) q f ≡ declared_among m.procedures q f) e

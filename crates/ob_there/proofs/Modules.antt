@@ -57,7 +57,7 @@ use Rattle.ob_there.proofs.Introduced.{IsReady, IsNew, AreNew, bindings_new, Say
 
 -- ---- a bound heading has a name for its receiver
 
-abbrev IsSelfed : Head → Type 0
+abbrev pub IsSelfed : Head → Type 0
 IsSelfed h = (b : BoundAs) → h.bound ≡ Some b → (x : Ident) × (h.self ≡ Some x)
 
 receiver_selfed : (u : Around) (r : Option RawReceiver) (b : BoundAs) → bound_in (owner_if u r).node ≡ Some b → (x : Ident) × (option_map (λ (r : RawReceiver). r.ident) r ≡ Some x)
@@ -71,7 +71,7 @@ declared_selfed : (twice : Bool) (h : Head) (u : Around) → IsSelfed h → IsSe
 declared_selfed true h u s = s
 declared_selfed false h u s = s
 
-heads_selfed : (xs : List Written_procedure) (ys : Heads) → AllByRecursion IsSelfed ys.before → AllByRecursion IsSelfed (headings_in_order xs ys).before
+pub heads_selfed : (xs : List Written_procedure) (ys : Heads) → AllByRecursion IsSelfed ys.before → AllByRecursion IsSelfed (headings_in_order xs ys).before
 heads_selfed [] ys s = s
 heads_selfed (p ∷ xs) ys s =
     let d = head_of ys.around p.heading p.forward in
