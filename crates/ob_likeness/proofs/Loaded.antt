@@ -24,7 +24,7 @@ use Rattle.ob_ordered.specs.Loaded.{LoadedAreWhole}
 use Rattle.ob_bindings.specs.Like.{AreLike}
 use Rattle.ob_inherited.proofs.Checked.{checked_at}
 use Rattle.ob_inherited.proofs.Loaded.{IsSome, tree_in, all_shown, in_front, in_middle}
-use Rattle.ob_belonging.specs.Loaded.{LoadedShowBases}
+use Rattle.ob_pointed.specs.Pointed.{LoadedShowBases}
 use Rattle.ob_belonging.proofs.Loaded.{shows_name}
 use Rattle.ob_likeness.specs.Checked.{HasText}
 use Rattle.ob_likeness.specs.Loaded.{LoadedLike}

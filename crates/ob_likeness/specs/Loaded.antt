@@ -3,7 +3,7 @@ use Rattle.ob_ages.specs.Laws.{Locality, BuildsAreWritten}
 use Rattle.ob_families.specs.Premises.{TypesDiffer, LoadedAreSound}
 use Rattle.ob_ordered.specs.Loaded.{LoadedAreWhole}
 use Rattle.ob_inherited.specs.Laws.{LoadedAreLike}
-use Rattle.ob_belonging.specs.Loaded.{LoadedShowBases}
+use Rattle.ob_pointed.specs.Pointed.{LoadedShowBases}
 
 -- THE BOUND PROCEDURES of each module of builds that are loaded together are like the methods of their families.
 abbrev pub LoadedLike : Type 0

@@ -5,7 +5,7 @@ use Rattle.ob_valued.specs.Valued.{values}
 use Rattle.ob_families.specs.Premises.{LoadedAreSame}
 use Rattle.ob_inherited.specs.Laws.{LoadedAreLike}
 use Rattle.ob_assured.specs.Checked.{IsLeft}
-use Rattle.ob_belonging.specs.Loaded.{LoadedShowBases}
+use Rattle.ob_pointed.specs.Pointed.{LoadedShowBases}
 use Rattle.ob_ages.specs.Builds.{Build}
 use Rattle.ob_ages.specs.Holds.{Promises}
 use Rattle.ob_joining.specs.Builds.{AreLoaded, IsOf}
