@@ -27,7 +27,7 @@ use Rattle.ob_rules.specs.Declarations.{Contents, Part, Written_procedure, closi
 use Rattle.ob_forms.specs.Said.{IsOneOf}
 use Rattle.ob_typed.specs.Makes.{IfThere}
 use Rattle.ob_bodies.specs.Knows.{Grows, Stands, IsDescribed, EntityStands}
-use Rattle.ob_bodies.specs.Judged.{IsReceivedAs, IsWithin, ReceiverStands, AreOf, IsParameter, IsInside, result_of, NameIs, StandsAround, IsJudged, ProcedureIsJudged}
+use Rattle.ob_bodies.specs.Judged.{IsReceivedAs, IsWithin, ReceiverStands, AreOf, IsParameter, IsInside, result_of, NameIs, StandsAround, IsJudged}
 use Rattle.ob_bodies.proofs.Lists.{one_left, one_right, one_joined, all_of, all_both, there_of, first_empty, second_empty}
 use Rattle.ob_bodies.proofs.Standing.{Lies, lies_same, lies_front, lies_behind, lies_then, grows_front, grows_then, stands_grown}
 use Rattle.ob_bodies.proofs.Heads.{self_is, InsideEntity, SignatureStands, HeadStands, all_parameters}

@@ -8,7 +8,7 @@ use Rattle.ob_types.specs.declared.typed.TypedProcedure.{TypedProcedure}
 use Rattle.ob_types.specs.declared.typed.TypedModule.{TypedModule}
 use Rattle.ob_types.specs.TypedSyntax.{Module}
 use Rattle.ob_meaning.specs.Values.{Program}
-use Rattle.ob_env.specs.Faces.{Face, described}
+use Rattle.ob_env.specs.Faces.{described}
 use Rattle.ob_env.specs.Shown.{shown}
 use Rattle.ob_rules.specs.Declarations.{Contents}
 use Rattle.ob_compiling.specs.Compiling.{Compiled, texts}

@@ -1,5 +1,5 @@
 -- The maps around the bodies of a checked module are grounded.
-use Rattle.std.proofs.Common.{◌≡◌, inl, inr, sym, subst, ℕ, false, List, [], map, Option}
+use Rattle.std.proofs.Common.{◌≡◌, inl, sym, subst, ℕ, false, List, [], map, Option}
 use Rattle.std.specs.Prelude.{bytes_eq}
 use Rattle.std.specs.List.{AllByRecursion}
 use Rattle.ob_tree.specs.declared.names.QName.{QName}
@@ -10,16 +10,17 @@ use Rattle.ob_types.specs.declared.desc.Desc.{Desc}
 use Rattle.ob_types.specs.declared.typed.TypedType.{TypedType}
 use Rattle.ob_types.specs.declared.typed.TypedModule.{TypedModule}
 use Rattle.ob_types.specs.Relations.{IsGrounded}
-use Rattle.ob_rules.specs.Names.{Around, map_of, is_out}
+use Rattle.ob_rules.specs.Names.{Around, is_out}
 use Rattle.ob_rules.specs.Statements.{judging}
 use Rattle.ob_rules.specs.Declarations.{declaration, all_described, module_part, typed_module, target_of, deep_of, imports_declared, around_module}
+use Rattle.ob_forms.specs.Said.{IsOneOf}
 use Rattle.ob_typed.specs.Known.{ConstantIs}
 use Rattle.ob_distinct.specs.Distinct.{AreDistinct}
 use Rattle.ob_distinct.proofs.Blocks.{unbroken_is, not_out}
 use Rattle.ob_bodies.proofs.Around.{HandsOn, around_more}
 use Rattle.ob_bodies.proofs.Modules.{bodies_hold}
-use Rattle.ob_grounded.specs.Laws.{IsApart, IsChecked}
-use Rattle.ob_grounded.specs.Bodies.{HasGroundedMap, HasGroundedBodies, BodiesAreGrounded}
+use Rattle.ob_grounded.specs.Laws.{IsApart}
+use Rattle.ob_grounded.specs.Bodies.{HasGroundedMap, BodiesAreGrounded}
 use Rattle.ob_grounded.proofs.Stand.{bases_shown}
 use Rattle.ob_grounded.proofs.Blocks.{Start, block_starts}
 use Rattle.ob_grounded.proofs.Modules.{Made, made_named, decls_good, start}
@@ -44,7 +45,7 @@ module _ (shown : QName → Option Desc) (tree : Tree) (grounded : IsGrounded sh
 
   pub hands : (ds : List Decl) (xs : List Stmt) → HandsOn Begins (module_part shown tree).contents (map declaration ds) (map judging xs)
   hands ds xs u a n l b =
-      let among : (s : TypedType) → Rattle.ob_forms.specs.Said.IsOneOf F s → In s = λ s i. inl i in
+      let among : (s : TypedType) → IsOneOf F s → In s = λ s i. inl i in
       let named = made_named shown tree grounded apart out imports e (one shown tree grounded apart out imports e distinct) in
       let all = one shown tree grounded apart out imports e distinct in
       block_starts shown unit grounded apart out In F among named all (map declaration ds) (decls_good shown unit grounded apart out In F among named all ds) (map judging xs) u a n l b

@@ -1,5 +1,5 @@
 -- The law: the bodies of a checked module are judged where the map of the types that are known is grounded.
-use Rattle.std.specs.Prelude.{◌≡◌, ℕ, true, Option, map}
+use Rattle.std.specs.Prelude.{◌≡◌, true, Option, map}
 use Rattle.ob_tree.specs.declared.names.QName.{QName}
 use Rattle.ob_tree.specs.declared.decl.Module.{Module as Tree}
 use Rattle.ob_types.specs.declared.desc.Desc.{Desc}
