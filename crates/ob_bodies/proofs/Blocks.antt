@@ -27,7 +27,7 @@ use Rattle.ob_rules.specs.Declarations.{Contents, Part, Written_procedure, closi
 use Rattle.ob_forms.specs.Said.{IsOneOf}
 use Rattle.ob_typed.specs.Makes.{IfThere}
 use Rattle.ob_bodies.specs.Knows.{Grows, Stands, IsDescribed, EntityStands}
-use Rattle.ob_bodies.specs.Judged.{IsReceivedAs, IsWithin, ReceiverStands, AreOf, IsParameter, IsInside, result_of, NameIs, StandsAround, IsJudged, ProcedureIsJudged}
+use Rattle.ob_bodies.specs.Judged.{IsReceivedAs, IsWithin, ReceiverStands, AreOf, IsParameter, IsInside, result_of, NameIs, StandsAround, IsJudged}
 use Rattle.ob_bodies.proofs.Lists.{one_left, one_right, one_joined, all_of, all_both, there_of, first_empty, second_empty}
 use Rattle.ob_bodies.proofs.Standing.{Lies, lies_same, lies_front, lies_behind, lies_then, grows_front, grows_then, stands_grown}
 use Rattle.ob_bodies.proofs.Heads.{self_is, InsideEntity, SignatureStands, HeadStands, all_parameters}
@@ -36,6 +36,7 @@ use Rattle.ob_bodies.proofs.Headings.{Aligned, IsUnbroken, AreGoodHeadings}
 use Rattle.ob_bodies.specs.Order.{IsOver}
 use Rattle.ob_bodies.proofs.InOrder.{over_all}
 use Rattle.ob_bodies.proofs.Quiet.{IsQuiet, IsWellHeading, IsQuietHead, inside_quiet}
+use Rattle.ob_bodies.proofs.Around.{IsJudgedAlso}
 use Rattle.ob_bodies.proofs.Levels.{Level, AtModule, Within, frame, IsPlaced, IsVariableAt, Included, IsFull, none_full, both_full, first_included, second_included, BlockAt, IsOpened, BoundStands, BodyOwn, not_module, outer_name}
 
 -- ---- lists
@@ -118,35 +119,37 @@ module _ (IsConstant : Value → Type 0) (shown : QName → Option Desc) (m : Ty
 
   -- THE BODIES IN A PART
 
-  abbrev pub AreJudged : List TypedProcedure → Type 0
-  AreJudged ps = AllByRecursion (ProcedureIsJudged IsConstant shown m content) ps
+  module _ (Also : Around → Type 0) where
+    abbrev pub AreJudged : List TypedProcedure → Type 0
+    AreJudged ps = AllByRecursion (IsJudgedAlso Also IsConstant shown m content) ps
 
-  -- the bodies of procedures, and that of the part
-  pub record PartIs (l : Level) (c : Contents) : Type 0 where
-    pub procedures : AreJudged c.procedures
-    pub body : IsJudged IsConstant shown m content (frame l) c.body
-    pub placed : IsPlaced l body.u
-    pub full : IsFull IsConstant shown m content c
-    pub bound : BoundStands IsConstant shown m content l c
-    pub own : BodyOwn IsConstant shown m content l c.bound body.u
+    -- the bodies of procedures, and that of the part
+    pub record PartIs (l : Level) (c : Contents) : Type 0 where
+      pub procedures : AreJudged c.procedures
+      pub body : IsJudged IsConstant shown m content (frame l) c.body
+      pub also : Also body.u
+      pub placed : IsPlaced l body.u
+      pub full : IsFull IsConstant shown m content c
+      pub bound : BoundStands IsConstant shown m content l c
+      pub own : BodyOwn IsConstant shown m content l c.bound body.u
 
-  abbrev pub IsBlock : (Around → Part) → Type 0
-  IsBlock f = (l : Level) (u : Around) → B l u → IsOpened IsConstant shown m content l u → IsQuiet u → (f u).notes.broken ≡ [] → I l (f u).contents → PartIs l (f u).contents
+    abbrev pub IsBlock : (Around → Part) → Type 0
+    IsBlock f = (l : Level) (u : Around) → B l u → Also u → IsOpened IsConstant shown m content l u → IsQuiet u → (f u).notes.broken ≡ [] → I l (f u).contents → PartIs l (f u).contents
 
-  pub record IsProcedure (p : Written_procedure) : Type 0 where
-    pub heading : AreGoodHeadings IsConstant m.name shown out (p ∷ [])
-    pub well : IsWellHeading p
-    pub inside : IsBlock p.inside
+    pub record IsProcedure (p : Written_procedure) : Type 0 where
+      pub heading : AreGoodHeadings IsConstant m.name shown out (p ∷ [])
+      pub well : IsWellHeading p
+      pub inside : IsBlock p.inside
 
-  abbrev pub AreProcedures : List Written_procedure → Type 0
-  AreProcedures ps = AllByRecursion IsProcedure ps
+    abbrev pub AreProcedures : List Written_procedure → Type 0
+    AreProcedures ps = AllByRecursion IsProcedure ps
 
-  pub headings_good : (ps : List Written_procedure) → AreProcedures ps → AreGoodHeadings IsConstant m.name shown out ps
-  headings_good [] g = tt
-  headings_good (p ∷ ps) g = (g.0.heading.0, headings_good ps g.1)
+    pub headings_good : (ps : List Written_procedure) → AreProcedures ps → AreGoodHeadings IsConstant m.name shown out ps
+    headings_good [] g = tt
+    headings_good (p ∷ ps) g = (g.0.heading.0, headings_good ps g.1)
 
-  pub headings_well : (ps : List Written_procedure) → AreProcedures ps → AllByRecursion IsWellHeading ps
-  headings_well ps g = all_of IsProcedure IsWellHeading ps (λ p h. h.well) g
+    pub headings_well : (ps : List Written_procedure) → AreProcedures ps → AllByRecursion IsWellHeading ps
+    headings_well ps g = all_of IsProcedure IsWellHeading ps (λ p h. h.well) g
 
   -- the body of a part, judged at a level
   pub stands_at : (l : Level) (u : Around) → B l u → StandsAround IsConstant shown m content (frame l) u
@@ -267,11 +270,6 @@ module _ (IsConstant : Value → Type 0) (shown : QName → Option Desc) (m : Ty
 
   -- ONE PROCEDURE AND THOSE INSIDE IT
 
-  -- bodies that are judged, and what else is added
-  pub record Adds (c : Contents) : Type 0 where
-    pub procedures : AreJudged c.procedures
-    pub full : IsFull IsConstant shown m content c
-
   head_made : (o : Option Parameters) → IfThere (λ p. AllByRecursion (IsDescribed IsConstant) p.made) o → AllByRecursion (IsDescribed IsConstant) (types_of_head o)
   head_made None h = tt
   head_made (Some p) h = h
@@ -290,43 +288,52 @@ module _ (IsConstant : Value → Type 0) (shown : QName → Option Desc) (m : Ty
   parameters_stand own (p ∷ ps) [] a h = absurd a
   parameters_stand own (p ∷ ps) (k ∷ ks) a h = (subst (S own) (sym a.0.0) h.0, parameters_stand own ps ks a.1 h.1)
 
-  framed_judged : (own : List TypedType) → Grows own m.types → (types : Map) (h : Head) → AllByRecursion (λ (x : TypedParameter). S own x.of) (self_parameters h h.self h.bound) → (o : Option Parameters) (c : Contents) → IfThere (SignatureStands IsConstant m.name shown out own) o → IsJudged IsConstant shown m content (framed types h o c) c.body → AreJudged (typed_procedure types h o c)
-  framed_judged own g types h self None c s j = tt
-  framed_judged own g types h self (Some q) c s j =
-      let all = all_both (λ (x : TypedParameter). S own x.of) (self_parameters h h.self h.bound) q.parameters self (parameters_stand own q.parameters q.signature.params s.answer s.params) in (
+  module _ (Also : Around → Type 0) where
+    -- bodies that are judged, and what else is added
+    pub record Adds (c : Contents) : Type 0 where
+      pub procedures : AreJudged Also c.procedures
+      pub full : IsFull IsConstant shown m content c
+
+    framed_judged : (own : List TypedType) → Grows own m.types → (types : Map) (h : Head) → AllByRecursion (λ (x : TypedParameter). S own x.of) (self_parameters h h.self h.bound) → (o : Option Parameters) (c : Contents) → IfThere (SignatureStands IsConstant m.name shown out own) o → (j : IsJudged IsConstant shown m content (framed types h o c) c.body) → Also j.u → AreJudged Also (typed_procedure types h o c)
+    framed_judged own g types h self None c s j a = tt
+    framed_judged own g types h self (Some q) c s j a =
+        let all = all_both (λ (x : TypedParameter). S own x.of) (self_parameters h h.self h.bound) q.parameters self (parameters_stand own q.parameters q.signature.params s.answer s.params) in (
+          (
+            record {
+              body = j;
+              result = s.plain;
+              parameters = all_of (λ (x : TypedParameter). S own x.of) (λ (x : TypedParameter). S m.types x.of) (all_parameters h q) (λ x. stands_grown m.name shown own m.types g x.of) all;
+              answer = there_of (S own) (S m.types) q.signature.result (λ t. stands_grown m.name shown own m.types g t) s.result;
+            },
+            a,
+          ),
+          tt,
+        )
+
+    procedure_is : (path : List ℕ) (l : Level) (u : Around) → B l u → (p : Written_procedure) → IsProcedure Also p → (h : Head) → HS u.own u.scope h → HeadBound h → AllByRecursion (KnownBehind l u) h.known → IsQuietHead path h → Also (around_body u h) → (forward : Bool) → (procedure_judged u p h forward).notes.broken ≡ [] → I l (procedure_judged u p h forward).contents → Adds (procedure_judged u p h forward).contents
+    procedure_is path l u b p g h s r k quiet_head a true n i = record { procedures = tt; full = record { constants = tt; types = head_made h.parameters s.made; bound = tt; over = head_over u.own b.grown h.parameters s.over } }
+    procedure_is path l u b p g h s o k quiet_head a false n i =
+        let c = (p.inside (around_body u h)).contents in
+        let types = map_of u in
+        let f = framed types h h.parameters c in
+        let own = typed_procedure types h h.parameters c in
+        let quiet = second_empty (closing_judged h.name p.closing).broken _ (second_empty h.notes.broken _ n) in
+        let r = g.inside (Within f) (around_body u h) (inside_block l u b h s o k types c) a tt (inside_quiet path u h quiet_head) quiet (record { variables = λ x j. framed_variables types h h.parameters c x j; procedures = λ q j. i.procedures q (one_right own c.procedures q j); types = grows_then c.types (types_of_head h.parameters ++ c.types) m.types (grows_front (types_of_head h.parameters) c.types) i.types; made = λ t j. i.made t (one_right (types_of_head h.parameters) c.types t j); bound = tt }) in
         record {
-          body = j;
-          result = s.plain;
-          parameters = all_of (λ (x : TypedParameter). S own x.of) (λ (x : TypedParameter). S m.types x.of) (all_parameters h q) (λ x. stands_grown m.name shown own m.types g x.of) all;
-          answer = there_of (S own) (S m.types) q.signature.result (λ t. stands_grown m.name shown own m.types g t) s.result;
-        },
-        tt,
-      )
+          procedures = all_both (IsJudgedAlso Also IsConstant shown m content) own c.procedures (framed_judged u.own b.grown types h s.self h.parameters c s.signature r.body r.also) r.procedures;
+          full = record { constants = tt; types = all_both (IsDescribed IsConstant) (types_of_head h.parameters) c.types (head_made h.parameters s.made) r.full.types; bound = tt; over = all_both (IsOver (S m.types)) (types_of_head h.parameters) c.types (head_over u.own b.grown h.parameters s.over) r.full.over };
+        }
 
-  procedure_is : (path : List ℕ) (l : Level) (u : Around) → B l u → (p : Written_procedure) → IsProcedure p → (h : Head) → HS u.own u.scope h → HeadBound h → AllByRecursion (KnownBehind l u) h.known → IsQuietHead path h → (forward : Bool) → (procedure_judged u p h forward).notes.broken ≡ [] → I l (procedure_judged u p h forward).contents → Adds (procedure_judged u p h forward).contents
-  procedure_is path l u b p g h s r k quiet_head true n i = record { procedures = tt; full = record { constants = tt; types = head_made h.parameters s.made; bound = tt; over = head_over u.own b.grown h.parameters s.over } }
-  procedure_is path l u b p g h s o k quiet_head false n i =
-      let c = (p.inside (around_body u h)).contents in
-      let types = map_of u in
-      let f = framed types h h.parameters c in
-      let own = typed_procedure types h h.parameters c in
-      let quiet = second_empty (closing_judged h.name p.closing).broken _ (second_empty h.notes.broken _ n) in
-      let r = g.inside (Within f) (around_body u h) (inside_block l u b h s o k types c) tt (inside_quiet path u h quiet_head) quiet (record { variables = λ x j. framed_variables types h h.parameters c x j; procedures = λ q j. i.procedures q (one_right own c.procedures q j); types = grows_then c.types (types_of_head h.parameters ++ c.types) m.types (grows_front (types_of_head h.parameters) c.types) i.types; made = λ t j. i.made t (one_right (types_of_head h.parameters) c.types t j); bound = tt }) in
-      record {
-        procedures = all_both (ProcedureIsJudged IsConstant shown m content) own c.procedures (framed_judged u.own b.grown types h s.self h.parameters c s.signature r.body) r.procedures;
-        full = record { constants = tt; types = all_both (IsDescribed IsConstant) (types_of_head h.parameters) c.types (head_made h.parameters s.made) r.full.types; bound = tt; over = all_both (IsOver (S m.types)) (types_of_head h.parameters) c.types (head_over u.own b.grown h.parameters s.over) r.full.over };
-      }
-
-  pub procedures_are : (path : List ℕ) (l : Level) (u : Around) → B l u → (ps : List Written_procedure) → AreProcedures ps → (hs : List Head) → AllByRecursion (HS u.own u.scope) hs → AllByRecursion HeadBound hs → AllByRecursion (λ (h : Head). AllByRecursion (KnownBehind l u) h.known) hs → AllByRecursion (IsQuietHead path) hs → (procedures_judged u ps hs).notes.broken ≡ [] → I l (procedures_judged u ps hs).contents → Adds (procedures_judged u ps hs).contents
-  procedures_are path l u b [] g hs s r k q n i = record { procedures = tt; full = none_full IsConstant shown m content }
-  procedures_are path l u b (p ∷ ps) g [] s r k q n i = record { procedures = tt; full = none_full IsConstant shown m content }
-  procedures_are path l u b (p ∷ ps) g (h ∷ hs) s r k q n i =
-      let a = (procedure_judged u p h p.forward).contents in
-      let c = (procedures_judged u ps hs).contents in
-      let one = (procedure_judged u p h p.forward).notes.broken in
-      let x = procedure_is path l u b p g.0 h s.0 r.0 k.0 q.0 p.forward (first_empty one _ n) (first_included IsConstant shown m content l a c i) in
-      let y = procedures_are path l u b ps g.1 hs s.1 r.1 k.1 q.1 (second_empty one _ n) (second_included IsConstant shown m content l a c i) in
-      record { procedures = all_both (ProcedureIsJudged IsConstant shown m content) a.procedures c.procedures x.procedures y.procedures; full = both_full IsConstant shown m content a c x.full y.full }
+    pub procedures_are : (path : List ℕ) (l : Level) (u : Around) → B l u → (ps : List Written_procedure) → AreProcedures Also ps → (hs : List Head) → AllByRecursion (HS u.own u.scope) hs → AllByRecursion HeadBound hs → AllByRecursion (λ (h : Head). AllByRecursion (KnownBehind l u) h.known) hs → AllByRecursion (IsQuietHead path) hs → AllByRecursion (λ (h : Head). Also (around_body u h)) hs → (procedures_judged u ps hs).notes.broken ≡ [] → I l (procedures_judged u ps hs).contents → Adds (procedures_judged u ps hs).contents
+    procedures_are path l u b [] g hs s r k q a n i = record { procedures = tt; full = none_full IsConstant shown m content }
+    procedures_are path l u b (p ∷ ps) g [] s r k q a n i = record { procedures = tt; full = none_full IsConstant shown m content }
+    procedures_are path l u b (p ∷ ps) g (h ∷ hs) s r k q d n i =
+        let a = (procedure_judged u p h p.forward).contents in
+        let c = (procedures_judged u ps hs).contents in
+        let one = (procedure_judged u p h p.forward).notes.broken in
+        let x = procedure_is path l u b p g.0 h s.0 r.0 k.0 q.0 d.0 p.forward (first_empty one _ n) (first_included IsConstant shown m content l a c i) in
+        let y = procedures_are path l u b ps g.1 hs s.1 r.1 k.1 q.1 d.1 (second_empty one _ n) (second_included IsConstant shown m content l a c i) in
+        record { procedures = all_both (IsJudgedAlso Also IsConstant shown m content) a.procedures c.procedures x.procedures y.procedures; full = both_full IsConstant shown m content a c x.full y.full }
 
   judged_bound : (u : Around) (p : Written_procedure) (h : Head) (forward : Bool) → (procedure_judged u p h forward).contents.bound ≡ []
   judged_bound u p h true = refl

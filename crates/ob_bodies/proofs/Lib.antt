@@ -14,6 +14,7 @@ pub mod Receivers
 pub mod Levels
 pub mod Plain
 pub mod Quiet
+pub mod Around
 pub mod Forwards
 pub mod Blocks
 pub mod Sequences

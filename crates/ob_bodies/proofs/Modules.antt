@@ -23,7 +23,7 @@ use Rattle.ob_rules.specs.declared.entity.Known.{Known}
 use Rattle.ob_rules.specs.Judged.{notes_if}
 use Rattle.ob_rules.specs.Names.{Around, predeclared, is_out}
 use Rattle.ob_rules.specs.Expressions.{phrase_of}
-use Rattle.ob_rules.specs.Types.{written}
+use Rattle.ob_rules.specs.Types.{written, is_module_level}
 use Rattle.ob_rules.specs.Statements.{judging, in_turn}
 use Rattle.ob_rules.specs.Declarations.{Contents, no_contents, together, Part, Declaration, Plain, Procedure, plain_of, procedure_of, type_name_of, in_order, stmts_in, block, decl_rule, declaration, is_system, target_of, import_entity, import_declared, imports_declared, around_module, module_of, described, all_described, typed_module, if_unbroken, checked}
 use Rattle.ob_typed.specs.Makes.{IfThere}
@@ -35,7 +35,8 @@ use Rattle.ob_forms.specs.Whole.{Different}
 use Rattle.ob_forms.proofs.Members.{found}
 use Rattle.ob_bodies.specs.Spelled.{parameters_spelled, decl_layer, decl_spelled, tree_spelled}
 use Rattle.ob_bodies.specs.Knows.{Grows, IsDescribed, EntityStands}
-use Rattle.ob_bodies.specs.Judged.{HasMore, IsTold, NameIs, BodiesAreJudged, ProcedureIsJudged}
+use Rattle.ob_bodies.specs.Judged.{IsMade, HasMore, IsTold, NameIs, BodiesAreJudged}
+use Rattle.ob_bodies.specs.Around.{IsAround}
 use Rattle.ob_bodies.proofs.Held.{one_mapped}
 use Rattle.ob_bodies.proofs.More.{more_same}
 use Rattle.ob_bodies.proofs.Binding.{AreOne, IsFrom}
@@ -45,7 +46,7 @@ use Rattle.ob_bodies.proofs.Typings.{ConstantPhrase}
 use Rattle.ob_bodies.specs.Order.{AreInOrder}
 use Rattle.ob_bodies.proofs.Over.{written_over, written_parameters_over}
 use Rattle.ob_bodies.proofs.Written.{written_good, written_parameters_good}
-use Rattle.ob_bodies.proofs.Levels.{Level, AtModule, Within, frame, IsPlaced, IsOpened, own_none, own_same, bound_same, bound_none, declared_own, Included, none_full, both_full, first_included, second_included, BlockAt, block_declared as name_declared}
+use Rattle.ob_bodies.proofs.Levels.{Level, AtModule, Within, frame, IsPlaced, IsBoundAt, IsOpened, own_none, own_same, bound_same, bound_none, declared_own, Included, none_full, both_full, first_included, second_included, BlockAt, block_declared as name_declared}
 use Rattle.ob_said.specs.Procedures.{is_plain, ShowBases, heading_layer, is_named_plainly}
 use Rattle.ob_said.specs.Procedures as said
 use Rattle.ob_said.proofs.Knowing.{AreKnown}
@@ -56,6 +57,7 @@ use Rattle.ob_bodies.proofs.Quiet.{IsQuiet, quiet_behind}
 use Rattle.ob_bodies.proofs.Plain.{IsPlain, constant_plain, type_plain, variables_declared_plain, order_plain}
 use Rattle.ob_bodies.proofs.Blocks.{all_empty, PartIs, IsBlock, IsProcedure, stands_at}
 use Rattle.ob_bodies.proofs.Sequences.{block_is}
+use Rattle.ob_bodies.proofs.Around.{HandsOn, IsJudgedAlso, both_of, nothing_handed}
 
 one_kept : {B : Type 0} (Q : B → Type 0) (o : Option B) (ys : List B) → IfThere Q o → AllByRecursion Q ys → AllByRecursion Q (cons_option o ys)
 one_kept Q None ys h k = k
@@ -79,10 +81,10 @@ first_false : (a b : Bool) → (a || b) ≡ false → a ≡ false
 first_false true b e = absurd cc
 first_false false b e = refl
 
-module _ (IsConstant : Value → Type 0) (truths : (b : Bool) → IsConstant (literal.Bool b)) (shown : QName → Option Desc) (m : TypedModule) (content : Contents) (out : is_out m.name ≡ false) (constants : (x : Expr) → is_spelled x ≡ true → ConstantPhrase IsConstant m.name shown out (phrase_of x)) where
+module _ (IsConstant : Value → Type 0) (truths : (b : Bool) → IsConstant (literal.Bool b)) (shown : QName → Option Desc) (m : TypedModule) (content : Contents) (out : is_out m.name ≡ false) (constants : (x : Expr) → is_spelled x ≡ true → ConstantPhrase IsConstant m.name shown out (phrase_of x)) (Also : Around → Type 0) (hands : (ds : List Decl) (xs : List Stmt) → HandsOn Also content (map declaration ds) (map judging xs)) where
   abbrev GoodDeclaration : Declaration → Type 0
   GoodDeclaration (Plain x f) = IsPlain IsConstant shown m content out f × GoodPlain x f
-  GoodDeclaration (Procedure p) = IsProcedure IsConstant shown m content out p
+  GoodDeclaration (Procedure p) = IsProcedure IsConstant shown m content out Also p
 
   abbrev AreGood : List Declaration → Type 0
   AreGood ds = AllByRecursion GoodDeclaration ds
@@ -91,7 +93,7 @@ module _ (IsConstant : Value → Type 0) (truths : (b : Bool) → IsConstant (li
   plain_good (Plain x f) h = h.0
   plain_good (Procedure p) h = tt
 
-  procedure_good : (d : Declaration) → GoodDeclaration d → IfThere (IsProcedure IsConstant shown m content out) (procedure_of d)
+  procedure_good : (d : Declaration) → GoodDeclaration d → IfThere (IsProcedure IsConstant shown m content out Also) (procedure_of d)
   procedure_good (Plain x f) h = tt
   procedure_good (Procedure p) h = h
 
@@ -113,8 +115,13 @@ module _ (IsConstant : Value → Type 0) (truths : (b : Bool) → IsConstant (li
       let p = g.0.1 u k (first_empty a.part.notes.broken rest.part.notes.broken e) in
       order_one o (filter_map type_name_of ds) u a rest p (order_quiet ds g.1 a.around (subst (λ (v : Around). AreKnown v.known) (sym p.around) p.known) (second_empty a.part.notes.broken rest.part.notes.broken e))
 
-  block_good : (ds : List Declaration) → AreGood ds → (xs : List Stmt) → all_true (map stmt_spelled xs) ≡ true → IsBlock IsConstant shown m content out (block ds (map judging xs))
-  block_good ds g xs e l u b o q n i =
+  -- what is bound at the level of the module is made by it
+  bound_at : (l : Level) (u : Around) → IsPlaced l u → (c : Contents) → IsBoundAt IsConstant shown m content l c → is_module_level u ≡ true → (t : TypedType) → IsOneOf c.bound t → IsMade content t
+  bound_at AtModule u p c h e = h
+  bound_at (Within q) u p c h e = let bad : true ≡ false = sym e ∙ p.0 in absurd cc
+
+  block_good : (ds : List Declaration) → AreGood ds → (xs : List Stmt) → HandsOn Also content ds (map judging xs) → all_true (map stmt_spelled xs) ≡ true → IsBlock IsConstant shown m content out Also (block ds (map judging xs))
+  block_good ds g xs next e l u b a o q n i =
       let names = filter_map type_name_of ds in
       let v : Around = record u { later_types = names } in
       let ps = filter_map procedure_of ds in
@@ -133,7 +140,7 @@ module _ (IsConstant : Value → Type 0) (truths : (b : Bool) → IsConstant (li
       } in
       let r = order_plain IsConstant shown m content out (filter_map plain_of ds) (kept_all GoodDeclaration (IsPlain IsConstant shown m content out) plain_of plain_good ds g) l v c (first_included IsConstant shown m content l d.part.contents _ i) in
       let plain : d.part.notes.broken ≡ [] = first_empty d.part.notes.broken _ (first_empty (d.part.notes.broken ++ _) _ n) in
-      block_is IsConstant shown m content out l ps (kept_all GoodDeclaration (IsProcedure IsConstant shown m content out) procedure_of procedure_good ds g) xs e u b.placed v (later_opened l u names o) d r (quiet_behind names u d q (order_quiet ds g v q.known plain)) n i
+      block_is IsConstant shown m content out Also l ps (kept_all GoodDeclaration (IsProcedure IsConstant shown m content out Also) procedure_of procedure_good ds g) xs e u b.placed v (later_opened l u names o) d r (quiet_behind names u d q (order_quiet ds g v q.known plain)) (next u a n i.made (bound_at l u b.placed (block ds (map judging xs) u).contents i.bound)) n i
 
   -- BY INDUCTION OVER DECLARATIONS
 
@@ -171,8 +178,8 @@ module _ (IsConstant : Value → Type 0) (truths : (b : Bool) → IsConstant (li
       let r = plain_from x p.1 in
       ((differs b 46 refl q.0, r.0), (differs b 47 refl q.1, r.1))
 
-  no_block : IsBlock IsConstant shown m content out (λ u. record { notes = Rattle.ob_rules.specs.Judged.no_notes; contents = no_contents })
-  no_block l u b o q n i = record { procedures = tt; body = record { u = u; xs = []; is = refl; spelled = refl; stands = stands_at IsConstant shown m content out l u b }; placed = b.placed; full = none_full IsConstant shown m content; bound = bound_none IsConstant shown m content l no_contents refl; own = own_none IsConstant shown m content l [] u refl }
+  no_block : IsBlock IsConstant shown m content out Also (λ u. record { notes = Rattle.ob_rules.specs.Judged.no_notes; contents = no_contents })
+  no_block l u b a o q n i = record { procedures = tt; body = record { u = u; xs = []; is = refl; spelled = refl; stands = stands_at IsConstant shown m content out l u b }; also = a; placed = b.placed; full = none_full IsConstant shown m content; bound = bound_none IsConstant shown m content l no_contents refl; own = own_none IsConstant shown m content l [] u refl }
 
   decl_cases : (y : Decl-F SD) → PD (roll-Decl (map-Decl SD Decl (λ x. x.0) y))
   decl_cases (Decl-F.Constant d x) = layer (Decl-F.Constant d x) (λ e f. (constant_plain IsConstant shown m content out d (phrase_of x) (constants x e), constant_good d (phrase_of x)))
@@ -185,7 +192,7 @@ module _ (IsConstant : Value → Type 0) (truths : (b : Bool) → IsConstant (li
       record {
         heading = ((written_parameters_good IsConstant m.name shown out constants h.parameters p.0, written_parameters_over IsConstant m.name shown out h.parameters), tt);
         well = record { sections = written_parameters_well h.parameters; plain = plain_from h.name.ident.name r.0 };
-        inside = block_good (map declaration (decls_in ds)) (all_in ds q.0 r.1) body q.1;
+        inside = block_good (map declaration (decls_in ds)) (all_in ds q.0 r.1) body (hands (decls_in ds) body) q.1;
       })
   decl_cases (Decl-F.Forward h) = layer (Decl-F.Forward h) (λ e f. record { heading = ((written_parameters_good IsConstant m.name shown out constants h.parameters e, written_parameters_over IsConstant m.name shown out h.parameters), tt); well = record { sections = written_parameters_well h.parameters; plain = plain_from h.name.ident.name f }; inside = no_block })
 
@@ -249,8 +256,8 @@ module _ (IsConstant : Value → Type 0) (truths : (b : Bool) → IsConstant (li
   predeclared_known : AreKnown predeclared
   predeclared_known = (tt, (tt, (tt, (tt, (tt, (tt, (tt, (tt, (tt, (tt, (tt, (tt, (tt, (tt, (tt, (tt, (tt, (tt, (tt, (tt, (tt, (tt, (tt, (tt, (tt, (tt, (tt, (tt, (tt, (tt, (tt, tt)))))))))))))))))))))))))))))))
 
-  module_is : (name : Ident) → name.name ≡ m.name → ShowBases shown name.name → (imports : List Import) → AllByRecursion (λ (i : Import). bytes_eq (target_of i).name m.name ≡ false) imports → (ds : List Declaration) → AreGood ds → (xs : List Stmt) → all_true (map stmt_spelled xs) ≡ true → (closing : Ident) → (module_of shown name imports ds (map judging xs) closing).notes.broken ≡ [] → Included IsConstant shown m content AtModule (module_of shown name imports ds (map judging xs) closing).contents → PartIs IsConstant shown m content out AtModule (module_of shown name imports ds (map judging xs) closing).contents
-  module_is name e bases imports o ds g xs s closing n i =
+  module_is : (name : Ident) → name.name ≡ m.name → ShowBases shown name.name → (imports : List Import) → AllByRecursion (λ (i : Import). bytes_eq (target_of i).name m.name ≡ false) imports → (ds : List Declaration) → AreGood ds → (xs : List Stmt) → HandsOn Also content ds (map judging xs) → Also (imports_declared imports (around_module shown name.name ds)).around → all_true (map stmt_spelled xs) ≡ true → (closing : Ident) → (module_of shown name imports ds (map judging xs) closing).notes.broken ≡ [] → Included IsConstant shown m content AtModule (module_of shown name imports ds (map judging xs) closing).contents → PartIs IsConstant shown m content out Also AtModule (module_of shown name imports ds (map judging xs) closing).contents
+  module_is name e bases imports o ds g xs next begins s closing n i =
       let u = around_module shown name.name ds in
       let d = imports_declared imports u in
       let c = (block ds (map judging xs) d.around).contents in
@@ -261,10 +268,11 @@ module _ (IsConstant : Value → Type 0) (truths : (b : Bool) → IsConstant (li
       let opened : Lies d.around.own content.types = λ t k. ⊎_elim (λ y. (first_included IsConstant shown m content AtModule d.part.contents c j).made t y) (λ y. absurd y) (one_joined d.part.contents.types [] t (r.lies t k)) in
       let known = imports_good imports u predeclared_known (first_empty d.part.notes.broken inner (second_empty _ (d.part.notes.broken ++ inner) n)) in
       let calm : IsQuiet d.around = subst IsQuiet (sym known.around) (record { known = known.known; begins = λ l. (refl, bases) }) in
-      let p = block_good ds g xs s AtModule d.around r.around (opened, r.order tt) calm quiet (second_included IsConstant shown m content AtModule d.part.contents c j) in
+      let p = block_good ds g xs next s AtModule d.around r.around begins (opened, r.order tt) calm quiet (second_included IsConstant shown m content AtModule d.part.contents c j) in
       record {
-        procedures = all_both (ProcedureIsJudged IsConstant shown m content) d.part.contents.procedures c.procedures (all_empty (ProcedureIsJudged IsConstant shown m content) d.part.contents.procedures r.procedures) p.procedures;
+        procedures = all_both (IsJudgedAlso Also IsConstant shown m content) d.part.contents.procedures c.procedures (all_empty (IsJudgedAlso Also IsConstant shown m content) d.part.contents.procedures r.procedures) p.procedures;
         body = record { u = p.body.u; xs = p.body.xs; is = ◌∙◌ {c = stmts_in (in_turn (map judging p.body.xs) p.body.u).node} (ap (λ l. l ++ c.body) r.body) p.body.is; spelled = p.body.spelled; stands = p.body.stands };
+        also = p.also;
         placed = p.placed;
         full = both_full IsConstant shown m content no_contents (together d.part.contents c) (none_full IsConstant shown m content) (both_full IsConstant shown m content d.part.contents c r.full p.full);
         bound = bound_same IsConstant shown m content c (together no_contents (together d.part.contents c)) (ap (λ ts. ts ++ c.bound) r.bound) p.bound;
@@ -361,14 +369,25 @@ module _ (IsConstant : Value → Type 0) (truths : (b : Bool) → IsConstant (li
   names_kept bound (t ∷ ts) x (s, (inl e, f)) = let d = described (find (λ b. bytes_eq b.name t.name) bound) t in (d, (inl refl, same_named (find (λ b. bytes_eq b.name t.name) bound) t ∙ ap (λ (r : TypedType). r.name) e ∙ f))
   names_kept bound (t ∷ ts) x (s, (inr i, f)) = let r = names_kept bound ts x (s, (i, f)) in (r.0, (inr r.1.0, r.1.1))
 
-  whole_is : parts.notes.broken ≡ [] → (out : is_out whole.name ≡ false) → ((x : Expr) → is_spelled x ≡ true → ConstantPhrase IsConstant whole.name shown out (phrase_of x)) → tree_spelled tree ≡ true → ShowBases shown tree.name.name → said.all_true (map is_named_plainly tree.decls) ≡ true → AllByRecursion (λ (i : Import). bytes_eq (target_of i).name tree.name.name ≡ false) tree.imports → BodiesAreJudged IsConstant shown whole
-  whole_is quiet out constants s bases plain o =
-      let e = and_both (all_true (map decl_spelled tree.decls)) (all_true (map stmt_spelled tree.body)) s in
-      let p = module_is IsConstant truths shown whole parts.contents out constants tree.name refl bases tree.imports o (map declaration tree.decls) (decls_good IsConstant truths shown whole parts.contents out constants tree.decls e.0 plain) tree.body e.1 tree.closing quiet (record { variables = λ x i. i; procedures = λ p i. i; types = names_kept parts.contents.bound parts.contents.types; made = λ t i. i; bound = λ t i. inr i }) in
-      record { content = parts.contents; told = λ d. all_told IsConstant parts.contents.types parts.contents.bound p.bound.from p.bound.one d; types_are = refl; over = p.full.over; from = p.bound.from; bound = p.bound.by; own = p.own; procedures = p.procedures; body = p.body; scope = p.placed.1.0; receiver = p.placed.1.1.1; name = out; constants = p.full.constants; types = all_described_are IsConstant parts.contents.bound p.full.bound parts.contents.types p.full.types }
+  module _ (Also : Around → Type 0) (hands : (ds : List Decl) (xs : List Stmt) → HandsOn Also parts.contents (map declaration ds) (map judging xs)) (begins : Also (imports_declared tree.imports (around_module shown tree.name.name (map declaration tree.decls))).around) where
+    abbrev With : TypedModule → Type 0
+    With m = (j : BodiesAreJudged IsConstant shown m) × IsAround Also IsConstant shown m j
+
+    whole_is : parts.notes.broken ≡ [] → (out : is_out whole.name ≡ false) → ((x : Expr) → is_spelled x ≡ true → ConstantPhrase IsConstant whole.name shown out (phrase_of x)) → tree_spelled tree ≡ true → ShowBases shown tree.name.name → said.all_true (map is_named_plainly tree.decls) ≡ true → AllByRecursion (λ (i : Import). bytes_eq (target_of i).name tree.name.name ≡ false) tree.imports → With whole
+    whole_is quiet out constants s bases plain o =
+        let e = and_both (all_true (map decl_spelled tree.decls)) (all_true (map stmt_spelled tree.body)) s in
+        let p = module_is IsConstant truths shown whole parts.contents out constants Also hands tree.name refl bases tree.imports o (map declaration tree.decls) (decls_good IsConstant truths shown whole parts.contents out constants Also hands tree.decls e.0 plain) tree.body (hands tree.decls tree.body) begins e.1 tree.closing quiet (record { variables = λ x i. i; procedures = λ p i. i; types = names_kept parts.contents.bound parts.contents.types; made = λ t i. i; bound = λ t i. inr i }) in
+        let both = both_of Also IsConstant shown whole parts.contents whole.procedures p.procedures in (
+          record { content = parts.contents; told = λ d. all_told IsConstant parts.contents.types parts.contents.bound p.bound.from p.bound.one d; types_are = refl; over = p.full.over; from = p.bound.from; bound = p.bound.by; own = p.own; procedures = both.0; body = p.body; scope = p.placed.1.0; receiver = p.placed.1.1.1; name = out; constants = p.full.constants; types = all_described_are IsConstant parts.contents.bound p.full.bound parts.contents.types p.full.types },
+          record { procedures = both.1; body = p.also },
+        )
+
+    -- bodies are judged where it holds
+    pub bodies_hold : (m : TypedModule) → checked shown tree ≡ Some m → ((out : is_out tree.name.name ≡ false) (x : Expr) → is_spelled x ≡ true → ConstantPhrase IsConstant tree.name.name shown out (phrase_of x)) → tree_spelled tree ≡ true → ShowBases shown tree.name.name → said.all_true (map is_named_plainly tree.decls) ≡ true → AllByRecursion (λ (i : Import). bytes_eq (target_of i).name tree.name.name ≡ false) tree.imports → With m
+    bodies_hold m e constants s bases plain o =
+        let r = unbroken_is parts.notes.broken whole m e in
+        let out = not_out r.0 in
+        subst With r.1 (whole_is r.0 out (constants out) s bases plain o)
 
   pub bodies_judged : (m : TypedModule) → checked shown tree ≡ Some m → ((out : is_out tree.name.name ≡ false) (x : Expr) → is_spelled x ≡ true → ConstantPhrase IsConstant tree.name.name shown out (phrase_of x)) → tree_spelled tree ≡ true → ShowBases shown tree.name.name → said.all_true (map is_named_plainly tree.decls) ≡ true → AllByRecursion (λ (i : Import). bytes_eq (target_of i).name tree.name.name ≡ false) tree.imports → BodiesAreJudged IsConstant shown m
-  bodies_judged m e constants s bases plain o =
-      let r = unbroken_is parts.notes.broken whole m e in
-      let out = not_out r.0 in
-      subst (BodiesAreJudged IsConstant shown) r.1 (whole_is r.0 out (constants out) s bases plain o)
+  bodies_judged m e constants s bases plain o = (bodies_hold (λ u. Unit {0}) (λ ds xs. nothing_handed parts.contents (map declaration ds) (map judging xs)) tt m e constants s bases plain o).0

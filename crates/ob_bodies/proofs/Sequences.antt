@@ -19,7 +19,7 @@ use Rattle.ob_typed.specs.Makes.{IfThere}
 use Rattle.ob_typed.specs.Spelled.{all_true}
 use Rattle.ob_typed.specs.Bodies.{stmt_spelled}
 use Rattle.ob_bodies.specs.Knows.{Grows, IsDescribed, EntityStands}
-use Rattle.ob_bodies.specs.Judged.{IsMade, IsWithin, AreOf, IsProcedureIn, IsForwardIn, NameIs, ProcedureIsJudged}
+use Rattle.ob_bodies.specs.Judged.{IsMade, IsWithin, AreOf, IsProcedureIn, IsForwardIn, NameIs}
 use Rattle.ob_bodies.specs.Order.{AreInOrder}
 use Rattle.ob_bodies.proofs.Receivers.{IsBoundAmong, bound_in_order}
 use Rattle.ob_bodies.proofs.Lists.{one_joined, one_all, there_of, all_of, all_both, all_pairs, first_empty, second_empty}
@@ -28,13 +28,14 @@ use Rattle.ob_bodies.proofs.Heads.{SignatureStands, HeadStands, head_grown}
 use Rattle.ob_bodies.proofs.Headings.{Aligned, IsUnbroken, types_of_all, lies_in_order, types_lie, named_at, aligned_in_order, names_in_order, HeadsStand, named_fine, stand_in_order}
 use Rattle.ob_bodies.proofs.More.{append_none}
 use Rattle.ob_bodies.proofs.Binding.{binding_changes}
+use Rattle.ob_bodies.proofs.Around.{HoldsInside, HoldsBehind, IsJudgedAlso}
 use Rattle.ob_bodies.proofs.Levels.{Level, AtModule, Within, frame, IsPlaced, IsBoundAt, IsOpened, BoundBy, own_none, own_bound, own_same, bound_none, bound_changed, Included, none_full, both_full, first_included, second_included, BlockAt, name_grown}
 use Rattle.ob_bodies.proofs.Plain.{DeclaredIs}
 use Rattle.ob_bodies.proofs.Quiet.{AreQuiet, IsQuietHead, quiet_in_order}
 use Rattle.ob_bodies.proofs.Forwards.{IsAnswered, all_answered}
 use Rattle.ob_bodies.proofs.Blocks.{one_reversed, one_turned, all_reversed, all_empty, at_most, two_empty, procedures_body, procedures_bound, PartIs, AreProcedures, headings_good, headings_well, stands_at, KnownBehind, IsBoundWithin, HeadBound, procedures_are, heads_unbroken, types_there, HasProcedure, heading_there}
 
-module _ (IsConstant : Value → Type 0) (shown : QName → Option Desc) (m : TypedModule) (content : Contents) (out : is_out m.name ≡ false) where
+module _ (IsConstant : Value → Type 0) (shown : QName → Option Desc) (m : TypedModule) (content : Contents) (out : is_out m.name ≡ false) (Also : Around → Type 0) where
   abbrev B : Level → Around → Type 0
   B l u = BlockAt IsConstant shown m content l u
 
@@ -98,7 +99,7 @@ module _ (IsConstant : Value → Type 0) (shown : QName → Option Desc) (m : Ty
   placed_with AtModule u ks own bs h = h
   placed_with (Within p) u ks own bs h = h
 
-  module _ (l : Level) (base : Around) (b : B l base) (ps : List Written_procedure) (good : AreProcedures IsConstant shown m content out ps) (xs : List Stmt) (spelled : all_true (map stmt_spelled xs) ≡ true) where
+  module _ (l : Level) (base : Around) (b : B l base) (ps : List Written_procedure) (good : AreProcedures IsConstant shown m content out Also ps) (xs : List Stmt) (spelled : all_true (map stmt_spelled xs) ≡ true) where
     abbrev start : Heads
     start = record { around = base; before = [] }
 
@@ -109,7 +110,7 @@ module _ (IsConstant : Value → Type 0) (shown : QName → Option Desc) (m : Ty
     heads = reversed hs.before
 
     stand : HeadsStand IsConstant m.name shown out base hs
-    stand = stand_in_order IsConstant m.name shown out base ps (headings_good IsConstant shown m content out ps good) start (record { behind = refl; knows = b.knows; below = b.below; before = tt; grows = grows_same base.own; order = λ i. i })
+    stand = stand_in_order IsConstant m.name shown out base ps (headings_good IsConstant shown m content out Also ps good) start (record { behind = refl; knows = b.knows; below = b.below; before = tt; grows = grows_same base.own; order = λ i. i })
 
     aligned : Aligned ps heads
     aligned = let a = aligned_in_order ps start in subst (Aligned ps) (sym a.is) a.aligned
@@ -128,7 +129,7 @@ module _ (IsConstant : Value → Type 0) (shown : QName → Option Desc) (m : Ty
       heads_stand : AllByRecursion (HS own base.scope) hs.before
       heads_stand = all_of (HS hs.around.own base.scope) (HS own base.scope) hs.before (λ h i. head_grown IsConstant m.name shown out hs.around.own own grows base.scope h i) stand.before
 
-      module _ (n : inside.notes.broken ≡ []) (i : I l inside.contents) where
+      module _ (n : inside.notes.broken ≡ []) (i : I l inside.contents) (also : HoldsInside Also w heads) where
         there : (h : Head) → IsOneOf hs.before h → (q : Parameters) → h.parameters ≡ Some q → h.forward ≡ false → HasProcedure IsConstant shown m content out m.procedures h q
         there h j q e f =
             let r = heading_there IsConstant shown m content out w ps heads aligned h (one_reversed hs.before h j) q e f in
@@ -165,13 +166,14 @@ module _ (IsConstant : Value → Type 0) (shown : QName → Option Desc) (m : Ty
           receiver = b.receiver;
         }
 
-        inside_is : PartIs IsConstant shown m content out l inside.contents
+        inside_is : PartIs IsConstant shown m content out Also l inside.contents
         inside_is =
             let c = (procedures_judged w ps heads).contents in
             let s = (body_part (in_turn (map judging xs) w)).contents in
-            let a = procedures_are IsConstant shown m content out base.path l w around ps good heads (all_reversed (HS own base.scope) hs.before heads_stand) (all_reversed (HeadBound IsConstant shown m content out) hs.before heads_bound) (all_reversed (λ (h : Head). AllByRecursion (KnownBehind IsConstant shown m content out l w) h.known) hs.before known.1) (all_reversed (IsQuietHead base.path) hs.before quiet) (first_empty (procedures_judged w ps heads).notes.broken _ n) (first_included IsConstant shown m content l c s i) in
+            let a = procedures_are IsConstant shown m content out Also base.path l w around ps good heads (all_reversed (HS own base.scope) hs.before heads_stand) (all_reversed (HeadBound IsConstant shown m content out) hs.before heads_bound) (all_reversed (λ (h : Head). AllByRecursion (KnownBehind IsConstant shown m content out l w) h.known) hs.before known.1) (all_reversed (IsQuietHead base.path) hs.before quiet) also.1 (first_empty (procedures_judged w ps heads).notes.broken _ n) (first_included IsConstant shown m content l c s i) in
             record {
-              procedures = all_both (ProcedureIsJudged IsConstant shown m content) c.procedures [] a.procedures tt;
+              procedures = all_both (IsJudgedAlso Also IsConstant shown m content) c.procedures [] a.procedures tt;
+              also = also.0;
               body = record { u = w; xs = xs; is = ap (λ l. l ++ s.body) (procedures_body w ps heads); spelled = spelled; stands = stands_at IsConstant shown m content out l w around };
               placed = around.placed;
               full = both_full IsConstant shown m content c s a.full (record { constants = tt; types = tt; bound = tt; over = tt });
@@ -199,8 +201,8 @@ module _ (IsConstant : Value → Type 0) (shown : QName → Option Desc) (m : Ty
   bound_by (Within q) outer p base b ps e f early o g k = tt
 
   -- with what is bound, and the declarations before
-  pub block_is : (l : Level) (ps : List Written_procedure) → AreProcedures IsConstant shown m content out ps → (xs : List Stmt) → all_true (map stmt_spelled xs) ≡ true → (outer : Around) → IsPlaced l outer → (start : Around) → IsOpened IsConstant shown m content l start → (d : Declared) → DeclaredIs IsConstant shown m content out l start d → AreQuiet d.around → (block_declared outer ps (map judging xs) d).notes.broken ≡ [] → I l (block_declared outer ps (map judging xs) d).contents → PartIs IsConstant shown m content out l (block_declared outer ps (map judging xs) d).contents
-  block_is l ps good xs spelled outer placed start opened d g calm n i =
+  pub block_is : (l : Level) (ps : List Written_procedure) → AreProcedures IsConstant shown m content out Also ps → (xs : List Stmt) → all_true (map stmt_spelled xs) ≡ true → (outer : Around) → IsPlaced l outer → (start : Around) → IsOpened IsConstant shown m content l start → (d : Declared) → DeclaredIs IsConstant shown m content out l start d → AreQuiet d.around → HoldsBehind Also outer d.around ps → (block_declared outer ps (map judging xs) d).notes.broken ≡ [] → I l (block_declared outer ps (map judging xs) d).contents → PartIs IsConstant shown m content out Also l (block_declared outer ps (map judging xs) d).contents
+  block_is l ps good xs spelled outer placed start opened d g calm also n i =
       let base = d.around in
       let h = hs l base g.around ps good xs spelled in
       let all = reversed h.before in
@@ -217,7 +219,7 @@ module _ (IsConstant : Value → Type 0) (shown : QName → Option Desc) (m : Ty
       let judged = procedures_judged u ps all in
       let align = aligned l base g.around ps good xs spelled in
       let unbroken : (x : Head) → IsOneOf h.before x → IsUnbroken x = λ x k. heads_unbroken IsConstant shown m content out u ps all align (first_empty judged.notes.broken _ quiet) x (one_reversed h.before x k) in
-      let calm_heads : AllByRecursion (IsQuietHead base.path) h.before = quiet_in_order base.path ps (headings_well IsConstant shown m content out ps good) (record { around = base; before = [] }) calm refl unbroken tt in
+      let calm_heads : AllByRecursion (IsQuietHead base.path) h.before = quiet_in_order base.path ps (headings_well IsConstant shown m content out Also ps good) (record { around = base; before = [] }) calm refl unbroken tt in
       let fields = (all_judged (field_judged (map_of u)) (d.part.notes.later ++ heads_later h.before)).broken in
       let notes = second_empty fields (forwards_judged (map_of h.around) all all).broken (second_empty bind.notes.broken _ (first_empty _ inner (second_empty _ (_ ++ inner) n))) in
       let answered : (f : Head) → IsOneOf h.before f → f.is_bound ≡ false → (q : Parameters) → f.parameters ≡ Some q → f.forward ≡ true → IsAnswered (map_of h.around) all f q =
@@ -243,13 +245,14 @@ module _ (IsConstant : Value → Type 0) (shown : QName → Option Desc) (m : Ty
         within = record { unit_is = s.knows.unit_is; shown_is = s.knows.shown_is; own = heads_made };
         answer = record { g = a.g; there = one_turned h.before a.g a.there; written = a.written; free = a.free; path = a.path; r = a.r; is = a.is; alike = a.alike };
       } in
-      let both : (p : PartIs IsConstant shown m content out l c) × (p.body.u.own ≡ bind.own) =
-      subst (λ (x : Around). (block_inside x ps all (map judging xs)).notes.broken ≡ [] → I l (block_inside x ps all (map judging xs)).contents → (p : PartIs IsConstant shown m content out l (block_inside x ps all (map judging xs)).contents) × (p.body.u.own ≡ bind.own)) (sym e)
-      (λ k o. (inside_is l base g.around ps good xs spelled bind.own ch.grows (ch.described s.knows.own) grown bound_made heads_bound calm_heads all_in bind.bound k o, inside_own l base g.around ps good xs spelled bind.own ch.grows (ch.described s.knows.own) grown bound_made heads_bound calm_heads all_in bind.bound k o)) quiet j in
+      let both : (p : PartIs IsConstant shown m content out Also l c) × (p.body.u.own ≡ bind.own) =
+      subst (λ (x : Around). (block_inside x ps all (map judging xs)).notes.broken ≡ [] → I l (block_inside x ps all (map judging xs)).contents → HoldsInside Also x all → (p : PartIs IsConstant shown m content out Also l (block_inside x ps all (map judging xs)).contents) × (p.body.u.own ≡ bind.own)) (sym e)
+      (λ k o y. (inside_is l base g.around ps good xs spelled bind.own ch.grows (ch.described s.knows.own) grown bound_made heads_bound calm_heads all_in bind.bound k o y, inside_own l base g.around ps good xs spelled bind.own ch.grows (ch.described s.knows.own) grown bound_made heads_bound calm_heads all_in bind.bound k o y)) quiet j also in
       let p = both.0 in
       record {
-        procedures = all_both (ProcedureIsJudged IsConstant shown m content) d.part.contents.procedures c.procedures (all_empty (ProcedureIsJudged IsConstant shown m content) d.part.contents.procedures g.procedures) p.procedures;
+        procedures = all_both (IsJudgedAlso Also IsConstant shown m content) d.part.contents.procedures c.procedures (all_empty (IsJudgedAlso Also IsConstant shown m content) d.part.contents.procedures g.procedures) p.procedures;
         body = record { u = p.body.u; xs = p.body.xs; is = ◌∙◌ {c = stmts_in (in_turn (map judging p.body.xs) p.body.u).node} (ap (λ l. l ++ c.body) g.body) p.body.is; spelled = p.body.spelled; stands = p.body.stands };
+        also = p.also;
         placed = p.placed;
         full = both_full IsConstant shown m content d.part.contents (together no_contents (together bound c)) g.full (both_full IsConstant shown m content no_contents (together bound c) (none_full IsConstant shown m content) (both_full IsConstant shown m content bound c (record { constants = tt; types = tt; bound = ch.described s.knows.own; over = tt }) p.full));
         bound = bound_changed IsConstant shown m content l start opened h.around.own bind.own ch heads_lie (bound_by l outer placed base g.around.knows.unit_is ps s.knows.unit_is s.knows.shown_is start opened (λ i. s.order (g.order i)) heads_lie) (block_declared outer ps (map judging xs) d).contents only_bound;

@@ -451,6 +451,18 @@ module _ (shown : QName → Option Desc) (unit : List ℕ) (grounded : IsGrounde
         types = subst (AllByRecursion (W [] F)) (head_types_same h.parameters) (all_one (W [] F) (types_of h.parameters) (λ t j. all t (i.made t j)));
       }
 
+      -- what stands around the procedures and statements, and around what is inside each procedure
+      pub block_starts : Start U × AllByRecursion (λ (h : Head). Start (around_body U h)) R
+      block_starts = (
+        record {
+          knows = record { unit_is = headed.0.place.knows.unit_is; shown_is = headed.0.place.knows.shown_is; own = whole_described [] b.own b.own bind.whole; known = all_grown unit shown AnyValue w.own b.own (binding_changes AnyValue level w R).grows w.known headed.0.place.knows.known };
+          sound = headed.0.place.sound;
+          whole = bind.whole;
+          within = bind.within;
+        },
+        all_of HI (λ (h : Head). Start (around_body U h)) R (λ h i. (begin h i).starts) each_head,
+      )
+
       front_own : Lies o.made w.own
       front_own t i = headed.1.1 t (subst (λ (z : Around). IsOneOf z.own t) (sym o.around) (one_left o.made v.own t i))
 

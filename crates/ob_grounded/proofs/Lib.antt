@@ -12,3 +12,4 @@ pub mod Modules
 pub mod Maps
 pub mod Sorts
 pub mod Grounded
+pub mod Bodies

@@ -162,10 +162,10 @@ module _ (shown : QName → Option Desc) (tree : Tree) (grounded : IsGrounded sh
     abbrev St : Around → Type 0
     St u = Start shown unit grounded apart out In F among named one u
 
-    start : St d.around
+    pub start : St d.around
     start = subst St (sym are.around) (record { knows = record { unit_is = refl; shown_is = refl; own = tt; known = are.entities }; sound = are.known; whole = tt; within = λ s i. absurd i })
 
-    good : AreGood shown unit grounded apart out In F among named one ds
+    pub good : AreGood shown unit grounded apart out In F among named one ds
     good = decls_good shown unit grounded apart out In F among named one tree.decls
 
   -- first, what is known at module level is made by the module

@@ -1,0 +1,65 @@
+-- The maps around the bodies of a checked module are grounded.
+use Rattle.std.proofs.Common.{◌≡◌, inl, sym, subst, ℕ, false, List, [], map, Option}
+use Rattle.std.specs.Prelude.{bytes_eq}
+use Rattle.std.specs.List.{AllByRecursion}
+use Rattle.ob_tree.specs.declared.names.QName.{QName}
+use Rattle.ob_tree.specs.declared.stmt.Stmt.{Stmt}
+use Rattle.ob_tree.specs.declared.decl.Decl.{Decl}
+use Rattle.ob_tree.specs.declared.decl.Module.{Module as Tree}
+use Rattle.ob_types.specs.declared.desc.Desc.{Desc}
+use Rattle.ob_types.specs.declared.typed.TypedType.{TypedType}
+use Rattle.ob_types.specs.declared.typed.TypedModule.{TypedModule}
+use Rattle.ob_types.specs.Relations.{IsGrounded}
+use Rattle.ob_rules.specs.Names.{Around, is_out}
+use Rattle.ob_rules.specs.Statements.{judging}
+use Rattle.ob_rules.specs.Declarations.{declaration, all_described, module_part, typed_module, target_of, deep_of, imports_declared, around_module}
+use Rattle.ob_forms.specs.Said.{IsOneOf}
+use Rattle.ob_typed.specs.Known.{ConstantIs}
+use Rattle.ob_distinct.specs.Distinct.{AreDistinct}
+use Rattle.ob_distinct.proofs.Blocks.{unbroken_is, not_out}
+use Rattle.ob_bodies.proofs.Around.{HandsOn, around_more}
+use Rattle.ob_bodies.proofs.Modules.{bodies_hold}
+use Rattle.ob_grounded.specs.Laws.{IsApart}
+use Rattle.ob_grounded.specs.Bodies.{HasGroundedMap, BodiesAreGrounded}
+use Rattle.ob_grounded.proofs.Stand.{bases_shown}
+use Rattle.ob_grounded.proofs.Blocks.{Start, block_starts}
+use Rattle.ob_grounded.proofs.Modules.{Made, made_named, decls_good, start}
+use Rattle.ob_grounded.proofs.Grounded.{one, around_grounded}
+
+module _ (shown : QName → Option Desc) (tree : Tree) (grounded : IsGrounded shown) (apart : IsApart shown tree.name.name) (out : is_out tree.name.name ≡ false) (imports : AllByRecursion (λ i. bytes_eq (target_of i).name tree.name.name ≡ false) tree.imports) (e : (module_part shown tree).notes.broken ≡ []) (distinct : AreDistinct (λ (t : TypedType). t.name) (all_described (module_part shown tree).contents.bound (module_part shown tree).contents.types)) where
+  abbrev unit : List ℕ
+  unit = tree.name.name
+
+  abbrev F : List TypedType
+  F = (module_part shown tree).contents.types
+
+  abbrev In : TypedType → Type 0
+  In s = Made shown tree grounded apart out imports e (one shown tree grounded apart out imports e distinct) s
+
+  -- what is known there is made by the module, and whole
+  abbrev pub Begins : Around → Type 0
+  Begins u = Start shown unit grounded apart out In F (λ s i. inl i) (made_named shown tree grounded apart out imports e (one shown tree grounded apart out imports e distinct)) (one shown tree grounded apart out imports e distinct) u
+
+  pub begins : Begins (imports_declared tree.imports (around_module shown unit (map declaration tree.decls))).around
+  begins = start shown tree grounded apart out imports e (one shown tree grounded apart out imports e distinct) In (λ s i. inl i) (made_named shown tree grounded apart out imports e (one shown tree grounded apart out imports e distinct))
+
+  pub hands : (ds : List Decl) (xs : List Stmt) → HandsOn Begins (module_part shown tree).contents (map declaration ds) (map judging xs)
+  hands ds xs u a n l b =
+      let among : (s : TypedType) → IsOneOf F s → In s = λ s i. inl i in
+      let named = made_named shown tree grounded apart out imports e (one shown tree grounded apart out imports e distinct) in
+      let all = one shown tree grounded apart out imports e distinct in
+      block_starts shown unit grounded apart out In F among named all (map declaration ds) (decls_good shown unit grounded apart out In F among named all ds) (map judging xs) u a n l b
+
+  pub grounds : deep_of shown tree.name (map declaration tree.decls) (module_part shown tree) ≡ false → (u : Around) → Begins u → HasGroundedMap u
+  grounds deep u h = around_grounded shown tree grounded apart out imports e distinct deep u h.knows.unit_is h.knows.shown_is h.whole h.within
+
+pub bodies_are_grounded : BodiesAreGrounded
+bodies_are_grounded shown tree m c spelled plain constants =
+    let p = module_part shown tree in
+    let k = unbroken_is p.notes.broken (typed_module shown tree.name tree.imports (map declaration tree.decls) p) m c.is in
+    let out : is_out tree.name.name ≡ false = subst (λ (x : TypedModule). is_out x.name ≡ false) (sym k.1) (not_out shown tree m c.is) in
+    let names = subst (λ (x : TypedModule). AreDistinct (λ (t : TypedType). t.name) x.types) (sym k.1) c.names in
+    let r =
+    bodies_hold ConstantIs (λ b. tt) shown tree (Begins shown tree c.grounded c.apart out c.imports k.0 names) (hands shown tree c.grounded c.apart out c.imports k.0 names) (begins shown tree c.grounded c.apart out c.imports k.0 names) m c.is (λ out x e u h. (constants u h x e).node) spelled
+    (bases_shown shown tree.name.name c.grounded c.apart) plain c.imports in
+    record { judged = r.0; grounded = around_more (Begins shown tree c.grounded c.apart out c.imports k.0 names) HasGroundedMap (grounds shown tree c.grounded c.apart out c.imports k.0 names c.shallow) ConstantIs shown m r.0 r.1 }
