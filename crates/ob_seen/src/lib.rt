@@ -1,0 +1,2 @@
+//! What statements name of records is there.
+#![tactic(auto)]
