@@ -1,2 +1,10 @@
 //! What statements name of records is there.
 #![tactic(auto)]
+
+ghost use Rattle.ob_seen.specs.Laws.{StatementsAreSeen};
+
+/// A law, with nothing to run: the fields and the bound procedures that statements name are members of
+/// their records in each map that keeps the members of the map that the statements are judged by.
+pub fn statements_are_seen()
+    ensures { StatementsAreSeen }
+{}
