@@ -22,7 +22,7 @@ use Rattle.ob_types.specs.declared.typed.TypedExpr.{TypedExpr}
 use Rattle.ob_types.specs.declared.typed.TypedExpr.TheVariants as e
 use Rattle.ob_types.specs.TypedKinds.{result_type}
 use Rattle.ob_types.specs.TypedSyntax.{Desig, Deref, Expr, ValueOf, Call, CallVariable}
-use Rattle.ob_types.specs.TypedView.{OneActual, designator_layer, expr_layer, actual_layer, designator_view, expr_view, actual_view, actuals_view}
+use Rattle.ob_types.specs.TypedView.{OneActual, designator_layer, expr_layer, actual_layer, designator_view, actual_view, actuals_view}
 use Rattle.ob_types.proofs.TypedViews.{view_value_of, view_deref, view_call, view_call_variable}
 use Rattle.ob_rules.specs.declared.values.Place.{Place}
 use Rattle.ob_rules.specs.declared.values.Valued.{Valued}

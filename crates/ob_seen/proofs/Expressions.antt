@@ -1,5 +1,5 @@
 -- Expressions of the grammar name members that are there, by induction over their trees.
-use Rattle.std.proofs.Common.{◌≡◌, Bool, true, false, List, [], ◌∷◌, map, Option, Some, None, sym, subst}
+use Rattle.std.proofs.Common.{Bool, true, false, List, [], ◌∷◌, map, Option, Some, None, sym, subst}
 use Rattle.std.specs.Prelude.{not}
 use Rattle.std.specs.List.{AllByRecursion}
 use Rattle.ob_tree.specs.declared.pos.Pos.{Pos}
@@ -29,7 +29,7 @@ use Rattle.ob_rules.specs.declared.meant.Meant.{Meant}
 use Rattle.ob_rules.specs.declared.meant.Meant.TheVariants as means
 use Rattle.ob_rules.specs.declared.meant.Where.{Where}
 use Rattle.ob_rules.specs.declared.meant.Where.TheVariants.{InExpression}
-use Rattle.ob_rules.specs.Judged.{Judged, sound, made, breaks, both, each_sound, ◌▷◌}
+use Rattle.ob_rules.specs.Judged.{Judged, breaks, both, each_sound, ◌▷◌}
 use Rattle.ob_rules.specs.Shapes.{Map, pointed_record}
 use Rattle.ob_rules.specs.Names.{Around, map_of, type_named}
 use Rattle.ob_rules.specs.Values.{computed, type_in, tree, type, place_in}

@@ -1,5 +1,5 @@
 -- Calls of predeclared procedures name members that are there where their parameters do.
-use Rattle.std.proofs.Common.{Bool, true, false, List, [], ◌∷◌, ℕ, zero, suc, Option, Some, None}
+use Rattle.std.proofs.Common.{Bool, true, false, List, [], ◌∷◌, ℕ, Option, Some, None}
 use Rattle.std.specs.Prelude.{ℤ, pos, negsuc, nat_eq, is_some, ◌&&◌}
 use Rattle.std.specs.List.{AllByRecursion}
 use Rattle.ob_tree.specs.declared.pos.Pos.{Pos}

@@ -8,3 +8,6 @@ pub mod Statements
 pub mod Bodies
 pub mod Whole
 pub mod Members
+pub mod Views
+pub mod Modules
+pub mod Builds

@@ -10,7 +10,11 @@ use Rattle.ob_layout.specs.Members.{method_number_in}
 use Rattle.ob_rules.specs.Shapes.{Map, AField, AMethod, member}
 use Rattle.ob_rules.specs.Names.{Around, map_of}
 use Rattle.ob_rules.specs.Statements.{judging, in_turn}
-use Rattle.ob_seen.specs.Seen.{FieldSeen, StmtsSeen}
+use Rattle.ob_layout.specs.LaidOut.{viewed}
+use Rattle.ob_env.specs.Faces.{described}
+use Rattle.ob_compiling.specs.Compiling.{Compiled}
+use Rattle.ob_ages.specs.Builds.{Text, Build, IsValid}
+use Rattle.ob_seen.specs.Seen.{FieldSeen, StmtsSeen, ModuleSeen}
 
 -- A map keeps the members of another one: each field and each bound procedure that is found there for a record has its place or its number here,
 -- in the record that declares it.
@@ -21,3 +25,8 @@ pub record KeepsMembers (map other : Map) : Type 0 where
 -- Statements that keep the rules name members that are there, in each map that keeps the members of the one that they are judged by.
 abbrev pub StatementsAreSeen : Type 0
 StatementsAreSeen = (map : Map) (u : Around) → KeepsMembers map (map_of u) → (xs : List Stmt) (ys : List TypedStmt) → (in_turn (each judging xs) u).node ≡ Some ys → StmtsSeen map (stmts_view ys)
+
+-- SO DO VALID BUILDS: what their bodies name of members, and what their bound procedures are bound to, is there in the view of the module from
+-- its interfaces.
+abbrev pub ModulesSee : Type 0
+ModulesSee = (b : Build) (c : Compiled Text) → IsValid b c → ModuleSeen (viewed (described c.against) c.tree) c.tree
