@@ -14,7 +14,8 @@ use Rattle.ob_rules.specs.Shapes.{Map}
 use Rattle.ob_seen.proofs.Setting.{IfThere}
 use Rattle.ob_seen.proofs.Calls.{PhraseOk}
 use Rattle.ob_seen.proofs.Expressions.{expr_ok, designator_named}
-use Rattle.ob_seen.proofs.Statements.{LabelledOk, JudgingOk, AreJudging, ConditionalOk, assignment_keeps, call_keeps, if_keeps, while_keeps, repeat_keeps, loop_keeps, case_keeps, for_keeps, exit_keeps, return_keeps, with_keeps}
+use Rattle.ob_seen.proofs.Statements.{JudgingOk, AreJudging, ConditionalOk, assignment_keeps, call_keeps, if_keeps, while_keeps, repeat_keeps, loop_keeps, exit_keeps, return_keeps}
+use Rattle.ob_seen.proofs.Branching.{LabelledOk, case_keeps, for_keeps, with_keeps}
 
 module _ (k : Map) where
   abbrev PS : Stmt → Type 0

@@ -5,6 +5,7 @@ pub mod Functions
 pub mod Designators
 pub mod Expressions
 pub mod Statements
+pub mod Branching
 pub mod Bodies
 pub mod Whole
 pub mod Members
