@@ -1,3 +1,4 @@
 pub mod Formed
 pub mod Said
 pub mod Whole
+pub mod Steady
