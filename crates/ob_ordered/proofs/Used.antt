@@ -274,6 +274,27 @@ module _ (c : Compiled Text) (ruled : IsRuled c) (found : AllByRecursion (λ t. 
       let one = starts_front Near (counts_of_procedure (types_of c) p) (flat_map (counts_of_procedure (types_of c)) ps) h in
       (parameters_count p.parameters (starts_front Near a b (starts_front Near (a ++ b) k (starts_front Near (a ++ b ++ k) l (starts_front Near (a ++ b ++ k ++ l) (counts_of_all p.body) one)))), procedures_count ps (starts_back Near (counts_of_procedure (types_of c) p) (flat_map (counts_of_procedure (types_of c)) ps) h))
 
+  -- and those of their results
+  shapes_count : (ts : List TypeRef) → AllByRecursion (On Near) (shape_starts (shapes ts)) → AllByRecursion (On Near) ts
+  shapes_count [] h = tt
+  shapes_count (t ∷ ts) h = (h.0, shapes_count ts h.1)
+
+  results_count : (ps : List Procedure) → AllByRecursion (On Near) (shape_starts (flat_map (counts_of_procedure (types_of c)) ps)) → AllByRecursion (λ p. AllByRecursion (On Near) (listed p.result)) ps
+  results_count [] h = tt
+  results_count (p ∷ ps) h =
+      let a = flat_map counts_of_parameter p.parameters in
+      let b = shapes (listed p.result) in
+      let k = flat_map counts_of_variable p.locals in
+      let l = counts_of_binding (types_of c) p.binding in
+      let one = starts_front Near (counts_of_procedure (types_of c) p) (flat_map (counts_of_procedure (types_of c)) ps) h in
+      (shapes_count (listed p.result) (starts_back Near a b (starts_front Near (a ++ b) k (starts_front Near (a ++ b ++ k) l (starts_front Near (a ++ b ++ k ++ l) (counts_of_all p.body) one)))), results_count ps (starts_back Near (counts_of_procedure (types_of c) p) (flat_map (counts_of_procedure (types_of c)) ps) h))
+
+  abbrev procedures_counted : AllByRecursion (On Near) (shape_starts (flat_map (counts_of_procedure (types_of c)) c.tree.procedures))
+  procedures_counted = starts_back Near (c1 ++ c2 ++ c3) c4 (starts_front Near (c1 ++ c2 ++ c3 ++ c4) (counts_of_all c.tree.body) (all_on Near (shape_starts (counts_of_module (types_of c) c.tree)) (λ q i. first i)))
+
+  pub results_near : AllByRecursion (λ p. AllByRecursion (On Near) (listed p.result)) c.tree.procedures
+  results_near = results_count c.tree.procedures procedures_counted
+
   pub parameters_near : AllByRecursion (λ p. AllByRecursion (λ x. On Near x.of) p.parameters) c.tree.procedures
   parameters_near = procedures_count c.tree.procedures (starts_back Near (c1 ++ c2 ++ c3) c4 (starts_front Near (c1 ++ c2 ++ c3 ++ c4) (counts_of_all c.tree.body) (all_on Near (shape_starts (counts_of_module (types_of c) c.tree)) (λ q i. first i))))
 

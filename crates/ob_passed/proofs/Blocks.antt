@@ -10,7 +10,6 @@ use Rattle.ob_tree.specs.declared.decl.Decl.TheOpen.{Decl-F}
 use Rattle.ob_tree.specs.declared.decl.Decl.TheFolds.{ind-Decl, fold-roll-Decl}
 use Rattle.ob_types.specs.declared.types.Mode.{Mode}
 use Rattle.ob_types.specs.declared.types.TypeRef.{TypeRef}
-use Rattle.ob_types.specs.declared.types.TypeRef.TheVariants as ref
 use Rattle.ob_types.specs.declared.desc.Desc.{Desc}
 use Rattle.ob_types.specs.declared.desc.Desc.TheVariants as desc
 use Rattle.ob_types.specs.declared.desc.Method.{Method}
@@ -20,7 +19,7 @@ use Rattle.ob_types.specs.declared.typed.TypedProcedure.{TypedProcedure}
 use Rattle.ob_types.specs.declared.typed.TypedModule.{TypedModule}
 use Rattle.ob_types.specs.Maps.{listed}
 use Rattle.ob_rules.specs.declared.entity.Known.{Known}
-use Rattle.ob_rules.specs.Shapes.{Map, passing_of}
+use Rattle.ob_rules.specs.Shapes.{Map, is_structured, passing_of}
 use Rattle.ob_rules.specs.Names.{Around, map_of, is_out}
 use Rattle.ob_rules.specs.Expressions.{phrase_of}
 use Rattle.ob_rules.specs.Types.{Parameters, WrittenSection, written_parameters, is_module_level}
@@ -28,7 +27,6 @@ use Rattle.ob_rules.specs.Statements.{Judging, judging}
 use Rattle.ob_rules.specs.Headings.{Head, Heads, BoundAs, self_by, self_parameter, reversed}
 use Rattle.ob_rules.specs.Declarations.{Contents, Part, Written_procedure, Declaration, Plain, Procedure, plain_of, procedure_of, type_name_of, in_order, headings_in_order, heads_later, pointers_judged, closing_judged, around_body, self_parameters, typed_procedure, types_of_head, procedure_judged, procedures_judged, with_bound, binding_at, block, decl_rule, declaration}
 use Rattle.ob_forms.specs.Said.{IsOneOf}
-use Rattle.ob_forms.specs.Formed.{IsDeclared}
 use Rattle.ob_relation.proofs.Names.{and_both}
 use Rattle.ob_described.proofs.Nodes.{IfThere}
 use Rattle.ob_typed.specs.Spelled.{all_true}
@@ -49,7 +47,7 @@ use Rattle.ob_ruled.specs.Variables.{AliasStands}
 use Rattle.ob_ruled.proofs.Shut.{AreGoodSections as AreShutSections}
 use Rattle.ob_ruled.proofs.Written.{written_parameters_good as parameters_shut}
 use Rattle.ob_ruled.proofs.Plain.{Any, Fine, IsPlain, constants, alias_grown, constant_plain, type_plain, variables_plain, order_plain, later_fine}
-use Rattle.ob_passed.proofs.Sections.{S, Fair, GoodSections, node_good, Passed}
+use Rattle.ob_passed.proofs.Sections.{S, Fair, GoodSections, node_good, Passed, Given}
 use Rattle.ob_passed.proofs.Heads.{HeadIn, GoodHeadings, heads_fair}
 
 -- a module of that name
@@ -88,16 +86,18 @@ module _ (unit : List ℕ) (shown : QName → Option Desc) (out : is_out unit �
     pub mode : Mode
     pub is : x.passing ≡ passing_of (map_of w) mode x.of
 
+  pub record GivenIn (t : TypeRef) : Type 0 where
+    pub w : Around
+    pub fine : G w
+    pub stands : S unit shown out w.own t
+    pub plain : is_structured (map_of w) t ≡ false
+
   pub record ProcedureIn (p : TypedProcedure) : Type 0 where
     pub parameters : AllByRecursion PassedIn p.parameters
-    pub result : AllByRecursion IsDeclared (listed p.result)
+    pub result : AllByRecursion GivenIn (listed p.result)
 
   abbrev pub AreIn : List TypedProcedure → Type 0
   AreIn ps = AllByRecursion ProcedureIn ps
-
-  declared : (own : List TypedType) (t : TypeRef) → S unit shown out own t → IsDeclared t
-  declared own (ref.Basic b) h = tt
-  declared own (ref.Named q) h = h.0
 
   -- ---- one procedure
 
@@ -110,11 +110,14 @@ module _ (unit : List ℕ) (shown : QName → Option Desc) (out : is_out unit �
     self_in h (Some x) None k = tt
     self_in h None b k = tt
 
-    result_in : (o : Option TypeRef) → IfThere (S unit shown out own) o → AllByRecursion IsDeclared (listed o)
-    result_in None h = tt
-    result_in (Some t) h = (declared own t h, tt)
+    given_in : (t : TypeRef) → Given unit shown out own t → GivenIn t
+    given_in t h = record { w = h.w; fine = record { knows = h.fair.knows; aliases = h.fair.aliases; lies = λ s i. within s (h.within s i) }; stands = h.stands; plain = h.plain }
 
-    typed_in : (types : Map) (h : Head) → HeadIn unit shown out own h → (o : Option Parameters) → IfThere (λ (p : Parameters). AllByRecursion (Passed unit shown out own) p.parameters × IfThere (S unit shown out own) p.signature.result) o → (c : Contents) → AreIn (typed_procedure types h o c)
+    result_in : (o : Option TypeRef) → IfThere (Given unit shown out own) o → AllByRecursion GivenIn (listed o)
+    result_in None h = tt
+    result_in (Some t) h = (given_in t h, tt)
+
+    typed_in : (types : Map) (h : Head) → HeadIn unit shown out own h → (o : Option Parameters) → IfThere (λ (p : Parameters). AllByRecursion (Passed unit shown out own) p.parameters × IfThere (Given unit shown out own) p.signature.result) o → (c : Contents) → AreIn (typed_procedure types h o c)
     typed_in types h g None k c = tt
     typed_in types h g (Some p) k c = (
       record {

@@ -3,10 +3,12 @@ use Rattle.std.proofs.Common.{◌≡◌, refl, sym, ap, ◌∙◌, subst, true, 
 use Rattle.std.specs.List.{AllByRecursion}
 use Rattle.ob_tree.specs.declared.names.QName.{QName}
 use Rattle.ob_tree.specs.declared.decl.Module.{Module as Tree}
+use Rattle.ob_types.specs.declared.types.TypeRef.{TypeRef}
 use Rattle.ob_types.specs.declared.desc.Desc.{Desc}
 use Rattle.ob_types.specs.declared.typed.TypedType.{TypedType}
 use Rattle.ob_types.specs.declared.typed.TypedParameter.{TypedParameter}
 use Rattle.ob_types.specs.declared.typed.TypedModule.{TypedModule}
+use Rattle.ob_types.specs.Maps.{listed}
 use Rattle.ob_rules.specs.Names.{Around, is_out}
 use Rattle.ob_rules.specs.Statements.{judging}
 use Rattle.ob_rules.specs.Declarations.{Part, Declared, declaration, imports_declared, import_declared, target_of, around_module, name_judged, block}
@@ -23,8 +25,8 @@ use Rattle.ob_bound.proofs.Blocks.{order_good as order_bound, imports_good as im
 use Rattle.ob_ruled.proofs.Plain.{DeclaredFine, order_plain, imports_plain, start_fine}
 use Rattle.ob_ruled.proofs.Modules as ruled
 use Rattle.ob_ruled.specs.Variables.{IsSameType}
-use Rattle.ob_passed.specs.Passed.{IsPassedWell, HeadIsWell, ParametersArePassed}
-use Rattle.ob_passed.proofs.Blocks.{Among, raw, PassedIn, ProcedureIn, AreIn, block_in, decls_good}
+use Rattle.ob_passed.specs.Passed.{IsPassedWell, IsGivenWell, HeadIsWell, ParametersArePassed}
+use Rattle.ob_passed.proofs.Blocks.{Among, raw, PassedIn, GivenIn, ProcedureIn, AreIn, block_in, decls_good}
 
 module _ (shown : QName → Option Desc) (tree : Tree) (out : is_out (ruled.module_is shown tree).name ≡ false) (quiet : (ruled.parts shown tree).notes.broken ≡ []) (spelled : all_true (map decl_spelled tree.decls) ≡ true) (others : AreOthers tree.name.name tree.imports) (differ : AreDistinct (λ (t : TypedType). t.name) (ruled.module_is shown tree).types) where
   abbrev whole : Part
@@ -75,8 +77,19 @@ module _ (shown : QName → Option Desc) (tree : Tree) (out : is_out (ruled.modu
     passing = h.is;
   }
 
+  given_well : (t : TypeRef) → GivenIn tree.name.name shown out all t → IsGivenWell tree.name.name shown made.types t
+  given_well t h = record {
+    w = h.w;
+    unit_is = h.fine.knows.unit_is;
+    shown_is = h.fine.knows.shown_is;
+    aliases = h.fine.aliases;
+    told = λ s i. same_type s (h.fine.lies s i);
+    stands = h.stands;
+    plain = h.plain;
+  }
+
   heads_well : AllByRecursion (HeadIsWell tree.name.name shown made.types) made.procedures
-  heads_well = all_of (ProcedureIn tree.name.name shown out all) (HeadIsWell tree.name.name shown made.types) made.procedures (λ p h. record { parameters = all_of (PassedIn tree.name.name shown out all) (IsPassedWell tree.name.name shown made.types) p.parameters passed_well h.parameters; result = h.result }) procedures_in
+  heads_well = all_of (ProcedureIn tree.name.name shown out all) (HeadIsWell tree.name.name shown made.types) made.procedures (λ p h. record { parameters = all_of (PassedIn tree.name.name shown out all) (IsPassedWell tree.name.name shown made.types) p.parameters passed_well h.parameters; result = all_of (GivenIn tree.name.name shown out all) (IsGivenWell tree.name.name shown made.types) (listed p.result) given_well h.result }) procedures_in
 
 pub parameters_passed : ParametersArePassed
 parameters_passed shown tree m e spelled others differ =

@@ -1,21 +1,21 @@
 -- How the parameters of a checked module are passed.
-use Rattle.std.specs.Prelude.{◌≡◌, ℕ, true, List, Option, Some}
+use Rattle.std.specs.Prelude.{◌≡◌, ℕ, true, false, List, Option, Some}
 use Rattle.std.specs.List.{AllByRecursion}
 use Rattle.ob_tree.specs.declared.names.QName.{QName}
 use Rattle.ob_tree.specs.declared.decl.Module.{Module as Tree}
 use Rattle.ob_types.specs.declared.types.Mode.{Mode}
+use Rattle.ob_types.specs.declared.types.TypeRef.{TypeRef}
 use Rattle.ob_types.specs.declared.desc.Desc.{Desc}
 use Rattle.ob_types.specs.declared.typed.TypedType.{TypedType}
 use Rattle.ob_types.specs.declared.typed.TypedParameter.{TypedParameter}
 use Rattle.ob_types.specs.declared.typed.TypedProcedure.{TypedProcedure}
 use Rattle.ob_types.specs.declared.typed.TypedModule.{TypedModule}
 use Rattle.ob_types.specs.Maps.{listed}
-use Rattle.ob_rules.specs.Shapes.{passing_of}
+use Rattle.ob_rules.specs.Shapes.{is_structured, passing_of}
 use Rattle.ob_rules.specs.Names.{Around, map_of}
 use Rattle.ob_rules.specs.Declarations.{checked}
 use Rattle.ob_distinct.specs.Distinct.{AreDistinct}
 use Rattle.ob_forms.specs.Said.{IsOneOf}
-use Rattle.ob_forms.specs.Formed.{IsDeclared}
 use Rattle.ob_bodies.specs.Spelled.{tree_spelled}
 use Rattle.ob_bodies.specs.Knows.{Stands}
 use Rattle.ob_bodies.specs.Laws.{AreOthers}
@@ -33,9 +33,19 @@ pub record IsPassedWell (unit : List ℕ) (shown : QName → Option Desc) (types
   pub mode : Mode
   pub passing : x.passing ≡ passing_of (map_of w) mode x.of
 
+-- Where the result is named its type stands, and by what is known there it is no array and no record.
+pub record IsGivenWell (unit : List ℕ) (shown : QName → Option Desc) (types : List TypedType) (t : TypeRef) : Type 0 where
+  pub w : Around
+  pub unit_is : w.unit ≡ unit
+  pub shown_is : w.shown ≡ shown
+  pub aliases : AllByRecursion (λ s. AliasStands unit shown w.own s.desc) w.own
+  pub told : (t : TypedType) → IsOneOf w.own t → IsSameType types t
+  pub stands : Stands unit shown w.own t
+  pub plain : is_structured (map_of w) t ≡ false
+
 pub record HeadIsWell (unit : List ℕ) (shown : QName → Option Desc) (types : List TypedType) (p : TypedProcedure) : Type 0 where
   pub parameters : AllByRecursion (IsPassedWell unit shown types) p.parameters
-  pub result : AllByRecursion IsDeclared (listed p.result)
+  pub result : AllByRecursion (IsGivenWell unit shown types) (listed p.result)
 
 -- THE LAW: so are the parameters of each procedure of a checked module that imports others alone, and whose types differ in name.
 abbrev pub ParametersArePassed : Type 0

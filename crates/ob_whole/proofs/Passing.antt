@@ -12,7 +12,7 @@ use Rattle.ob_types.specs.declared.typed.TypedType.{TypedType}
 use Rattle.ob_types.specs.declared.typed.TypedParameter.{TypedParameter}
 use Rattle.ob_types.specs.declared.typed.TypedProcedure.{TypedProcedure}
 use Rattle.ob_types.specs.declared.typed.TypedModule.{TypedModule}
-use Rattle.ob_types.specs.Maps.{is_type, stands_on, named_by, IsHeld, IsWithin}
+use Rattle.ob_types.specs.Maps.{is_type, listed, stands_on, named_by, IsHeld, IsWithin}
 use Rattle.ob_types.specs.TypedSyntax.{Procedure, Module}
 use Rattle.ob_types.specs.TypedView.{procedure_view, module_view}
 use Rattle.ob_meaning.specs.Values.{Program, description}
@@ -44,7 +44,7 @@ use Rattle.ob_ruled.proofs.Closed as standing
 use Rattle.ob_declares.proofs.Ordered.{program_sound}
 use Rattle.ob_ordered.proofs.Closed as closed
 use Rattle.ob_ordered.proofs.Loaded.{Before, none, map_last, valid_of, before_more, more_all, uses, in_order}
-use Rattle.ob_passed.specs.Passed.{IsPassedWell, HeadIsWell}
+use Rattle.ob_passed.specs.Passed.{IsPassedWell, IsGivenWell, HeadIsWell}
 use Rattle.ob_passed.proofs.Modules.{parameters_passed}
 use Rattle.ob_whole.specs.Whole.{LoadedPassed}
 use Rattle.ob_whole.proofs.Alike.{SaidBy, passed_alike}
@@ -71,6 +71,10 @@ within_next types q k t e n h = (subst (λ o. MatchOption o ⊥ (λ d. IsTrue (i
 declared : (unit : List ℕ) (shown : QName → Option Desc) (own : List TypedType) (t : TypeRef) → Stands unit shown own t → IsDeclared t
 declared unit shown own (ref.Basic b) h = tt
 declared unit shown own (ref.Named q) h = h.0
+
+all_declared : (unit : List ℕ) (shown : QName → Option Desc) (types : List TypedType) (ts : List TypeRef) → AllByRecursion (IsGivenWell unit shown types) ts → AllByRecursion IsDeclared ts
+all_declared unit shown types [] g = tt
+all_declared unit shown types (t ∷ ts) g = (declared unit shown g.0.w.own t g.0.stands, all_declared unit shown types ts g.1)
 
 module _ (written : BuildsAreWritten) (ruled : BuildsAreRuled) where
   module _ (before rest : List Build) (b : Build) (k : Before before) (h : IsBehind before b) (together : AreTogether (before ++ b ∷ []) rest) (program : Program) (is : program_of ((before ++ b ∷ []) ++ rest) ≡ program) (ends : ChainsEnd program) where
@@ -138,7 +142,7 @@ module _ (written : BuildsAreWritten) (ruled : BuildsAreRuled) where
 
       headings_ok : (ps : List TypedProcedure) → AllByRecursion (HeadIsWell m.name (shown (of b).against) m.types) ps → AllByRecursion (λ (p : Procedure). AllByRecursion (λ x. IsHeld V x.of → declares.IsNear (tree_of b) (uses written ruled before b k h).near x.of) p.parameters) (each procedure_view ps) → AllByRecursion (HeadingOk program) (each procedure_view ps)
       headings_ok [] g near = tt
-      headings_ok (p ∷ ps) g near = ((all_passed p.parameters g.0.parameters near.0, g.0.result), headings_ok ps g.1 near.1)
+      headings_ok (p ∷ ps) g near = ((all_passed p.parameters g.0.parameters near.0, all_declared m.name (shown (of b).against) m.types (listed p.result) g.0.result), headings_ok ps g.1 near.1)
 
     -- the headings of one build
     one_passed : AllByRecursion (HeadingOk program) (tree_of b).procedures
