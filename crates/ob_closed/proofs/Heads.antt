@@ -1,5 +1,5 @@
 -- In the descriptions that a module was compiled with, what its procedures take and give are types, and results are neither records nor arrays.
-use Rattle.std.proofs.Common.{◌≡◌, refl, sym, ap, ◌∙◌, subst, ℕ, zero, suc, Bool, true, false, List, [], ◌∷◌, ◌++◌, map as each, Option, Some, None}
+use Rattle.std.proofs.Common.{◌≡◌, refl, sym, ap, ◌∙◌, subst, ℕ, zero, suc, true, false, List, [], ◌∷◌, map as each, Option, Some, None}
 use Rattle.std.specs.Prelude.{◌||◌, bytes_eq, is_some, MatchOption, IfSome, IsTrue}
 use Rattle.std.specs.List.{AllByRecursion}
 use Rattle.std.proofs.lemmas.Bool.{false≢true}
@@ -14,7 +14,7 @@ use Rattle.ob_types.specs.declared.typed.TypedParameter.{TypedParameter}
 use Rattle.ob_types.specs.declared.typed.TypedProcedure.{TypedProcedure}
 use Rattle.ob_types.specs.declared.typed.TypedModule.{TypedModule}
 use Rattle.ob_types.specs.Maps.{is_type, listed, stands_on, IsHeld, IsWithin}
-use Rattle.ob_types.specs.Relations.{StandsFor, itself, equated, Is, is_alias, is_structure, IsGrounded}
+use Rattle.ob_types.specs.Relations.{StandsFor, itself, equated, Is, is_structure, IsGrounded}
 use Rattle.ob_types.specs.Tests.{target_of, follow, target, shape_at}
 use Rattle.ob_types.specs.TypedSyntax.{Module}
 use Rattle.ob_types.specs.TypedView.{procedure_view, module_view}
@@ -33,7 +33,7 @@ use Rattle.ob_local.specs.Laws.{HaveNoOut}
 use Rattle.ob_forms.specs.Said.{IsOneOf}
 use Rattle.ob_bodies.specs.Knows.{Stands}
 use Rattle.ob_declares.proofs.Keeping.{structure_kind}
-use Rattle.ob_ages.specs.Builds.{Text, Build, IsValid}
+use Rattle.ob_ages.specs.Builds.{Text}
 use Rattle.ob_locality.proofs.Compiled.{ComesOf, comes_of, checked_name, apart_of}
 use Rattle.ob_sized.proofs.Different.{build_comes}
 use Rattle.ob_sized.proofs.Grounded.{against_is_grounded}

@@ -1,6 +1,6 @@
 -- Each type that an object names which builds show is one that they show too.
-use Rattle.std.proofs.Common.{◌≡◌, ⊎_elim, inl, inr, ℕ, Bool, true, false, List, [], ◌∷◌, ◌++◌, map as each, Option, Some, None, refl, sym, ap, subst, ◌∙◌}
-use Rattle.std.specs.Prelude.{◌||◌, bytes_eq, cond, Contains, MatchOption, IsTrue}
+use Rattle.std.proofs.Common.{◌≡◌, ⊎_elim, inl, ℕ, Bool, true, false, List, [], ◌∷◌, ◌++◌, map as each, Option, Some, None, refl, sym, ap, subst, ◌∙◌}
+use Rattle.std.specs.Prelude.{◌||◌, cond, MatchOption, IsTrue}
 use Rattle.std.specs.List.{AllByRecursion}
 use Rattle.ob_tree.specs.declared.names.QName.{QName}
 use Rattle.ob_types.specs.declared.types.TypeRef.{TypeRef}
@@ -10,7 +10,7 @@ use Rattle.ob_types.specs.declared.desc.Desc.TheVariants as desc
 use Rattle.ob_types.specs.declared.typed.TypedType.{TypedType}
 use Rattle.ob_types.specs.declared.typed.TypedVariable.{TypedVariable}
 use Rattle.ob_types.specs.Maps.{is_type, listed, signature_types, named_by, IsHeld}
-use Rattle.ob_types.specs.TypedSyntax.{Procedure, Module}
+use Rattle.ob_types.specs.TypedSyntax.{Procedure}
 use Rattle.ob_relation.proofs.Names.{bytes_same, bytes_true}
 use Rattle.ob_desc.specs.Grammar.{is_shown, seen}
 use Rattle.ob_layout.specs.LaidOut.{type_named, is_own}
@@ -26,11 +26,11 @@ use Rattle.ob_declares.specs.Near.{core}
 use Rattle.ob_declares.specs.Near as declares
 use Rattle.ob_declares.proofs.Keeping.{core_bare}
 use Rattle.ob_declares.proofs.Views.{type_found}
-use Rattle.ob_ages.specs.Builds.{Build, of, shows_of, tree_of, name_of}
+use Rattle.ob_ages.specs.Builds.{Build, of, shows_of, tree_of}
 use Rattle.ob_ages.specs.Laws.{IsBehind, BuildsAreWritten}
 use Rattle.ob_ruled.specs.Ruled.{types_of, IsRuled, BuildsAreRuled}
 use Rattle.ob_ordered.proofs.Shown.{Showing, found_type}
-use Rattle.ob_ordered.proofs.Loaded.{Before, Uses, valid_of, before_more, uses}
+use Rattle.ob_ordered.proofs.Loaded.{Before, valid_of, before_more, uses}
 use Rattle.ob_pointed.proofs.Found.{one_behind, shown_either}
 use Rattle.ob_closed.specs.Closed.{IsHeadRuled, HeadsAreRuled}
 use Rattle.ob_closed.proofs.Lists.{all_by}
@@ -66,14 +66,8 @@ held_more bs b (ref.Basic x) h = tt
 held_more bs b (ref.Named p) h = more_shown IsTypeIn type_none bs b p h
 
 module _ (written : BuildsAreWritten) (ruled : BuildsAreRuled) (heads : HeadsAreRuled) (before : List Build) (b : Build) (k : Before before) (h : IsBehind before b) where
-  abbrev m : Module
-  m = tree_of b
-
   abbrev V : QName → Option Desc
   V = types_of (of b)
-
-  abbrev w : Uses before b
-  w = uses written ruled before b k h
 
   abbrev Near : TypeRef → Type 0
   Near t = declares.IsNear (tree_of b) (uses written ruled before b k h).near t

@@ -3,25 +3,21 @@ use Rattle.std.proofs.Common.{◌≡◌, ◌⊎◌, inl, inr, ℕ, Bool, true, f
 use Rattle.std.specs.Prelude.{bytes_eq, cond, MatchOption, IfSome, IsTrue}
 use Rattle.std.specs.List.{AllByRecursion}
 use Rattle.ob_tree.specs.declared.names.QName.{QName}
-use Rattle.ob_tree.specs.declared.ident.Mark.{Mark}
 use Rattle.ob_types.specs.declared.types.TypeRef.{TypeRef}
 use Rattle.ob_types.specs.declared.types.TypeRef.TheVariants as ref
 use Rattle.ob_types.specs.declared.desc.Desc.{Desc}
 use Rattle.ob_types.specs.declared.desc.Desc.TheVariants as desc
-use Rattle.ob_types.specs.declared.typed.TypedType.{TypedType}
-use Rattle.ob_types.specs.declared.typed.TypedVariable.{TypedVariable}
-use Rattle.ob_types.specs.Maps.{is_type, listed, signature_types, named_by, IsHeld}
+use Rattle.ob_types.specs.Maps.{is_type, listed, named_by, IsHeld}
 use Rattle.ob_types.specs.Relations.{StandsFor, itself, equated, Is, is_alias, is_open, is_structure, IsPlainResult, Keeps}
-use Rattle.ob_types.specs.TypedSyntax.{Procedure, Module}
+use Rattle.ob_types.specs.TypedSyntax.{Procedure}
 use Rattle.ob_meaning.specs.Values.{Program, description}
 use Rattle.ob_format.specs.Format.{◌>>=◌}
 use Rattle.ob_desc.specs.Grammar.{is_shown, seen}
 use Rattle.ob_env.specs.Faces.{Face, described, face_named, object_named}
 use Rattle.ob_uses.specs.Uses.{near_types}
-use Rattle.ob_uses.specs.Objects.{formal_of, signature_of, is_exported, in_places}
 use Rattle.ob_counts.specs.Counts.{own_name}
 use Rattle.ob_uses.specs.Closed.{is_among}
-use Rattle.ob_uses.specs.Objects.{reached_types}
+use Rattle.ob_uses.specs.Objects.{formal_of, signature_of, is_exported, in_places, reached_types}
 use Rattle.ob_forms.specs.Said.{IsOneOf}
 use Rattle.ob_forms.proofs.Modules.{of_all}
 use Rattle.ob_forms.proofs.Within.{all_right}
@@ -89,7 +85,7 @@ module _ (written : BuildsAreWritten) (ruled : BuildsAreRuled) (heads : HeadsAre
         let near_t = subst (λ x. AllByRecursion Near (near_types x)) a l.parts in
         let held_t = subst (λ x. AllByRecursion (λ t. IsHeld V t) (named_by x)) a ((ruled b (of b) (valid_of written ruled b h.valid.0 h.valid.1)).grounded.held q l.d l.of) in
         let r = structure_there t p e s f o near_t.0 held_t.0 in
-        (r.0, (equated (l.of ∙ ap (λ x. Some x) a) r.1.0, r.1.1))
+        (r.0, (equated {u = ref.Named r.0} (l.of ∙ ap (λ x. Some x) a) r.1.0, r.1.1))
 
     plain_there : (t : TypeRef) → (IsHeld V t → Near t) → IsHeld V t → (Is V is_structure t → ⊥) → Is (description program) is_structure t → ⊥
     plain_there t n v never i = by (description program i.0) refl i.1.1

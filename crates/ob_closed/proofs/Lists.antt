@@ -1,5 +1,5 @@
 -- Members of lists, and what all of them have.
-use Rattle.std.proofs.Common.{◌≡◌, ◌⊎◌, inl, inr, Bool, true, false, List, [], ◌∷◌, ◌++◌, map as each, refl, sym, ap, subst, ◌∙◌}
+use Rattle.std.proofs.Common.{◌≡◌, inl, inr, Bool, true, false, List, [], ◌∷◌, ◌++◌, map as each, refl, sym, subst, ◌∙◌}
 use Rattle.std.specs.Prelude.{cond}
 use Rattle.std.specs.List.{filter, flat_map, AllByRecursion}
 use Rattle.ob_forms.specs.Said.{IsOneOf}

@@ -1,6 +1,5 @@
 -- What builds that are loaded together show is closed, and keeps what types have to.
-use Rattle.std.proofs.Common.{◌≡◌, ◌⊎◌, ⊎_elim, inl, inr, Bool, true, false, List, [], ◌∷◌, ◌++◌, map as each, Option, Some, None, refl, sym, ap, subst, ◌∙◌, append_assoc}
-use Rattle.std.specs.Prelude.{MatchOption, IsTrue}
+use Rattle.std.proofs.Common.{◌≡◌, ⊎_elim, inr, true, List, [], ◌∷◌, ◌++◌, map as each, Option, Some, None, refl, sym, ap, subst, ◌∙◌, append_assoc}
 use Rattle.std.specs.Option.{option_map}
 use Rattle.std.specs.List.{AllByRecursion}
 use Rattle.ob_tree.specs.declared.names.QName.{QName}
@@ -28,7 +27,7 @@ use Rattle.ob_closed.proofs.Heads.{heads_ruled}
 use Rattle.ob_closed.proofs.Objects.{IsTypeIn}
 use Rattle.ob_closed.proofs.Seen.{blank_type, blank_core, blank_named, keeps_blank, keeps_seen, keeps_smaller}
 use Rattle.ob_closed.proofs.Held.{AreHeld, held_next}
-use Rattle.ob_closed.proofs.Kept.{TypeOrKept, all_keep}
+use Rattle.ob_closed.proofs.Kept.{all_keep}
 
 append_none : (xs : List Build) → xs ++ [] ≡ xs
 append_none [] = refl

@@ -1,5 +1,5 @@
 -- What a description names and keeps, what is seen of it names and keeps too, and so it does without places and numbers.
-use Rattle.std.proofs.Common.{◌≡◌, Bool, true, List, [], ◌∷◌, ◌++◌, map as each, Option, Some, None, refl, sym, ap, subst, ◌∙◌}
+use Rattle.std.proofs.Common.{◌≡◌, true, List, [], ◌∷◌, ◌++◌, map as each, Option, Some, None, refl, ap, ◌∙◌}
 use Rattle.std.specs.Prelude.{IfSome}
 use Rattle.std.specs.List.{filter, flat_map, AllByRecursion}
 use Rattle.ob_tree.specs.declared.names.QName.{QName}
@@ -17,7 +17,7 @@ use Rattle.ob_uses.specs.Objects.{in_places, shown_types}
 use Rattle.ob_written.proofs.Lists.{all_map, all_each, all_joined, all_filtered, all_flat, all_in_order}
 use Rattle.ob_forms.proofs.Within.{all_left, all_right}
 use Rattle.ob_declares.specs.Near.{core}
-use Rattle.ob_declares.proofs.Keeping.{IsPlainKind, record_kind, structure_kind, open_kind, Says, kind_forward, kind_held, record_type, structure_type}
+use Rattle.ob_declares.proofs.Keeping.{record_kind, structure_kind, open_kind, Says, kind_forward, kind_held, structure_type}
 use Rattle.ob_closed.proofs.Lists.{sifted, all_made, all_parts}
 
 abbrev Map : Type 0
@@ -78,12 +78,12 @@ keeps_blank map (desc.OpenArray m t) h = h
 keeps_blank map (desc.Pointer m t) h = h
 keeps_blank map (desc.ProcType m s) h = h
 keeps_blank map (desc.Record r) h = (
-    h.0,
-    (
-      all_each unplaced (λ f. Is map is_open f.of → ⊥) r.fields h.1.0,
-      all_each unnumbered (λ m. IsPlainResult map m.signature) r.methods h.1.1,
-    ),
-  )
+  h.0,
+  (
+    all_each unplaced (λ f. Is map is_open f.of → ⊥) r.fields h.1.0,
+    all_each unnumbered (λ m. IsPlainResult map m.signature) r.methods h.1.1,
+  ),
+)
 
 -- ---- what is seen
 
@@ -99,8 +99,7 @@ keeps_seen map (desc.ProcType m s) h = h
 keeps_seen map (desc.Record r) h =
     let F : Field → Type 0 = λ f. Is map is_open f.of → ⊥ in
     let M : Method → Type 0 = λ m. IsPlainResult map m.signature in
-    let fs = in_order by_place r.fields in
-    (
+    let fs = in_order by_place r.fields in (
       h.0,
       (
         all_filtered (λ f. is_shown f.mark) F fs (all_map F (λ f. is_shown f.mark ≡ true → F f) (λ f k i. k) fs (all_in_order by_place F r.fields h.1.0)),
@@ -190,8 +189,7 @@ module _ (small large : Map) (says : (q : QName) (d : Desc) → small q ≡ Some
   keeps_smaller (desc.Pointer m t) h k = kind_held small large says held is_structure structure_kind t h.0 k
   keeps_smaller (desc.ProcType m s) h k = plain s.result k
   keeps_smaller (desc.Record r) h k =
-      let front = all_left (λ t. IsHeld small t) (listed r.base ++ each (λ f. f.of) r.fields) (flat_map (λ m. signature_types m.signature) r.methods) h in
-      (
+      let front = all_left (λ t. IsHeld small t) (listed r.base ++ each (λ f. f.of) r.fields) (flat_map (λ m. signature_types m.signature) r.methods) h in (
         base r.base (all_left (λ t. IsHeld small t) (listed r.base) (each (λ f. f.of) r.fields) front) k.0,
         (
           all_map (λ f. Is large is_open f.of → ⊥) (λ f. Is small is_open f.of → ⊥) (λ f n. closed f.of n) r.fields k.1.0,
