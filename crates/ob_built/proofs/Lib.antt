@@ -1,0 +1,9 @@
+pub mod Calls
+pub mod Places
+pub mod Reading
+pub mod Heads
+pub mod Blocks
+pub mod Procedures
+pub mod Different
+pub mod Built
+pub mod Nearest
