@@ -1,11 +1,12 @@
 -- Sequences of declarations and the procedures among them: names are those of the text, and so are the places of FOR and CASE in bodies.
 use Rattle.std.proofs.Common.{◌≡◌, refl, sym, ap, ◌∙◌, subst, ℕ, Bool, true, false, List, [], ◌∷◌, ◌++◌, map, Option, Some, None}
-use Rattle.std.specs.Prelude.{◌&&◌}
-use Rattle.std.specs.List.{AllByRecursion, cons_option, filter_map, list_all}
+use Rattle.std.specs.Prelude.{◌&&◌, codes}
+use Rattle.std.specs.List.{AllByRecursion, filter_map, list_all}
 use Rattle.ob_tree.specs.declared.ident.Ident.{Ident}
 use Rattle.ob_tree.specs.declared.ident.IdentDef.{IdentDef}
 use Rattle.ob_tree.specs.declared.ident.Import.{Import}
 use Rattle.ob_tree.specs.declared.ident.Mark.{Mark}
+use Rattle.ob_tree.specs.declared.ident.Mark.TheVariants as mark
 use Rattle.ob_tree.specs.declared.stmt.Stmt.{Stmt}
 use Rattle.ob_tree.specs.declared.decl.Receiver.{Receiver as RawReceiver}
 use Rattle.ob_tree.specs.declared.decl.Heading.{Heading}
@@ -17,7 +18,7 @@ use Rattle.ob_types.specs.declared.typed.TypedStmt.{TypedStmt}
 use Rattle.ob_types.specs.declared.typed.TypedVariable.{TypedVariable}
 use Rattle.ob_types.specs.declared.typed.TypedParameter.{TypedParameter}
 use Rattle.ob_types.specs.declared.typed.TypedProcedure.{TypedProcedure}
-use Rattle.ob_rules.specs.Judged.{both, ◌▷◌}
+use Rattle.ob_rules.specs.Judged.{Judged, both, ◌▷◌}
 use Rattle.ob_rules.specs.Shapes.{Map}
 use Rattle.ob_rules.specs.Names.{Around, map_of}
 use Rattle.ob_rules.specs.Expressions.{phrase_of, constant_value}
@@ -25,7 +26,7 @@ use Rattle.ob_rules.specs.Phrases.{Phrase}
 use Rattle.ob_rules.specs.Types.{Typing, Written, WrittenSection, Parameters, written, is_module_level, marked, with_types}
 use Rattle.ob_rules.specs.Statements.{judging, in_turn}
 use Rattle.ob_rules.specs.Headings.{heading_of, Head, Heads, reversed, add_heading}
-use Rattle.ob_rules.specs.Declarations.{Contents, Declared, no_nil, constant_contents, constant_declared, type_declared, variable_contents, paired_typing, variable_marked, variables_with, made_in, variables_typed, variables_declared, Written_procedure, Declaration, Plain, Procedure, plain_of, procedure_of, type_name_of, in_order, headings_in_order, around_body, self_parameters, typed_procedure, procedure_judged, procedures_judged, stmts_in, with_bound, binding_at, block_headed, block, decl_rule, declaration, target_of, import_declared}
+use Rattle.ob_rules.specs.Declarations.{Contents, Declared, no_nil, constant_contents, constant_declared, type_declared, variable_contents, paired_typing, variable_marked, variables_with, first_name, made_in, variables_typed, variables_declared, Written_procedure, Declaration, Plain, Procedure, plain_of, procedure_of, type_name_of, in_order, headings_in_order, around_body, self_parameters, typed_procedure, procedure_judged, procedures_judged, stmts_in, with_bound, binding_at, block_headed, block, decl_rule, declaration, target_of, import_declared}
 use Rattle.ob_relation.proofs.Names.{and_both}
 use Rattle.ob_described.proofs.Nodes.{IfThere, all_both}
 use Rattle.ob_distinct.specs.Procedures.{names_in}
@@ -174,8 +175,11 @@ variables_good (d ∷ ds) h t u =
       body = no_more c.body k.body a.body b.body;
     }
 
+variables_typed_good : (ds : List IdentDef) → AllByRecursion (λ (d : IdentDef). Lettered d.ident.name) ds → (u : Around) (t : Judged Typing) → PlainIs (variables_typed ds u t).part.contents
+variables_typed_good ds h u t = let k = variables_good ds h t.node (with_types u (made_in t.node)) in record { variables = k.variables; procedures = k.procedures; body = k.body }
+
 variables_declared_good : (ds : List IdentDef) → AllByRecursion (λ (d : IdentDef). Lettered d.ident.name) ds → (n : Written) → GoodPlain (variables_declared ds n)
-variables_declared_good ds h n u = let k = variables_good ds h _ _ in record { variables = k.variables; procedures = k.procedures; body = k.body }
+variables_declared_good ds h n u = variables_typed_good ds h u (n.typing u (u.path ++ first_name ds ++ codes ":") mark.Hidden false)
 
 pub imports_good : (is : List Import) → AllByRecursion GoodPlain (map (λ i. import_declared i (target_of i)) is)
 imports_good [] = tt

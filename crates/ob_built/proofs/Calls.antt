@@ -1,6 +1,6 @@
 -- A designator that means a statement means a call of a predeclared procedure: no FOR and no CASE.
 use Rattle.std.proofs.Common.{◌≡◌, ap, ℕ, ℤ, Bool, true, false, List, [], ◌∷◌, Option, Some, None}
-use Rattle.std.specs.Prelude.{◌&&◌, is_some, nat_eq, pos, negsuc}
+use Rattle.std.specs.Prelude.{◌&&◌, not, is_some, nat_eq, pos, negsuc}
 use Rattle.ob_tree.specs.declared.pos.Pos.{Pos}
 use Rattle.ob_tree.specs.declared.names.QName.{QName}
 use Rattle.ob_tree.specs.declared.ident.Ident.{Ident}
@@ -20,6 +20,7 @@ use Rattle.ob_types.specs.declared.typed.Unary.{Unary}
 use Rattle.ob_types.specs.declared.typed.Unary.TheVariants as unary
 use Rattle.ob_types.specs.declared.typed.Update.{Update}
 use Rattle.ob_types.specs.declared.typed.Update.TheVariants as update
+use Rattle.ob_types.specs.declared.typed.Variable.TheVariants as variable
 use Rattle.ob_types.specs.declared.typed.Width.{Width}
 use Rattle.ob_types.specs.declared.typed.TypedStmt.{TypedStmt}
 use Rattle.ob_types.specs.declared.typed.TypedStmt.TheVariants as stmt
@@ -46,7 +47,7 @@ use Rattle.ob_rules.specs.Calls.{misplaced, call_procedure, call_variable, call_
 use Rattle.ob_rules.specs.Phrases.{Phrase, Behind, Dot, Index, Up, Round}
 use Rattle.ob_rules.specs.Predeclared as predeclared
 use Rattle.ob_rules.specs.Predeclared.{values, parameters, is_function, value, does, if_is, on_width, longer, shorter, dimension, length_of, len_at, len_of, number_in, element_step, is_text, new_array, new_fixed, new_elements, if_held, new_one, new_many, fit_one, fit_two, fit, if_fit, call_fit, type_parameter, extreme_of, basic_if, extreme_call, call_predeclared}
-use Rattle.ob_rules.specs.Designators.{variable_named, guard_of, guarded_by, guard, dereference, implicitly, index, chosen, with_receiver, select_bound, comes, not_there, member_found, member_of, select_of, select, super_of, super_in, super_if, super, nothing_behind, type_in_round, as_call, place_round, call_meant, takes_type, is_callable, is_guardable, other_round, step_dot, step_index, step_up, step_round, step, where_of, go_on_with, go_on, through, of_variable, exported_meant, out_meant, in_module, dot_of, module_front, front_of, is_module, behind, front, from_front_with, from_front, designates}
+use Rattle.ob_rules.specs.Designators.{same_variable, is_read_only, variable_named, guard_of, guarded_by, guard, dereference, implicitly, index, chosen, with_receiver, select_bound, comes, not_there, member_found, member_of, select_of, select, super_of, super_in, super_if, super, nothing_behind, type_in_round, as_call, place_round, call_meant, takes_type, is_callable, is_guardable, other_round, step_dot, step_index, step_up, step_round, step, where_of, go_on_with, go_on, through, of_variable, exported_meant, out_meant, in_module, dot_of, module_front, front_of, is_module, behind, front, from_front_with, from_front, designates}
 use Rattle.ob_rules.specs.Expressions.{Named, meant_by}
 use Rattle.ob_described.proofs.Nodes.{IfThere, Has, any_then, then_has, also_has}
 
@@ -243,7 +244,7 @@ super_quiet_if false map at c owner = tt
 
 super_quiet : (map : Map) (at : Pos) (c : Chosen) (o : Option Received) → Has IsQuiet (super map at c o)
 super_quiet map at c None = tt
-super_quiet map at c (Some r) = super_quiet_if _ map at c r.owner
+super_quiet map at c (Some r) = super_quiet_if (same_variable c.receiver.root r.variable && not c.receiver.selected) map at c r.owner
 
 guard_quiet : (map : Map) (at : Pos) (p : Place) (t : TypeRef) → Has IsQuiet (guard map at p t)
 guard_quiet map at p t = any_then IsQuiet (found_or 23 at (guard_of map p t)) (λ g. sound (means.Place (guarded_by p g t at true))) (λ g. tt)
@@ -299,7 +300,7 @@ variable_quiet p = any_then IsQuiet p (λ q. sound (means.Place q)) (λ q. tt)
 
 exported_quiet : (u : Around) (start at : Pos) (m x : List ℕ) (d : Desc) → Has IsQuiet (exported_meant u start at m x d)
 exported_quiet u start at m x (desc.Const v) = tt
-exported_quiet u start at m x (desc.Var k t) = variable_quiet _
+exported_quiet u start at m x (desc.Var k t) = variable_quiet (variable_named u start (variable.Module m x) t (is_read_only k))
 exported_quiet u start at m x (desc.Proc s) = tt
 exported_quiet u start at m x d = tt
 

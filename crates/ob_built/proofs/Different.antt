@@ -49,11 +49,11 @@ rising_all p (q ∷ qs) e =
     (b, all_from (λ r. Before q r) (λ r. Before p r) (λ r h. before_then p q r b h) qs (rising_all q qs k.1))
 
 not_less : (a b : ℕ) → a < b → b ≡ a → ⊥
-not_less a b l e = let bad : 1 < 1 = omega (arith, l, e) in omega (arith, bad)
+not_less a b l e = omega (arith, l, e)
 
-differ : (p q : Pos) → Before p q → hidden q ≢ hidden p
-differ p q (inl l) e = let k : q.line ≡ p.line = cc in not_less p.line q.line l k
-differ p q (inr h) e = let l = h.1 in let k : q.col ≡ p.col = cc in not_less p.col q.col l k
+differ : (p q : Pos) → Before p q → hidden q ≡ hidden p → ⊥
+differ p q (inl l) e = let f : 0 ∷ q.line ∷ q.col ∷ [] ≡ 0 ∷ p.line ∷ p.col ∷ [] = e in let k : q.line ≡ p.line = cc in not_less p.line q.line l k
+differ p q (inr h) e = let f : 0 ∷ q.line ∷ q.col ∷ [] ≡ 0 ∷ p.line ∷ p.col ∷ [] = e in let k : q.col ≡ p.col = cc in not_less p.col q.col h.1 k
 
 hidden_differ : (p : Pos) (qs : List Pos) → AllByRecursion (λ q. Before p q) qs → AllByRecursion (λ y. y ≢ hidden p) (map hidden qs)
 hidden_differ p [] h = tt

@@ -2,6 +2,7 @@
 use Rattle.std.proofs.Common.{◌≡◌, ◌⊎◌, inl, inr, ℕ, zero, suc, ◌≤◌, Bool, true, false, List, [], ◌∷◌, ◌++◌, length, length-append, map, Option, Some, None, Result, Ok, Err, refl, sym, ap, subst, ◌∙◌, arith}
 use Rattle.std.specs.Prelude.{◌&&◌, ◌==◌, not, nat_le, IfSome}
 use Rattle.std.specs.List.{AllByRecursion, list_all}
+use Rattle.std.specs.Char.{is_ascii_alphabetic, is_ascii_alphanumeric}
 use Rattle.std.proofs.lemmas.Bool.{and_parts, eqb-true}
 use Rattle.ob_tree.specs.declared.symbol.Symbol.{Symbol}
 use Rattle.ob_tree.specs.declared.symbol.Symbol.TheVariants as s
@@ -52,11 +53,11 @@ no_letter : (c : ℕ) (x : List ℕ) → is_identifier (c ∷ x) ≡ true → (b
 no_letter c x e false i = refl
 no_letter c x e true i =
     let bad : is_identifier (0 ∷ x) ≡ true = subst (λ k. is_identifier (k ∷ x) ≡ true) (eqb-true c 0 i) e in
-    let p = and_parts (is_letters (0 ∷ x)) (nat_le (length (0 ∷ x)) 64) bad in
+    let wrong : false ≡ true = (and_parts (is_ascii_alphabetic 0) (list_all is_ascii_alphanumeric x) (and_parts (is_letters (0 ∷ x)) (nat_le (length (0 ∷ x)) 64) bad).0).0 in
     absurd cc
 
 identifier_lettered : (x : List ℕ) → is_identifier x ≡ true → is_lettered x ≡ true
-identifier_lettered [] e = let p = and_parts (is_letters []) (nat_le (length {A = ℕ} []) 64) e in absurd cc
+identifier_lettered [] e = let wrong : false ≡ true = e in absurd cc
 identifier_lettered (c ∷ x) e = no_letter c x e (c == 0) refl
 
 -- ---- folds of what the grammar makes
@@ -125,6 +126,10 @@ PN AType x = Unit {0}
 PN Statements x = Unit {0}
 PN Negated x = Unit {0}
 PN Procedure x = IsLettered x
+
+abbrev LetteredBy : Result Module NoModule → Type 0
+LetteredBy (Ok tree) = tree_lettered tree ≡ true
+LetteredBy (Err f) = Unit {0}
 
 -- of no more than so many tokens
 module _ (most : ℕ) where
@@ -264,10 +269,6 @@ module _ (most : ℕ) where
   module_lettered : (m : Module) → H «module» m → tree_lettered m ≡ true
   module_lettered m h = let y = h.0 in subst (λ (m : Module). tree_lettered m ≡ true) h.1 (all_of decl_lettered y.1.1.1.1.0 (declarations_lettered y.1.1.1.1.0 h.2.1.1.1.1.0))
 
-  abbrev LetteredBy : Result Module NoModule → Type 0
-  LetteredBy (Ok tree) = tree_lettered tree ≡ true
-  LetteredBy (Err f) = Unit {0}
-
   left_part : (a b ts : Tokens) → ts ≡ a ++ b → AreNamed ts → AreNamed a
   left_part a b ts e all = (go a (subst (AllByRecursion IsNamedToken) e all.0), let n = ap length e ∙ length-append a b in let m = all.1 in omega (arith, n, m))
     where
@@ -285,13 +286,13 @@ module _ (most : ℕ) where
 at_most : (n : ℕ) → n ≤ n
 at_most n = omega arith
 
-fault_lettered : (o : Option ScanFault) (i : Input) → LetteredBy (length (tokens_of i)) (by_fault o i)
+fault_lettered : (o : Option ScanFault) (i : Input) → LetteredBy (by_fault o i)
 fault_lettered (Some f) i = tt
 fault_lettered None i = parsed_lettered (length (tokens_of i)) limit (tokens_of i) (reads limit «module» (tokens_of i)) (tokens_named (suc (length i.text)) i, at_most (length (tokens_of i))) refl
 
-reading_lettered : (text : List ℕ) → LetteredBy (length (tokens_of (start_of text))) (reading text)
+reading_lettered : (text : List ℕ) → LetteredBy (reading text)
 unfolding reading
 reading_lettered text = fault_lettered (fault_of (start_of text)) (start_of text)
 
 pub readings_are_lettered : ReadingsAreLettered
-readings_are_lettered text tree e = subst (LetteredBy (length (tokens_of (start_of text)))) e (reading_lettered text)
+readings_are_lettered text tree e = subst LetteredBy e (reading_lettered text)
