@@ -1,5 +1,5 @@
 -- Sequences of declarations and the procedures among them: names are those of the text, and so are the places of FOR and CASE in bodies.
-use Rattle.std.proofs.Common.{◌≡◌, refl, sym, ap, ◌∙◌, subst, ℕ, Bool, true, false, List, [], ◌∷◌, ◌++◌, map, Option, Some, None}
+use Rattle.std.proofs.Common.{◌≡◌, refl, sym, ap, ◌∙◌, subst, Bool, true, false, List, [], ◌∷◌, ◌++◌, map, Option, Some, None}
 use Rattle.std.specs.Prelude.{◌&&◌, codes}
 use Rattle.std.specs.List.{AllByRecursion, filter_map, list_all}
 use Rattle.ob_tree.specs.declared.ident.Ident.{Ident}
@@ -17,7 +17,6 @@ use Rattle.ob_types.specs.declared.value.Value.{Value}
 use Rattle.ob_types.specs.declared.typed.TypedStmt.{TypedStmt}
 use Rattle.ob_types.specs.declared.typed.TypedVariable.{TypedVariable}
 use Rattle.ob_types.specs.declared.typed.TypedParameter.{TypedParameter}
-use Rattle.ob_types.specs.declared.typed.TypedProcedure.{TypedProcedure}
 use Rattle.ob_rules.specs.Judged.{Judged, both, ◌▷◌}
 use Rattle.ob_rules.specs.Shapes.{Map}
 use Rattle.ob_rules.specs.Names.{Around, map_of}
@@ -29,7 +28,6 @@ use Rattle.ob_rules.specs.Headings.{heading_of, Head, Heads, reversed, add_headi
 use Rattle.ob_rules.specs.Declarations.{Contents, Declared, no_nil, constant_contents, constant_declared, type_declared, variable_contents, paired_typing, variable_marked, variables_with, first_name, made_in, variables_typed, variables_declared, Written_procedure, Declaration, Plain, Procedure, plain_of, procedure_of, type_name_of, in_order, headings_in_order, around_body, self_parameters, typed_procedure, procedure_judged, procedures_judged, stmts_in, with_bound, binding_at, block_headed, block, decl_rule, declaration, target_of, import_declared}
 use Rattle.ob_relation.proofs.Names.{and_both}
 use Rattle.ob_described.proofs.Nodes.{IfThere, all_both}
-use Rattle.ob_distinct.specs.Procedures.{names_in}
 use Rattle.ob_distinct.proofs.Blocks.{headed_none}
 use Rattle.ob_typed.specs.Spelled.{all_true}
 use Rattle.ob_rising.specs.Placed as rising

@@ -22,7 +22,6 @@ use Rattle.ob_types.specs.declared.typed.Update.{Update}
 use Rattle.ob_types.specs.declared.typed.Update.TheVariants as update
 use Rattle.ob_types.specs.declared.typed.Variable.TheVariants as variable
 use Rattle.ob_types.specs.declared.typed.Width.{Width}
-use Rattle.ob_types.specs.declared.typed.TypedStmt.{TypedStmt}
 use Rattle.ob_types.specs.declared.typed.TypedStmt.TheVariants as stmt
 use Rattle.ob_types.specs.TypedView.{stmt_view}
 use Rattle.ob_types.proofs.TypedViews.{view_updated, view_copy, view_new, view_new_open_array, view_assert, view_halt}
@@ -38,16 +37,16 @@ use Rattle.ob_rules.specs.declared.meant.Meant.TheVariants as means
 use Rattle.ob_rules.specs.declared.meant.Where.{Where}
 use Rattle.ob_rules.specs.declared.values.Place.{Place}
 use Rattle.ob_rules.specs.declared.values.Valued.{Valued}
-use Rattle.ob_rules.specs.Judged.{Judged, sound, breaks, also, found_or, each_sound, noted, ◌▷◌}
-use Rattle.ob_rules.specs.Shapes.{Map, Member, AField, AMethod, member, basic_of, array_of, pointed, is_held, record_of, base_record, signature_at}
+use Rattle.ob_rules.specs.Judged.{Judged, sound, breaks, also, found_or, each_sound, ◌▷◌}
+use Rattle.ob_rules.specs.Shapes.{Map, Member, AField, AMethod, member, array_of, pointed, is_held, record_of, base_record, signature_at}
 use Rattle.ob_rules.specs.Names.{Around, map_of, named, is_out, out_procedure, exported, type_named}
 use Rattle.ob_rules.specs.Values.{is, width as width_of, is_integer, is_chars, text_tree, tree, constant_in, place_in}
 use Rattle.ob_rules.specs.Operators.{monadic, dyadic, and_so}
 use Rattle.ob_rules.specs.Calls.{misplaced, call_procedure, call_variable, call_out, call_bound}
 use Rattle.ob_rules.specs.Phrases.{Phrase, Behind, Dot, Index, Up, Round}
 use Rattle.ob_rules.specs.Predeclared as predeclared
-use Rattle.ob_rules.specs.Predeclared.{values, parameters, is_function, value, does, if_is, on_width, longer, shorter, dimension, length_of, len_at, len_of, number_in, element_step, is_text, new_array, new_fixed, new_elements, if_held, new_one, new_many, fit_one, fit_two, fit, if_fit, call_fit, type_parameter, extreme_of, basic_if, extreme_call, call_predeclared}
-use Rattle.ob_rules.specs.Designators.{same_variable, is_read_only, variable_named, guard_of, guarded_by, guard, dereference, implicitly, index, chosen, with_receiver, select_bound, comes, not_there, member_found, member_of, select_of, select, super_of, super_in, super_if, super, nothing_behind, type_in_round, as_call, place_round, call_meant, takes_type, is_callable, is_guardable, other_round, step_dot, step_index, step_up, step_round, step, where_of, go_on_with, go_on, through, of_variable, exported_meant, out_meant, in_module, dot_of, module_front, front_of, is_module, behind, front, from_front_with, from_front, designates}
+use Rattle.ob_rules.specs.Predeclared.{values, parameters, is_function, value, does, if_is, longer, shorter, dimension, length_of, len_at, len_of, number_in, element_step, is_text, new_array, new_fixed, new_elements, if_held, new_one, new_many, fit_one, fit_two, fit, if_fit, call_fit, type_parameter, extreme_of, basic_if, extreme_call, call_predeclared}
+use Rattle.ob_rules.specs.Designators.{same_variable, is_read_only, variable_named, guard_of, guarded_by, guard, dereference, implicitly, index, chosen, with_receiver, comes, not_there, member_found, member_of, select_of, select, super_of, super_in, super_if, super, nothing_behind, type_in_round, as_call, place_round, call_meant, takes_type, is_callable, is_guardable, other_round, step_dot, step_index, step_up, step_round, step, where_of, go_on_with, through, of_variable, exported_meant, out_meant, in_module, dot_of, module_front, front_of, is_module, behind, front, from_front_with}
 use Rattle.ob_rules.specs.Expressions.{Named, meant_by}
 use Rattle.ob_described.proofs.Nodes.{IfThere, Has, any_then, then_has, also_has}
 

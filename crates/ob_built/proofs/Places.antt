@@ -36,7 +36,7 @@ use Rattle.ob_rules.specs.Expressions.{Named, meant_by, named_of, phrase_of}
 use Rattle.ob_rules.specs.Values.{fits, tree}
 use Rattle.ob_rules.specs.Phrases.{Phrase}
 use Rattle.ob_rules.specs.Statements as rules
-use Rattle.ob_rules.specs.Statements.{target, assignment_of, assigned_tree, assigns, assignment, call_value, done, place_called, called, exit, returned, return_none, return, call_statement, Judging, Conditional, Labelled, GuardedBody, in_turn, in_turn_if, one, branch_of, empty_if_none, condition, Labels, labels, case_of, case_behind, cases, selects_if, case_judged, for_made, for_parts, bound_if, for_step, for_variable, in_loop, conditional, conditionals, guarded_body, with_test, with_branch, with_branches, if_statement, while_statement, repeat_statement, loop_statement, with_statement, case, for, phrase_if, stmt_rule, branch_rule, case_rule, guarded_rule, judging, conditional_of, labelled_of, guarded_of}
+use Rattle.ob_rules.specs.Statements.{target, assignment_of, assigned_tree, assigns, assignment, call_value, done, place_called, called, exit, returned, return_none, return, call_statement, Judging, Conditional, Labelled, GuardedBody, in_turn, in_turn_if, one, branch_of, empty_if_none, condition, Labels, labels, case_of, case_behind, cases, selects_if, case_judged, for_made, for_parts, bound_if, for_step, for_variable, in_loop, conditional, conditionals, guarded_body, with_test, with_branch, with_branches, if_statement, while_statement, repeat_statement, loop_statement, with_statement, case, phrase_if, stmt_rule, branch_rule, case_rule, guarded_rule, judging, conditional_of, labelled_of, guarded_of}
 use Rattle.ob_described.proofs.Nodes.{IfThere, Has, any_then, then_has, both_have, first_has, second_has}
 use Rattle.ob_typed.specs.Bodies.{in_all, place_layer, branch_places_layer, case_places_layer, guarded_places_layer, hidden_places, branch_places, case_places, guarded_places}
 use Rattle.ob_built.specs.Procedures.{PlacesAreThose}

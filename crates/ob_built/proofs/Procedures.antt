@@ -1,5 +1,5 @@
 -- The procedures of a checked module are as its text gives them.
-use Rattle.std.proofs.Common.{◌≡◌, refl, sym, ap, ◌∙◌, subst, true, [], ◌++◌, map, Option}
+use Rattle.std.proofs.Common.{◌≡◌, sym, ap, subst, true, ◌++◌, map, Option}
 use Rattle.std.specs.List.{AllByRecursion}
 use Rattle.ob_tree.specs.declared.names.QName.{QName}
 use Rattle.ob_tree.specs.declared.decl.Module.{Module as Tree}
@@ -13,7 +13,7 @@ use Rattle.ob_described.proofs.Nodes.{all_both}
 use Rattle.ob_distinct.proofs.Blocks.{unbroken_is}
 use Rattle.ob_typed.specs.Spelled.{all_true}
 use Rattle.ob_rising.specs.Placed.{are_rising, places_of, decl_placed, tree_placed}
-use Rattle.ob_built.specs.Lettered.{decl_lettered, tree_lettered}
+use Rattle.ob_built.specs.Lettered.{tree_lettered}
 use Rattle.ob_built.specs.Procedures.{IsPlaced, IsGiven, AreGiven, ProceduresAreGiven}
 use Rattle.ob_built.proofs.Blocks.{order_good, imports_good, block_given, decls_good}
 

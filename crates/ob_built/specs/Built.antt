@@ -1,5 +1,5 @@
 -- The procedures of builds that are loaded together are built, and redefinitions are alike: the laws.
-use Rattle.std.specs.Prelude.{◌≡◌, List}
+use Rattle.std.specs.Prelude.{List}
 use Rattle.std.specs.List.{AllByRecursion}
 use Rattle.ob_types.specs.TypedSyntax.{Module}
 use Rattle.ob_meaning.specs.Values.{Program}

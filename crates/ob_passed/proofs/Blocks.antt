@@ -51,7 +51,7 @@ use Rattle.ob_ruled.specs.Variables.{AliasStands}
 use Rattle.ob_ruled.proofs.Shut.{AreGoodSections as AreShutSections}
 use Rattle.ob_ruled.proofs.Written.{written_parameters_good as parameters_shut}
 use Rattle.ob_ruled.proofs.Plain.{Any, Fine, VariableIn, IsPlain, constants, alias_grown, constant_plain, type_plain, variables_plain, order_plain, later_fine}
-use Rattle.ob_passed.proofs.Sections.{S, Fair, GoodSections, node_good, Passed, Plain}
+use Rattle.ob_passed.proofs.Sections.{S, Fair, GoodSections, node_good, Passed, PlainAt}
 use Rattle.ob_passed.proofs.Heads.{HeadIn, GoodHeadings, heads_fair}
 
 -- a module of that name
@@ -122,11 +122,11 @@ module _ (unit : List ℕ) (shown : QName → Option Desc) (out : is_out unit �
     self_in h (Some x) None k = tt
     self_in h None b k = tt
 
-    result_in : (o : Option TypeRef) → IfThere (Plain unit shown out own) o → AllByRecursion PlainIn (listed o)
+    result_in : (o : Option TypeRef) → IfThere (PlainAt unit shown out own) o → AllByRecursion PlainIn (listed o)
     result_in None h = tt
     result_in (Some t) h = (record { w = h.w; fine = record { knows = h.fair.knows; aliases = h.fair.aliases; lies = λ s i. within s (h.within s i) }; stands = h.stands; plain = h.plain }, tt)
 
-    typed_in : (types : Map) (h : Head) → HeadIn unit shown out own h → (o : Option Parameters) → IfThere (λ (p : Parameters). AllByRecursion (Passed unit shown out own) p.parameters × IfThere (Plain unit shown out own) p.signature.result) o → (c : Contents) → AreDeclared c.variables → AreIn (typed_procedure types h o c)
+    typed_in : (types : Map) (h : Head) → HeadIn unit shown out own h → (o : Option Parameters) → IfThere (λ (p : Parameters). AllByRecursion (Passed unit shown out own) p.parameters × IfThere (PlainAt unit shown out own) p.signature.result) o → (c : Contents) → AreDeclared c.variables → AreIn (typed_procedure types h o c)
     typed_in types h g None k c vs = tt
     typed_in types h g (Some p) k c vs = (
       record {

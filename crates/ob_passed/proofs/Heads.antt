@@ -21,7 +21,7 @@ use Rattle.ob_bodies.specs.Knows.{EntityStands}
 use Rattle.ob_bodies.proofs.Lists.{all_of}
 use Rattle.ob_bodies.proofs.Standing.{Lies, lies_front, grows_as, all_grown}
 use Rattle.ob_ruled.proofs.Plain.{Any}
-use Rattle.ob_passed.proofs.Sections.{KnownIn, Plain, plain_more, Fair, more_types, more_known, GoodSections, Passed, all_more, passed_more, ArePassed, sections_known, parameters_passed, IsReceiver, owner_stands, self_passed, receiver_fair}
+use Rattle.ob_passed.proofs.Sections.{KnownIn, PlainAt, plain_more, Fair, more_types, more_known, GoodSections, Passed, all_more, passed_more, ArePassed, sections_known, parameters_passed, IsReceiver, owner_stands, self_passed, receiver_fair}
 
 module _ (unit : List ℕ) (shown : QName → Option Desc) (out : is_out unit ≡ false) where
   abbrev F : Around → Type 0
@@ -31,7 +31,7 @@ module _ (unit : List ℕ) (shown : QName → Option Desc) (out : is_out unit �
   P own x = Passed unit shown out own x
 
   abbrev R : List TypedType → TypeRef → Type 0
-  R own t = Plain unit shown out own t
+  R own t = PlainAt unit shown out own t
 
   abbrev K : List TypedType → List Known → Type 0
   K own ks = KnownIn unit shown out own ks
