@@ -1,4 +1,6 @@
+pub mod Predeclared
 pub mod Calls
+pub mod Simple
 pub mod Places
 pub mod Reading
 pub mod Heads

@@ -1,5 +1,5 @@
 -- Procedures that redefine others are alike, and receive records of their kind.
-use Rattle.std.proofs.Common.{◌≡◌, refl, sym, ◌∙◌, subst, List, [], ◌∷◌, false, arith}
+use Rattle.std.proofs.Common.{◌≡◌, refl, sym, ◌∙◌, subst, ◌≤◌, List, [], ◌∷◌, false, arith}
 use Rattle.ob_tree.specs.declared.names.QName.{QName}
 use Rattle.ob_types.specs.declared.types.Mode.{Mode}
 use Rattle.ob_types.specs.declared.types.TypeRef.{TypeRef}
@@ -28,6 +28,9 @@ use Rattle.ob_bindings.proofs.Like.{like_are_redefined}
 use Rattle.ob_inherited.proofs.Loaded.{loaded_have_bindings}
 use Rattle.ob_built.specs.Built.{LikeAreNearest, LoadedAreRedefined}
 
+few : 0 ≤ 4194304
+few = omega arith
+
 module _ (program : Program) where
   -- parameters that are alike are those of one signature
   same_parameters : (ps qs : List TypedParameter) (ks : List (Mode × TypeRef)) → Alike program ps qs → AreParameters program ps ks → AreParameters program qs ks
@@ -55,7 +58,7 @@ module _ (program : Program) where
     stack = refl;
     activations = refl;
     operands = refl;
-    heap_few = omega arith;
+    heap_few = few;
   }
 
   module _ (ok : ModulesOk program program) (f : Family) (k : Receiver) (p : Procedure) (d : QName) where
