@@ -1,13 +1,12 @@
 -- Modules that compile, and those of builds that are loaded together, keep the limits.
 use Rattle.std.proofs.Common.{◌≡◌, List, [], ◌∷◌, ◌++◌, Some, None, ap, ◌∙◌, subst, inl, inr}
-use Rattle.std.specs.Prelude.{Contains}
 use Rattle.std.specs.List.{AllByRecursion}
 use Rattle.ob_meaning.specs.Values.{description}
 use Rattle.ob_layout.specs.LaidOut.{viewed}
 use Rattle.ob_env.specs.Faces.{described}
 use Rattle.ob_written.proofs.Limits.{IsWithin, within}
 use Rattle.ob_compiling.specs.Compiling.{Compiled, texts, exceeds}
-use Rattle.ob_ages.specs.Builds.{Text, Build, IsValid, of, tree_of}
+use Rattle.ob_ages.specs.Builds.{Text, Build, IsValid, of}
 use Rattle.ob_ages.proofs.Compiled.{Comes, comes}
 use Rattle.ob_ages.proofs.Gone.{all_valid}
 use Rattle.ob_ages.proofs.Members.{In, to_in, has_left}
