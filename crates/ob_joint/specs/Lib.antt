@@ -1,0 +1,4 @@
+pub mod Seen
+pub mod Agreement
+pub mod Named
+pub mod Joint
