@@ -25,10 +25,8 @@ use Rattle.ob_linking.specs.Same.{ModuleSame}
 use Rattle.ob_local.specs.Agreeing.{Map}
 use Rattle.ob_local.specs.Checked.{IsChecked}
 use Rattle.ob_local.specs.Laws.{AreSpelled, HaveNoOut, AreMet, IsTied, over, view}
-use Rattle.ob_local.specs.Read.{ModuleRead}
 use Rattle.ob_local.specs.Laws as local
 use Rattle.ob_local.specs.Agreeing.{IsNear}
-use Rattle.ob_local.proofs.Laid.{laid_read}
 use Rattle.ob_local.proofs.Bridged.{counts_are_enough}
 use Rattle.ob_declares.proofs.Ordered.{types_named}
 use Rattle.ob_tying.proofs.Over.{modules_tie}
@@ -142,5 +140,4 @@ module _ (b : Build) (c : Compiled Text) (valid : IsValid b c) (names : AreDisti
       let told = are_told c.against others T spelled spelled_too no_out no_out_too tied met map own_too has out in
       let S : QName → Type 0 = IsNear (view c.against T) (over c.against T) in
       let L : QName → Type 0 = local.IsLaid (view c.against T) (over c.against T) in
-      let read : ModuleRead S L (over c.against T) = laid_read (described c.against) T S L tied.read in
-      subst (λ (k : Module). ModuleSame (viewed (described c.against) k) map k) (sym tree_is) (read_are_same (view c.against T) map S L (agree_as (view c.against T) map S L told) (over c.against T) read see_too)
+      subst (λ (k : Module). ModuleSame (viewed (described c.against) k) map k) (sym tree_is) (read_are_same c.against T tied map (agree_as (view c.against T) map S L told) see_too)

@@ -56,7 +56,7 @@ module _ (m : Module) (types : AllByRecursion (λ t. is_type t.desc ≡ true) m.
   of_procedure p i e t j = of_all (λ (y : TypedType). y.name ≢ p.name) m.types t (of_all (λ (q : Procedure). is_exported q ≡ true → AllByRecursion (λ (y : TypedType). y.name ≢ q.name) m.types) m.procedures p procedures i e) j
 
   none_named : (o : Object) → IsOneOf (objects_of m) o → is_type o.1 ≡ false → NoneNamed m.types o.0
-  none_named o j no =
+  none_named o j plain =
       let cs = each constant_object (filter (λ c. is_shown c.mark) m.constants) in
       let vs = each variable_object (filter (λ v. is_shown v.mark) m.variables) in
       let ps = each procedure_object (filter is_exported m.procedures) in
@@ -72,9 +72,9 @@ module _ (m : Module) (types : AllByRecursion (λ t. is_type t.desc ≡ true) m.
       (λ k.
       let y = one_mapped type_object (types_among m (reached_types m)) o k in
       let there = one_filtered (λ t. is_among (reached_types m) (own_name m t)) m.types y.0 y.1.0 in
-      let bad : true ≡ false = sym (of_all (λ (t : TypedType). is_type t.desc ≡ true) m.types y.0 types there) ∙ sym (seen_type y.0.desc) ∙ ap (λ (z : Object). is_type z.1) y.1.1 ∙ no in
+      let bad : true ≡ false = sym (of_all (λ (t : TypedType). is_type t.desc ≡ true) m.types y.0 types there) ∙ sym (seen_type y.0.desc) ∙ ap (λ (z : Object). is_type z.1) y.1.1 ∙ plain in
       absurd cc)
       (one_joined ((cs ++ vs) ++ ps) ts o (one_ordered by_name (((cs ++ vs) ++ ps) ++ ts) o j))
 
   pub no_types : ObjectsAreNoTypes m
-  no_types x d e no = unnamed m.types x (none_named (x, d) (object_found (objects_of m) x d e) no)
+  no_types x d e plain = unnamed m.types x (none_named (x, d) (object_found (objects_of m) x d e) plain)

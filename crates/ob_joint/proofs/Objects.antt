@@ -217,7 +217,7 @@ described_name None t = refl
 described_name (Some b) t = refl
 
 -- a type with what is bound to it is one of those types
-described_of : (bound ts : List TypedType) (t : TypedType) → IsOneOf (all_described bound ts) t → (s : TypedType) × (IsOneOf ts s × (s.name ≡ t.name))
+pub described_of : (bound ts : List TypedType) (t : TypedType) → IsOneOf (all_described bound ts) t → (s : TypedType) × (IsOneOf ts s × (s.name ≡ t.name))
 described_of bound ts t i =
     let k = one_mapped (λ (y : TypedType). described (find (λ (b : TypedType). bytes_eq b.name y.name) bound) y) ts t i in
     (k.0, (k.1.0, sym (described_name (find (λ (b : TypedType). bytes_eq b.name k.0.name) bound) k.0) ∙ ap (λ (z : TypedType). z.name) k.1.1))

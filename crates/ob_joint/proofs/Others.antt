@@ -146,10 +146,10 @@ module _ (faces others : List (Face Text)) (m : Module) (spelled : AreSpelled fa
   near_on q d n e = all_on S (near_types d) (λ r i. onward n (ap (λ (o : Option Desc). is_among (of_found (desc_leads way.Near m.name q) o) r) e ∙ i))
 
   flat_on : (q r : QName) (d : Desc) → L q → V q ≡ Some d → is_record d ≡ false → is_among (names_of (flat_types (is_of m.name q) d)) r ≡ true → L r
-  flat_on q r d (flat f) e no i = flat (onward f (ap (λ (o : Option Desc). is_among (of_found (desc_leads way.Flat m.name q) o) r) e ∙ i))
-  flat_on q r d (own k o e') e no i = absurd (both_ways true refl (ap is_record (some_is (desc.Record k) d (sym e' ∙ e)) ∙ no))
-  flat_on q r d (told n (room d' e' no' next)) e no i = told
-    (onward n (ap (λ (o : Option Desc). is_among (of_found (desc_leads way.Near m.name q) o) r) e ∙ plain_near (is_of m.name q) d no r i))
+  flat_on q r d (flat f) e n i = flat (onward f (ap (λ (o : Option Desc). is_among (of_found (desc_leads way.Flat m.name q) o) r) e ∙ i))
+  flat_on q r d (own k o e') e n i = absurd (both_ways true refl (ap is_record (some_is (desc.Record k) d (sym e' ∙ e)) ∙ n))
+  flat_on q r d (told near (room d' e' n' next)) e n i = told
+    (onward near (ap (λ (o : Option Desc). is_among (of_found (desc_leads way.Near m.name q) o) r) e ∙ plain_near (is_of m.name q) d n r i))
     (next r (ap (λ (o : Option Desc). is_among (of_found (desc_leads way.Flat m.name q) o) r) e ∙ i))
 
   pub are_told : AreTold V b S L
@@ -157,5 +157,5 @@ module _ (faces others : List (Face Text)) (m : Module) (spelled : AreSpelled fa
     shapes = λ q h. shape_told q h (is_own m q) refl;
     near = λ q d h e. near_on q d h e;
     layouts = λ q h. layout_told q h (is_own m q) refl;
-    flat = λ q d h e no. all_on L (flat_types false d) (λ r i. flat_on q r d h e no (ap (λ ts. is_among (names_of ts) r) (flat_same (is_of m.name q) d no) ∙ i));
+    flat = λ q d h e n. all_on L (flat_types false d) (λ r i. flat_on q r d h e n (ap (λ ts. is_among (names_of ts) r) (flat_same (is_of m.name q) d n) ∙ i));
   }

@@ -74,8 +74,7 @@ none_of : {A : Type 0} (xs : List A) (x : A) → xs ≡ [] → IsOneOf xs x → 
 none_of xs x e i = subst (λ ys. IsOneOf ys x) e i
 
 constant_name : (b : Bool) (i : Ident) (p : Option (Mark × Value)) (x : List ℕ) → IsObject (constant_contents b i p) x → i.name ≡ x
-constant_name true i (Some p) x (inl (k, (inl e, n))) = ap (λ (z : TypedConstant). z.name) e ∙ n
-constant_name true i (Some p) x (inl (k, (inr j, n))) = absurd j
+constant_name true i (Some p) x (inl k) = ⊎_elim (λ e. ap (λ (z : TypedConstant). z.name) e ∙ k.1.1) (λ j. absurd j) k.1.0
 constant_name true i (Some p) x (inr v) = absurd v.1.0
 constant_name true i None x (inl k) = absurd k.1.0
 constant_name true i None x (inr v) = absurd v.1.0

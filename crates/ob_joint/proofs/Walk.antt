@@ -23,8 +23,11 @@ use Rattle.ob_types.specs.Maps.{listed}
 use Rattle.ob_types.specs.TypedKinds.{variable_type}
 use Rattle.ob_types.specs.TypedSyntax.{Desig, OfVariable, Field, Index, Deref, Guard, Expr, Constant, ValueOf, ProcedureValue, Monadic, Dyadic, Logical, CompareTexts, IsPointer, IsRecord, Length, Call, CallVariable, Actuals, NoActual, AnActual, Stmt, Assign, CallProper, Updated, Copy, New, NewOpenArray, Assert, Halt, If, Case, While, Repeat, For, Loop, Exit, Return, With, Stmts, Nothing, Then, Branches, NoBranch, Branch, Cases, NoCase, OneCase, Otherwise, NoElse, Else, Procedure, Module}
 use Rattle.ob_counts.specs.Counts.{own_name}
-use Rattle.ob_local.specs.Agreeing.{Map, On}
+use Rattle.ob_env.specs.Faces.{described}
+use Rattle.ob_local.specs.Agreeing.{Map, On, IsNear}
+use Rattle.ob_local.specs.Laws.{over, view, IsLaid}
 use Rattle.ob_local.specs.Read.{CalleeRead, RoomRead, DesigRead, ExprRead, ActualsRead, ResultRead, AssignedRead, MadeRead, StmtRead, StmtsRead, BranchesRead, CasesRead, ElseRead, PassedRead, ParameterRead, BindingRead, ProcedureRead, TypeRead, ModuleRead}
+use Rattle.ob_local.proofs.Laid.{laid_read}
 use Rattle.ob_linking.specs.Same.{PassedSame, ParameterSame, CalleeSame, DesigSame, ExprSame, ActualsSame, ResultSame, AssignedSame, MadeSame, StmtSame, StmtsSame, BranchesSame, CasesSame, ElseSame, BindingSame, ProcedureSame, BaseSame, DescSame, ModuleSame, IsSameSize}
 use Rattle.ob_joint.specs.Seen.{CalleeSeen, DesigSeen, ExprSeen, ActualsSeen, ResultSeen, StmtSeen, StmtsSeen, BranchesSeen, CasesSeen, ElseSeen, BindingSeen, ProcedureSeen, ModuleSeen}
 use Rattle.ob_joint.specs.Agreement.{AgreeAs, ReadAreSame}
@@ -155,20 +158,20 @@ module _ (a b : Map) (Shapes Layouts : QName → Type 0) (agree : AgreeAs a b Sh
   base None h = tt
   base (Some t) h = (agree.shapes t h.0).name
 
-  described : (q : QName) (d : Desc) → TypeRead Shapes Layouts q d → DescSame a b d
-  described q (desc.Record r) h = base r.base h.1
-  described q (desc.Const v) h = tt
-  described q (desc.Var m t) h = tt
-  described q (desc.Proc s) h = tt
-  described q (desc.Alias m t) h = tt
-  described q (desc.Array m n t) h = tt
-  described q (desc.OpenArray m t) h = tt
-  described q (desc.Pointer m t) h = tt
-  described q (desc.ProcType m s) h = tt
+  described_so : (q : QName) (d : Desc) → TypeRead Shapes Layouts q d → DescSame a b d
+  described_so q (desc.Record r) h = base r.base h.1
+  described_so q (desc.Const v) h = tt
+  described_so q (desc.Var m t) h = tt
+  described_so q (desc.Proc s) h = tt
+  described_so q (desc.Alias m t) h = tt
+  described_so q (desc.Array m n t) h = tt
+  described_so q (desc.OpenArray m t) h = tt
+  described_so q (desc.Pointer m t) h = tt
+  described_so q (desc.ProcType m s) h = tt
 
   types : (m : Module) (ts : List TypedType) → AllByRecursion (λ t. TypeRead Shapes Layouts (own_name m t) t.desc) ts → AllByRecursion (λ t. DescSame a b t.desc) ts
   types m [] h = tt
-  types m (t ∷ ts) h = (described (own_name m t) t.desc h.0, types m ts h.1)
+  types m (t ∷ ts) h = (described_so (own_name m t) t.desc h.0, types m ts h.1)
 
   same : (m : Module) → ModuleRead Shapes Layouts m → ModuleSeen a m → ModuleSame a b m
   same m h s = record {
@@ -179,4 +182,7 @@ module _ (a b : Map) (Shapes Layouts : QName → Type 0) (agree : AgreeAs a b Sh
   }
 
 pub read_are_same : ReadAreSame
-read_are_same a b Shapes Layouts agree m h s = same a b Shapes Layouts agree m h s
+read_are_same faces m tied other agree seen =
+    let S : QName → Type 0 = IsNear (view faces m) (over faces m) in
+    let L : QName → Type 0 = IsLaid (view faces m) (over faces m) in
+    same (view faces m) other S L agree (over faces m) (laid_read (described faces) m S L tied.read) seen

@@ -1,6 +1,7 @@
 -- The types that headings make, and those inside procedures, are not named by words.
 use Rattle.std.proofs.Common.{◌≡◌, ◌⊎◌, inl, inr, refl, sym, ap, ◌∙◌, subst, ℕ, ◌+◌, ◌<◌, ◌^◌, Bool, true, false, List, [], ◌∷◌, ◌++◌, map, Option, Some, None, append-nil}
 use Rattle.std.specs.Prelude.{codes, ◌&&◌}
+use Rattle.std.specs.Fmt.{decimal}
 use Rattle.std.specs.List.{AllByRecursion, filter_map}
 use Rattle.std.proofs.lemmas.Bool.{and_parts}
 use Rattle.ob_tree.specs.declared.decl.Decl.{Decl, roll-Decl, map-Decl}
@@ -50,7 +51,7 @@ mark_there (x ∷ r) rest c e = inr (mark_there r rest c e)
 -- ---- headings
 
 section_no_word : (name : List ℕ) (i : ℕ) (n : List ℕ) → IsOfSection name i n → IsWord n → ⊥
-section_no_word name i n o w = mark_no_word n (subst HasMark (sym o.part.is) (mark_front _ o.part.rest (mark_there name _ 40 refl))) w
+section_no_word name i n o w = mark_no_word n (subst HasMark (sym o.part.is) (mark_front (name ++ 40 ∷ decimal o.at) o.part.rest (mark_there name (decimal o.at) 40 refl))) w
 
 parameters_no_word : (name : List ℕ) (o : Option Parameters) → IfThere (ParametersIn name 1) o → AllByRecursion NoWord (types_of_head o)
 parameters_no_word name None h = tt

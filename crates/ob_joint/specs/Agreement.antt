@@ -5,8 +5,9 @@ use Rattle.ob_types.specs.declared.types.TypeRef.{TypeRef}
 use Rattle.ob_types.specs.declared.typed.Family.{Family}
 use Rattle.ob_types.specs.TypedSyntax.{Module}
 use Rattle.ob_code.specs.Descriptions.{open_words}
-use Rattle.ob_local.specs.Agreeing.{Map, On}
-use Rattle.ob_local.specs.Read.{ModuleRead}
+use Rattle.ob_env.specs.Faces.{Face}
+use Rattle.ob_local.specs.Agreeing.{Map, On, IsNear}
+use Rattle.ob_local.specs.Laws.{Text, over, view, IsLaid, IsTied}
 use Rattle.ob_linking.specs.Same.{IsSame, IsSameSize, IsSameField, IsSameFamily, ModuleSame}
 use Rattle.ob_joint.specs.Seen.{FieldSeen, FamilySeen, ModuleSeen}
 
@@ -19,6 +20,6 @@ pub record AgreeAs (a b : Map) (Shapes Layouts : QName → Type 0) : Type 0 wher
   pub layouts : (t : TypeRef) → On Layouts t → IsSameSize a b t
   pub opens : (t : TypeRef) → On Layouts t → open_words a t ≡ open_words b t
 
--- THE LAW: so they say the same of a module that reads no others, and whose members the first has.
-abbrev pub ReadAreSame : Type 1
-ReadAreSame = (a b : Map) (Shapes Layouts : QName → Type 0) → AgreeAs a b Shapes Layouts → (m : Module) → ModuleRead Shapes Layouts m → ModuleSeen a m → ModuleSame a b m
+-- THE LAW: where they agree so on what the view of a module reads, they say the same of the module, whose members the view has.
+abbrev pub ReadAreSame : Type 0
+ReadAreSame = (faces : List (Face Text)) (m : Module) → IsTied faces m → (other : Map) → AgreeAs (view faces m) other (IsNear (view faces m) (over faces m)) (IsLaid (view faces m) (over faces m)) → ModuleSeen (view faces m) (over faces m) → ModuleSame (view faces m) other (over faces m)
