@@ -1,0 +1,14 @@
+pub mod Setting
+pub mod Values
+pub mod Calls
+pub mod Functions
+pub mod Designators
+pub mod Expressions
+pub mod Statements
+pub mod Branching
+pub mod Bodies
+pub mod Whole
+pub mod Members
+pub mod Views
+pub mod Modules
+pub mod Builds
