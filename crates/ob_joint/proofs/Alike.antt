@@ -19,7 +19,7 @@ use Rattle.ob_code.specs.Descriptions.{name_in, elements_in, elements_of, open_w
 use Rattle.ob_uses.specs.Uses.{near_types, flat_types}
 use Rattle.ob_local.specs.Agreeing.{Map, On}
 use Rattle.ob_linking.specs.Same.{IsSame, IsSameField, IsSameFamily}
-use Rattle.ob_joint.specs.Seen.{FieldSeen, FamilySeen}
+use Rattle.ob_seen.specs.Seen.{FieldSeen, FamilySeen}
 use Rattle.ob_joint.specs.Agreement.{AgreeAs}
 use Rattle.ob_joint.proofs.Shown.{Told, ToldWhole, opened, targets_told, elements_told, targets_whole, words_whole, opened_whole}
 use Rattle.ob_joint.proofs.Members.{picked, fields_told, methods_told}

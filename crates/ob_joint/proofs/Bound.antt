@@ -121,10 +121,10 @@ module _ (u : Around) (cs : List Head) (ready : (h : Head) → IsOneOf cs h → 
       let own = y.own a e in
       record {
         methods = types_named a.owner.object m s.own
-        (λ t j n.
-        let at : with_own u s.own a.owner ≡ Some t.desc = at_own u h a own e y.whole s.own ∙ subst (λ z. desc_in s.own z ≡ Some t.desc) n (one_found s.own g.types t j) in
-        no_method a.owner h.name t.desc (subst (λ o. own_member a.owner o h.name ≡ None) at (none_within (with_own u s.own) 200 a.owner h.name f)))
-        g.methods;
+            (λ t j n.
+            let at : with_own u s.own a.owner ≡ Some t.desc = at_own u h a own e y.whole s.own ∙ subst (λ z. desc_in s.own z ≡ Some t.desc) n (one_found s.own g.types t j) in
+            no_method a.owner h.name t.desc (subst (λ o. own_member a.owner o h.name ≡ None) at (none_within (with_own u s.own) 200 a.owner h.name f)))
+            g.methods;
         types = change_distinct a.owner.object (λ r. with_method r m) s.own g.types;
       }
 

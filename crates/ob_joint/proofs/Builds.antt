@@ -40,7 +40,7 @@ use Rattle.ob_ages.specs.Laws.{AreAsWanted}
 use Rattle.ob_joining.specs.Builds.{program_of}
 use Rattle.ob_ruled.proofs.Builds.{names_laid}
 use Rattle.ob_ordered.proofs.Shown.{Showing, builds_show}
-use Rattle.ob_joint.specs.Seen.{ModuleSeen}
+use Rattle.ob_seen.specs.Seen.{ModuleSeen}
 use Rattle.ob_joint.specs.Named.{MethodsDiffer, AreNamedApart}
 use Rattle.ob_joint.proofs.Shown.{FieldsDiffer}
 use Rattle.ob_joint.proofs.Walk.{read_are_same}

@@ -21,7 +21,8 @@ use Rattle.ob_joining.proofs.Settings.{loaded_front}
 use Rattle.ob_ruled.specs.Ruled.{BuildsAreRuled}
 use Rattle.ob_ordered.proofs.Loaded.{Before, have_no_out, valid_of, uses, before_more, none}
 use Rattle.ob_joint.specs.Named.{AreNamedApart}
-use Rattle.ob_joint.specs.Joint.{BuildsSee, LoadedAreSame}
+use Rattle.ob_seen.specs.Laws.{ModulesSee}
+use Rattle.ob_joint.specs.Joint.{LoadedAreSame}
 use Rattle.ob_joint.proofs.Shown.{FieldsDiffer}
 use Rattle.ob_joint.proofs.Apart.{named_apart}
 use Rattle.ob_joint.proofs.Builds.{has_at, none_of_out, own_found, each_joined, same_by}
@@ -50,7 +51,7 @@ append_none : {A : Type 0} (xs : List A) → xs ++ [] ≡ xs
 append_none [] = refl
 append_none (x ∷ xs) = ap (λ r. x ∷ r) (append_none xs)
 
-module _ (written : BuildsAreWritten) (ruled : BuildsAreRuled) (see : BuildsSee) where
+module _ (written : BuildsAreWritten) (ruled : BuildsAreRuled) (see : ModulesSee) where
   before_all : (before bs : List Build) → Before before → AreTogether before bs → Before (before ++ bs)
   before_all before [] k h = subst Before (sym (append_none before)) k
   before_all before (b ∷ bs) k h = subst Before (append_assoc before (b ∷ []) bs) (before_all (before ++ b ∷ []) bs (before_more written ruled before b k h.0) h.1)

@@ -21,7 +21,7 @@ use Rattle.ob_local.specs.Agreeing.{Map, as_shape}
 use Rattle.ob_forms.specs.Said.{IsOneOf, IsFreshName, HaveNames}
 use Rattle.ob_forms.proofs.Modules.{of_all, other_name}
 use Rattle.ob_declares.proofs.Shown.{one_filtered, one_ordered}
-use Rattle.ob_joint.specs.Seen.{HasField, HasMethod}
+use Rattle.ob_seen.specs.Seen.{HasField, HasMethod}
 use Rattle.ob_joint.specs.Named.{MethodsDiffer}
 use Rattle.ob_joint.proofs.Shown.{FieldsDiffer, Told, same, plain, shown}
 

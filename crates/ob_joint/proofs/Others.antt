@@ -149,8 +149,8 @@ module _ (faces others : List (Face Text)) (m : Module) (spelled : AreSpelled fa
   flat_on q r d (flat f) e n i = flat (onward f (ap (λ (o : Option Desc). is_among (of_found (desc_leads way.Flat m.name q) o) r) e ∙ i))
   flat_on q r d (own k o e') e n i = absurd (both_ways true refl (ap is_record (some_is (desc.Record k) d (sym e' ∙ e)) ∙ n))
   flat_on q r d (told near (room d' e' n' next)) e n i = told
-    (onward near (ap (λ (o : Option Desc). is_among (of_found (desc_leads way.Near m.name q) o) r) e ∙ plain_near (is_of m.name q) d n r i))
-    (next r (ap (λ (o : Option Desc). is_among (of_found (desc_leads way.Flat m.name q) o) r) e ∙ i))
+      (onward near (ap (λ (o : Option Desc). is_among (of_found (desc_leads way.Near m.name q) o) r) e ∙ plain_near (is_of m.name q) d n r i))
+      (next r (ap (λ (o : Option Desc). is_among (of_found (desc_leads way.Flat m.name q) o) r) e ∙ i))
 
   pub are_told : AreTold V b S L
   are_told = record {

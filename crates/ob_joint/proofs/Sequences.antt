@@ -209,9 +209,9 @@ module _ (u : Around) (a : Declared) (f : Around → Declared) (g : IsItem u a) 
 
   new : (then_declared a f).part.notes.broken ≡ [] → (x : List ℕ) → IsObject (then_declared a f).part.contents x → (is_known u x ≡ false) × (is_known d.around x ≡ true)
   new b x o = ⊎_elim
-    (λ k. let n = g.new (front_empty a.part.notes.broken d.part.notes.broken b) x k in (n.0, q.keeps x n.1))
-    (λ k. let n = h.new (back_empty a.part.notes.broken d.part.notes.broken b) x k in (not_before (is_known u x) (is_known a.around x) (p.keeps x) n.0, n.1))
-    (object_either a.part.contents d.part.contents x o)
+      (λ k. let n = g.new (front_empty a.part.notes.broken d.part.notes.broken b) x k in (n.0, q.keeps x n.1))
+      (λ k. let n = h.new (back_empty a.part.notes.broken d.part.notes.broken b) x k in (not_before (is_known u x) (is_known a.around x) (p.keeps x) n.0, n.1))
+      (object_either a.part.contents d.part.contents x o)
 
   apart : (then_declared a f).part.notes.broken ≡ [] → u.path ≡ [] → (x : List ℕ) → IsObject (then_declared a f).part.contents x → (t : TypedType) → IsOneOf (then_declared a f).part.contents.types t → t.name ≢ x
   apart b e x o t i same = by (object_either a.part.contents d.part.contents x o) (one_joined a.part.contents.types d.part.contents.types t i)

@@ -10,12 +10,8 @@ use Rattle.ob_compiling.specs.Compiling.{Compiled}
 use Rattle.ob_ages.specs.Builds.{Text, Build, IsValid, of, tree_of}
 use Rattle.ob_ages.specs.Laws.{BuildsAreWritten}
 use Rattle.ob_joining.specs.Builds.{program_of, AreLoaded}
-use Rattle.ob_joint.specs.Seen.{ModuleSeen}
+use Rattle.ob_seen.specs.Laws.{ModulesSee}
 use Rattle.ob_joint.specs.Named.{AreNamedApart}
-
--- The members that each build names are those of their owners, in the descriptions that it was compiled with.
-abbrev pub BuildsSee : Type 0
-BuildsSee = (b : Build) (c : Compiled Text) → IsValid b c → ModuleSeen (viewed (described c.against) c.tree) c.tree
 
 -- What a build shows that is no type has not the name of one of its types, and the bound procedures that a record introduces have
 -- different names.
@@ -25,5 +21,5 @@ BuildsAreNamedApart = BuildsAreRuled → (b : Build) (c : Compiled Text) → IsV
 -- THE LAW: the descriptions that a module was compiled with say of what it names what its declarations in the program say.
 abbrev pub LoadedAreSame : Type 0
 LoadedAreSame =
-    BuildsAreWritten → BuildsAreRuled → BuildsSee → ((bs : List Build) → AreLoaded bs → IsSound (program_of bs)) →
+    BuildsAreWritten → BuildsAreRuled → ModulesSee → ((bs : List Build) → AreLoaded bs → IsSound (program_of bs)) →
     (bs more : List Build) → AreLoaded (bs ++ more) → (b : Build) → Contains bs b → ModuleSame (viewed (described (of b).against) (tree_of b)) (description (program_of bs)) (tree_of b)

@@ -1,4 +1,3 @@
-pub mod Seen
 pub mod Agreement
 pub mod Named
 pub mod Joint
