@@ -106,7 +106,7 @@ module _ (c : Setting) (bs more : List Build) (loaded : AreLoaded (bs ++ more)) 
           procedures = procedures_left (tree_of x) (tree_of x).procedures scoped.procedures k.procedures;
           body = procedure_left (tree_of x) (body_of (tree_of x)) scoped.body k.body;
         },
-        all_left xs (λ y j. i y (has_more x xs y j)) s.1 b.1
+        all_left xs (λ y j. i y (has_more x xs y j)) s.1 b.1,
       )
 
   all_built : (ms : List Module) → AllByRecursion (IsBuiltModule (program_of bs)) ms → AllByRecursion (AreBuilt (program_of bs)) ms
