@@ -21,7 +21,7 @@ use Rattle.ob_joining.proofs.Settings.{loaded_front}
 use Rattle.ob_ruled.specs.Ruled.{BuildsAreRuled}
 use Rattle.ob_ordered.proofs.Loaded.{Before, have_no_out, valid_of, uses, before_more, none}
 use Rattle.ob_joint.specs.Named.{AreNamedApart}
-use Rattle.ob_seen.specs.Laws.{ModulesSee}
+use Rattle.ob_seen.proofs.Builds.{modules_see}
 use Rattle.ob_joint.specs.Joint.{LoadedAreSame}
 use Rattle.ob_joint.proofs.Shown.{FieldsDiffer}
 use Rattle.ob_joint.proofs.Apart.{named_apart}
@@ -51,7 +51,7 @@ append_none : {A : Type 0} (xs : List A) → xs ++ [] ≡ xs
 append_none [] = refl
 append_none (x ∷ xs) = ap (λ r. x ∷ r) (append_none xs)
 
-module _ (written : BuildsAreWritten) (ruled : BuildsAreRuled) (see : ModulesSee) where
+module _ (written : BuildsAreWritten) (ruled : BuildsAreRuled) where
   before_all : (before bs : List Build) → Before before → AreTogether before bs → Before (before ++ bs)
   before_all before [] k h = subst Before (sym (append_none before)) k
   before_all before (b ∷ bs) k h = subst Before (append_assoc before (b ∷ []) bs) (before_all (before ++ b ∷ []) bs (before_more written ruled before b k h.0) h.1)
@@ -73,7 +73,7 @@ module _ (written : BuildsAreWritten) (ruled : BuildsAreRuled) (see : ModulesSee
       (λ q i. ap (λ p. description p q) (each_joined tree_of before (b ∷ after)) ∙ own_found (program_of before) (tree_of b) (program_of after) u.over.name q i)
       (λ q x e. has_at before (b ∷ after) k.showing n q x (λ y f. fields_sound (program_of (before ++ b ∷ after)) sound q y f) e)
       (λ q e. none_of_out (before ++ b ∷ after) whole.showing whole.out q e)
-      (see b (of b) w)
+      (modules_see b (of b) w)
 
   same_all : (before bs : List Build) → Before before → AllByRecursion (λ k. AreNamedApart (tree_of k)) before → AreTogether before bs → IsSound (program_of (before ++ bs)) → (b : Build) → In bs b → Same (before ++ bs) b
   same_all before [] k n h sound b i = absurd i
@@ -85,5 +85,5 @@ module _ (written : BuildsAreWritten) (ruled : BuildsAreRuled) (see : ModulesSee
 
 -- THE LAW
 pub loaded_are_same : LoadedAreSame
-loaded_are_same written ruled see sound bs more l b i =
-    same_all written ruled see [] bs (none written ruled) tt (together_front [] bs more l.together) (sound bs (loaded_front bs more l)) b (to_in bs b i)
+loaded_are_same written ruled sound bs more l b i =
+    same_all written ruled [] bs (none written ruled) tt (together_front [] bs more l.together) (sound bs (loaded_front bs more l)) b (to_in bs b i)
