@@ -1,22 +1,20 @@
 -- Builds that are loaded together: the law.
-use Rattle.std.proofs.Common.{◌≡◌, Bool, true, false, List, [], ◌∷◌, ◌++◌, map as each, Some, refl, sym, ap, subst, ◌∙◌, inl, inr, append_assoc}
-use Rattle.std.specs.Prelude.{Contains, bytes_eq, codes}
+use Rattle.std.proofs.Common.{◌≡◌, List, [], ◌∷◌, ◌++◌, map as each, Some, refl, sym, ap, subst, ◌∙◌, inl, inr, append_assoc}
 use Rattle.std.specs.List.{AllByRecursion}
 use Rattle.ob_tree.specs.declared.names.QName.{QName}
 use Rattle.ob_types.specs.declared.desc.Desc.{Desc}
 use Rattle.ob_types.specs.declared.desc.Desc.TheVariants as desc
 use Rattle.ob_meaning.specs.Values.{Program, description}
-use Rattle.ob_layout.specs.LaidOut.{type_named as own_named, is_own, viewed}
+use Rattle.ob_layout.specs.LaidOut.{viewed}
 use Rattle.ob_env.specs.Faces.{described}
 use Rattle.ob_forms.specs.Said.{IsSound}
 use Rattle.ob_linking.specs.Same.{ModuleSame}
 use Rattle.ob_sized.proofs.Different.{build_comes}
 use Rattle.ob_locality.proofs.Compiled.{comes_of}
-use Rattle.ob_compiling.specs.Compiling.{Compiled}
-use Rattle.ob_ages.specs.Builds.{Text, Build, IsValid, of, shows_of, tree_of}
+use Rattle.ob_ages.specs.Builds.{Build, of, shows_of, tree_of}
 use Rattle.ob_ages.specs.Laws.{AreTogether, IsBehind, BuildsAreWritten}
 use Rattle.ob_ages.proofs.Members.{In, to_in}
-use Rattle.ob_joining.specs.Builds.{program_of, AreLoaded}
+use Rattle.ob_joining.specs.Builds.{program_of}
 use Rattle.ob_joining.proofs.Settings.{loaded_front}
 use Rattle.ob_ruled.specs.Ruled.{BuildsAreRuled}
 use Rattle.ob_ordered.proofs.Loaded.{Before, have_no_out, valid_of, uses, before_more, none}
