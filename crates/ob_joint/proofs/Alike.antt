@@ -1,5 +1,5 @@
 -- Two maps of which the second declares what the first shows agree on what is read.
-use Rattle.std.proofs.Common.{◌≡◌, ℕ, zero, suc, ◌*◌, List, [], ◌∷◌, Bool, true, false, Option, Some, None, refl, sym, ap, ◌∙◌, subst}
+use Rattle.std.proofs.Common.{◌≡◌, ℕ, zero, suc, ◌*◌, List, false, Option, Some, None, refl, sym, ap, ◌∙◌, subst}
 use Rattle.std.specs.Prelude.{unwrap_or}
 use Rattle.std.specs.Option.{option_map}
 use Rattle.std.specs.List.{AllByRecursion}
@@ -15,7 +15,7 @@ use Rattle.ob_types.specs.Relations.{is_record}
 use Rattle.ob_types.specs.Tests.{target, target_of, follow, shape_at}
 use Rattle.ob_layout.specs.Words.{words_within, words_of, described_words}
 use Rattle.ob_layout.specs.Members.{field_in_record, method_in_record}
-use Rattle.ob_code.specs.Descriptions.{name_in, elements_in, elements_of, open_words, open_words_in, field_place, method_number}
+use Rattle.ob_code.specs.Descriptions.{name_in, elements_in, open_words, open_words_in, field_place, method_number}
 use Rattle.ob_uses.specs.Uses.{near_types, flat_types}
 use Rattle.ob_local.specs.Agreeing.{Map, On}
 use Rattle.ob_linking.specs.Same.{IsSame, IsSameField, IsSameFamily}

@@ -1,5 +1,5 @@
 -- The bound procedures that the records of a valid build introduce have different names, and so have its types and what else it shows.
-use Rattle.std.proofs.Common.{◌≡◌, ◌≢◌, ℕ, List, [], ◌∷◌, map, sym, ap, subst, ◌∙◌, Option}
+use Rattle.std.proofs.Common.{◌≡◌, ℕ, List, map, sym, ap, subst, ◌∙◌, Option}
 use Rattle.std.specs.List.{AllByRecursion}
 use Rattle.ob_types.specs.declared.typed.TypedType.{TypedType}
 use Rattle.ob_types.specs.declared.typed.TypedConstant.{TypedConstant}

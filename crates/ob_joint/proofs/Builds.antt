@@ -1,5 +1,5 @@
 -- A build that is loaded: the descriptions that it was compiled with say what its program declares.
-use Rattle.std.proofs.Common.{◌≡◌, ◌≢◌, ℕ, Bool, true, false, List, [], ◌∷◌, ◌++◌, map as each, Option, Some, None, refl, sym, ap, subst, ◌∙◌}
+use Rattle.std.proofs.Common.{◌≡◌, ◌≢◌, ℕ, Bool, true, false, List, [], ◌∷◌, ◌++◌, map as each, Some, None, refl, sym, ap, subst, ◌∙◌}
 use Rattle.std.specs.Prelude.{cond, codes, bytes_eq, if◌then◌else◌}
 use Rattle.std.specs.List.{AllByRecursion}
 use Rattle.ob_tree.specs.declared.names.QName.{QName}
@@ -13,12 +13,10 @@ use Rattle.ob_types.specs.TypedView.{module_view}
 use Rattle.ob_meaning.specs.Values.{Program, type_named, description}
 use Rattle.ob_relation.proofs.Names.{bytes_true}
 use Rattle.ob_format.specs.Format.{◌>>=◌}
-use Rattle.ob_desc.specs.Grammar.{seen}
 use Rattle.ob_layout.specs.LaidOut.{type_named as own_named, is_own, viewed}
 use Rattle.ob_env.specs.Faces.{Face, object_named, face_named, described, text_in}
 use Rattle.ob_rules.specs.Names.{is_out}
 use Rattle.ob_uses.specs.Made.{face_from}
-use Rattle.ob_uses.specs.Objects.{in_places, objects_of}
 use Rattle.ob_forms.proofs.Modules.{other_name}
 use Rattle.ob_distinct.specs.Distinct.{AreDistinct}
 use Rattle.ob_linking.specs.Same.{ModuleSame}

@@ -1,27 +1,25 @@
 -- Builds that are loaded together: the law.
-use Rattle.std.proofs.Common.{◌≡◌, Bool, true, false, List, [], ◌∷◌, ◌++◌, map as each, Some, refl, sym, ap, subst, ◌∙◌, inl, inr, append_assoc}
-use Rattle.std.specs.Prelude.{Contains, bytes_eq, codes}
+use Rattle.std.proofs.Common.{◌≡◌, List, [], ◌∷◌, ◌++◌, map as each, Some, refl, sym, ap, subst, ◌∙◌, inl, inr, append_assoc}
 use Rattle.std.specs.List.{AllByRecursion}
 use Rattle.ob_tree.specs.declared.names.QName.{QName}
 use Rattle.ob_types.specs.declared.desc.Desc.{Desc}
 use Rattle.ob_types.specs.declared.desc.Desc.TheVariants as desc
 use Rattle.ob_meaning.specs.Values.{Program, description}
-use Rattle.ob_layout.specs.LaidOut.{type_named as own_named, is_own, viewed}
+use Rattle.ob_layout.specs.LaidOut.{viewed}
 use Rattle.ob_env.specs.Faces.{described}
 use Rattle.ob_forms.specs.Said.{IsSound}
 use Rattle.ob_linking.specs.Same.{ModuleSame}
 use Rattle.ob_sized.proofs.Different.{build_comes}
 use Rattle.ob_locality.proofs.Compiled.{comes_of}
-use Rattle.ob_compiling.specs.Compiling.{Compiled}
-use Rattle.ob_ages.specs.Builds.{Text, Build, IsValid, of, shows_of, tree_of}
+use Rattle.ob_ages.specs.Builds.{Build, of, shows_of, tree_of}
 use Rattle.ob_ages.specs.Laws.{AreTogether, IsBehind, BuildsAreWritten}
 use Rattle.ob_ages.proofs.Members.{In, to_in}
-use Rattle.ob_joining.specs.Builds.{program_of, AreLoaded}
+use Rattle.ob_joining.specs.Builds.{program_of}
 use Rattle.ob_joining.proofs.Settings.{loaded_front}
 use Rattle.ob_ruled.specs.Ruled.{BuildsAreRuled}
 use Rattle.ob_ordered.proofs.Loaded.{Before, have_no_out, valid_of, uses, before_more, none}
 use Rattle.ob_joint.specs.Named.{AreNamedApart}
-use Rattle.ob_seen.specs.Laws.{ModulesSee}
+use Rattle.ob_seen.proofs.Builds.{modules_see}
 use Rattle.ob_joint.specs.Joint.{LoadedAreSame}
 use Rattle.ob_joint.proofs.Shown.{FieldsDiffer}
 use Rattle.ob_joint.proofs.Apart.{named_apart}
@@ -51,7 +49,7 @@ append_none : {A : Type 0} (xs : List A) → xs ++ [] ≡ xs
 append_none [] = refl
 append_none (x ∷ xs) = ap (λ r. x ∷ r) (append_none xs)
 
-module _ (written : BuildsAreWritten) (ruled : BuildsAreRuled) (see : ModulesSee) where
+module _ (written : BuildsAreWritten) (ruled : BuildsAreRuled) where
   before_all : (before bs : List Build) → Before before → AreTogether before bs → Before (before ++ bs)
   before_all before [] k h = subst Before (sym (append_none before)) k
   before_all before (b ∷ bs) k h = subst Before (append_assoc before (b ∷ []) bs) (before_all (before ++ b ∷ []) bs (before_more written ruled before b k h.0) h.1)
@@ -73,7 +71,7 @@ module _ (written : BuildsAreWritten) (ruled : BuildsAreRuled) (see : ModulesSee
       (λ q i. ap (λ p. description p q) (each_joined tree_of before (b ∷ after)) ∙ own_found (program_of before) (tree_of b) (program_of after) u.over.name q i)
       (λ q x e. has_at before (b ∷ after) k.showing n q x (λ y f. fields_sound (program_of (before ++ b ∷ after)) sound q y f) e)
       (λ q e. none_of_out (before ++ b ∷ after) whole.showing whole.out q e)
-      (see b (of b) w)
+      (modules_see b (of b) w)
 
   same_all : (before bs : List Build) → Before before → AllByRecursion (λ k. AreNamedApart (tree_of k)) before → AreTogether before bs → IsSound (program_of (before ++ bs)) → (b : Build) → In bs b → Same (before ++ bs) b
   same_all before [] k n h sound b i = absurd i
@@ -85,5 +83,5 @@ module _ (written : BuildsAreWritten) (ruled : BuildsAreRuled) (see : ModulesSee
 
 -- THE LAW
 pub loaded_are_same : LoadedAreSame
-loaded_are_same written ruled see sound bs more l b i =
-    same_all written ruled see [] bs (none written ruled) tt (together_front [] bs more l.together) (sound bs (loaded_front bs more l)) b (to_in bs b i)
+loaded_are_same written ruled sound bs more l b i =
+    same_all written ruled [] bs (none written ruled) tt (together_front [] bs more l.together) (sound bs (loaded_front bs more l)) b (to_in bs b i)

@@ -1,5 +1,5 @@
 -- The bound procedures that the records of a checked module introduce have different names.
-use Rattle.std.proofs.Common.{◌≡◌, ◌≢◌, refl, sym, ap, ◌∙◌, subst, ℕ, suc, Bool, true, false, List, [], ◌∷◌, ◌++◌, map, Option, Some, None, inl, inr}
+use Rattle.std.proofs.Common.{◌≡◌, ◌≢◌, sym, ap, ◌∙◌, subst, ℕ, suc, true, false, List, [], ◌∷◌, ◌++◌, map, Option, Some, None, inl, inr}
 use Rattle.std.specs.Prelude.{bytes_eq}
 use Rattle.std.specs.List.{AllByRecursion, find}
 use Rattle.ob_tree.specs.declared.names.QName.{QName}
@@ -33,7 +33,7 @@ use Rattle.ob_matched.specs.Matched.{HeadingsAre}
 use Rattle.ob_bound.specs.Bound.{methods_of}
 use Rattle.ob_bound.proofs.Typings.{IsRaw, AreRaw}
 use Rattle.ob_bound.proofs.Binding.{one_filtered}
-use Rattle.ob_bound.proofs.Modules.{parts, M, whole, imports, plain, ps, hs, heads, B, w, judged, imports_are, plain_is, level, known_raw, all_types, found_has}
+use Rattle.ob_bound.proofs.Modules.{parts, M, whole, plain, ps, hs, heads, B, w, judged, imports_are, plain_is, level, known_raw, all_types, found_has}
 use Rattle.ob_there.proofs.Introduced.{IsReady}
 use Rattle.ob_local.specs.Agreeing.{Map}
 use Rattle.ob_joint.specs.Named.{MethodsDiffer}

@@ -1,6 +1,6 @@
 -- What a module shows that is no type has not the name of a type.
-use Rattle.std.proofs.Common.{◌≡◌, ◌≢◌, ⊎_elim, inl, inr, refl, sym, ap, ◌∙◌, subst, ℕ, Bool, true, false, List, [], ◌∷◌, ◌++◌, map as each, Option, Some, None}
-use Rattle.std.specs.Prelude.{bytes_eq, cond}
+use Rattle.std.proofs.Common.{◌≡◌, ◌≢◌, ⊎_elim, inl, inr, refl, sym, ap, ◌∙◌, subst, ℕ, Bool, true, false, List, [], ◌∷◌, ◌++◌, map as each, Some, None}
+use Rattle.std.specs.Prelude.{cond}
 use Rattle.std.specs.List.{AllByRecursion, filter}
 use Rattle.ob_types.specs.declared.desc.Desc.{Desc}
 use Rattle.ob_types.specs.declared.desc.Desc.TheVariants as desc
@@ -11,7 +11,6 @@ use Rattle.ob_types.specs.Maps.{is_type}
 use Rattle.ob_types.specs.TypedSyntax.{Procedure, Module}
 use Rattle.ob_desc.specs.Grammar.{is_shown, seen}
 use Rattle.ob_layout.specs.LaidOut.{type_named}
-use Rattle.ob_env.specs.Faces.{object_named}
 use Rattle.ob_counts.specs.Counts.{own_name}
 use Rattle.ob_uses.specs.Objects.{is_exported, constant_object, variable_object, procedure_object, in_places, type_object, types_among, reached_types, by_name, objects_of}
 use Rattle.ob_uses.specs.Closed.{is_among}

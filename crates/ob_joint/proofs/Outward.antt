@@ -1,5 +1,5 @@
 -- Exported procedures of a checked module that are not bound have not the names of its types.
-use Rattle.std.proofs.Common.{◌≡◌, ◌≢◌, inl, inr, refl, sym, ap, ◌∙◌, subst, ℕ, Bool, true, false, List, [], ◌∷◌, ◌++◌, map, Option, Some, None}
+use Rattle.std.proofs.Common.{◌≡◌, ◌≢◌, inl, inr, refl, sym, ap, ◌∙◌, subst, ℕ, Bool, true, false, List, [], ◌∷◌, map, Option, Some, None}
 use Rattle.std.specs.Prelude.{◌&&◌, not, is_none}
 use Rattle.std.specs.List.{AllByRecursion}
 use Rattle.std.proofs.lemmas.Bool.{and_parts, false≢true}
@@ -12,13 +12,12 @@ use Rattle.ob_types.specs.declared.typed.TypedType.{TypedType}
 use Rattle.ob_types.specs.declared.typed.TypedProcedure.{TypedProcedure}
 use Rattle.ob_types.specs.declared.typed.TypedModule.{TypedModule}
 use Rattle.ob_types.specs.TypedView.{procedure_view}
-use Rattle.ob_types.specs.TypedSyntax.{Procedure}
 use Rattle.ob_desc.specs.Grammar.{is_shown}
-use Rattle.ob_rules.specs.Names.{Around, map_of, is_hidden}
+use Rattle.ob_rules.specs.Names.{map_of, is_hidden}
 use Rattle.ob_rules.specs.Types.{Parameters}
 use Rattle.ob_rules.specs.Statements.{judging}
 use Rattle.ob_rules.specs.Headings.{Head, bindings, reversed}
-use Rattle.ob_rules.specs.Declarations.{Contents, with_bound, bound_to, typed_procedure, declaration, module_of, typed_module, checked}
+use Rattle.ob_rules.specs.Declarations.{with_bound, bound_to, declaration, module_of, typed_module, checked}
 use Rattle.ob_uses.specs.Objects.{is_exported}
 use Rattle.ob_forms.specs.Said.{IsOneOf}
 use Rattle.ob_distinct.specs.Distinct.{AreDistinct}
@@ -27,8 +26,7 @@ use Rattle.ob_distinct.proofs.Blocks.{unbroken_is}
 use Rattle.ob_written.specs.Raw as raw
 use Rattle.ob_outward.specs.Laws.{is_outward}
 use Rattle.ob_outward.proofs.Binding.{Among, is_bound}
-use Rattle.ob_outward.proofs.Blocks.{IsHidden, TypedSo, So, start, ps, behind, heads_of, heads_are, procedures_good}
-use Rattle.ob_outward.proofs.Heads.{IsHeaded}
+use Rattle.ob_outward.proofs.Blocks.{IsHidden, So, start, ps, behind, heads_of, heads_are, procedures_good}
 use Rattle.ob_unlike.proofs.Items.{IsAmong}
 use Rattle.ob_unlike.proofs.Once.{reversed_among}
 use Rattle.ob_joint.proofs.Objects.{head_new, word_known, described_of}

@@ -1,32 +1,16 @@
 -- What a map has of a name, and what another has that declares what the first shows.
-use Rattle.std.proofs.Common.{◌≡◌, ◌≢◌, ℕ, List, [], ◌∷◌, Bool, true, false, Option, Some, None, refl, sym, ap, ◌∙◌, subst, ⊎_elim, inl, inr}
-use Rattle.std.specs.Prelude.{bytes_eq, cond, IsSome}
-use Rattle.std.specs.Option.{option_map}
-use Rattle.std.specs.List.{AllByRecursion, filter}
-use Rattle.ob_tree.specs.declared.names.QName.{QName}
+use Rattle.std.proofs.Common.{◌≡◌, ℕ, false, Option, Some, None, refl, sym, ap, ◌∙◌}
 use Rattle.ob_types.specs.declared.types.TypeRef.{TypeRef}
-use Rattle.ob_types.specs.declared.types.TypeRef.TheVariants as ref
 use Rattle.ob_types.specs.declared.desc.Desc.{Desc}
 use Rattle.ob_types.specs.declared.desc.Desc.TheVariants as desc
-use Rattle.ob_types.specs.declared.desc.RecordDesc.{RecordDesc}
-use Rattle.ob_types.specs.declared.desc.Field.{Field}
-use Rattle.ob_types.specs.declared.desc.Method.{Method}
 use Rattle.ob_types.specs.Maps.{is_type}
-use Rattle.ob_types.specs.Relations.{is_record}
 use Rattle.ob_types.specs.Tests.{target_of}
-use Rattle.ob_relation.proofs.Names.{bytes_same, bytes_true}
-use Rattle.ob_desc.specs.Grammar.{is_shown, by_place, seen}
-use Rattle.ob_layout.specs.Lists.{or_else, in_order}
+use Rattle.ob_desc.specs.Grammar.{seen}
 use Rattle.ob_layout.specs.Words.{described_words}
-use Rattle.ob_layout.specs.Members.{field_named, method_named, nearest, nearest_in, from_base, field_in_record, method_in_record}
 use Rattle.ob_code.specs.Descriptions.{elements_in}
 use Rattle.ob_uses.specs.Objects.{in_places}
-use Rattle.ob_distinct.specs.Distinct.{AreDistinct}
-use Rattle.ob_local.specs.Agreeing.{Map, as_shape}
-use Rattle.ob_forms.specs.Said.{IsOneOf, IsFreshName, HaveNames}
-use Rattle.ob_forms.proofs.Modules.{of_all, other_name}
-use Rattle.ob_declares.proofs.Shown.{one_filtered, one_ordered}
-use Rattle.ob_seen.specs.Seen.{HasField, HasMethod}
+use Rattle.ob_local.specs.Agreeing.{as_shape}
+use Rattle.ob_forms.specs.Said.{HaveNames}
 use Rattle.ob_joint.specs.Named.{MethodsDiffer}
 
 -- the fields of a record have different names

@@ -1,6 +1,6 @@
 -- The types that headings make, and those inside procedures, are not named by words.
-use Rattle.std.proofs.Common.{◌≡◌, ◌⊎◌, inl, inr, refl, sym, ap, ◌∙◌, subst, ℕ, ◌+◌, ◌<◌, ◌^◌, Bool, true, false, List, [], ◌∷◌, ◌++◌, map, Option, Some, None, append-nil}
-use Rattle.std.specs.Prelude.{codes, ◌&&◌}
+use Rattle.std.proofs.Common.{◌≡◌, ◌⊎◌, inl, inr, refl, sym, ◌∙◌, subst, ℕ, ◌+◌, ◌<◌, ◌^◌, Bool, true, false, List, [], ◌∷◌, ◌++◌, map, Option, Some, None, append-nil}
+use Rattle.std.specs.Prelude.{◌&&◌}
 use Rattle.std.specs.Fmt.{decimal}
 use Rattle.std.specs.List.{AllByRecursion, filter_map}
 use Rattle.std.proofs.lemmas.Bool.{and_parts}
@@ -10,18 +10,17 @@ use Rattle.ob_tree.specs.declared.decl.Decl.TheFolds.{ind-Decl, fold-roll-Decl}
 use Rattle.ob_types.specs.declared.typed.TypedType.{TypedType}
 use Rattle.ob_rules.specs.Judged.{joined}
 use Rattle.ob_rules.specs.Names.{Around, map_of}
-use Rattle.ob_rules.specs.Expressions.{phrase_of}
 use Rattle.ob_rules.specs.Types.{Parameters, is_module_level, with_types}
 use Rattle.ob_rules.specs.Statements.{Judging, judging, in_turn}
-use Rattle.ob_rules.specs.Headings.{Head, Heads, WrittenHeading, head_of, declared_head, known_behind, name_twice, types_of, add_heading, forward_name, forwards_judged, reversed}
-use Rattle.ob_rules.specs.Declarations.{Declared, Declaration, Plain, Procedure, plain_of, procedure_of, type_name_of, in_order, headings_in_order, Written_procedure, around_body, types_of_head, closing_judged, procedure_judged, procedures_judged, body_part, with_bound, binding_at, all_judged, field_judged, heads_later, pointers_judged, block, decl_rule, declaration}
+use Rattle.ob_rules.specs.Headings.{Head, Heads, head_of, declared_head, known_behind, name_twice, types_of, add_heading, forward_name, forwards_judged, reversed}
+use Rattle.ob_rules.specs.Declarations.{Declaration, Plain, Procedure, plain_of, procedure_of, type_name_of, in_order, headings_in_order, Written_procedure, around_body, types_of_head, closing_judged, procedure_judged, procedures_judged, body_part, with_bound, binding_at, all_judged, field_judged, heads_later, pointers_judged, block, decl_rule, declaration}
 use Rattle.ob_distinct.specs.Named.{is_word, all_true, parameters_named, decl_layer, decl_named}
 use Rattle.ob_distinct.specs.Parts.{is_mark, IsWord}
 use Rattle.ob_distinct.proofs.Fresh.{front_empty, back_empty, all_both, all_from}
 use Rattle.ob_distinct.proofs.FieldHeads.{reversed_good}
 use Rattle.ob_distinct.proofs.Quiet.{IfThere}
 use Rattle.ob_distinct.proofs.Typings.{IsOfSection, ParametersIn, AreGoodSections, names_of}
-use Rattle.ob_distinct.proofs.Scopes.{IsOfName, IsPlaced, sequence_types}
+use Rattle.ob_distinct.proofs.Scopes.{IsOfName, sequence_types}
 use Rattle.ob_nested.proofs.Written.{parameters_are_nested}
 use Rattle.ob_nested.proofs.Heads.{head_types}
 

@@ -10,7 +10,6 @@ use Rattle.ob_compiling.specs.Compiling.{Compiled}
 use Rattle.ob_ages.specs.Builds.{Text, Build, IsValid, of, tree_of}
 use Rattle.ob_ages.specs.Laws.{BuildsAreWritten}
 use Rattle.ob_joining.specs.Builds.{program_of, AreLoaded}
-use Rattle.ob_seen.specs.Laws.{ModulesSee}
 use Rattle.ob_joint.specs.Named.{AreNamedApart}
 
 -- What a build shows that is no type has not the name of one of its types, and the bound procedures that a record introduces have
@@ -21,5 +20,5 @@ BuildsAreNamedApart = BuildsAreRuled → (b : Build) (c : Compiled Text) → IsV
 -- THE LAW: the descriptions that a module was compiled with say of what it names what its declarations in the program say.
 abbrev pub LoadedAreSame : Type 0
 LoadedAreSame =
-    BuildsAreWritten → BuildsAreRuled → ModulesSee → ((bs : List Build) → AreLoaded bs → IsSound (program_of bs)) →
+    BuildsAreWritten → BuildsAreRuled → ((bs : List Build) → AreLoaded bs → IsSound (program_of bs)) →
     (bs more : List Build) → AreLoaded (bs ++ more) → (b : Build) → Contains bs b → ModuleSame (viewed (described (of b).against) (tree_of b)) (description (program_of bs)) (tree_of b)

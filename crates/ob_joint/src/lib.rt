@@ -18,8 +18,7 @@ pub fn builds_are_named_apart()
 
 /// A law, with nothing to run. The descriptions that a loaded module was compiled with say of what it
 /// names what its declarations in the program say. (Taken for granted: `BuildsAreWritten`,
-/// `BuildsAreRuled`, that the types of loaded builds are sound, and that the members that a build
-/// names are those of their owners, where it was compiled.)
+/// `BuildsAreRuled`, and that the types of loaded builds are sound.)
 pub fn loaded_are_same()
     ensures { LoadedAreSame }
 {}
