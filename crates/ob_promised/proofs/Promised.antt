@@ -40,7 +40,6 @@ use Rattle.ob_families.specs.Premises.{builds_of, TypesDiffer, LoadedAreSound, L
 use Rattle.ob_inherited.specs.Laws.{LoadedAreLike}
 use Rattle.ob_inherited.proofs.Loaded.{loaded_keep_rules}
 use Rattle.ob_likeness.proofs.Loaded.{loaded_like}
-use Rattle.ob_seen.proofs.Builds.{modules_see}
 use Rattle.ob_joint.proofs.Loaded.{loaded_are_same}
 use Rattle.ob_limits.specs.Limits.{KeepsLimits, AllKeepLimits}
 use Rattle.ob_limits.proofs.Loaded.{loaded_keep}
@@ -74,7 +73,7 @@ describe : LoadedDescribe
 describe = loaded_describe builds_are_written builds_ruled bound whole laid
 
 same : LoadedAreSame
-same = loaded_are_same builds_are_written builds_ruled modules_see sound
+same = loaded_are_same builds_are_written builds_ruled sound
 
 like : LoadedAreLike
 like = loaded_like builds_are_written locality_holds types_differ sound whole (loaded_bases builds_are_written builds_ruled)
