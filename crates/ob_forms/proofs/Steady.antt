@@ -56,11 +56,11 @@ module _ (map : QName → Option Desc) where
   unfolding IsWithin
   bare_within n (ref.Basic b) h = tt
   bare_within zero (ref.Named q) h = absurd h
-  bare_within (suc n) (ref.Named q) h = by (map q) h
+  bare_within (suc n) (ref.Named q) h = by (map q) h (λ t p. bare_within n t p)
     where
-      by : (o : Option Desc) → MatchOption o ⊥ (λ d. IsTrue (is_type d) × AllByRecursion (λ t. IsWithin map n t) (stands_on d)) → MatchOption (option_map bare o) ⊥ (λ d. IsTrue (is_type d) × AllByRecursion (λ t. IsWithin B n t) (stands_on d))
-      by None h = absurd h
-      by (Some d) h = (type_bare d h.0, all_bare (λ t. IsWithin B n t) d (all_from (λ t. IsWithin map n t) (λ t. IsWithin B n t) (λ t p. bare_within n t p) (stands_on d) h.1))
+      by : (o : Option Desc) → MatchOption o ⊥ (λ d. IsTrue (is_type d) × AllByRecursion (λ t. IsWithin map n t) (stands_on d)) → ((t : TypeRef) → IsWithin map n t → IsWithin B n t) → MatchOption (option_map bare o) ⊥ (λ d. IsTrue (is_type d) × AllByRecursion (λ t. IsWithin B n t) (stands_on d))
+      by None h r = absurd h
+      by (Some d) h r = (type_bare d h.0, all_bare (λ t. IsWithin B n t) d (all_from (λ t. IsWithin map n t) (λ t. IsWithin B n t) r (stands_on d) h.1))
 
   pub grounded_steady : IsGrounded map → IsSteady map
   grounded_steady g = record { held = g.held; ends = λ t h. (201, g.chains t h); lines = λ t h. bare_within 201 t (g.chains t h); keeps = g.keeps }
