@@ -41,7 +41,7 @@ use Rattle.ob_inherited.proofs.Checked.{checked_at}
 use Rattle.ob_families.specs.Premises.{LoadedAreSound}
 use Rattle.ob_ordered.specs.Loaded.{LoadedAreWhole}
 use Rattle.ob_inherited.proofs.Loaded.{IsSome, tree_in, in_front, in_middle, all_shown}
-use Rattle.ob_encircled.specs.Encircled.{IsShallow, AreShallow, LoadedAreSteady}
+use Rattle.ob_encircled.specs.Encircled.{LoadedAreClosed, LoadedAreLined, LoadedAreSteady}
 use Rattle.ob_encircled.proofs.Apart.{shown_apart, all_named}
 use Rattle.ob_encircled.proofs.Types.{types_said}
 use Rattle.ob_encircled.proofs.Ending.{ending}

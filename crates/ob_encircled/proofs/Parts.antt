@@ -77,8 +77,8 @@ module _ (program : Program) (q : QName) (e : Desc) (is : description program q 
       let base : listed r.base ≡ listed s.0.base = ap listed s.1.1.base in
       let fs = each (λ (f : Field). f.of) s.0.fields in
       let all : AllByRecursion (InOr (listed s.0.base ++ fs)) (listed r.base ++ each (λ (f : Field). f.of) r.fields) =
-          all_joined (InOr (listed s.0.base ++ fs)) (listed r.base) (each (λ (f : Field). f.of) r.fields) (subst (λ ts. AllByRecursion (InOr (listed s.0.base ++ fs)) ts) (sym base) (all_in (listed s.0.base) (listed s.0.base ++ fs) (λ t i. one_front (listed s.0.base) fs t i)))
-          (fields_in (listed s.0.base) s.0.fields r.fields s.1.1.fields) in
+      all_joined (InOr (listed s.0.base ++ fs)) (listed r.base) (each (λ (f : Field). f.of) r.fields) (subst (λ ts. AllByRecursion (InOr (listed s.0.base ++ fs)) ts) (sym base) (all_in (listed s.0.base) (listed s.0.base ++ fs) (λ t i. one_front (listed s.0.base) fs t i)))
+      (fields_in (listed s.0.base) s.0.fields r.fields s.1.1.fields) in
       let front : AllByRecursion (InOr (listed s.0.base ++ [])) (listed r.base ++ []) = subst (λ ts. AllByRecursion (InOr (listed s.0.base ++ [])) (ts ++ [])) (sym base) (itself_in (listed s.0.base ++ [])) in
       subst (λ (e : Desc). AllByRecursion (InOr (stands_on e)) (stands_on (desc.Record r)) × AllByRecursion (InOr (stands_on (bare e))) (stands_on (bare (desc.Record r)))) (some_is (desc.Record s.0) e (sym s.1.0 ∙ is)) (all, front)
 

@@ -1,4 +1,4 @@
--- The maps around the bodies of a checked module are grounded.
+-- The maps around the bodies of a checked module are grounded, or steady.
 use Rattle.std.proofs.Common.{◌≡◌, inl, sym, subst, ℕ, true, false, List, [], map, Option, Some}
 use Rattle.std.specs.Prelude.{bytes_eq}
 use Rattle.std.specs.List.{AllByRecursion}

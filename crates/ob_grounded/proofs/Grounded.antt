@@ -1,5 +1,5 @@
--- The map of the types of a checked module is grounded.
-use Rattle.std.proofs.Common.{◌≡◌, ◌≢◌, ⊎_elim, inl, inr, refl, sym, ap, subst, ◌∙◌, ℕ, Bool, true, false, List, [], ◌∷◌, ◌++◌, map, Option, Some, None, zero, suc}
+-- The map of the types of a checked module is grounded, or steady.
+use Rattle.std.proofs.Common.{◌≡◌, ◌≢◌, ⊎_elim, inl, inr, refl, sym, ap, subst, ◌∙◌, ℕ, Bool, true, false, List, [], ◌∷◌, ◌++◌, map, Option, Some, None, suc}
 use Rattle.std.specs.Prelude.{bytes_eq, MatchOption, IfSome, IsTrue}
 use Rattle.std.specs.List.{AllByRecursion, find}
 use Rattle.ob_tree.specs.declared.names.QName.{QName}

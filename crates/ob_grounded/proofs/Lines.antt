@@ -1,5 +1,5 @@
 -- Chains of aliases, elements and bases: what a type stands for where they end.
-use Rattle.std.proofs.Common.{◌≡◌, refl, sym, subst, ℕ, zero, suc, ◌≤◌, true, false, List, [], ◌∷◌, ◌++◌, map as each, Option, Some, None, arith}
+use Rattle.std.proofs.Common.{◌≡◌, refl, sym, subst, ℕ, zero, suc, ◌≤◌, false, List, [], ◌∷◌, ◌++◌, map as each, Option, Some, None, arith}
 use Rattle.std.specs.Prelude.{MatchOption, IsTrue}
 use Rattle.std.specs.Option.{option_map}
 use Rattle.std.specs.List.{AllByRecursion}
