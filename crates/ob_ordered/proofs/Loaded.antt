@@ -121,6 +121,8 @@ pub record Uses (before : List Build) (b : Build) : Type 0 where
   pub passed : AllByRecursion (λ p. AllByRecursion (λ x. IsHeld (types_of (of b)) x.of → declares.IsNear (tree_of b) near x.of) p.parameters) (tree_of b).procedures
   -- and so are those of their local variables and results
   pub inside : AllByRecursion (IsInside (λ t. IsHeld (types_of (of b)) t → declares.IsNear (tree_of b) near t)) (tree_of b).procedures
+  -- and those of its variables
+  pub variables : AllByRecursion (λ v. declares.IsNear (tree_of b) near v.of) (tree_of b).variables
   pub shown : (q : QName) → is_own (tree_of b) q ≡ false → near q ≡ true → ShownNow (program_of before) (each shows_of before) (tree_of b) near q
 
 none_out : (fs : List (Face Text)) → AllByRecursion IsNotOut fs → In (each (λ (f : Face Text). f.«module») fs) (codes "Out") → ⊥
@@ -266,6 +268,7 @@ module _ (written : BuildsAreWritten) (ruled : BuildsAreRuled) where
           types = types_are;
           passed = all_parameters (IsNear (types_of (of b)) (tree_of b)) (λ t. IsHeld (types_of (of b)) t → declares.IsNear (tree_of b) near_it t) (λ t n h. held_near (of b) r found types_are (spelled_here b x v) (no_out_here b x v) (shows_is b x v) t n h) (tree_of b).procedures (parameters_near (of b) r found types_are (spelled_here b x v) (no_out_here b x v) (shows_is b x v));
           inside = all_insides (IsNear (types_of (of b)) (tree_of b)) (λ t. IsHeld (types_of (of b)) t → declares.IsNear (tree_of b) near_it t) (λ t n h. held_near (of b) r found types_are (spelled_here b x v) (no_out_here b x v) (shows_is b x v) t n h) (tree_of b).procedures (insides_near (of b) r found types_are (spelled_here b x v) (no_out_here b x v) (shows_is b x v));
+          variables = variables_near (of b) r found types_are (spelled_here b x v) (no_out_here b x v) (shows_is b x v);
           seen = λ q e n i. used_seen (program_of before) (tree_of b) (described (of b).against) near_it fresh types_are r.grounded used q e n i;
           shown = λ q own n. shown_now (of b) r found types_are (spelled_here b x v) (no_out_here b x v) (shows_is b x v) (program_of before) (each shows_of before) k.spelled (have_no_out (each shows_of before) k.out) h.uses (builds_show before k.showing) q own n;
         }

@@ -28,7 +28,7 @@ use Rattle.ob_uses.proofs.Objecting.{full_name, named_there, length_each}
 
 module _ (m : Module) where
   -- what the types of the module lead to, as the interface shows them
-  abbrev leads : QName → List QName
+  abbrev pub leads : QName → List QName
   leads = leads_by way.Shown (λ q. type_named m.types q.object) m.name
 
   own_each : (ts : List TypedType) (q : QName) → is_among (each (own_name m) ts) q ≡ true → is_own m q ≡ true
@@ -58,7 +58,7 @@ module _ (m : Module) where
   led_own p q None e = absurd cc
   led_own p q (Some d) e = own_kept (names_of (shown_types d)) q e
 
-  abbrev IsReached : QName → Type 0
+  abbrev pub IsReached : QName → Type 0
   IsReached q = Reaches leads (first_shown m) q
 
   own_reached : (q : QName) → IsReached q → is_own m q ≡ true
@@ -72,10 +72,10 @@ module _ (m : Module) where
   enough : AreEnough leads (first_shown m) (each (own_name m) m.types)
   enough q r = enough_at q (type_named m.types q.object) refl (own_reached q r)
 
-  to_reached : (q : QName) → is_among (reached_types m) q ≡ true → IsReached q
+  pub to_reached : (q : QName) → is_among (reached_types m) q ≡ true → IsReached q
   to_reached q e = (exact_here leads (first_shown m) (each (own_name m) m.types) enough q).0 (ap (λ k. is_among (reached_from leads k (first_shown m)) q) (length_each (own_name m) m.types) ∙ e)
 
-  from_reached : (q : QName) → IsReached q → is_among (reached_types m) q ≡ true
+  pub from_reached : (q : QName) → IsReached q → is_among (reached_types m) q ≡ true
   from_reached q r = sym (ap (λ k. is_among (reached_from leads k (first_shown m)) q) (length_each (own_name m) m.types)) ∙ (exact_here leads (first_shown m) (each (own_name m) m.types) enough q).1 r
 
   -- the base of a pointer type that is reached

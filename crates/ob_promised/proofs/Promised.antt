@@ -46,13 +46,18 @@ use Rattle.ob_limits.proofs.Loaded.{loaded_keep}
 use Rattle.ob_built.specs.Built.{IsBuiltModule}
 use Rattle.ob_built.proofs.Built.{loaded_are_built}
 use Rattle.ob_built.proofs.Nearest.{loaded_are_redefined}
+use Rattle.ob_lined.proofs.Loaded.{loaded_are_lined}
+use Rattle.ob_closed.proofs.Loaded.{loaded_closed}
+use Rattle.ob_encircled.specs.Encircled as encircled
+use Rattle.ob_encircled.specs.Encircled.{AreEncircled}
+use Rattle.ob_encircled.proofs.Encircled.{loaded_are_steady}
 use Rattle.ob_assured.specs.Checked.{IsLeft}
 use Rattle.ob_assured.proofs.Checked.{loaded_are_checked}
 use Rattle.ob_owing.specs.Left.{Left}
 use Rattle.ob_owing.proofs.Builds.{builds_ruled}
 use Rattle.ob_owing.proofs.Whole.{left_stands}
 use Rattle.ob_upheld.proofs.Upheld.{builds_are_written, simulation_suffices}
-use Rattle.ob_promised.specs.Promised.{IsSo, Suffices}
+use Rattle.ob_promised.specs.Promised.{Promised}
 
 types_differ : TypesDiffer
 types_differ b c v = compiled_types_differ (λ name. entry_of (face_named b.against name)) (entry_named b.against) (Some b.source) c v.is
@@ -77,6 +82,15 @@ same = loaded_are_same builds_are_written builds_ruled sound
 
 like : LoadedAreLike
 like = loaded_like builds_are_written locality_holds types_differ sound whole (loaded_bases builds_are_written builds_ruled)
+
+closed : encircled.LoadedAreClosed
+closed before b after l =
+    let c = (loaded_closed builds_are_written builds_ruled).front before b after l in
+    record { held = c.held; keeps = c.keeps }
+
+-- the maps of types around bodies are steady
+steady : (bs : List Build) → AreLoaded bs → AreEncircled (program_of bs)
+steady = loaded_are_steady builds_are_written locality_holds sound whole closed (loaded_are_lined builds_are_written builds_ruled)
 
 -- WHAT IS LEFT OF PROCEDURES
 
@@ -112,7 +126,7 @@ module _ (c : Setting) (bs more : List Build) (loaded : AreLoaded (bs ++ more)) 
   all_built [] b = tt
   all_built (m ∷ ms) b = (b.0.built, all_built ms b.1)
 
-  left : IsSo (program_of bs) → IsLeft c bs
+  left : AreEncircled (program_of bs) → IsLeft c bs
   left so =
       let b = loaded_are_built builds_are_written builds_ruled sound bs front in
       record {
@@ -123,15 +137,18 @@ module _ (c : Setting) (bs more : List Build) (loaded : AreLoaded (bs ++ more)) 
         limits = all_left bs (λ y j. j) (programs_are_scoped (program_of bs) so.judged) b;
       }
 
-  rules : IsSo (program_of bs) → RulesKept c (builds_of bs)
+  rules : AreEncircled (program_of bs) → RulesKept c (builds_of bs)
   rules so =
       let checked = loaded_are_checked sound whole bs more loaded c is (left so) in
       loaded_keep_rules builds_are_written locality_holds types_differ sound whole laid describe same like bs more loaded c is checked.0 checked.1
 
 -- COMMANDS
 
-all_that_is_left : ((bs : List Build) → AreLoaded bs → IsSo (program_of bs)) → Left
-all_that_is_left so = record { written = builds_are_written; linked = builds_are_linked; same = same; rules = λ bs more loaded c is. rules c bs more loaded is (so bs (loaded_front bs more loaded)) }
+left_so : Left
+left_so = record { written = builds_are_written; linked = builds_are_linked; same = same; rules = λ bs more loaded c is. rules c bs more loaded is (steady bs (loaded_front bs more loaded)) }
 
-pub suffices : Suffices
-suffices so = simulation_suffices (λ commands s settings. commands_stand command_simulates body_simulates (left_stands (all_that_is_left so)) s settings.most_heap commands)
+pub simulation : Simulation
+simulation commands s settings = commands_stand command_simulates body_simulates (left_stands left_so) s settings.most_heap commands
+
+pub promised : Promised
+promised = simulation_suffices simulation

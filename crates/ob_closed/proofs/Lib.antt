@@ -1,0 +1,9 @@
+pub mod Lists
+pub mod Found
+pub mod Reached
+pub mod Objects
+pub mod Seen
+pub mod Held
+pub mod Kept
+pub mod Heads
+pub mod Loaded
