@@ -12,13 +12,13 @@ use Rattle.ob_relation.specs.Relation.{FormOk}
 use Rattle.ob_relation.specs.Typed.{StmtsOk}
 use Rattle.ob_env.specs.Shown.{shown}
 use Rattle.ob_forms.specs.Said.{IsOneOf, IsSound}
+use Rattle.ob_forms.specs.Steady.{IsSteady}
 use Rattle.ob_forms.specs.Whole.{IsWhole}
 use Rattle.ob_typed.specs.Forms.{ResultIs}
 use Rattle.ob_typed.specs.Known.{ConstantIs}
 use Rattle.ob_typed.specs.Laws.{Having}
 use Rattle.ob_typed.specs.Redefined.{AreRedefined}
 use Rattle.ob_rules.specs.Names.{Around, map_of}
-use Rattle.ob_types.specs.Relations.{IsGrounded}
 use Rattle.ob_bodies.specs.Judged.{IsWithin, ProcedureIsJudged}
 use Rattle.ob_surrounded.specs.Left.{IsModuleOf, AreFormed, IsLeft}
 use Rattle.ob_surrounded.proofs.Names.{procedures_surrounded, modules_surrounded}
@@ -29,11 +29,11 @@ use Rattle.ob_judged.proofs.Age.{age_in}
 use Rattle.ob_judged.proofs.Formed.{maps_formed}
 use Rattle.ob_judged.proofs.Full.{constants_shown}
 use Rattle.ob_judged.proofs.Typed.{values_had}
-use Rattle.ob_introduced.specs.Grounded.{AreGrounded, IsGroundedModule, AreGroundedModules}
+use Rattle.ob_introduced.specs.Steady.{AreSteady, IsSteadyModule, AreSteadyModules}
 use Rattle.ob_introduced.proofs.Whole.{introduced_once}
 use Rattle.ob_accepted.specs.Accepted.{IsBuilt, AreBuilt, AreWellTyped, AcceptedIsWellTyped}
 
-module _ (program : Program) (sound : IsSound program) (whole : IsWhole program) (judged : AreJudgedModules program) (redefined : AreRedefined program) (grounded : AreGroundedModules program program judged) (m : Module) (there : IsOneOf program m) (built : AreBuilt program m) (j : IsJudgedModule program m) (known : IsGroundedModule program m j) where
+module _ (program : Program) (sound : IsSound program) (whole : IsWhole program) (judged : AreJudgedModules program) (redefined : AreRedefined program) (steady : AreSteadyModules program program judged) (m : Module) (there : IsOneOf program m) (built : AreBuilt program m) (j : IsJudgedModule program m) (known : IsSteadyModule program m j) where
   abbrev checked : TypedModule
   checked = j.checked
 
@@ -63,18 +63,18 @@ module _ (program : Program) (sound : IsSound program) (whole : IsWhole program)
   formed : AreFormed program (shown j.faces) checked j.bodies.content
   formed = maps_formed program sound whole m there j known.fields
 
-  left : (w : Around) → IsWithin ConstantIs (shown j.faces) checked j.bodies.content w → IsGrounded (map_of w) → IsLeft program w
-  left w within g = record { grounded = g; introduced = introduced_once program sound whole judged grounded m there j known w within }
+  left : (w : Around) → IsWithin ConstantIs (shown j.faces) checked j.bodies.content w → IsSteady (map_of w) → IsLeft program w
+  left w within g = record { steady = g; introduced = introduced_once program sound whole judged steady m there j known w within }
 
   abbrev Ok : Procedure → Type 0
   Ok p = StmtsOk program (Having (values program)) checked.name (static_held program p) p.result p.body false
 
-  one_fits : (p : TypedProcedure) → IsOneOf checked.procedures p → IsBuilt program (procedure_view p) → (h : ProcedureIsJudged ConstantIs (shown j.faces) checked j.bodies.content p) → IsGrounded (map_of h.body.u) → Ok (procedure_view p)
+  one_fits : (p : TypedProcedure) → IsOneOf checked.procedures p → IsBuilt program (procedure_view p) → (h : ProcedureIsJudged ConstantIs (shown j.faces) checked j.bodies.content p) → IsSteady (map_of h.body.u) → Ok (procedure_view p)
   one_fits p i b h g =
       bodies_fit program (values program) (shown j.faces) checked j.bodies.content (Some p) p.body h.body (procedure_view p) refl b.different
       (procedures_surrounded program (values program) (shown j.faces) checked m whole is j.bodies.name (constants_shown program judged j.faces (age_in program m j)) (values_had program whole judged) redefined p i b.different b.locals j.bodies.content formed h.body.u h.body.stands (left h.body.u h.body.stands.within g))
 
-  all_fit : (ps : List TypedProcedure) → ((p : TypedProcedure) → IsOneOf ps p → IsOneOf checked.procedures p) → AllByRecursion (IsBuilt program) (map procedure_view ps) → (h : AllByRecursion (ProcedureIsJudged ConstantIs (shown j.faces) checked j.bodies.content) ps) → AreGrounded (shown j.faces) checked j.bodies.content ps h → AllByRecursion Ok (map procedure_view ps)
+  all_fit : (ps : List TypedProcedure) → ((p : TypedProcedure) → IsOneOf ps p → IsOneOf checked.procedures p) → AllByRecursion (IsBuilt program) (map procedure_view ps) → (h : AllByRecursion (ProcedureIsJudged ConstantIs (shown j.faces) checked j.bodies.content) ps) → AreSteady (shown j.faces) checked j.bodies.content ps h → AllByRecursion Ok (map procedure_view ps)
   all_fit [] f b h l = tt
   all_fit (p ∷ ps) f b h l = (one_fits p (f p (inl refl)) b.0 h.0 l.0, all_fit ps (λ q k. f q (inr k)) b.1 h.1 l.1)
 
@@ -90,9 +90,9 @@ module _ (program : Program) (sound : IsSound program) (whole : IsWhole program)
     body = subst (λ (n : List ℕ). StmtsOk program (Having (values program)) n (static_held program (body_of m)) None m.body false) (sym name_is) body_fits;
   }
 
-all_accepted : (program : Program) → IsSound program → IsWhole program → AreRedefined program → (judged : AreJudgedModules program) → AreGroundedModules program program judged → (ms : List Module) → ((m : Module) → IsOneOf ms m → IsOneOf program m) → (h : AllByRecursion (IsJudgedModule program) ms) → AreGroundedModules program ms h → AllByRecursion (AreBuilt program) ms → AllByRecursion (AreWellTyped program) ms
-all_accepted program sound whole redefined judged grounded [] f h g b = tt
-all_accepted program sound whole redefined judged grounded (m ∷ ms) f h g b = (all_typed program sound whole judged redefined grounded m (f m (inl refl)) b.0 h.0 g.0, all_accepted program sound whole redefined judged grounded ms (λ k i. f k (inr i)) h.1 g.1 b.1)
+all_accepted : (program : Program) → IsSound program → IsWhole program → AreRedefined program → (judged : AreJudgedModules program) → AreSteadyModules program program judged → (ms : List Module) → ((m : Module) → IsOneOf ms m → IsOneOf program m) → (h : AllByRecursion (IsJudgedModule program) ms) → AreSteadyModules program ms h → AllByRecursion (AreBuilt program) ms → AllByRecursion (AreWellTyped program) ms
+all_accepted program sound whole redefined judged steady [] f h g b = tt
+all_accepted program sound whole redefined judged steady (m ∷ ms) f h g b = (all_typed program sound whole judged redefined steady m (f m (inl refl)) b.0 h.0 g.0, all_accepted program sound whole redefined judged steady ms (λ k i. f k (inr i)) h.1 g.1 b.1)
 
 pub accepted_is_well_typed : AcceptedIsWellTyped
-accepted_is_well_typed program sound whole redefined judged grounded built = all_accepted program sound whole redefined judged grounded program (λ m i. i) judged grounded built
+accepted_is_well_typed program sound whole redefined judged steady built = all_accepted program sound whole redefined judged steady program (λ m i. i) judged steady built

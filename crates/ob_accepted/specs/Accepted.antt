@@ -14,7 +14,7 @@ use Rattle.ob_typed.specs.Laws.{Having}
 use Rattle.ob_typed.specs.Redefined.{AreRedefined}
 use Rattle.ob_valued.specs.Valued.{values}
 use Rattle.ob_judged.specs.Judged.{AreJudgedModules}
-use Rattle.ob_introduced.specs.Grounded.{AreGroundedModules}
+use Rattle.ob_introduced.specs.Steady.{AreSteadyModules}
 
 -- the variables of a procedure differ in name and can be built, and its result is no array and no record
 pub record IsBuilt (program : Program) (p : Procedure) : Type 0 where
@@ -37,6 +37,6 @@ pub record AreWellTyped (program : Program) (m : Module) : Type 0 where
   pub body : IsWellTyped program m (body_of m)
 
 -- In a sound program of judged modules the bodies are well typed, where redefinitions are alike, variables can be built, and the maps of
--- types around bodies are grounded.
+-- types around bodies are steady.
 abbrev pub AcceptedIsWellTyped : Type 0
-AcceptedIsWellTyped = (program : Program) → IsSound program → IsWhole program → AreRedefined program → (judged : AreJudgedModules program) → AreGroundedModules program program judged → AllByRecursion (AreBuilt program) program → AllByRecursion (AreWellTyped program) program
+AcceptedIsWellTyped = (program : Program) → IsSound program → IsWhole program → AreRedefined program → (judged : AreJudgedModules program) → AreSteadyModules program program judged → AllByRecursion (AreBuilt program) program → AllByRecursion (AreWellTyped program) program

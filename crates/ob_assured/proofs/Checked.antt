@@ -27,6 +27,6 @@ loaded_are_checked are_sound are_whole bs more l c is left =
       sound = subst IsSound (sym is.program) sound;
       whole = subst IsWhole (sym is.program) whole;
       built = subst (λ (p : Program). AllByRecursion (AreBuilt p) p) (sym is.program) left.built;
-      typed = subst (λ (p : Program). AllByRecursion (AreWellTyped p) p) (sym is.program) (accepted_is_well_typed program sound whole left.redefined left.judged left.grounded left.built);
+      typed = subst (λ (p : Program). AllByRecursion (AreWellTyped p) p) (sym is.program) (accepted_is_well_typed program sound whole left.redefined left.judged left.steady left.built);
     })
     left.limits

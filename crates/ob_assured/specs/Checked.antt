@@ -7,7 +7,7 @@ use Rattle.ob_linking.specs.Files.{AllKeepRules}
 use Rattle.ob_tables.specs.Image.{AllBodiesChecked}
 use Rattle.ob_valued.specs.Valued.{values}
 use Rattle.ob_judged.specs.Judged.{AreJudgedModules}
-use Rattle.ob_introduced.specs.Grounded.{AreGroundedModules}
+use Rattle.ob_introduced.specs.Steady.{AreSteadyModules}
 use Rattle.ob_accepted.specs.Accepted.{AreBuilt}
 use Rattle.ob_kept.specs.Kept.{AreLeft}
 use Rattle.ob_ages.specs.Builds.{Build}
@@ -15,11 +15,11 @@ use Rattle.ob_joining.specs.Builds.{program_of, AreLoaded, IsOf}
 use Rattle.ob_families.specs.Premises.{builds_of, LoadedAreSound}
 use Rattle.ob_ordered.specs.Loaded.{LoadedAreWhole}
 
--- What is left: the modules are judged ones, and the maps of types around their bodies are grounded; redefinitions are alike; variables can
+-- What is left: the modules are judged ones, and the maps of types around their bodies are steady; redefinitions are alike; variables can
 -- be built and differ in name; descriptions say what types are, and procedures keep the limits.
 pub record IsLeft (c : Setting) (bs : List Build) : Type 0 where
   pub judged : AreJudgedModules (program_of bs)
-  pub grounded : AreGroundedModules (program_of bs) (program_of bs) judged
+  pub steady : AreSteadyModules (program_of bs) (program_of bs) judged
   pub redefined : AreRedefined (program_of bs)
   pub built : AllByRecursion (AreBuilt (program_of bs)) (program_of bs)
   pub limits : AllByRecursion (AreLeft c) (builds_of bs)

@@ -25,7 +25,7 @@ use Rattle.ob_bodies.proofs.Standing.{grows_same, stands_grown}
 use Rattle.ob_bodies.proofs.Binding.{AreOne, IsFrom}
 use Rattle.ob_grounded.proofs.Stand.{found_name}
 use Rattle.ob_grounded.proofs.Modules.{bound_from}
-use Rattle.ob_grounded.proofs.Grounded.{one_of}
+use Rattle.ob_grounded.proofs.Grounded.{one_of, grounded_closed}
 use Rattle.ob_based.specs.Based.{AreBased}
 use Rattle.ob_based.specs.Laws.{ModulesAreBased}
 use Rattle.ob_grounded.proofs.Firm.{AnyValue}
@@ -115,6 +115,6 @@ modules_are_based shown tree m c =
     let F = p.contents.types in
     let distinct : AreDistinct (λ (t : TypedType). t.name) (all_described X F) = subst (λ (x : TypedModule). AreDistinct (λ (t : TypedType). t.name) x.types) (sym k.1) c.names in
     let one = one_of X F distinct in
-    let from = bound_from shown tree c.grounded c.apart out c.imports k.0 one in
+    let from = bound_from shown tree (grounded_closed shown c.grounded) c.apart out c.imports k.0 one in
     subst (λ (x : TypedModule). AreBased tree.name.name shown [] x.types) k.1
     (more_based tree.name.name shown [] [] (grows_same []) F (all_described X F) (all_more X F from one F (λ t i. i)) (module_in_text shown tree out c.imports))

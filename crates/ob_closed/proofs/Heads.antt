@@ -42,7 +42,7 @@ use Rattle.ob_ruled.specs.Ruled.{types_of}
 use Rattle.ob_ruled.proofs.Builds.{names_laid}
 use Rattle.ob_ruled.proofs.Closed as standing
 use Rattle.ob_ruled.proofs.Shut.{target_own}
-use Rattle.ob_passed.specs.Passed.{IsPassedWell, IsGivenWell, HeadIsWell}
+use Rattle.ob_passed.specs.Passed.{IsPassedWell, IsPlainWell, ProcedureIsWell}
 use Rattle.ob_passed.proofs.Modules.{parameters_passed}
 use Rattle.ob_closed.specs.Closed.{IsHeadRuled, HeadsRuled}
 use Rattle.ob_closed.proofs.Kept.{structure_own}
@@ -109,22 +109,22 @@ module _ (faces : List (Face Text)) (m : TypedModule) (types_are : AllByRecursio
   takes [] h = tt
   takes (x ∷ xs) h = (standing.held_here faces m types_are differ outside apart no_out h.0.w h.0.unit_is h.0.shown_is h.0.aliases h.0.told x.of h.0.stands, takes xs h.1)
 
-  gives : (ts : List TypeRef) → AllByRecursion (IsGivenWell m.name (shown faces) m.types) ts → AllByRecursion (λ t. IsHeld V t) ts
+  gives : (ts : List TypeRef) → AllByRecursion (IsPlainWell m.name (shown faces) m.types) ts → AllByRecursion (λ t. IsHeld V t) ts
   gives [] h = tt
   gives (t ∷ ts) h = (standing.held_here faces m types_are differ outside apart no_out h.0.w h.0.unit_is h.0.shown_is h.0.aliases h.0.told t h.0.stands, gives ts h.1)
 
   module _ (grounded : IsGrounded V) where
-    result_plain : (o : Option TypeRef) → AllByRecursion (IsGivenWell m.name (shown faces) m.types) (listed o) → IfSome o (λ t. Is V is_structure t → ⊥)
+    result_plain : (o : Option TypeRef) → AllByRecursion (IsPlainWell m.name (shown faces) m.types) (listed o) → IfSome o (λ t. Is V is_structure t → ⊥)
     result_plain None h = tt
     result_plain (Some t) h = plain_here h.0.w h.0.unit_is h.0.shown_is h.0.aliases h.0.told t h.0.stands (grounded.chains t (gives (t ∷ []) h).0) h.0.plain
 
-    head : (p : TypedProcedure) → HeadIsWell m.name (shown faces) m.types p → IsHeadRuled V (procedure_view p)
+    head : (p : TypedProcedure) → ProcedureIsWell m.name (shown faces) m.types p → IsHeadRuled V (procedure_view p)
     head p h = record {
-      held = all_joined (λ t. IsHeld V t) (each (λ k. k.1) (each formal_of p.parameters)) (listed p.result) (all_each (λ k. k.1) (λ t. IsHeld V t) (each formal_of p.parameters) (all_each formal_of (λ k. IsHeld V k.1) p.parameters (takes p.parameters h.parameters))) (gives (listed p.result) h.result);
-      plain = result_plain p.result h.result;
+      held = all_joined (λ t. IsHeld V t) (each (λ k. k.1) (each formal_of p.parameters)) (listed p.result) (all_each (λ k. k.1) (λ t. IsHeld V t) (each formal_of p.parameters) (all_each formal_of (λ k. IsHeld V k.1) p.parameters (takes p.parameters h.parameters))) (gives (listed p.result) h.plain);
+      plain = result_plain p.result h.plain;
     }
 
-    all_heads : (ps : List TypedProcedure) → AllByRecursion (HeadIsWell m.name (shown faces) m.types) ps → AllByRecursion (IsHeadRuled V) (each procedure_view ps)
+    all_heads : (ps : List TypedProcedure) → AllByRecursion (ProcedureIsWell m.name (shown faces) m.types) ps → AllByRecursion (IsHeadRuled V) (each procedure_view ps)
     all_heads [] h = tt
     all_heads (p ∷ ps) h = (head p h.0, all_heads ps h.1)
 

@@ -30,7 +30,8 @@ use Rattle.ob_ages.specs.Builds.{Build, of, shows_of, tree_of}
 use Rattle.ob_ages.specs.Laws.{IsBehind, BuildsAreWritten}
 use Rattle.ob_ruled.specs.Ruled.{types_of, IsRuled, BuildsAreRuled}
 use Rattle.ob_ordered.proofs.Shown.{Showing, found_type}
-use Rattle.ob_ordered.proofs.Loaded.{Before, valid_of, before_more, uses}
+use Rattle.ob_ordered.proofs.Used.{IsInside}
+use Rattle.ob_ordered.proofs.Loaded.{Before, Uses, valid_of, before_more, uses}
 use Rattle.ob_pointed.proofs.Found.{one_behind, shown_either}
 use Rattle.ob_closed.specs.Closed.{IsHeadRuled, HeadsAreRuled}
 use Rattle.ob_closed.proofs.Lists.{all_by}
@@ -128,7 +129,7 @@ module _ (written : BuildsAreWritten) (ruled : BuildsAreRuled) (heads : HeadsAre
   head_there p i shown =
       let N : TypeRef → Type 0 = λ t. IsHeld V t → Near t in
       let takes : AllByRecursion (λ x. N x.of) p.parameters = of_all (λ p. AllByRecursion (λ x. IsHeld V x.of → Near x.of) p.parameters) (tree_of b).procedures p (uses written ruled before b k h).passed i in
-      let gives : AllByRecursion N (listed p.result) = of_all (λ p. AllByRecursion (λ t. IsHeld V t → Near t) (listed p.result)) (tree_of b).procedures p (uses written ruled before b k h).given i in
+      let gives : AllByRecursion N (listed p.result) = (of_all (IsInside (λ t. IsHeld V t → Near t)) (tree_of b).procedures p (uses written ruled before b k h).inside i).1 in
       let head : IsHeadRuled V p = of_all (IsHeadRuled V) (tree_of b).procedures p (heads b (of b) (valid_of written ruled b h.valid.0 h.valid.1)) i in
       all_there (signature_types (signature_of p))
       (all_joined N (each (λ k. k.1) (each formal_of p.parameters)) (listed p.result) (all_each (λ k. k.1) N (each formal_of p.parameters) (all_each formal_of (λ k. N k.1) p.parameters takes)) gives)

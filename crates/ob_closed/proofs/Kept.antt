@@ -30,6 +30,7 @@ use Rattle.ob_joining.specs.Builds.{program_of}
 use Rattle.ob_ruled.specs.Ruled.{types_of, BuildsAreRuled}
 use Rattle.ob_ordered.proofs.Closed as closed
 use Rattle.ob_ordered.proofs.Shown.{Showing}
+use Rattle.ob_ordered.proofs.Used.{IsInside}
 use Rattle.ob_ordered.proofs.Loaded.{Before, map_last, valid_of, before_more, more_all, uses}
 use Rattle.ob_pointed.proofs.Found.{one_behind}
 use Rattle.ob_closed.specs.Closed.{IsHeadRuled, HeadsAreRuled}
@@ -100,7 +101,7 @@ module _ (written : BuildsAreWritten) (ruled : BuildsAreRuled) (heads : HeadsAre
 
     head_keeps : (p : Procedure) → IsOneOf (tree_of b).procedures p → IsPlainResult (description program) (signature_of p)
     head_keeps p i =
-        let gives = of_all (λ p. AllByRecursion (λ t. IsHeld V t → Near t) (listed p.result)) (tree_of b).procedures p (uses written ruled before b k h).given i in
+        let gives = (of_all (IsInside (λ t. IsHeld V t → Near t)) (tree_of b).procedures p (uses written ruled before b k h).inside i).1 in
         let head : IsHeadRuled V p = of_all (IsHeadRuled V) (tree_of b).procedures p (heads b (of b) (valid_of written ruled b h.valid.0 h.valid.1)) i in
         result_there p.result gives (all_right (λ t. IsHeld V t) (each (λ k. k.1) (each formal_of p.parameters)) (listed p.result) head.held) head.plain
 

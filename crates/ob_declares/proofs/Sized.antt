@@ -26,6 +26,7 @@ use Rattle.ob_forms.specs.Formed.{Formed}
 use Rattle.ob_forms.specs.Said.{IsOneOf}
 use Rattle.ob_forms.proofs.Saying.{same_is}
 use Rattle.ob_forms.proofs.Shapes.{basic_is, target_form}
+use Rattle.ob_forms.proofs.Steady.{grounded_steady}
 use Rattle.ob_forms.proofs.Sorts.{Sort, basic, named, sort}
 use Rattle.ob_declares.specs.Sized.{Describes}
 
@@ -88,7 +89,7 @@ module _ (types : QName → Option Desc) (program : Program) (formed : Formed ty
       record_type : (q : QName) (line : List QName) (fs : Fields) → form t ≡ RecordForm (q ∷ line) fs → elements_of types t ≡ None → own_name types t ≡ Some q → Looks t
 
     pub looks : (t : TypeRef) → IsHeld types t → Looks t
-    looks t h = by (sort types program formed grounded t h)
+    looks t h = by (sort types program formed (grounded_steady types grounded) t h)
       where
         on : (q : QName) (d : Desc) → target types 201 t ≡ ref.Named q → types q ≡ Some d → is_type d ≡ true → is_alias d ≡ false → Looks t
         on q (desc.Const v) is e ty al = absurd cc
@@ -101,7 +102,7 @@ module _ (types : QName → Option Desc) (program : Program) (formed : Formed ty
         on q (desc.ProcType m s) is e ty al = plain (ProcedureForm (formals_in program s)) (named_form t q is ∙ formed.procedures q m s e) (λ n f k. absurd cc) (λ f k. absurd cc) (λ l f k. absurd cc) (ap elements_in (shape_is t q (desc.ProcType m s) is e))
         on q (desc.Record r) is e ty al = record_type q (base_line form r.base) (joined (base_fields form r.base) (formed.records q r e).own) (named_form t q is ∙ (formed.records q r e).is) (ap elements_in (shape_is t q (desc.Record r) is e)) (ap name_in is)
 
-        by : Sort types program formed grounded t → Looks t
+        by : Sort types program formed (grounded_steady types grounded) t → Looks t
         by (basic b is) = plain (BasicForm b) (sym (target_form types program formed 201 t) ∙ ap form is ∙ basic_is program b) (λ n f k. absurd cc) (λ f k. absurd cc) (λ l f k. absurd cc) (ap (λ u. elements_in (shape_at types u)) is)
         by (named q d is e ty al) = on q d is e ty al
 

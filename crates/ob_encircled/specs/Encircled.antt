@@ -1,34 +1,34 @@
--- The maps of types around the bodies of builds that are loaded together are grounded: the law.
-use Rattle.std.specs.Prelude.{◌≡◌, false, List, [], ◌∷◌, ◌++◌, map, Ok}
-use Rattle.ob_tree.specs.declared.decl.Module.{Module as Tree}
-use Rattle.ob_types.specs.Relations.{IsGrounded}
-use Rattle.ob_meaning.specs.Values.{Program}
+-- The maps of types around the bodies of builds that are loaded together are steady: the law.
+use Rattle.std.specs.Prelude.{◌≡◌, true, List, ◌∷◌, ◌++◌, map, Some}
+use Rattle.ob_tree.specs.declared.names.QName.{QName}
+use Rattle.ob_types.specs.declared.types.TypeRef.TheVariants as ref
+use Rattle.ob_types.specs.declared.desc.Desc.{Desc}
+use Rattle.ob_types.specs.Maps.{is_type, IsWithin}
+use Rattle.ob_meaning.specs.Values.{Program, description}
 use Rattle.ob_env.specs.Shown.{shown}
-use Rattle.ob_reading.specs.Reading.{reading}
-use Rattle.ob_compiling.specs.Compiling.{is_deep}
+use Rattle.ob_forms.specs.Steady.{without_members}
+use Rattle.ob_grounded.specs.Steady.{IsClosed}
 use Rattle.ob_judged.specs.Judged.{AreJudgedModules}
-use Rattle.ob_introduced.specs.Grounded.{AreGroundedModules}
+use Rattle.ob_introduced.specs.Steady.{AreSteadyModules}
 use Rattle.ob_ages.specs.Builds.{Build, shows_of}
 use Rattle.ob_ages.specs.Laws.{Locality, BuildsAreWritten}
 use Rattle.ob_joining.specs.Builds.{program_of, AreLoaded}
+use Rattle.ob_families.specs.Premises.{LoadedAreSound}
+use Rattle.ob_ordered.specs.Loaded.{LoadedAreWhole}
 
--- Over the interfaces of those before it a build keeps the limit of depth: the map of the types that they show is grounded, and none of its
--- own stands on a chain that is too long there. It kept the limit over those that it was compiled against; but of a type that it reaches
--- through the field of another alone it uses nothing, so that one may be nested deeper by now.
-pub record IsShallow (before : List Build) (b : Build) : Type 0 where
-  pub grounded : IsGrounded (shown (map shows_of before))
-  pub shallow : (tree : Tree) → reading b.source ≡ Ok tree → is_deep (map shows_of before) tree ≡ false
+-- what those before a build show is closed: the types that are named there are held, and each description keeps what it has to
+abbrev pub LoadedAreClosed : Type 0
+LoadedAreClosed = (before : List Build) (b : Build) (after : List Build) → AreLoaded (before ++ b ∷ after) → IsClosed (shown (map shows_of before))
 
--- so it is of each of these, behind those and the ones before it
-abbrev pub AreShallow : List Build → List Build → Type 0
-AreShallow before [] = Unit {0}
-AreShallow before (b ∷ bs) = IsShallow before b × AreShallow (before ++ b ∷ []) bs
+-- each line of aliases, elements and bases in the program of builds has at most 201 types
+abbrev pub LoadedAreLined : Type 0
+LoadedAreLined = (bs : List Build) → AreLoaded bs → (q : QName) (d : Desc) → description (program_of bs) q ≡ Some d → is_type d ≡ true → IsWithin (without_members (description (program_of bs))) 201 (ref.Named q)
 
--- modules that are judged where the maps of types are grounded
+-- modules that are judged where the maps of types are steady
 pub record AreEncircled (program : Program) : Type 0 where
   pub judged : AreJudgedModules program
-  pub grounded : AreGroundedModules program program judged
+  pub steady : AreSteadyModules program program judged
 
--- Builds that are loaded together are, where each keeps the limit of depth over those before it.
-abbrev pub LoadedAreGrounded : Type 0
-LoadedAreGrounded = BuildsAreWritten → Locality → (bs : List Build) → AreLoaded bs → AreShallow [] bs → AreEncircled (program_of bs)
+-- Builds that are loaded together are, whatever their ages.
+abbrev pub LoadedAreSteady : Type 0
+LoadedAreSteady = BuildsAreWritten → Locality → LoadedAreSound → LoadedAreWhole → LoadedAreClosed → LoadedAreLined → (bs : List Build) → AreLoaded bs → AreEncircled (program_of bs)

@@ -2,6 +2,7 @@ pub mod Finds
 pub mod Shapes
 pub mod Extending
 pub mod Members
+pub mod Steady
 pub mod Sorts
 pub mod Taking
 pub mod Chains

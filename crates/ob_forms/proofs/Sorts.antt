@@ -1,4 +1,4 @@
--- What a held type is, in a grounded map: how it is passed, and that it is built as types are.
+-- What a held type is, in a steady map: how it is passed, and that it is built as types are.
 use Rattle.std.proofs.Common.{◌≡◌, ℕ, zero, suc, List, ◌∷◌, Option, Some, None, refl, sym, ap, subst, ◌∙◌}
 use Rattle.std.specs.Prelude.{Bool, true, false, ◌||◌, IsTrue, MatchOption, is_some}
 use Rattle.std.specs.List.{AllByRecursion}
@@ -16,17 +16,18 @@ use Rattle.ob_types.specs.declared.desc.RecordDesc.{RecordDesc}
 use Rattle.ob_types.specs.declared.typed.Passing.{Passing}
 use Rattle.ob_types.specs.Maps.{is_type, stands_on, IsHeld, IsWithin}
 use Rattle.ob_types.specs.Relations as relations
-use Rattle.ob_types.specs.Relations.{is_alias, IsOwn, StandsFor, itself, equated, Is, is_structure, Keeps, IsGrounded}
+use Rattle.ob_types.specs.Relations.{is_alias, IsOwn, StandsFor, itself, equated, Is, is_structure, Keeps}
 use Rattle.ob_types.specs.Tests.{target, shape_at}
-use Rattle.ob_types.proofs.Sameness.{at}
 use Rattle.ob_meaning.specs.Values.{Program, Form, BasicForm, PointerForm, ProcedureForm, ArrayForm, OpenForm, RecordForm, joined, base_line, base_fields, Fields, form_in, record_in, formals_in}
 use Rattle.ob_relation.specs.Relation.{FormOk, Scalar}
 use Rattle.ob_relation.specs.Typed.{passing_for}
 use Rattle.ob_rules.specs.Shapes.{shape, record_at, array_at, open_at, is_structured, passing_of, by_value, by_var}
 use Rattle.ob_forms.specs.Formed.{IsDeclared, Formed}
+use Rattle.ob_forms.specs.Steady.{IsSteady}
+use Rattle.ob_forms.proofs.Steady.{at_steady}
 use Rattle.ob_forms.proofs.Shapes as shapes
 
-module _ (map : QName → Option Desc) (program : Program) (formed : Formed map program) (grounded : IsGrounded map) where
+module _ (map : QName → Option Desc) (program : Program) (formed : Formed map program) (steady : IsSteady map) where
   abbrev form : TypeRef → Form
   form = form_in program
 
@@ -41,18 +42,17 @@ module _ (map : QName → Option Desc) (program : Program) (formed : Formed map 
     named : (q : QName) (d : Desc) → target map 201 t ≡ ref.Named q → map q ≡ Some d → is_type d ≡ true → is_alias d ≡ false → Sort t
 
   pub sort : (t : TypeRef) → IsHeld map t → Sort t
-  unfolding IsWithin
   sort t h =
-      let x = at map grounded t h in
-      by (target map 201 t) refl (own_of x.stands) x.within
+      let x = at_steady map steady t h in
+      by (target map 201 t) refl (own_of x.stands) x.held
     where
-      on : (q : QName) → target map 201 t ≡ ref.Named q → (o : Option Desc) → map q ≡ o → MatchOption o (Unit {0}) (λ d. is_alias d ≡ false) → MatchOption o ⊥ (λ d. IsTrue (is_type d) × AllByRecursion (λ t. IsWithin map 200 t) (stands_on d)) → Sort t
-      on q is None e own within = absurd within
-      on q is (Some d) e own within = named q d is e within.0 own
+      on : (q : QName) → target map 201 t ≡ ref.Named q → (o : Option Desc) → map q ≡ o → MatchOption o (Unit {0}) (λ d. is_alias d ≡ false) → MatchOption o ⊥ (λ d. IsTrue (is_type d)) → Sort t
+      on q is None e own held = absurd held
+      on q is (Some d) e own held = named q d is e held own
 
-      by : (u : TypeRef) → target map 201 t ≡ u → IsOwn map u → IsWithin map 201 u → Sort t
-      by (ref.Basic b) is own within = basic b is
-      by (ref.Named q) is own within = on q is (map q) refl own within
+      by : (u : TypeRef) → target map 201 t ≡ u → IsOwn map u → IsHeld map u → Sort t
+      by (ref.Basic b) is own held = basic b is
+      by (ref.Named q) is own held = on q is (map q) refl own held
 
   -- what is said of a type by its name and its description
   at_shape : {A : Type 0} (F : TypeRef → Option Desc → A) (t : TypeRef) (q : QName) (d : Desc) → target map 201 t ≡ ref.Named q → map q ≡ Some d → F (target map 201 t) (shape map t) ≡ F (ref.Named q) (Some d)
@@ -162,7 +162,7 @@ module _ (map : QName → Option Desc) (program : Program) (formed : Formed map 
 
       wrong : (q : QName) (d : Desc) → target map 201 t ≡ ref.Named q → map q ≡ Some d → is_structure d ≡ true → Scalar (form t)
       wrong q d is e s =
-          let stands : StandsFor map t (ref.Named q) = subst (λ u. StandsFor map t u) is (at map grounded t h).stands in
+          let stands : StandsFor map t (ref.Named q) = subst (λ u. StandsFor map t u) is (at_steady map steady t h).stands in
           absurd (never (q, (stands, subst (λ o. MatchOption o ⊥ (λ d. IsTrue (is_structure d))) (sym e) s)))
 
       on : (q : QName) (d : Desc) → target map 201 t ≡ ref.Named q → map q ≡ Some d → is_type d ≡ true → is_alias d ≡ false → Scalar (form t)
@@ -183,7 +183,7 @@ module _ (map : QName → Option Desc) (program : Program) (formed : Formed map 
   -- TYPES AS THEY ARE BUILT
 
   keeps : (q : QName) (d : Desc) → map q ≡ Some d → Keeps map d
-  keeps = grounded.keeps
+  keeps = steady.keeps
 
   within_ok : (n : ℕ) (t : TypeRef) → IsWithin map n t → (Is map relations.is_open t → ⊥) → FormOk program (form t)
   unfolding IsWithin
@@ -208,4 +208,4 @@ module _ (map : QName → Option Desc) (program : Program) (formed : Formed map 
       by (Some (desc.Record s)) e h r = (formed.records q s e).fits
 
   pub form_ok : (t : TypeRef) → IsHeld map t → (Is map relations.is_open t → ⊥) → FormOk program (form t)
-  form_ok t h never = within_ok 201 t (grounded.chains t h) never
+  form_ok t h never = let e = steady.ends t h in within_ok e.0 t e.1 never

@@ -7,6 +7,7 @@ use Rattle.std.specs.Ordering.{nat_cmp}
 use Rattle.std.specs.declared.cmp.Ordering.{Ordering}
 use Rattle.std.specs.declared.cmp.Ordering.TheVariants.{Less, Equal, Greater}
 use Rattle.std.specs.Cmp.Lexicographic.{slice_cmp}
+use Rattle.std.proofs.lemmas.Bool.{false≢true}
 use Rattle.std.proofs.lemmas.Slice.Eq.{bytes_eq-Decides}
 use Rattle.ob_tree.specs.declared.names.QName.{QName}
 use Rattle.ob_tree.specs.declared.print.Print.{Print}
@@ -27,14 +28,14 @@ use Rattle.ob_cmp.specs.Verdicts.{Texts, texts_in, kinds_between, text_kinds, la
 use Rattle.ob_gained.specs.Gained.{text_of_object, OnlyGains, AreSeen, OnlyAdded}
 use mathlib.Core.Logic.{inl, inr}
 
-Objects : Type 0
+abbrev Objects : Type 0
 Objects = List (List ℕ × Desc)
 
-none_no : {A B : Type 0} (x : A) → Option.None {A = A} ≡ Some x → B
-none_no x e = absurd e
+none_no : {A B : Type 0} (x : A) → (let n : Option A = None in n) ≡ Some x → B
+none_no x e = absurd cc
 
 some_is : {A : Type 0} (x y : A) → Some x ≡ Some y → x ≡ y
-some_is x y refl = refl
+some_is x y e = cc
 
 -- NAMES
 
@@ -82,9 +83,6 @@ seen_there (o ∷ os) s x d e = go (bytes_eq x o.0) (seen_there os s.1 x d) e
 
 -- VERDICTS
 
-AllAdded : List Verdict → Type 0
-AllAdded vs = AllByRecursion (λ v. v.kind ≡ kind.Added) vs
-
 all_front : (xs ys : List Verdict) → AllByRecursion (λ v. v.kind ≡ kind.Added) (xs ++ ys) → AllByRecursion (λ v. v.kind ≡ kind.Added) xs
 all_front [] ys h = tt
 all_front (x ∷ xs) ys h = (h.0, all_front xs ys h.1)
@@ -104,18 +102,18 @@ of_kinds x [] a = tt
 of_kinds x (k ∷ ks) a = (a.0, of_kinds x ks a.1)
 
 changed_no : {B : Type 0} → kind.ShapeChanged ≡ kind.Added → B
-changed_no e = absurd e
+changed_no e = absurd cc
 
 layout_no : {B : Type 0} → kind.LayoutChanged ≡ kind.Added → B
-layout_no e = absurd e
+layout_no e = absurd cc
 
 gone_no : {B : Type 0} → kind.Gone ≡ kind.Added → B
-gone_no e = absurd e
+gone_no e = absurd cc
 
 layouts_same : (a b : Option (List ℕ)) → layouts_agree a b ≡ true → a ≡ b
 layouts_same None None e = refl
-layouts_same None (Some b) e = absurd e
-layouts_same (Some a) None e = absurd e
+layouts_same None (Some b) e = absurd (false≢true e)
+layouts_same (Some a) None e = absurd (false≢true e)
 layouts_same (Some a) (Some b) e = ap (λ (x : List ℕ). Some x) ((bytes_eq-Decides a b).0 e)
 
 -- no text has changed
@@ -132,7 +130,7 @@ aspect_same q d e sd se s l aspect.Shape = ap (λ (x : List ℕ). Some x) (ap (s
 aspect_same q d e sd se s l aspect.Layout = sym l
 
 module _ (m : List ℕ) (os ns : Objects) (so : AllByRecursion (λ o. seen o.1 ≡ o.1) os) (sn : AllByRecursion (λ o. seen o.1 ≡ o.1) ns) (all : AllByRecursion (λ v. v.kind ≡ kind.Added) (flat_map (λ x. map (verdict_of x) (kinds_in m os m ns x)) (names_in os ns))) (x : List ℕ) (a : Aspect) (t : List ℕ) where
-  name_is : QName
+  abbrev name_is : QName
   name_is = record { «module» = m; object = x }
 
   there : (d : Desc) → object_named os x ≡ Some d → AllByRecursion (λ k. k ≡ kind.Added) (kinds_in m os m ns x)
@@ -144,19 +142,19 @@ module _ (m : List ℕ) (os ns : Objects) (so : AllByRecursion (λ o. seen o.1 �
       new : (d : Desc) (n : Option Desc) → object_named os x ≡ Some d → object_named ns x ≡ n → AllByRecursion (λ k. k ≡ kind.Added) (kinds_between (option_map (λ d. (shape_text name_is d, layout_text name_is d)) (Some d)) (option_map (λ d. (shape_text name_is d, layout_text name_is d)) n)) → text_of name_is d a ≡ Some t → (n >>= λ d. text_of name_is d a) ≡ Some t
       new d None o n k e = gone_no k.0
       new d (Some f) o n k e =
-        let s = texts_same (shape_text name_is d) (layout_text name_is d) (shape_text name_is f) (layout_text name_is f) k in
-        aspect_same name_is d f (seen_there os so x d o) (seen_there ns sn x f n) s.0 s.1 a ∙ e
+          let s = texts_same (shape_text name_is d) (layout_text name_is d) (shape_text name_is f) (layout_text name_is f) k in
+          aspect_same name_is d f (seen_there os so x d o) (seen_there ns sn x f n) s.0 s.1 a ∙ e
 
       go : (o : Option Desc) → object_named os x ≡ o → (o >>= λ d. text_of name_is d a) ≡ Some t → (object_named ns x >>= λ d. text_of name_is d a) ≡ Some t
       go None o e = none_no t e
       go (Some d) o e =
-        new d (object_named ns x) o refl
+          new d (object_named ns x) o refl
           (subst (λ (o : Option Desc). AllByRecursion (λ k. k ≡ kind.Added) (kinds_between (option_map (λ d. (shape_text name_is d, layout_text name_is d)) o) (option_map (λ d. (shape_text name_is d, layout_text name_is d)) (object_named ns x)))) o (there d o))
           e
 
 pub only_added : OnlyAdded
 only_added old new so sn n all = record {
-    name = n;
-    texts = λ x a t e. subst (λ (m : List ℕ). (object_named new.objects x >>= λ d. text_of (record { «module» = m; object = x }) d a) ≡ Some t) (sym n)
+  name = n;
+  texts = λ x a t e. subst (λ (m : List ℕ). (object_named new.objects x >>= λ d. text_of (record { «module» = m; object = x }) d a) ≡ Some t) (sym n)
       (stays old.«module» old.objects new.objects so sn (subst (λ (m : List ℕ). AllByRecursion (λ v. v.kind ≡ kind.Added) (flat_map (λ x. map (verdict_of x) (kinds_in old.«module» old.objects m new.objects x)) (names_in old.objects new.objects))) n all) x a t e);
-  }
+}

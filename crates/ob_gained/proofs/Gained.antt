@@ -14,8 +14,8 @@ use Rattle.ob_desc.specs.Grammar.{text_of}
 use Rattle.ob_env.specs.Faces.{Face, face_named, object_named, text_in, print_in}
 use Rattle.ob_gained.specs.Gained.{text_of_object, OnlyGains, AllOnlyGain, Extends, ExtensionOf, Extension}
 
-none_no : {A B : Type 0} (x : A) → Option.None {A = A} ≡ Some x → B
-none_no x e = absurd e
+none_no : {A B : Type 0} (x : A) → (let n : Option A = None in n) ≡ Some x → B
+none_no x e = absurd cc
 
 module _ {K : Type 0} where
   -- what is found by a name has it
@@ -27,7 +27,7 @@ module _ {K : Type 0} where
       go true b more e = ap (λ (h : Face K). h.«module») (sym (some_is e)) ∙ sym ((bytes_eq-Decides m g.«module»).0 b)
         where
           some_is : Some g ≡ Some f → g ≡ f
-          some_is refl = refl
+          some_is e = cc
       go false b more e = more e
 
   module _ (olds news : List (Face K)) (h : AllOnlyGain olds news) (q : QName) (a : Aspect) (t : List ℕ) where
@@ -43,15 +43,15 @@ module _ {K : Type 0} where
         go : (o : Option (Face K)) → face_named olds q.«module» ≡ o → ((o >>= λ f. object_named f.objects q.object) >>= λ d. text_of q d a) ≡ Some t → text_in news q a ≡ Some t
         go None o e = none_no t e
         go (Some f) o e =
-          let g = h q.«module» f o in
-          subst (λ (o : Option (Face K)). ((o >>= λ f. object_named f.objects q.object) >>= λ d. text_of q d a) ≡ Some t) (sym g.1.0)
-          (from_face g.0 (g.1.1.name ∙ found_named olds q.«module» f o) (g.1.1.texts q.object a t (in_face f (found_named olds q.«module» f o) e)))
+            let g = h q.«module» f o in
+            subst (λ (o : Option (Face K)). ((o >>= λ f. object_named f.objects q.object) >>= λ d. text_of q d a) ≡ Some t) (sym g.1.0)
+            (from_face g.0 (g.1.1.name ∙ found_named olds q.«module» f o) (g.1.1.texts q.object a t (in_face f (found_named olds q.«module» f o) e)))
 
   pub extension_of : ExtensionOf K
   extension_of olds news h = record {
-      texts = text_stays olds news h;
-      prints = λ q a p e. print_stays q a p (text_in olds q a) refl e;
-    }
+    texts = text_stays olds news h;
+    prints = λ q a p e. print_stays q a p (text_in olds q a) refl e;
+  }
     where
       print_stays : (q : QName) (a : Aspect) (p : Print) (o : Option (List ℕ)) → text_in olds q a ≡ o → option_map print_from o ≡ Some p → print_in news q a ≡ Some p
       print_stays q a p None o e = none_no p e

@@ -12,7 +12,6 @@ use Rattle.ob_types.specs.declared.desc.Desc.TheVariants as desc
 use Rattle.ob_types.specs.declared.typed.TypedType.{TypedType}
 use Rattle.ob_types.specs.declared.typed.TypedVariable.{TypedVariable}
 use Rattle.ob_types.specs.Maps.{named_by}
-use Rattle.ob_types.specs.Relations.{IsGrounded}
 use Rattle.ob_types.specs.Tests.{target_of, follow, target}
 use Rattle.ob_rules.specs.declared.notes.Later.{Later}
 use Rattle.ob_rules.specs.declared.notes.Later.TheVariants as later
@@ -33,6 +32,7 @@ use Rattle.ob_bodies.proofs.Lists.{one_left, one_right, one_joined, one_all, all
 use Rattle.ob_bodies.proofs.Standing.{Lies, lies_front, lies_behind, grows_as, stands_grown, all_grown}
 use Rattle.ob_bodies.proofs.Binding.{binding_changes}
 use Rattle.ob_grounded.specs.Laws.{IsApart}
+use Rattle.ob_grounded.specs.Steady.{IsClosed}
 use Rattle.ob_grounded.proofs.Firm.{firm_more, SignatureFirm, firm_described, AnyValue, IfAlias, S, Aliased, Seen, Closed, closed_more, IsLeft, WholeBase, WholeAt, whole_more, firm_alias}
 use Rattle.ob_grounded.proofs.Typings.{Within, Tells, AreTold, are_told_more, Place}
 use Rattle.ob_grounded.proofs.Sections.{AreFirmSections}
@@ -70,7 +70,7 @@ heads_told ts (g ∷ hs) h = all_both (Tells ts) g.notes.later (heads_later hs) 
 abbrev pub AreOne : List TypedType → Type 0
 AreOne ts = (a b : TypedType) → IsOneOf ts a → IsOneOf ts b → a.name ≡ b.name → a.desc ≡ b.desc
 
-module _ (shown : QName → Option Desc) (unit : List ℕ) (grounded : IsGrounded shown) (apart : IsApart shown unit) (out : is_out unit ≡ false) (In : TypedType → Type 0) (F : List TypedType) (among : (s : TypedType) → IsOneOf F s → In s) (named : (s : TypedType) → In s → HasName F s.name) (one : AreOne F) where
+module _ (shown : QName → Option Desc) (unit : List ℕ) (kept : IsClosed shown) (apart : IsApart shown unit) (out : is_out unit ≡ false) (In : TypedType → Type 0) (F : List TypedType) (among : (s : TypedType) → IsOneOf F s → In s) (named : (s : TypedType) → In s → HasName F s.name) (one : AreOne F) where
   abbrev T : List TypedType → TypeRef → Type 0
   T own t = S unit shown own t
 
@@ -109,7 +109,7 @@ module _ (shown : QName → Option Desc) (unit : List ℕ) (grounded : IsGrounde
         by None f e = absurd cc
         by (Some d) f e = ⊎_elim
             (λ (o : IsOwn unit shown w unit_is shown_is q d). alias_names w.own d (subst (IfAlias (T w.own)) o.desc (one_all (λ (x : TypedType). IfAlias (T w.own) x.desc) w.own o.s aliases o.there)) t e)
-            (λ (o : IsOther unit shown w unit_is shown_is q d). alias_names w.own d (names_alias w.own d (shown_names shown unit grounded apart w.own q d o.is)) t e)
+            (λ (o : IsOther unit shown w unit_is shown_is q d). alias_names w.own d (names_alias w.own d (shown_names shown unit kept apart w.own q d o.is)) t e)
             (at unit shown w unit_is shown_is q s.0 d f)
 
     follow_stands : (q : QName) (o : Option TypeRef) → T w.own (ref.Named q) → ((t : TypeRef) → o ≡ Some t → T w.own t) → (f : TypeRef → TypeRef) → ((t : TypeRef) → T w.own t → T w.own (f t)) → T w.own (follow o (ref.Named q) f)
@@ -276,7 +276,7 @@ module _ (shown : QName → Option Desc) (unit : List ℕ) (grounded : IsGrounde
   variable_to own i x h = (stands_grown unit shown own F (names_lie own i) x.of h.0, closed_more unit shown (IsOneOf own) In i x.of h.1)
 
   abbrev HeadsIn : List ℕ → List (List ℕ) → List Later → Around → Heads → Type 0
-  HeadsIn path names L base hs = HeadsAre shown unit grounded apart out path names In L base hs
+  HeadsIn path names L base hs = HeadsAre shown unit kept apart out path names In L base hs
 
   first_heads : (path : List ℕ) (names : List (List ℕ)) (L : List Later) (v : Around) → Place unit shown out path names v → AllByRecursion (W [] v.own) v.own → ((s : TypedType) → IsOneOf v.own s → In s) → (d : Declared) → (o : AreDeclared unit shown out path names (HasAll unit shown out path names names) v d) → Within d.part.notes.later L → ((s : TypedType) → IsOneOf o.made s → In s) → HeadsIn path names L d.around (record { around = d.around; before = [] })
   first_heads path names L v k h i d o f m =
@@ -288,7 +288,7 @@ module _ (shown : QName → Option Desc) (unit : List ℕ) (grounded : IsGrounde
         behind = refl;
         place = next_place unit shown out path names v k d.part.notes.later o.made o.more o.firm o.known o.entities;
         all = all;
-        whole = all_both (W L own) o.made v.own (resolved shown unit grounded apart out path names In L d.part.notes.later f own all within o.made o.firm) (all_of (W [] v.own) (W L own) v.own (λ s y. whole_more unit shown In [] L (λ l b. absurd b) v.own own (grows_as v.own own (lies_front o.made v.own)) s y) h);
+        whole = all_both (W L own) o.made v.own (resolved shown unit kept apart out path names In L d.part.notes.later f own all within o.made o.firm) (all_of (W [] v.own) (W L own) v.own (λ s y. whole_more unit shown In [] L (λ l b. absurd b) v.own own (grows_as v.own own (lies_front o.made v.own)) s y) h);
         within = within;
       })
 
@@ -303,7 +303,7 @@ module _ (shown : QName → Option Desc) (unit : List ℕ) (grounded : IsGrounde
       let more = (binding_at true w R).own in
       let c = binding_changes AnyValue true w R in
       record {
-        whole = all_of (W [] w.own) (W [] more) more (λ t k. whole_more unit shown In [] [] (λ l b. b) w.own more c.grows t k) (bindings_whole shown unit grounded apart out [] [] In [] w.own w R s h);
+        whole = all_of (W [] w.own) (W [] more) more (λ t k. whole_more unit shown In [] [] (λ l b. b) w.own more c.grows t k) (bindings_whole shown unit kept apart out [] [] In [] w.own w R s h);
         within = j refl;
       }
 
@@ -395,11 +395,11 @@ module _ (shown : QName → Option Desc) (unit : List ℕ) (grounded : IsGrounde
     left h i y k = one_right d.part.notes.later (heads_later hs.before) y (later_of hs.before h i y k)
 
     abbrev HI : Head → Type 0
-    HI h = IsHeadIn shown unit grounded apart out u.path names In L w.own h
+    HI h = IsHeadIn shown unit kept apart out u.path names In L w.own h
 
     headed : HeadsIn u.path names L d.around hs × (AllByRecursion HI (heads_of ps first) × Lies d.around.own w.own)
     headed =
-        heads_are shown unit grounded apart out u.path names In L d.around U ps (all_of GoodProcedure (λ (p : Written_procedure). AreFirmSections unit shown out u.path names p.heading.parameters.sections) ps (λ p i. i.sections u.path names) (procedures_good ds g)) first
+        heads_are shown unit kept apart out u.path names In L d.around U ps (all_of GoodProcedure (λ (p : Written_procedure). AreFirmSections unit shown out u.path names p.heading.parameters.sections) ps (λ p i. i.sections u.path names) (procedures_good ds g)) first
         (first_heads u.path names L v kv start.whole start.within d o (λ y k. one_left d.part.notes.later (heads_later hs.before) y k) (λ t i. among t (mF t i)))
         (subst (λ hs. (procedures_judged U ps hs).notes.broken ≡ []) same eQ) (λ t i. among t (qF t (subst (λ hs. IsOneOf (procedures_judged U ps hs).contents.types t) (sym same) i)))
         (all_one (λ (h : Head). Within h.notes.later L) (heads_of ps first) (λ h i. left h (one_turned hs.before h (subst (λ hs. IsOneOf hs h) (sym same) i))))

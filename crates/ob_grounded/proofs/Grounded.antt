@@ -1,5 +1,5 @@
--- The map of the types of a checked module is grounded.
-use Rattle.std.proofs.Common.{◌≡◌, ◌≢◌, ⊎_elim, inl, inr, refl, sym, ap, subst, ◌∙◌, ℕ, Bool, true, false, List, [], ◌∷◌, ◌++◌, map, Option, Some, None, zero, suc}
+-- The map of the types of a checked module is grounded, or steady.
+use Rattle.std.proofs.Common.{◌≡◌, ◌≢◌, ⊎_elim, inl, inr, refl, sym, ap, subst, ◌∙◌, ℕ, Bool, true, false, List, [], ◌∷◌, ◌++◌, map, Option, Some, None, suc}
 use Rattle.std.specs.Prelude.{bytes_eq, MatchOption, IfSome, IsTrue}
 use Rattle.std.specs.List.{AllByRecursion, find}
 use Rattle.ob_tree.specs.declared.names.QName.{QName}
@@ -34,13 +34,17 @@ use Rattle.ob_distinct.proofs.Short.{chains_are_short}
 use Rattle.ob_bodies.specs.Knows.{HasName, Grows, Stands, IsDescribed}
 use Rattle.ob_bodies.proofs.Lists.{one_all, all_one, all_of}
 use Rattle.ob_bodies.proofs.Standing.{stands_grown, own_stands}
-use Rattle.ob_grounded.specs.Laws.{IsApart, IsNotOut, AreGrounded, ModulesAreGrounded}
+use Rattle.ob_forms.specs.Steady.{IsSteady, without_members}
+use Rattle.ob_grounded.specs.Laws.{IsApart, types_of, IsNotOut, AreGrounded, ModulesAreGrounded}
+use Rattle.ob_grounded.specs.Steady.{IsClosed, TypesAreHeld}
 use Rattle.ob_grounded.proofs.Firm.{Firm, firm_more, firm_described, SignatureFirm, AnyValue, is_solid, S, Seen, Closed, WholeBase, WholeAt}
-use Rattle.ob_grounded.proofs.Stand.{IsOwn, IsOther, name_found, found_name, at, own_at, other_at}
+use Rattle.ob_grounded.proofs.Stand.{IsOwn, IsOther, name_found, found_name, at, own_at, other_at, shown_stands}
 use Rattle.ob_grounded.proofs.Blocks.{AreOne, step_stands}
 use Rattle.ob_grounded.proofs.Modules.{bound_from, Made, made_named, Whole, types_whole, bound_whole}
-use Rattle.ob_grounded.proofs.Maps.{firm_names, stood_on, closed_at, type_held, held, out_is, out_within, shown_within, chains, shown_at, names_are_held}
-use Rattle.ob_grounded.proofs.Sorts.{strip, stripped, more_stripped, solid_stripped, alias_is, alias_stripped, type_stripped, stands_stripped, structure_stripped, open_desc_stripped, record_desc_stripped, open_same, record_same, structured_same, not_open, not_structured, record_is, structure_is, solid_closed}
+use Rattle.ob_grounded.proofs.Maps.{firm_names, stood_on, closed_at, type_held, held, out_is, out_within, chains as chains_in, shown_at, names_are_held}
+use Rattle.ob_grounded.proofs.Lines.{line_within}
+use Rattle.ob_grounded.proofs.Same.{within_same, lines_same}
+use Rattle.ob_grounded.proofs.Sorts.{strip, stripped, more_stripped, solid_stripped, alias_is, alias_stripped, structure_stripped, open_desc_stripped, record_desc_stripped, open_same, record_same, structured_same, not_open, not_structured, record_is, structure_is, solid_closed}
 
 -- ---- types that differ in name
 
@@ -74,7 +78,7 @@ module _ (X : List TypedType) where
 
 -- ---- the map
 
-module _ (shown : QName → Option Desc) (tree : Tree) (grounded : IsGrounded shown) (apart : IsApart shown tree.name.name) (out : is_out tree.name.name ≡ false) (imports : AllByRecursion (λ i. bytes_eq (target_of i).name tree.name.name ≡ false) tree.imports) (e : (module_part shown tree).notes.broken ≡ []) (distinct : AreDistinct (λ (t : TypedType). t.name) (all_described (module_part shown tree).contents.bound (module_part shown tree).contents.types)) where
+module _ (shown : QName → Option Desc) (tree : Tree) (kept : IsClosed shown) (apart : IsApart shown tree.name.name) (out : is_out tree.name.name ≡ false) (imports : AllByRecursion (λ i. bytes_eq (target_of i).name tree.name.name ≡ false) tree.imports) (e : (module_part shown tree).notes.broken ≡ []) (distinct : AreDistinct (λ (t : TypedType). t.name) (all_described (module_part shown tree).contents.bound (module_part shown tree).contents.types)) where
   abbrev unit : List ℕ
   unit = tree.name.name
 
@@ -97,10 +101,10 @@ module _ (shown : QName → Option Desc) (tree : Tree) (grounded : IsGrounded sh
   one = one_of X F distinct
 
   abbrev In : TypedType → Type 0
-  In s = Made shown tree grounded apart out imports e one s
+  In s = Made shown tree kept apart out imports e one s
 
   abbrev Wh : TypedType → Type 0
-  Wh s = Whole shown tree grounded apart out imports e one s
+  Wh s = Whole shown tree kept apart out imports e one s
 
   abbrev T : TypeRef → Type 0
   T t = S unit shown Y t
@@ -120,8 +124,8 @@ module _ (shown : QName → Option Desc) (tree : Tree) (grounded : IsGrounded sh
       (λ t k. stands_grown unit shown F Y grows t k) (λ t a b. b) (λ t a b. b) (λ t a b. b) (λ t b. base_sound s.name t b) s.desc h
 
   described_sound : (t : TypedType) → IsOneOf F t → (o : Option TypedType) → for_name X t ≡ o → Sound (described o t).desc
-  described_sound t i None f = sound_of t (one_all Wh F t (types_whole shown tree grounded apart out imports e one) i)
-  described_sound t i (Some b) f = sound_of b (one_all Wh X b (bound_whole shown tree grounded apart out imports e one) (found_name X t.name b f).0)
+  described_sound t i None f = sound_of t (one_all Wh F t (types_whole shown tree kept apart out imports e one) i)
+  described_sound t i (Some b) f = sound_of b (one_all Wh X b (bound_whole shown tree kept apart out imports e one) (found_name X t.name b f).0)
 
   sound_at : (y : TypedType) → IsOneOf Y y → Sound y.desc
   sound_at y i = let r = from_type X F y i in subst (λ (y : TypedType). Sound y.desc) r.1.1 (described_sound r.0 r.1.0 (for_name X r.0) refl)
@@ -136,7 +140,7 @@ module _ (shown : QName → Option Desc) (tree : Tree) (grounded : IsGrounded sh
 
   alike : (s t : TypedType) → In s → IsOneOf F t → s.name ≡ t.name → strip s.desc ≡ strip t.desc
   alike s t (inl i) j n = ap strip (one s t i j n)
-  alike s t (inr i) j n = let r = bound_from shown tree grounded apart out imports e one s i in more_stripped r.0.desc s.desc r.1.1.1 ∙ ap strip (one r.0 t r.1.0 j (r.1.1.0 ∙ n))
+  alike s t (inr i) j n = let r = bound_from shown tree kept apart out imports e one s i in more_stripped r.0.desc s.desc r.1.1.1 ∙ ap strip (one r.0 t r.1.0 j (r.1.1.0 ∙ n))
 
   described_alike : (t : TypedType) → IsOneOf F t → (o : Option TypedType) → for_name X t ≡ o → strip (described o t).desc ≡ strip t.desc
   described_alike t i None f = refl
@@ -145,7 +149,7 @@ module _ (shown : QName → Option Desc) (tree : Tree) (grounded : IsGrounded sh
   made_like : (s : TypedType) → In s → stripped (M (record { «module» = unit; object = s.name })) ≡ Some (strip s.desc)
   made_like s i =
       let q : QName = record { «module» = unit; object = s.name } in
-      let f = name_found Y s.name (grows s.name (made_named shown tree grounded apart out imports e one s i)) in
+      let f = name_found Y s.name (grows s.name (made_named shown tree kept apart out imports e one s i)) in
       let r = from_type X F f.s f.there in
       let n : s.name ≡ r.0.name = sym f.name ∙ sym (ap (λ (y : TypedType). y.name) r.1.1) ∙ name_same X (for_name X r.0) r.0 in
       let d : strip f.s.desc ≡ strip s.desc = sym (ap (λ (y : TypedType). strip y.desc) r.1.1) ∙ described_alike r.0 r.1.0 (for_name X r.0) refl ∙ sym (alike s r.0 i r.1.0 n) in
@@ -160,7 +164,7 @@ module _ (shown : QName → Option Desc) (tree : Tree) (grounded : IsGrounded sh
         (at unit shown w unit_is shown_is q s.0 d f)
 
     within_grows : Grows w.own Y
-    within_grows x h = grows x (subst (HasName F) h.1.1 (made_named shown tree grounded apart out imports e one h.0 (within h.0 h.1.0)))
+    within_grows x h = grows x (subst (HasName F) h.1.1 (made_named shown tree kept apart out imports e one h.0 (within h.0 h.1.0)))
 
     -- what stands there has one
     stands_some : (q : QName) → S unit shown w.own (ref.Named q) → MatchOption (map_of w q) ⊥ (λ d. Unit {0})
@@ -177,25 +181,20 @@ module _ (shown : QName → Option Desc) (tree : Tree) (grounded : IsGrounded sh
         by true b h = let r = name_found w.own q.object h in some (map_of w q) r.s.desc (own_at unit shown w unit_is shown_is q b r.s r.is)
         by false b h = other b (shown q) refl h
 
-  module _ (deep : deep_of shown tree.name (map declaration tree.decls) (module_part shown tree) ≡ false) where
-    pub short : AllByRecursion (λ (s : TypedType). is_within M 200 (ref.Named (record { «module» = w0.unit; object = s.name })) ≡ true) Y
-    short = chains_are_short w0 (names_are_held shown unit grounded apart out w0 refl refl are_described closed) deep
-
-    pub within_all : (t : TypeRef) → IsHeld M t → IsWithin M 201 t
-    within_all t h = chains shown unit grounded apart out w0 refl refl are_described closed short t h
-
-    pub stands_within : (t : TypeRef) → T t → IsWithin M 201 t
-    stands_within t s = within_all t (type_held shown unit grounded apart out w0 refl refl are_described closed t s)
+  -- where chains of aliases, elements and bases are short
+  module _ (lines : (t : TypeRef) → IsHeld M t → IsWithin (without_members M) 201 t) where
+    pub stands_within : (t : TypeRef) → T t → IsWithin (without_members M) 201 t
+    stands_within t s = lines t (type_held shown unit kept apart out w0 refl refl are_described closed t s)
 
     -- what was seen somewhere is so
     module _ (test : Map → TypeRef → Bool) (b : Bool) (t : TypeRef) (h : Seen unit shown In test b t) where
       steps : (q : QName) → S unit shown h.w.own (ref.Named q) → (u : TypeRef) → alias_target (map_of h.w q) ≡ Some u → S unit shown h.w.own u
-      steps q s u f = step_stands shown unit grounded apart out In F (λ s i. inl i) (made_named shown tree grounded apart out imports e one) one h.w h.unit_is h.shown_is h.aliases q s u f
+      steps q s u f = step_stands shown unit kept apart out In F (λ s i. inl i) (made_named shown tree kept apart out imports e one) one h.w h.unit_is h.shown_is h.aliases q s u f
 
       same : (q : QName) → S unit shown h.w.own (ref.Named q) → stripped (map_of h.w q) ≡ stripped (M q)
       same q s = like h.w h.unit_is h.shown_is h.within q s (map_of h.w q) refl (stands_some h.w h.unit_is h.shown_is h.within q s)
 
-      seen_within : IsWithin M 201 t
+      seen_within : IsWithin (without_members M) 201 t
       seen_within = stands_within t (stands_grown unit shown h.w.own Y (within_grows h.w h.unit_is h.shown_is h.within) t h.stands)
 
     seen_open : (t : TypeRef) → Seen unit shown In is_open false t → Is M is_open_desc t → ⊥
@@ -249,7 +248,7 @@ module _ (shown : QName → Option Desc) (tree : Tree) (grounded : IsGrounded sh
     -- ---- what is shown keeps it
 
     at_shown : (q : QName) → IsHeld shown (ref.Named q) → M q ≡ shown q
-    at_shown q h = shown_at shown unit grounded apart out w0 refl refl are_described closed q h
+    at_shown q h = shown_at shown unit kept apart out w0 refl refl are_described closed q h
 
     own_back : (t : TypeRef) → IsHeld shown t → IsOwnType M t → IsOwnType shown t
     own_back (ref.Basic b) h k = tt
@@ -261,13 +260,13 @@ module _ (shown : QName → Option Desc) (tree : Tree) (grounded : IsGrounded sh
 
     stands_to : {t u : TypeRef} → StandsFor shown t u → IsHeld shown t → StandsFor M t u × IsHeld shown u
     stands_to (itself {t = t} a) h = (itself (own_to t h a), h)
-    stands_to (equated {q = q} {m = m} {t = t} f s) h = let r = stands_to s (grounded.held q (desc.Alias m t) f).0 in (equated (at_shown q h ∙ f) r.0, r.1)
+    stands_to (equated {q = q} {m = m} {t = t} f s) h = let r = stands_to s (kept.held q (desc.Alias m t) f).0 in (equated (at_shown q h ∙ f) r.0, r.1)
 
     stands_back : {t u : TypeRef} → StandsFor M t u → IsHeld shown t → StandsFor shown t u × IsHeld shown u
     stands_back (itself {t = t} a) h = (itself (own_back t h a), h)
     stands_back (equated {q = q} {m = m} {t = t} f s) h =
         let g : shown q ≡ Some (desc.Alias m t) = sym (at_shown q h) ∙ f in
-        let r = stands_back s (grounded.held q (desc.Alias m t) g).0 in
+        let r = stands_back s (kept.held q (desc.Alias m t) g).0 in
         (equated g r.0, r.1)
 
     is_to : (kind : Desc → Bool) (t : TypeRef) → IsHeld shown t → Is shown kind t → Is M kind t
@@ -327,25 +326,15 @@ module _ (shown : QName → Option Desc) (tree : Tree) (grounded : IsGrounded sh
     basic_closed : (b : Basic) → Is M is_open_desc (ref.Basic b) → ⊥
     basic_closed b h = let bad : ref.Basic b ≡ ref.Named h.0 = unique M (itself tt) h.1.0 in absurd cc
 
-    keeps : (q : QName) (d : Desc) → M q ≡ Some d → Keeps M d
+    pub keeps : (q : QName) (d : Desc) → M q ≡ Some d → Keeps M d
     keeps q d f = by (same_name q out_string) refl
       where
         by : (b : Bool) → same_name q out_string ≡ b → Keeps M d
-        by true o = let g : Some (desc.OpenArray mark.Hidden (ref.Basic basic.Char)) ≡ Some d = sym (out_is shown unit grounded apart out w0 refl refl are_described closed q o) ∙ f in let i : desc.OpenArray mark.Hidden (ref.Basic basic.Char) ≡ d = cc in subst (Keeps M) i (basic_closed basic.Char)
+        by true o = let g : Some (desc.OpenArray mark.Hidden (ref.Basic basic.Char)) ≡ Some d = sym (out_is shown unit kept apart out w0 refl refl are_described closed q o) ∙ f in let i : desc.OpenArray mark.Hidden (ref.Basic basic.Char) ≡ d = cc in subst (Keeps M) i (basic_closed basic.Char)
         by false o = ⊎_elim
             (λ (k : IsOwn unit shown w0 refl refl q d). subst (Keeps M) k.desc (sound_keeps k.s.desc (sound_at k.s k.there)))
-            (λ (k : IsOther unit shown w0 refl refl q d). keeps_to d (grounded.held q d k.is) (grounded.keeps q d k.is))
+            (λ (k : IsOther unit shown w0 refl refl q d). keeps_to d (kept.held q d k.is) (kept.keeps q d k.is))
             (at unit shown w0 refl refl q o d f)
-
-    pub map_grounded : IsGrounded M
-    map_grounded = record { held = held shown unit grounded apart out w0 refl refl are_described closed; chains = within_all; keeps = keeps }
-
-    not_out_of : (t : TypeRef) → T t → IsNotOut t
-    not_out_of (ref.Basic b) h = tt
-    not_out_of (ref.Named q) h = h.0
-
-    pub names_others : (q : QName) (d : Desc) → same_name q out_string ≡ false → M q ≡ Some d → AllByRecursion IsNotOut (named_by d)
-    names_others q d o f = all_of T IsNotOut (named_by d) not_out_of (closed_at shown unit grounded apart out w0 refl refl are_described closed q o d f)
 
     -- ---- what is known somewhere in the module, where each type that it names is known too
 
@@ -369,7 +358,7 @@ module _ (shown : QName → Option Desc) (tree : Tree) (grounded : IsGrounded sh
       to_all t s = stands_grown unit shown w.own Y (within_grows w unit_is shown_is within) t s
 
       closed_at_w : (q : QName) (d : Desc) → P (ref.Named q) → N q ≡ Some d → AllByRecursion P (named_by d)
-      closed_at_w q d s f = closed_at shown unit grounded apart out w unit_is shown_is described_w closed_w q s.0 d f
+      closed_at_w q d s f = closed_at shown unit kept apart out w unit_is shown_is described_w closed_w q s.0 d f
 
       -- what both have
       kind_at : (f : Desc → Bool) → ((d : Desc) → f (strip d) ≡ f d) → (x y : Option Desc) → stripped x ≡ stripped y → MatchOption x ⊥ (λ d. IsTrue (f d)) → MatchOption y ⊥ (λ d. IsTrue (f d))
@@ -469,54 +458,97 @@ module _ (shown : QName → Option Desc) (tree : Tree) (grounded : IsGrounded sh
       keeps_around q d f = by (same_name q out_string) refl
         where
           by : (b : Bool) → same_name q out_string ≡ b → Keeps N d
-          by true o = let g : Some (desc.OpenArray mark.Hidden (ref.Basic basic.Char)) ≡ Some d = sym (out_is shown unit grounded apart out w unit_is shown_is described_w closed_w q o) ∙ f in let i : desc.OpenArray mark.Hidden (ref.Basic basic.Char) ≡ d = cc in subst (Keeps N) i (basic_w basic.Char)
+          by true o = let g : Some (desc.OpenArray mark.Hidden (ref.Basic basic.Char)) ≡ Some d = sym (out_is shown unit kept apart out w unit_is shown_is described_w closed_w q o) ∙ f in let i : desc.OpenArray mark.Hidden (ref.Basic basic.Char) ≡ d = cc in subst (Keeps N) i (basic_w basic.Char)
           by false o =
-              let names = closed_at shown unit grounded apart out w unit_is shown_is described_w closed_w q o d f in
+              let names = closed_at shown unit kept apart out w unit_is shown_is described_w closed_w q o d f in
               keeps_w d names
               (⊎_elim
               (λ (k : IsOwn unit shown w unit_is shown_is q d). subst (Keeps M) k.desc (sound_keeps k.s.desc (sound_w k.s (one_all (WholeAt unit shown In [] w.own) w.own k.s whole k.there))))
-              (λ (k : IsOther unit shown w unit_is shown_is q d). keeps_to d (grounded.held q d k.is) (grounded.keeps q d k.is))
+              (λ (k : IsOther unit shown w unit_is shown_is q d). keeps_to d (kept.held q d k.is) (kept.keeps q d k.is))
               (at unit shown w unit_is shown_is q o d f))
 
-      -- chains
-      within_w : (n : ℕ) (t : TypeRef) → P t → IsWithin M n t → IsWithin N n t
-      unfolding IsWithin
-      within_w n (ref.Basic b) s h = tt
-      within_w zero (ref.Named q) s h = absurd h
-      within_w (suc n) (ref.Named q) s h = by (M q) (N q) refl refl (same_w q s) h (λ t i j. within_w n t i j)
+      -- ---- chains
+
+      -- what is held there stands, but for the type of Out
+      held_stands : (q : QName) → same_name q out_string ≡ false → (o : Option Desc) → N q ≡ o → MatchOption o ⊥ (λ d. IsTrue (is_type d)) → P (ref.Named q)
+      held_stands q o None f h = absurd h
+      held_stands q o (Some d) f h = ⊎_elim
+          (λ (k : IsOwn unit shown w unit_is shown_is q d). subst (λ (q : QName). P (ref.Named q)) (sym k.name) (own_stands unit shown out w.own k.s.name (k.s, (k.there, refl))))
+          (λ (k : IsOther unit shown w unit_is shown_is q d). shown_stands shown unit kept apart w.own (ref.Named q) (subst (λ o. MatchOption o ⊥ (λ d. IsTrue (is_type d))) (sym k.is) h))
+          (at unit shown w unit_is shown_is q o d f)
+
+      stood_w : (q : QName) (d : Desc) → P (ref.Named q) → N q ≡ Some d → AllByRecursion P (stands_on d)
+      stood_w q d s f = stood_on P d (closed_at_w q d s f)
+
+      held_all : (t : TypeRef) → P t → IsHeld M t
+      held_all t s = type_held shown unit kept apart out w0 refl refl are_described closed t (to_all t s)
+
+      pub chain_around : (n : ℕ) → ((t : TypeRef) → IsHeld M t → IsWithin M (suc n) t) → (t : TypeRef) → IsHeld N t → IsWithin N (suc n) t
+      chain_around n f (ref.Basic b) h = within_same P M N stood_w same_w (suc n) (ref.Basic b) tt (f (ref.Basic b) tt)
+      chain_around n f (ref.Named q) h = by (same_name q out_string) refl
         where
-          all : (ts : List TypeRef) → AP ts → AllByRecursion (λ t. IsWithin M n t) ts → ((t : TypeRef) → P t → IsWithin M n t → IsWithin N n t) → AllByRecursion (λ t. IsWithin N n t) ts
-          all [] o h f = tt
-          all (t ∷ ts) o h f = (f t o.0 h.0, all ts o.1 h.1 f)
+          by : (b : Bool) → same_name q out_string ≡ b → IsWithin N (suc n) (ref.Named q)
+          by true o = out_within shown unit kept apart out w unit_is shown_is described_w closed_w n q o
+          by false o = let s = held_stands q o (N q) refl h in within_same P M N stood_w same_w (suc n) (ref.Named q) s (f (ref.Named q) (held_all (ref.Named q) s))
 
-          by : (x y : Option Desc) → M q ≡ x → N q ≡ y → stripped (N q) ≡ stripped (M q) → MatchOption x ⊥ (λ d. IsTrue (is_type d) × AllByRecursion (λ t. IsWithin M n t) (stands_on d)) → ((t : TypeRef) → P t → IsWithin M n t → IsWithin N n t) → MatchOption (N q) ⊥ (λ d. IsTrue (is_type d) × AllByRecursion (λ t. IsWithin N n t) (stands_on d))
-          by None y f g e h r = absurd h
-          by (Some d) None f g e h r = let bad : None ≡ Some (strip d) = sym (ap stripped g) ∙ e ∙ ap stripped f in absurd cc
-          by (Some d) (Some c) f g e h r =
-              let k : Some (strip c) ≡ Some (strip d) = sym (ap stripped g) ∙ e ∙ ap stripped f in
-              let i : strip c ≡ strip d = cc in
-              let st : stands_on d ≡ stands_on c = sym (stands_stripped d) ∙ ap stands_on (sym i) ∙ stands_stripped c in
-              let ty : is_type c ≡ true = sym (type_stripped c) ∙ ap is_type i ∙ type_stripped d ∙ h.0 in
-              subst (λ o. MatchOption o ⊥ (λ d. IsTrue (is_type d) × AllByRecursion (λ t. IsWithin N n t) (stands_on d))) (sym g)
-              (ty, all (stands_on c) (stood_on P c (closed_at_w q c s g)) (subst (λ ts. AllByRecursion (λ t. IsWithin M n t) ts) st h.1) r)
-
-      chains_around : (t : TypeRef) → IsHeld N t → IsWithin N 201 t
-      chains_around (ref.Basic b) h = within_w 201 (ref.Basic b) tt (within_all (ref.Basic b) tt)
-      chains_around (ref.Named q) h = by (same_name q out_string) refl (N q) refl h
+      pub ends_around : ((t : TypeRef) → IsHeld M t → (n : ℕ) × IsWithin M n t) → (t : TypeRef) → IsHeld N t → (n : ℕ) × IsWithin N n t
+      ends_around f (ref.Basic b) h = let r = f (ref.Basic b) tt in (r.0, within_same P M N stood_w same_w r.0 (ref.Basic b) tt r.1)
+      ends_around f (ref.Named q) h = by (same_name q out_string) refl
         where
-          by : (b : Bool) → same_name q out_string ≡ b → (o : Option Desc) → N q ≡ o → MatchOption o ⊥ (λ d. IsTrue (is_type d)) → IsWithin N 201 (ref.Named q)
-          by true o x f h = out_within shown unit grounded apart out w unit_is shown_is described_w closed_w 200 q o
-          by false o None f h = absurd h
-          by false o (Some d) f h = ⊎_elim
-              (λ (k : IsOwn unit shown w unit_is shown_is q d).
-              let s : P (ref.Named q) = subst (λ (q : QName). P (ref.Named q)) (sym k.name) (own_stands unit shown out w.own k.s.name (k.s, (k.there, refl))) in
-              within_w 201 (ref.Named q) s (stands_within (ref.Named q) (to_all (ref.Named q) s)))
-              (λ (k : IsOther unit shown w unit_is shown_is q d). shown_within shown unit grounded apart out w unit_is shown_is described_w closed_w 201 (ref.Named q) (grounded.chains (ref.Named q) (subst (λ o. MatchOption o ⊥ (λ d. IsTrue (is_type d))) (sym k.is) h)))
-              (at unit shown w unit_is shown_is q o d f)
+          by : (b : Bool) → same_name q out_string ≡ b → (n : ℕ) × IsWithin N n (ref.Named q)
+          by true o = (1, out_within shown unit kept apart out w unit_is shown_is described_w closed_w 0 q o)
+          by false o = let s = held_stands q o (N q) refl h in let r = f (ref.Named q) (held_all (ref.Named q) s) in (r.0, within_same P M N stood_w same_w r.0 (ref.Named q) s r.1)
 
-      -- THE MAP AROUND IT IS GROUNDED
-      pub around_grounded : IsGrounded N
-      around_grounded = record { held = held shown unit grounded apart out w unit_is shown_is described_w closed_w; chains = chains_around; keeps = keeps_around }
+      pub lines_around : (t : TypeRef) → IsHeld N t → IsWithin (without_members N) 201 t
+      lines_around (ref.Basic b) h = lines_same P M N stood_w same_w 201 (ref.Basic b) tt (lines (ref.Basic b) tt)
+      lines_around (ref.Named q) h = by (same_name q out_string) refl
+        where
+          by : (b : Bool) → same_name q out_string ≡ b → IsWithin (without_members N) 201 (ref.Named q)
+          by true o = line_within N 201 (ref.Named q) (out_within shown unit kept apart out w unit_is shown_is described_w closed_w 200 q o)
+          by false o = let s = held_stands q o (N q) refl h in lines_same P M N stood_w same_w 201 (ref.Named q) s (lines (ref.Named q) (held_all (ref.Named q) s))
+
+      pub held_around : (q : QName) (d : Desc) → N q ≡ Some d → AllByRecursion (λ t. IsHeld N t) (named_by d)
+      held_around = held shown unit kept apart out w unit_is shown_is described_w closed_w
+
+      -- THE MAP AROUND IT IS STEADY
+      pub around_steady : ((t : TypeRef) → IsHeld M t → (n : ℕ) × IsWithin M n t) → IsSteady N
+      around_steady ends = record { held = held_around; ends = ends_around ends; lines = lines_around; keeps = keeps_around }
+
+  pub map_held : (q : QName) (d : Desc) → M q ≡ Some d → AllByRecursion (λ t. IsHeld M t) (named_by d)
+  map_held = held shown unit kept apart out w0 refl refl are_described closed
+
+  not_out_of : (t : TypeRef) → T t → IsNotOut t
+  not_out_of (ref.Basic b) h = tt
+  not_out_of (ref.Named q) h = h.0
+
+  pub names_others : (q : QName) (d : Desc) → same_name q out_string ≡ false → M q ≡ Some d → AllByRecursion IsNotOut (named_by d)
+  names_others q d o f = all_of T IsNotOut (named_by d) not_out_of (closed_at shown unit kept apart out w0 refl refl are_described closed q o d f)
+
+  -- where the depth is limited
+  module _ (chains : (t : TypeRef) → IsHeld shown t → IsWithin shown 201 t) (deep : deep_of shown tree.name (map declaration tree.decls) (module_part shown tree) ≡ false) where
+    pub short : AllByRecursion (λ (s : TypedType). is_within M 200 (ref.Named (record { «module» = w0.unit; object = s.name })) ≡ true) Y
+    short = chains_are_short w0 (names_are_held shown unit kept apart out w0 refl refl are_described closed) deep
+
+    within_all : (t : TypeRef) → IsHeld M t → IsWithin M 201 t
+    within_all t h = chains_in shown unit kept apart out w0 refl refl are_described closed chains short t h
+
+    lines_all : (t : TypeRef) → IsHeld M t → IsWithin (without_members M) 201 t
+    lines_all t h = line_within M 201 t (within_all t h)
+
+    pub map_grounded : IsGrounded M
+    map_grounded = record { held = map_held; chains = within_all; keeps = keeps lines_all }
+
+    -- THE MAP AROUND WHAT IS KNOWN IS GROUNDED
+    pub around_grounded : (w : Around) (unit_is : w.unit ≡ unit) (shown_is : w.shown ≡ shown) (whole : AllByRecursion (WholeAt unit shown In [] w.own) w.own) (within : (s : TypedType) → IsOneOf w.own s → In s) → IsGrounded (map_of w)
+    around_grounded w unit_is shown_is whole within = record {
+      held = held_around lines_all w unit_is shown_is whole within;
+      chains = chain_around lines_all w unit_is shown_is whole within 200 within_all;
+      keeps = keeps_around lines_all w unit_is shown_is whole within;
+    }
+
+-- a grounded map is closed
+pub grounded_closed : (shown : QName → Option Desc) → IsGrounded shown → IsClosed shown
+grounded_closed shown g = record { held = g.held; keeps = g.keeps }
 
 pub modules_are_grounded : ModulesAreGrounded
 modules_are_grounded shown tree m c =
@@ -524,8 +556,17 @@ modules_are_grounded shown tree m c =
     let k = unbroken_is p.notes.broken (typed_module shown tree.name tree.imports (map declaration tree.decls) p) m c.is in
     let out : is_out tree.name.name ≡ false = subst (λ (x : TypedModule). is_out x.name ≡ false) (sym k.1) (not_out shown tree m c.is) in
     let names = subst (λ (x : TypedModule). AreDistinct (λ (t : TypedType). t.name) x.types) (sym k.1) c.names in
+    let kept = grounded_closed shown c.grounded in
     subst (AreGrounded shown tree) k.1 (record {
-      grounded = map_grounded shown tree c.grounded c.apart out c.imports k.0 names c.shallow;
-      names = names_others shown tree c.grounded c.apart out c.imports k.0 names c.shallow;
-      short = short shown tree c.grounded c.apart out c.imports k.0 names c.shallow;
+      grounded = map_grounded shown tree kept c.apart out c.imports k.0 names c.grounded.chains c.shallow;
+      names = names_others shown tree kept c.apart out c.imports k.0 names;
+      short = short shown tree kept c.apart out c.imports k.0 names c.grounded.chains c.shallow;
     })
+
+pub types_are_held : TypesAreHeld
+types_are_held shown tree m c =
+    let p = module_part shown tree in
+    let k = unbroken_is p.notes.broken (typed_module shown tree.name tree.imports (map declaration tree.decls) p) m c.is in
+    let out : is_out tree.name.name ≡ false = subst (λ (x : TypedModule). is_out x.name ≡ false) (sym k.1) (not_out shown tree m c.is) in
+    let names = subst (λ (x : TypedModule). AreDistinct (λ (t : TypedType). t.name) x.types) (sym k.1) c.names in
+    subst (λ (m : TypedModule). (q : QName) (d : Desc) → types_of shown tree m q ≡ Some d → AllByRecursion (λ t. IsHeld (types_of shown tree m) t) (named_by d)) k.1 (map_held shown tree c.closed c.apart out c.imports k.0 names)

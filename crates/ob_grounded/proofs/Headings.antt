@@ -13,7 +13,6 @@ use Rattle.ob_types.specs.declared.desc.Desc.{Desc}
 use Rattle.ob_types.specs.declared.desc.Desc.TheVariants as desc
 use Rattle.ob_types.specs.declared.desc.Method.{Method}
 use Rattle.ob_types.specs.declared.typed.TypedType.{TypedType}
-use Rattle.ob_types.specs.Relations.{IsGrounded}
 use Rattle.ob_rules.specs.declared.notes.Later.{Later}
 use Rattle.ob_rules.specs.declared.notes.Later.TheVariants as later
 use Rattle.ob_rules.specs.declared.entity.Known.{Known}
@@ -37,6 +36,7 @@ use Rattle.ob_bodies.specs.Knows.{HasName, Grows, Stands, EntityStands, Knows}
 use Rattle.ob_bodies.proofs.Lists.{one_left, one_right, one_joined, all_of, all_both}
 use Rattle.ob_bodies.proofs.Standing.{Lies, lies_same, lies_then, lies_front, lies_behind, grows_as, grows_front, grows_behind, grows_then, grows_same, stands_grown, own_stands, all_grown, entity_grown}
 use Rattle.ob_grounded.specs.Laws.{IsApart}
+use Rattle.ob_grounded.specs.Steady.{IsClosed}
 use Rattle.ob_grounded.proofs.Firm.{Firm, firm_more, SignatureFirm, signature_more, AnyValue, S, Seen, seen_more, Closed, closed_more, IsLeft, WholeBase, WholeAt, whole_more, firm_alias, firm_described, IfAlias, Aliased, IsLate, Base, FirmAt, AreFirm}
 use Rattle.ob_grounded.proofs.Typings.{Within, AreTold, Place}
 use Rattle.ob_grounded.proofs.Sections.{E, P, AreParameters, AreFirmSections, known_place, inner_place, parameters_firm, sections_entities}
@@ -79,7 +79,7 @@ declared_later : (t : Bool) (d : Head) (u : Around) → t ≡ false → (declare
 declared_later true d u e = absurd cc
 declared_later false d u e = refl
 
-module _ (shown : QName → Option Desc) (unit : List ℕ) (grounded : IsGrounded shown) (apart : IsApart shown unit) (out : is_out unit ≡ false) (path : List ℕ) (names : List (List ℕ)) (In : TypedType → Type 0) (L : List Later) where
+module _ (shown : QName → Option Desc) (unit : List ℕ) (kept : IsClosed shown) (apart : IsApart shown unit) (out : is_out unit ≡ false) (path : List ℕ) (names : List (List ℕ)) (In : TypedType → Type 0) (L : List Later) where
   abbrev T : List TypedType → TypeRef → Type 0
   T own t = S unit shown own t
 
@@ -132,7 +132,7 @@ module _ (shown : QName → Option Desc) (unit : List ℕ) (grounded : IsGrounde
   based u k h w = record {
     pointed = all_of (WholeAt unit shown In L u.own) (λ (s : TypedType). PointsWell u s.desc) u.own (λ s i. whole_points u k s.name s.desc i) w;
     later = λ x e. has_holds u.own (u.path ++ x) (subst (λ p. HasName u.own (p ++ x)) (sym k.path_is) (h x (subst (λ ns. is_among x ns ≡ true) k.names_is e)));
-    shown = subst (λ n. Rattle.ob_said.specs.Procedures.ShowBases u.shown n) (sym k.knows.unit_is) (subst (λ f. Rattle.ob_said.specs.Procedures.ShowBases f unit) (sym k.knows.shown_is) (bases_shown shown unit grounded apart));
+    shown = subst (λ n. Rattle.ob_said.specs.Procedures.ShowBases u.shown n) (sym k.knows.unit_is) (subst (λ f. Rattle.ob_said.specs.Procedures.ShowBases f unit) (sym k.knows.shown_is) (bases_shown shown unit kept apart));
   }
 
   -- ---- one heading

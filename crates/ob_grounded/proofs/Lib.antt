@@ -10,6 +10,8 @@ pub mod Pointers
 pub mod Blocks
 pub mod Modules
 pub mod Maps
+pub mod Lines
 pub mod Sorts
+pub mod Same
 pub mod Grounded
 pub mod Bodies

@@ -16,7 +16,6 @@ use Rattle.ob_types.specs.declared.desc.Field.{Field}
 use Rattle.ob_types.specs.declared.desc.Method.{Method}
 use Rattle.ob_types.specs.declared.typed.TypedType.{TypedType}
 use Rattle.ob_types.specs.Maps.{listed, signature_types, is_type, stands_on, named_by, IsHeld, IsWithin}
-use Rattle.ob_types.specs.Relations.{IsGrounded}
 use Rattle.ob_types.proofs.Targets.{more}
 use Rattle.ob_rules.specs.Shapes.{is_held, same_name}
 use Rattle.ob_rules.specs.Names.{Around, map_of, type_desc, is_out, out_string}
@@ -28,6 +27,7 @@ use Rattle.ob_bodies.specs.Knows.{IsDescribed}
 use Rattle.ob_bodies.proofs.Lists.{one_all, all_of, all_both}
 use Rattle.ob_bodies.proofs.Standing.{own_stands}
 use Rattle.ob_grounded.specs.Laws.{IsApart}
+use Rattle.ob_grounded.specs.Steady.{IsClosed}
 use Rattle.ob_grounded.proofs.Firm.{Firm, SignatureFirm, AnyValue, S}
 use Rattle.ob_grounded.proofs.Stand.{IsOwn, IsOther, at, described_at, held_at, other_at, no_own, no_out, shown_names}
 
@@ -88,7 +88,7 @@ some_is x y e = cc
 
 -- ---- a closed map
 
-module _ (shown : QName → Option Desc) (unit : List ℕ) (grounded : IsGrounded shown) (apart : IsApart shown unit) (out : is_out unit ≡ false) (w : Around) (unit_is : w.unit ≡ unit) (shown_is : w.shown ≡ shown) (described : AllByRecursion (IsDescribed AnyValue) w.own) (closed : AllByRecursion (λ (s : TypedType). AllByRecursion (S unit shown w.own) (named_by s.desc)) w.own) where
+module _ (shown : QName → Option Desc) (unit : List ℕ) (kept : IsClosed shown) (apart : IsApart shown unit) (out : is_out unit ≡ false) (w : Around) (unit_is : w.unit ≡ unit) (shown_is : w.shown ≡ shown) (described : AllByRecursion (IsDescribed AnyValue) w.own) (closed : AllByRecursion (λ (s : TypedType). AllByRecursion (S unit shown w.own) (named_by s.desc)) w.own) where
   abbrev T : TypeRef → Type 0
   T t = S unit shown w.own t
 
@@ -96,7 +96,7 @@ module _ (shown : QName → Option Desc) (unit : List ℕ) (grounded : IsGrounde
   pub closed_at : (q : QName) → same_name q out_string ≡ false → (d : Desc) → map_of w q ≡ Some d → AllByRecursion T (named_by d)
   closed_at q o d e = ⊎_elim
       (λ (k : IsOwn unit shown w unit_is shown_is q d). subst (λ d. AllByRecursion T (named_by d)) k.desc (one_all (λ (s : TypedType). AllByRecursion T (named_by s.desc)) w.own k.s closed k.there))
-      (λ (k : IsOther unit shown w unit_is shown_is q d). shown_names shown unit grounded apart w.own q d k.is)
+      (λ (k : IsOther unit shown w unit_is shown_is q d). shown_names shown unit kept apart w.own q d k.is)
       (at unit shown w unit_is shown_is q o d e)
 
   pub type_held : (t : TypeRef) → T t → IsHeld (map_of w) t
@@ -144,7 +144,7 @@ module _ (shown : QName → Option Desc) (unit : List ℕ) (grounded : IsGrounde
       all (t ∷ ts) h e f = let p = and_both (is_within (map_of w) n t) (list_all (λ t. is_within (map_of w) n t) ts) e in (f t h.0 p.0, all ts h.1 p.1 f)
 
   pub shown_at : (q : QName) → MatchOption (shown q) ⊥ (λ d. IsTrue (is_type d)) → map_of w q ≡ shown q
-  shown_at q h = other_at unit shown w unit_is shown_is q (no_own shown unit grounded apart q (bytes_eq q.«module» unit) refl (shown q) refl h) (no_out shown unit grounded apart q (same_name q out_string) refl (shown q) refl h)
+  shown_at q h = other_at unit shown w unit_is shown_is q (no_own shown unit kept apart q (bytes_eq q.«module» unit) refl (shown q) refl h) (no_out shown unit kept apart q (same_name q out_string) refl (shown q) refl h)
 
   -- a chain of types that are shown is one there
   pub shown_within : (n : ℕ) (t : TypeRef) → IsWithin shown n t → IsWithin (map_of w) n t
@@ -166,8 +166,8 @@ module _ (shown : QName → Option Desc) (unit : List ℕ) (grounded : IsGrounde
   unfolding IsWithin
   basic_within n b = tt
 
-  -- the chain of each of its own types has at most 200 types
-  module _ (short : AllByRecursion (λ (s : TypedType). is_within (map_of w) 200 (ref.Named (record { «module» = w.unit; object = s.name })) ≡ true) w.own) where
+  -- the chains of what is shown have at most 201 types, and those of its own types 200
+  module _ (deep : (t : TypeRef) → IsHeld shown t → IsWithin shown 201 t) (short : AllByRecursion (λ (s : TypedType). is_within (map_of w) 200 (ref.Named (record { «module» = w.unit; object = s.name })) ≡ true) w.own) where
     pub chains : (t : TypeRef) → IsHeld (map_of w) t → IsWithin (map_of w) 201 t
     chains (ref.Basic b) h = basic_within 201 b
     chains (ref.Named q) h = by (same_name q out_string) refl (map_of w q) refl h
@@ -184,5 +184,5 @@ module _ (shown : QName → Option Desc) (unit : List ℕ) (grounded : IsGrounde
         by false o None e h = absurd h
         by false o (Some d) e h = ⊎_elim
             (λ (k : IsOwn unit shown w unit_is shown_is q d). own k.s k.there k.name)
-            (λ (k : IsOther unit shown w unit_is shown_is q d). shown_within 201 (ref.Named q) (grounded.chains (ref.Named q) (subst (λ o. MatchOption o ⊥ (λ d. IsTrue (is_type d))) (sym k.is) h)))
+            (λ (k : IsOther unit shown w unit_is shown_is q d). shown_within 201 (ref.Named q) (deep (ref.Named q) (subst (λ o. MatchOption o ⊥ (λ d. IsTrue (is_type d))) (sym k.is) h)))
             (at unit shown w unit_is shown_is q o d e)

@@ -12,7 +12,6 @@ use Rattle.ob_tree.specs.declared.decl.Decl.TheFolds.{ind-Decl, fold-roll-Decl}
 use Rattle.ob_tree.specs.declared.decl.Module.{Module as Tree}
 use Rattle.ob_types.specs.declared.desc.Desc.{Desc}
 use Rattle.ob_types.specs.declared.typed.TypedType.{TypedType}
-use Rattle.ob_types.specs.Relations.{IsGrounded}
 use Rattle.ob_rules.specs.declared.broken.Broken.{Broken}
 use Rattle.ob_rules.specs.declared.entity.Known.{Known}
 use Rattle.ob_rules.specs.Judged.{notes_if}
@@ -31,16 +30,17 @@ use Rattle.ob_bodies.proofs.Lists.{one_right, one_joined, all_both}
 use Rattle.ob_bodies.proofs.Standing.{Lies}
 use Rattle.ob_bodies.proofs.Binding.{IsFrom, binding_changes}
 use Rattle.ob_grounded.specs.Laws.{IsApart}
+use Rattle.ob_grounded.specs.Steady.{IsClosed}
 use Rattle.ob_grounded.proofs.Firm.{AnyValue}
 use Rattle.ob_grounded.proofs.Written.{written_firm, written_parameters_firm}
 use Rattle.ob_grounded.proofs.Plain.{constant_firm, type_firm, variables_firm}
 use Rattle.ob_grounded.proofs.Blocks.{AreOne, W, Start, VariableIn, Adds, GoodDeclaration, AreGood, w, own_within, bound_is, block_adds}
 
-module _ (shown : QName → Option Desc) (unit : List ℕ) (grounded : IsGrounded shown) (apart : IsApart shown unit) (out : is_out unit ≡ false) (In : TypedType → Type 0) (F : List TypedType) (among : (s : TypedType) → IsOneOf F s → In s) (named : (s : TypedType) → In s → HasName F s.name) (one : AreOne F) where
+module _ (shown : QName → Option Desc) (unit : List ℕ) (kept : IsClosed shown) (apart : IsApart shown unit) (out : is_out unit ≡ false) (In : TypedType → Type 0) (F : List TypedType) (among : (s : TypedType) → IsOneOf F s → In s) (named : (s : TypedType) → In s → HasName F s.name) (one : AreOne F) where
   -- ---- declarations, by induction
 
   abbrev Good : Declaration → Type 0
-  Good d = GoodDeclaration shown unit grounded apart out In F among named one d
+  Good d = GoodDeclaration shown unit kept apart out In F among named one d
 
   abbrev PD : Decl → Type 0
   PD x = Good (declaration x)
@@ -48,7 +48,7 @@ module _ (shown : QName → Option Desc) (unit : List ℕ) (grounded : IsGrounde
   abbrev SD : Type 0
   SD = (x : Decl) × PD x
 
-  all_good : (xs : List SD) → AreGood shown unit grounded apart out In F among named one (map declaration (map (λ (x : SD). x.0) xs))
+  all_good : (xs : List SD) → AreGood shown unit kept apart out In F among named one (map declaration (map (λ (x : SD). x.0) xs))
   all_good [] = tt
   all_good (x ∷ xs) = (x.1, all_good xs)
 
@@ -61,7 +61,7 @@ module _ (shown : QName → Option Desc) (unit : List ℕ) (grounded : IsGrounde
   decl_cases (Decl-F.Variables ds n) = layer (Decl-F.Variables ds n) (λ path names. variables_firm unit shown out path names ds (written n) (written_firm unit shown out path names n))
   decl_cases (Decl-F.Procedure h ds body closing) = layer (Decl-F.Procedure h (map (λ (x : SD). x.0) ds) body closing) (record {
     sections = λ path names. written_parameters_firm unit shown out path names h.parameters;
-    inside = λ u s level e l. block_adds shown unit grounded apart out In F among named one (map declaration (map (λ (x : SD). x.0) ds)) (all_good ds) (map judging body) u s e l (λ y. absurd (false≢true (sym level ∙ y)));
+    inside = λ u s level e l. block_adds shown unit kept apart out In F among named one (map declaration (map (λ (x : SD). x.0) ds)) (all_good ds) (map judging body) u s e l (λ y. absurd (false≢true (sym level ∙ y)));
   })
   decl_cases (Decl-F.Forward h) = layer (Decl-F.Forward h) (record {
     sections = λ path names. written_parameters_firm unit shown out path names h.parameters;
@@ -71,7 +71,7 @@ module _ (shown : QName → Option Desc) (unit : List ℕ) (grounded : IsGrounde
   decl_good : (x : Decl) → PD x
   decl_good = ind-Decl PD (λ x y is. subst (λ z. PD (roll-Decl z)) is (decl_cases y))
 
-  pub decls_good : (xs : List Decl) → AreGood shown unit grounded apart out In F among named one (map declaration xs)
+  pub decls_good : (xs : List Decl) → AreGood shown unit kept apart out In F among named one (map declaration xs)
   decls_good [] = tt
   decls_good (x ∷ xs) = (decl_good x, decls_good xs)
 
@@ -118,7 +118,7 @@ predeclared_known = (tt, (tt, (tt, (tt, (tt, (tt, (tt, (tt, (tt, (tt, (tt, (tt, 
 predeclared_stand : (unit : List ℕ) (shown : QName → Option Desc) → AllByRecursion (EK shown unit) predeclared
 predeclared_stand unit shown = (tt, (tt, (tt, (tt, (tt, (tt, (tt, (tt, (tt, (tt, (tt, (tt, (tt, (tt, (tt, (tt, (tt, (tt, (tt, (tt, (tt, (tt, (tt, (tt, (tt, (tt, (tt, (tt, (tt, (tt, (tt, tt)))))))))))))))))))))))))))))))
 
-module _ (shown : QName → Option Desc) (tree : Tree) (grounded : IsGrounded shown) (apart : IsApart shown tree.name.name) (out : is_out tree.name.name ≡ false) (imports : AllByRecursion (λ i. bytes_eq (target_of i).name tree.name.name ≡ false) tree.imports) (e : (module_part shown tree).notes.broken ≡ []) (one : AreOne (module_part shown tree).contents.types) where
+module _ (shown : QName → Option Desc) (tree : Tree) (kept : IsClosed shown) (apart : IsApart shown tree.name.name) (out : is_out tree.name.name ≡ false) (imports : AllByRecursion (λ i. bytes_eq (target_of i).name tree.name.name ≡ false) tree.imports) (e : (module_part shown tree).notes.broken ≡ []) (one : AreOne (module_part shown tree).contents.types) where
   abbrev unit : List ℕ
   unit = tree.name.name
 
@@ -160,29 +160,29 @@ module _ (shown : QName → Option Desc) (tree : Tree) (grounded : IsGrounded sh
 
   module _ (In : TypedType → Type 0) (among : (s : TypedType) → IsOneOf F s → In s) (named : (s : TypedType) → In s → HasName F s.name) where
     abbrev St : Around → Type 0
-    St u = Start shown unit grounded apart out In F among named one u
+    St u = Start shown unit kept apart out In F among named one u
 
     pub start : St d.around
     start = subst St (sym are.around) (record { knows = record { unit_is = refl; shown_is = refl; own = tt; known = are.entities }; sound = are.known; whole = tt; within = λ s i. absurd i })
 
-    pub good : AreGood shown unit grounded apart out In F among named one ds
-    good = decls_good shown unit grounded apart out In F among named one tree.decls
+    pub good : AreGood shown unit kept apart out In F among named one ds
+    good = decls_good shown unit kept apart out In F among named one tree.decls
 
   -- first, what is known at module level is made by the module
   all_named : (s : TypedType) → IsOneOf F s → HasName F s.name
   all_named s i = (s, (i, refl))
 
   abbrev heads : Around
-  heads = w shown unit grounded apart out (IsOneOf F) F (λ s i. i) all_named one ds (good (IsOneOf F) (λ s i. i) all_named) J d.around (start (IsOneOf F) (λ s i. i) all_named) eb lies
+  heads = w shown unit kept apart out (IsOneOf F) F (λ s i. i) all_named one ds (good (IsOneOf F) (λ s i. i) all_named) J d.around (start (IsOneOf F) (λ s i. i) all_named) eb lies
 
   heads_lie : Lies heads.own F
-  heads_lie s i = own_within shown unit grounded apart out (IsOneOf F) F (λ s i. i) all_named one ds (good (IsOneOf F) (λ s i. i) all_named) J d.around (start (IsOneOf F) (λ s i. i) all_named) eb lies s i
+  heads_lie s i = own_within shown unit kept apart out (IsOneOf F) F (λ s i. i) all_named one ds (good (IsOneOf F) (λ s i. i) all_named) J d.around (start (IsOneOf F) (λ s i. i) all_named) eb lies s i
 
   abbrev bound_own : List TypedType
   bound_own = (binding_at (is_module_level d.around) heads (reversed (headings_in_order (filter_map procedure_of ds) (record { around = (in_order (filter_map plain_of ds) (record d.around { later_types = filter_map type_name_of ds })).around; before = [] })).before)).own
 
   bound_lie : Lies X bound_own
-  bound_lie s i = bound_is shown unit grounded apart out (IsOneOf F) F (λ s i. i) all_named one ds (good (IsOneOf F) (λ s i. i) all_named) J d.around (start (IsOneOf F) (λ s i. i) all_named) eb lies s (bound_back s i)
+  bound_lie s i = bound_is shown unit kept apart out (IsOneOf F) F (λ s i. i) all_named one ds (good (IsOneOf F) (λ s i. i) all_named) J d.around (start (IsOneOf F) (λ s i. i) all_named) eb lies s (bound_back s i)
 
   -- what is bound is one of the types, with more bound procedures
   pub bound_from : (s : TypedType) → IsOneOf X s → IsFrom AnyValue F s
@@ -201,11 +201,11 @@ module _ (shown : QName → Option Desc) (tree : Tree) (grounded : IsGrounded sh
   made_named s (inl i) = all_named s i
   made_named s (inr i) = let r = bound_from s i in (r.0, (r.1.0, r.1.1.0))
 
-  pub module_adds : Adds shown unit grounded apart out Made F (λ s i. inl i) made_named one b.contents
-  module_adds = block_adds shown unit grounded apart out Made F (λ s i. inl i) made_named one ds (good Made (λ s i. inl i) made_named) J d.around (start Made (λ s i. inl i) made_named) eb lies (λ y s i. inr (one_right d.part.contents.bound b.contents.bound s i))
+  pub module_adds : Adds shown unit kept apart out Made F (λ s i. inl i) made_named one b.contents
+  module_adds = block_adds shown unit kept apart out Made F (λ s i. inl i) made_named one ds (good Made (λ s i. inl i) made_named) J d.around (start Made (λ s i. inl i) made_named) eb lies (λ y s i. inr (one_right d.part.contents.bound b.contents.bound s i))
 
   abbrev pub Whole : TypedType → Type 0
-  Whole s = W shown unit grounded apart out Made F (λ s i. inl i) made_named one [] F s
+  Whole s = W shown unit kept apart out Made F (λ s i. inl i) made_named one [] F s
 
   pub types_whole : AllByRecursion Whole F
   types_whole = all_both Whole d.part.contents.types b.contents.types (subst (AllByRecursion Whole) (sym are.types) tt) module_adds.types
@@ -213,5 +213,5 @@ module _ (shown : QName → Option Desc) (tree : Tree) (grounded : IsGrounded sh
   pub bound_whole : AllByRecursion Whole X
   bound_whole = all_both Whole d.part.contents.bound b.contents.bound (subst (AllByRecursion Whole) (sym are.bound) tt) module_adds.bound
 
-  pub variables_whole : AllByRecursion (VariableIn shown unit grounded apart out Made F (λ s i. inl i) made_named one) (module_part shown tree).contents.variables
-  variables_whole = all_both (VariableIn shown unit grounded apart out Made F (λ s i. inl i) made_named one) d.part.contents.variables b.contents.variables (subst (AllByRecursion (VariableIn shown unit grounded apart out Made F (λ s i. inl i) made_named one)) (sym are.variables) tt) module_adds.variables
+  pub variables_whole : AllByRecursion (VariableIn shown unit kept apart out Made F (λ s i. inl i) made_named one) (module_part shown tree).contents.variables
+  variables_whole = all_both (VariableIn shown unit kept apart out Made F (λ s i. inl i) made_named one) d.part.contents.variables b.contents.variables (subst (AllByRecursion (VariableIn shown unit kept apart out Made F (λ s i. inl i) made_named one)) (sym are.variables) tt) module_adds.variables

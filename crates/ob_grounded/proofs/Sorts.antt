@@ -12,11 +12,13 @@ use Rattle.ob_types.specs.declared.desc.Method.{Method}
 use Rattle.ob_types.specs.Maps.{is_type, stands_on, IsWithin}
 use Rattle.ob_types.specs.Relations.{IsOwn as IsOwnType, is_alias, StandsFor, itself, Is, is_structure, is_open as is_open_desc, is_record as is_record_desc}
 use Rattle.ob_types.specs.Tests.{target_of, follow, target, shape_at}
-use Rattle.ob_types.proofs.Targets.{unique, IsTarget, is_target}
+use Rattle.ob_types.proofs.Targets.{unique}
 use Rattle.ob_rules.specs.Shapes.{Map, shape, open_at, array_at, record_at, is_open, is_array, is_record, is_structured}
 use Rattle.ob_rules.specs.Headings.{change_desc}
 use Rattle.ob_bodies.specs.Judged.{with_methods, HasMore}
+use Rattle.ob_forms.specs.Steady.{without_members}
 use Rattle.ob_grounded.proofs.Firm.{is_solid}
+use Rattle.ob_grounded.proofs.Lines.{line_target}
 
 -- a description without its bound procedures
 abbrev pub strip : Desc → Desc
@@ -222,7 +224,7 @@ module _ (P : TypeRef → Type 0) (one two : Map) (steps : (q : QName) → P (re
   pub structured_same : (t : TypeRef) → P t → is_structured one t ≡ is_structured two t
   structured_same t p = ap (λ b. b || is_record one t) (shape_same (λ u o. is_some (array_at o)) (λ u o. array_stripped o) t p) ∙ ap (λ b. is_array two t || b) (record_same t p)
 
--- ---- the tests are right where chains end
+-- ---- the tests are right where chains of aliases, elements and bases end
 
 open_true : (o : Option Desc) → MatchOption o ⊥ (λ d. IsTrue (is_open_desc d)) → is_some (open_at o) ≡ true
 open_true None h = absurd h
@@ -276,28 +278,25 @@ not_both : (b : Bool) → b ≡ false → b ≡ true → ⊥
 not_both true e f = absurd cc
 not_both false e f = absurd cc
 
-module _ (map : Map) (t : TypeRef) (within : IsWithin map 201 t) where
-  u : TypeRef
-  u = target map 201 t
-
-  it : IsTarget map 201 t (target map 201 t)
-  it = is_target map 201 201 t (omega arith) within
+module _ (map : Map) (t : TypeRef) (within : IsWithin (without_members map) 201 t) where
+  it : StandsFor map t (target map 201 t)
+  it = line_target map 201 201 t (omega arith) within
 
   pub not_open : is_open map t ≡ false → Is map is_open_desc t → ⊥
-  not_open e h = not_both (is_open map t) e (subst (λ u. is_some (open_at (shape_at map u)) ≡ true) (sym (unique map it.stands h.1.0)) (open_true (map h.0) h.1.1))
+  not_open e h = not_both (is_open map t) e (subst (λ u. is_some (open_at (shape_at map u)) ≡ true) (sym (unique map it h.1.0)) (open_true (map h.0) h.1.1))
 
   pub not_structured : is_structured map t ≡ false → Is map is_structure t → ⊥
-  not_structured e h = not_both (is_structured map t) e (subst (λ u. (is_some (array_at (shape_at map u)) || is_some (record_at u (shape_at map u))) ≡ true) (sym (unique map it.stands h.1.0)) (structure_true h.0 (map h.0) h.1.1))
+  not_structured e h = not_both (is_structured map t) e (subst (λ u. (is_some (array_at (shape_at map u)) || is_some (record_at u (shape_at map u))) ≡ true) (sym (unique map it h.1.0)) (structure_true h.0 (map h.0) h.1.1))
 
   pub record_is : is_record map t ≡ true → Is map is_record_desc t
-  record_is e = by (target map 201 t) it.stands e
+  record_is e = by (target map 201 t) it e
     where
       by : (u : TypeRef) → StandsFor map t u → is_some (record_at u (shape_at map u)) ≡ true → Is map is_record_desc t
       by (ref.Basic b) s e = absurd (not_both (is_some (record_at (ref.Basic b) None)) refl e)
       by (ref.Named q) s e = (q, (s, true_record q (map q) e))
 
   pub structure_is : is_structured map t ≡ true → Is map is_structure t
-  structure_is e = by (target map 201 t) it.stands e
+  structure_is e = by (target map 201 t) it e
     where
       by : (u : TypeRef) → StandsFor map t u → (is_some (array_at (shape_at map u)) || is_some (record_at u (shape_at map u))) ≡ true → Is map is_structure t
       by (ref.Basic b) s e = absurd (let bad : false ≡ true = e in cc)

@@ -9,7 +9,6 @@ use Rattle.ob_types.specs.declared.desc.Desc.{Desc}
 use Rattle.ob_types.specs.declared.desc.Desc.TheVariants as desc
 use Rattle.ob_types.specs.declared.typed.TypedType.{TypedType}
 use Rattle.ob_types.specs.Maps.{is_type, named_by, IsHeld}
-use Rattle.ob_types.specs.Relations.{IsGrounded}
 use Rattle.ob_types.specs.Tests.{pointer_of}
 use Rattle.ob_rules.specs.Shapes.{is_held, same_name}
 use Rattle.ob_rules.specs.Names.{Around, map_of, type_desc, own_desc, out_string}
@@ -19,6 +18,7 @@ use Rattle.ob_said.specs.Procedures.{IsShown, ShowBases}
 use Rattle.ob_bodies.specs.Knows.{HasName, IsTypeDesc, StandsBy, Stands, IsDescribed}
 use Rattle.ob_bodies.proofs.Lists.{one_all}
 use Rattle.ob_grounded.specs.Laws.{IsApart}
+use Rattle.ob_grounded.specs.Steady.{IsClosed}
 use Rattle.ob_grounded.proofs.Firm.{AnyValue}
 
 -- the first of that name
@@ -103,7 +103,7 @@ module _ (unit : List ℕ) (shown : QName → Option Desc) (w : Around) (unit_is
 
 -- ---- what is shown
 
-module _ (shown : QName → Option Desc) (unit : List ℕ) (grounded : IsGrounded shown) (apart : IsApart shown unit) where
+module _ (shown : QName → Option Desc) (unit : List ℕ) (kept : IsClosed shown) (apart : IsApart shown unit) where
   pub no_out : (q : QName) (b : Bool) → same_name q out_string ≡ b → (o : Option Desc) → shown q ≡ o → MatchOption o ⊥ (λ d. IsTrue (is_type d)) → b ≡ false
   no_out q false e o f h = refl
   no_out q true e o f h =
@@ -121,7 +121,7 @@ module _ (shown : QName → Option Desc) (unit : List ℕ) (grounded : IsGrounde
   shown_stands own (ref.Named q) h = (no_out q (same_name q out_string) refl (shown q) refl h, subst (λ b. StandsBy b shown own q) (sym (no_own q (bytes_eq q.«module» unit) refl (shown q) refl h)) h)
 
   pub shown_names : (own : List TypedType) (q : QName) (d : Desc) → shown q ≡ Some d → AllByRecursion (λ t. Stands unit shown own t) (named_by d)
-  shown_names own q d e = all (named_by d) (grounded.held q d e)
+  shown_names own q d e = all (named_by d) (kept.held q d e)
     where
       all : (ts : List TypeRef) → AllByRecursion (λ t. IsHeld shown t) ts → AllByRecursion (λ t. Stands unit shown own t) ts
       all [] h = tt
@@ -141,7 +141,7 @@ module _ (shown : QName → Option Desc) (unit : List ℕ) (grounded : IsGrounde
     where
       by : (o : Option Desc) → shown q ≡ o → pointer_of o ≡ Some b → IsShown shown unit b
       by None f e = absurd cc
-      by (Some (desc.Pointer m t)) f e = let i : t ≡ b = cc in subst (IsShown shown unit) i (base_shown t (grounded.held q (desc.Pointer m t) f).0)
+      by (Some (desc.Pointer m t)) f e = let i : t ≡ b = cc in subst (IsShown shown unit) i (base_shown t (kept.held q (desc.Pointer m t) f).0)
       by (Some (desc.Const v)) f e = absurd cc
       by (Some (desc.Var m t)) f e = absurd cc
       by (Some (desc.Proc s)) f e = absurd cc

@@ -14,7 +14,6 @@ use Rattle.ob_types.specs.declared.desc.Method.{Method}
 use Rattle.ob_types.specs.declared.desc.RecordDesc.{RecordDesc}
 use Rattle.ob_types.specs.declared.typed.TypedType.{TypedType}
 use Rattle.ob_types.specs.Maps.{is_type}
-use Rattle.ob_types.specs.Relations.{IsGrounded}
 use Rattle.ob_types.specs.TypedSyntax.{Module}
 use Rattle.ob_types.specs.TypedView.{module_view}
 use Rattle.ob_meaning.specs.Values.{Program, line_of, description, type_named}
@@ -36,6 +35,7 @@ use Rattle.ob_declares.proofs.Sounds.{types_shown}
 use Rattle.ob_forms.specs.Said.{IsOneOf, IsSound}
 use Rattle.ob_forms.specs.Whole.{Different, IsWhole}
 use Rattle.ob_forms.specs.Formed.{Formed}
+use Rattle.ob_forms.specs.Steady.{IsSteady}
 use Rattle.ob_forms.proofs.Modules.{of_all, other_name, own as whole_module, type_there}
 use Rattle.ob_typed.specs.Known.{ConstantIs}
 use Rattle.ob_typed.specs.Makes.{IfThere}
@@ -455,9 +455,9 @@ module _ (program : Program) (sound : IsSound program) (whole : IsWhole program)
 
   -- ---- of a record and one that it extends
 
-  -- the bodies of all modules know what the program has, and their maps are grounded
+  -- the bodies of all modules know what the program has, and their maps are steady
   abbrev pub AllKnow : Type 0
-  AllKnow = (n : Module) → IsOneOf program n → (j : IsJudgedModule program n) × (IsGrounded (map_of j.bodies.body.u) × Formed (map_of j.bodies.body.u) program)
+  AllKnow = (n : Module) → IsOneOf program n → (j : IsJudgedModule program n) × (IsSteady (map_of j.bodies.body.u) × Formed (map_of j.bodies.body.u) program)
 
   own_introduces : (map : Map) (q : QName) (x : List ℕ) (k : Method) → own_member q (map q) x ≡ Some (AMethod q k) → Introduces map q x
   own_introduces map q x k e = by (map q) refl e

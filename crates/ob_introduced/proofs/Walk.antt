@@ -1,6 +1,7 @@
 -- The bases of a record of a program, as a map that says what the program has finds them.
 use Rattle.std.proofs.Common.{◌≡◌, refl, sym, ap, subst, ◌∙◌, ℕ, zero, suc, ◌≤◌, List, [], ◌∷◌, ◌++◌, Option, Some, None, inl, inr, true, false, arith}
 use Rattle.std.specs.Prelude.{IfSome, MatchOption, IsTrue}
+use Rattle.std.specs.Option.{option_map}
 use Rattle.std.specs.List.{AllByRecursion}
 use Rattle.ob_tree.specs.declared.names.QName.{QName}
 use Rattle.ob_types.specs.declared.types.TypeRef.{TypeRef}
@@ -9,16 +10,22 @@ use Rattle.ob_types.specs.declared.desc.Desc.{Desc}
 use Rattle.ob_types.specs.declared.desc.Desc.TheVariants as desc
 use Rattle.ob_types.specs.declared.desc.RecordDesc.{RecordDesc}
 use Rattle.ob_types.specs.Maps.{is_type, listed, stands_on, IsHeld, IsWithin}
-use Rattle.ob_types.specs.Relations.{Is, is_record, IsGrounded}
+use Rattle.ob_types.specs.Relations.{Is, is_record}
 use Rattle.ob_types.specs.Tests.{target, shape_at}
-use Rattle.ob_types.proofs.Targets.{unique, is_target}
+use Rattle.ob_types.proofs.Targets.{unique}
 use Rattle.ob_meaning.specs.Values.{Program, line_of, base_line, bases_in, form_in, record_in}
 use Rattle.ob_rules.specs.Shapes.{Map, record_at, record_of, record_if, base_type, base_record}
 use Rattle.ob_forms.specs.Formed.{Formed}
+use Rattle.ob_forms.specs.Steady.{bare, without_members, IsSteady}
+use Rattle.ob_forms.proofs.Steady.{is_end}
 use Rattle.ob_forms.proofs.Shapes as shapes
 use Rattle.ob_introduced.specs.Once.{Line}
 
-module _ (program : Program) (map : Map) (formed : Formed map program) (grounded : IsGrounded map) where
+module _ (program : Program) (map : Map) (formed : Formed map program) (steady : IsSteady map) where
+  -- chains of aliases, elements and bases alone
+  abbrev IsLine : ℕ → TypeRef → Type 0
+  IsLine n t = IsWithin (without_members map) n t
+
   -- the base of a record, as it is found
   pub record Base (n : ℕ) (q : QName) (r : RecordDesc) (t : TypeRef) : Type 0 where
     pub c : QName
@@ -26,17 +33,17 @@ module _ (program : Program) (map : Map) (formed : Formed map program) (grounded
     pub is : map c ≡ Some (desc.Record s)
     pub found : base_record map q ≡ Some c
     pub form : form_in program t ≡ record_in program c
-    pub within : IsWithin map n (ref.Named c)
+    pub within : IsLine n (ref.Named c)
 
   first_in : (P : TypeRef → Type 0) (t : TypeRef) (o : Option TypeRef) (ts : List TypeRef) → o ≡ Some t → AllByRecursion P (listed o ++ ts) → P t
   first_in P t None ts e h = absurd cc
   first_in P t (Some u) ts e h = let same : u ≡ t = cc in subst P same h.0
 
-  base_within : (n : ℕ) (q : QName) (r : RecordDesc) (t : TypeRef) → map q ≡ Some (desc.Record r) → r.base ≡ Some t → IsWithin map (suc n) (ref.Named q) → IsWithin map n t
+  base_within : (n : ℕ) (q : QName) (r : RecordDesc) (t : TypeRef) → map q ≡ Some (desc.Record r) → r.base ≡ Some t → IsLine (suc n) (ref.Named q) → IsLine n t
   unfolding IsWithin
   base_within n q r t e b h =
-      let k = subst (λ (o : Option Desc). MatchOption o ⊥ (λ d. IsTrue (is_type d) × AllByRecursion (λ t. IsWithin map n t) (stands_on d))) e h in
-      first_in (λ t. IsWithin map n t) t r.base _ b k.1
+      let k = subst (λ (o : Option Desc). MatchOption (option_map bare o) ⊥ (λ d. IsTrue (is_type d) × AllByRecursion (λ t. IsLine n t) (stands_on d))) e h in
+      first_in (λ t. IsLine n t) t r.base [] b k.1
 
   record_desc : (c : QName) (o : Option Desc) → map c ≡ o → MatchOption o ⊥ (λ d. IsTrue (is_record d)) → (s : RecordDesc) × (map c ≡ Some (desc.Record s))
   record_desc c None e h = absurd h
@@ -54,12 +61,12 @@ module _ (program : Program) (map : Map) (formed : Formed map program) (grounded
   some_of P None t e h = absurd cc
   some_of P (Some u) t e h = let same : u ≡ t = cc in subst P same h
 
-  base_is : (n : ℕ) → n ≤ 201 → (q : QName) (r : RecordDesc) (t : TypeRef) → map q ≡ Some (desc.Record r) → r.base ≡ Some t → IsWithin map (suc n) (ref.Named q) → Base n q r t
+  base_is : (n : ℕ) → n ≤ 201 → (q : QName) (r : RecordDesc) (t : TypeRef) → map q ≡ Some (desc.Record r) → r.base ≡ Some t → IsLine (suc n) (ref.Named q) → Base n q r t
   base_is n le q r t e b h =
-      let k : Is map is_record t = some_of (Is map is_record) r.base t b (grounded.keeps q (desc.Record r) e).0 in
+      let k : Is map is_record t = some_of (Is map is_record) r.base t b (steady.keeps q (desc.Record r) e).0 in
       let c = k.0 in
       let s = record_desc c (map c) refl k.1.1 in
-      let w = is_target map n 201 t le (base_within n q r t e b h) in
+      let w = is_end map n 201 t le (base_within n q r t e b h) in
       let same : ref.Named c ≡ target map 201 t = unique map k.1.0 w.stands in
       let found : record_of map t ≡ Some c = ap (λ u. record_at u (shape_at map u)) (sym same) ∙ ap (record_at (ref.Named c)) s.1 in
       record {
@@ -68,7 +75,7 @@ module _ (program : Program) (map : Map) (formed : Formed map program) (grounded
         is = s.1;
         found = ap (λ o. record_if map (base_type o)) e ∙ (ap (record_if map) b ∙ found);
         form = shapes.stands_form map program formed k.1.0;
-        within = subst (IsWithin map n) (sym same) w.within;
+        within = subst (IsLine n) (sym same) w.within;
       }
 
   -- a record before the line of its base
@@ -93,13 +100,13 @@ module _ (program : Program) (map : Map) (formed : Formed map program) (grounded
 
   module _ (b : QName) (line : List QName) (of : bases_in program b ≡ b ∷ line) where
     -- from a record on
-    walk : (n : ℕ) → n ≤ 201 → (c : QName) (r : RecordDesc) → map c ≡ Some (desc.Record r) → IsWithin map n (ref.Named c) → (more : List QName) → bases_in program c ≡ more ++ bases_in program b → Walked n c b
+    walk : (n : ℕ) → n ≤ 201 → (c : QName) (r : RecordDesc) → map c ≡ Some (desc.Record r) → IsLine n (ref.Named c) → (more : List QName) → bases_in program c ≡ more ++ bases_in program b → Walked n c b
     unfolding IsWithin
     walk zero le c r e h more i = absurd h
     walk (suc n) le c r e h [] i = let same = same_first c b (base_line (form_in program) r.base) line (sym (line_is c r e) ∙ i ∙ of) in record { r = r; is = subst (λ z. map z ≡ Some (desc.Record r)) same e; line = inl same }
     walk (suc n) le c r e h (p ∷ more) i = by r.base refl (rest_of c p (base_line (form_in program) r.base) (more ++ bases_in program b) (sym (line_is c r e) ∙ i)) (λ d s f w k. walk n (omega (arith, le)) d s f w more k)
       where
-        by : (o : Option TypeRef) → r.base ≡ o → base_line (form_in program) o ≡ more ++ bases_in program b → ((d : QName) (s : RecordDesc) → map d ≡ Some (desc.Record s) → IsWithin map n (ref.Named d) → bases_in program d ≡ more ++ bases_in program b → Walked n d b) → Walked (suc n) c b
+        by : (o : Option TypeRef) → r.base ≡ o → base_line (form_in program) o ≡ more ++ bases_in program b → ((d : QName) (s : RecordDesc) → map d ≡ Some (desc.Record s) → IsLine n (ref.Named d) → bases_in program d ≡ more ++ bases_in program b → Walked n d b) → Walked (suc n) c b
         by None g j up = absurd (nothing_in b more line (j ∙ ap (λ l. more ++ l) of))
         by (Some t) g j up =
             let k = base_is n (omega (arith, le)) c r t e g h in
@@ -117,5 +124,5 @@ module _ (program : Program) (map : Map) (formed : Formed map program) (grounded
         by : (o : Option TypeRef) → r.base ≡ o → base_line (form_in program) o ≡ more ++ bases_in program b → (c : QName) × ((base_record map q ≡ Some c) × Walked 200 c b)
         by None g j = absurd (nothing_in b more line (j ∙ ap (λ l. more ++ l) of))
         by (Some t) g j =
-            let k = base_is 200 (omega arith) q r t e g (grounded.chains (ref.Named q) held) in
+            let k = base_is 200 (omega arith) q r t e g (steady.lines (ref.Named q) held) in
             (k.c, (k.found, walk 200 (omega arith) k.c k.s k.is k.within more (ap line_of (sym k.form) ∙ j)))

@@ -9,12 +9,12 @@ use Rattle.ob_typed.specs.Known.{ConstantIs}
 use Rattle.ob_bodies.specs.Judged.{IsWithin}
 use Rattle.ob_surrounded.specs.Left.{AreIntroducedOnce}
 use Rattle.ob_judged.specs.Judged.{IsJudgedModule, AreJudgedModules}
-use Rattle.ob_introduced.specs.Grounded.{IsGroundedModule, AreGroundedModules}
+use Rattle.ob_introduced.specs.Steady.{IsSteadyModule, AreSteadyModules}
 
 -- In a sound program of judged modules, wherever types are known in one of them: of a record type and one that it extends, one alone
 -- introduces a bound procedure of a name.
 abbrev pub IntroducedOnce : Type 0
 IntroducedOnce =
-    (program : Program) → IsSound program → IsWhole program → (judged : AreJudgedModules program) → AreGroundedModules program program judged
-    → (m : Module) → IsOneOf program m → (j : IsJudgedModule program m) → IsGroundedModule program m j → (w : Around) → IsWithin ConstantIs (shown j.faces) j.checked j.bodies.content w
+    (program : Program) → IsSound program → IsWhole program → (judged : AreJudgedModules program) → AreSteadyModules program program judged
+    → (m : Module) → IsOneOf program m → (j : IsJudgedModule program m) → IsSteadyModule program m j → (w : Around) → IsWithin ConstantIs (shown j.faces) j.checked j.bodies.content w
     → AreIntroducedOnce program (map_of w)

@@ -38,7 +38,7 @@ module _ (program : Program) (sound : IsSound program) where
   open_is t h = let x = found program sound is_open t h in subst IsOpen (sym (declared_stands program sound x.stands)) (open_described x.q x.d x.has x.is)
 
   -- what is no open array can be built
-  closed_ok : (t : TypeRef) → (IsOpen (form_in program t) → ⊥) → FormOk program (form_in program t)
+  pub closed_ok : (t : TypeRef) → (IsOpen (form_in program t) → ⊥) → FormOk program (form_in program t)
   closed_ok (ref.Basic b) never = subst (FormOk program) (sym (basic_is program b)) tt
   closed_ok (ref.Named q) never = by (description program q) refl
     where

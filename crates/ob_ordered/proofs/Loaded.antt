@@ -49,7 +49,7 @@ use Rattle.ob_ordered.specs.Sound.{AreVariablesClosed}
 use Rattle.ob_ordered.proofs.Closed.{all_closed}
 use Rattle.ob_ordered.proofs.Shown.{Showing, builds_show}
 use Rattle.ob_ordered.proofs.Staying.{record_stays, ordered_stay}
-use Rattle.ob_ordered.proofs.Used.{ShownNow, near, variables_near, held_near, parameters_near, results_near, are_used, shown_now}
+use Rattle.ob_ordered.proofs.Used.{IsInside, ShownNow, near, variables_near, held_near, parameters_near, insides_near, are_used, shown_now}
 
 -- ---- lists
 
@@ -98,13 +98,17 @@ all_parameters : (P : QName → Type 0) (Q : TypeRef → Type 0) → ((t : TypeR
 all_parameters P Q f [] h = tt
 all_parameters P Q f (p ∷ ps) h = (parameters_from P Q f p.parameters h.0, all_parameters P Q f ps h.1)
 
-results_from : (P : QName → Type 0) (Q : TypeRef → Type 0) → ((t : TypeRef) → On P t → Q t) → (ts : List TypeRef) → AllByRecursion (On P) ts → AllByRecursion Q ts
-results_from P Q f [] h = tt
-results_from P Q f (t ∷ ts) h = (f t h.0, results_from P Q f ts h.1)
+variables_from : (P : QName → Type 0) (Q : TypeRef → Type 0) → ((t : TypeRef) → On P t → Q t) → (vs : List TypedVariable) → AllByRecursion (λ v. On P v.of) vs → AllByRecursion (λ v. Q v.of) vs
+variables_from P Q f [] h = tt
+variables_from P Q f (v ∷ vs) h = (f v.of h.0, variables_from P Q f vs h.1)
 
-all_results : (P : QName → Type 0) (Q : TypeRef → Type 0) → ((t : TypeRef) → On P t → Q t) → (ps : List Procedure) → AllByRecursion (λ p. AllByRecursion (On P) (listed p.result)) ps → AllByRecursion (λ p. AllByRecursion Q (listed p.result)) ps
-all_results P Q f [] h = tt
-all_results P Q f (p ∷ ps) h = (results_from P Q f (listed p.result) h.0, all_results P Q f ps h.1)
+types_from : (P : QName → Type 0) (Q : TypeRef → Type 0) → ((t : TypeRef) → On P t → Q t) → (ts : List TypeRef) → AllByRecursion (On P) ts → AllByRecursion Q ts
+types_from P Q f [] h = tt
+types_from P Q f (t ∷ ts) h = (f t h.0, types_from P Q f ts h.1)
+
+all_insides : (P : QName → Type 0) (Q : TypeRef → Type 0) → ((t : TypeRef) → On P t → Q t) → (ps : List Procedure) → AllByRecursion (IsInside (On P)) ps → AllByRecursion (IsInside Q) ps
+all_insides P Q f [] h = tt
+all_insides P Q f (p ∷ ps) h = ((variables_from P Q f p.locals h.0.0, types_from P Q f (listed p.result) h.0.1), all_insides P Q f ps h.1)
 
 -- the types of other modules that a build uses, as they are there, and as interfaces show them now
 pub record Uses (before : List Build) (b : Build) : Type 0 where
@@ -115,8 +119,9 @@ pub record Uses (before : List Build) (b : Build) : Type 0 where
   pub types : AllByRecursion (λ t. is_type t.desc ≡ true) (tree_of b).types
   -- the types of the parameters of its procedures are among them
   pub passed : AllByRecursion (λ p. AllByRecursion (λ x. IsHeld (types_of (of b)) x.of → declares.IsNear (tree_of b) near x.of) p.parameters) (tree_of b).procedures
-  -- and those of their results
-  pub given : AllByRecursion (λ p. AllByRecursion (λ t. IsHeld (types_of (of b)) t → declares.IsNear (tree_of b) near t) (listed p.result)) (tree_of b).procedures
+  -- and so are those of their local variables and results
+  pub inside : AllByRecursion (IsInside (λ t. IsHeld (types_of (of b)) t → declares.IsNear (tree_of b) near t)) (tree_of b).procedures
+  -- and those of its variables
   pub variables : AllByRecursion (λ v. declares.IsNear (tree_of b) near v.of) (tree_of b).variables
   pub shown : (q : QName) → is_own (tree_of b) q ≡ false → near q ≡ true → ShownNow (program_of before) (each shows_of before) (tree_of b) near q
 
@@ -262,7 +267,7 @@ module _ (written : BuildsAreWritten) (ruled : BuildsAreRuled) where
           used = used;
           types = types_are;
           passed = all_parameters (IsNear (types_of (of b)) (tree_of b)) (λ t. IsHeld (types_of (of b)) t → declares.IsNear (tree_of b) near_it t) (λ t n h. held_near (of b) r found types_are (spelled_here b x v) (no_out_here b x v) (shows_is b x v) t n h) (tree_of b).procedures (parameters_near (of b) r found types_are (spelled_here b x v) (no_out_here b x v) (shows_is b x v));
-          given = all_results (IsNear (types_of (of b)) (tree_of b)) (λ t. IsHeld (types_of (of b)) t → declares.IsNear (tree_of b) near_it t) (λ t n h. held_near (of b) r found types_are (spelled_here b x v) (no_out_here b x v) (shows_is b x v) t n h) (tree_of b).procedures (results_near (of b) r found types_are (spelled_here b x v) (no_out_here b x v) (shows_is b x v));
+          inside = all_insides (IsNear (types_of (of b)) (tree_of b)) (λ t. IsHeld (types_of (of b)) t → declares.IsNear (tree_of b) near_it t) (λ t n h. held_near (of b) r found types_are (spelled_here b x v) (no_out_here b x v) (shows_is b x v) t n h) (tree_of b).procedures (insides_near (of b) r found types_are (spelled_here b x v) (no_out_here b x v) (shows_is b x v));
           variables = variables_near (of b) r found types_are (spelled_here b x v) (no_out_here b x v) (shows_is b x v);
           seen = λ q e n i. used_seen (program_of before) (tree_of b) (described (of b).against) near_it fresh types_are r.grounded used q e n i;
           shown = λ q own n. shown_now (of b) r found types_are (spelled_here b x v) (no_out_here b x v) (shows_is b x v) (program_of before) (each shows_of before) k.spelled (have_no_out (each shows_of before) k.out) h.uses (builds_show before k.showing) q own n;

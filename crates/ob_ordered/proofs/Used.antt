@@ -84,6 +84,10 @@ variables_count : (P : QName → Type 0) (vs : List TypedVariable) → AllByRecu
 variables_count P [] h = tt
 variables_count P (v ∷ vs) h = (h.0, variables_count P vs h.1)
 
+-- so are the types of the local variables of a procedure, and that of its result
+abbrev pub IsInside : (TypeRef → Type 0) → Procedure → Type 0
+IsInside P p = AllByRecursion (λ v. P v.of) p.locals × AllByRecursion P (listed p.result)
+
 -- a type of another module as interfaces show it now, and as the program has it
 pub record ShownNow (before : Program) (others : List (Face Text)) (m : Module) (near : QName → Bool) (q : QName) : Type 0 where
   pub x : Desc
@@ -274,29 +278,27 @@ module _ (c : Compiled Text) (ruled : IsRuled c) (found : AllByRecursion (λ t. 
       let one = starts_front Near (counts_of_procedure (types_of c) p) (flat_map (counts_of_procedure (types_of c)) ps) h in
       (parameters_count p.parameters (starts_front Near a b (starts_front Near (a ++ b) k (starts_front Near (a ++ b ++ k) l (starts_front Near (a ++ b ++ k ++ l) (counts_of_all p.body) one)))), procedures_count ps (starts_back Near (counts_of_procedure (types_of c) p) (flat_map (counts_of_procedure (types_of c)) ps) h))
 
-  -- and those of their results
-  shapes_count : (ts : List TypeRef) → AllByRecursion (On Near) (shape_starts (shapes ts)) → AllByRecursion (On Near) ts
-  shapes_count [] h = tt
-  shapes_count (t ∷ ts) h = (h.0, shapes_count ts h.1)
+  pub parameters_near : AllByRecursion (λ p. AllByRecursion (λ x. On Near x.of) p.parameters) c.tree.procedures
+  parameters_near = procedures_count c.tree.procedures (starts_back Near (c1 ++ c2 ++ c3) c4 (starts_front Near (c1 ++ c2 ++ c3 ++ c4) (counts_of_all c.tree.body) (all_on Near (shape_starts (counts_of_module (types_of c) c.tree)) (λ q i. first i))))
 
-  results_count : (ps : List Procedure) → AllByRecursion (On Near) (shape_starts (flat_map (counts_of_procedure (types_of c)) ps)) → AllByRecursion (λ p. AllByRecursion (On Near) (listed p.result)) ps
+  -- the types of their local variables and results
+  results_count : (ts : List TypeRef) → AllByRecursion (On Near) (shape_starts (shapes ts)) → AllByRecursion (On Near) ts
   results_count [] h = tt
-  results_count (p ∷ ps) h =
+  results_count (t ∷ ts) h = (h.0, results_count ts h.1)
+
+  insides_count : (ps : List Procedure) → AllByRecursion (On Near) (shape_starts (flat_map (counts_of_procedure (types_of c)) ps)) → AllByRecursion (IsInside (On Near)) ps
+  insides_count [] h = tt
+  insides_count (p ∷ ps) h =
       let a = flat_map counts_of_parameter p.parameters in
       let b = shapes (listed p.result) in
       let k = flat_map counts_of_variable p.locals in
       let l = counts_of_binding (types_of c) p.binding in
       let one = starts_front Near (counts_of_procedure (types_of c) p) (flat_map (counts_of_procedure (types_of c)) ps) h in
-      (shapes_count (listed p.result) (starts_back Near a b (starts_front Near (a ++ b) k (starts_front Near (a ++ b ++ k) l (starts_front Near (a ++ b ++ k ++ l) (counts_of_all p.body) one)))), results_count ps (starts_back Near (counts_of_procedure (types_of c) p) (flat_map (counts_of_procedure (types_of c)) ps) h))
+      let first = starts_front Near (a ++ b ++ k) l (starts_front Near (a ++ b ++ k ++ l) (counts_of_all p.body) one) in
+      ((variables_count Near p.locals (starts_back Near (a ++ b) k first), results_count (listed p.result) (starts_back Near a b (starts_front Near (a ++ b) k first))), insides_count ps (starts_back Near (counts_of_procedure (types_of c) p) (flat_map (counts_of_procedure (types_of c)) ps) h))
 
-  abbrev procedures_counted : AllByRecursion (On Near) (shape_starts (flat_map (counts_of_procedure (types_of c)) c.tree.procedures))
-  procedures_counted = starts_back Near (c1 ++ c2 ++ c3) c4 (starts_front Near (c1 ++ c2 ++ c3 ++ c4) (counts_of_all c.tree.body) (all_on Near (shape_starts (counts_of_module (types_of c) c.tree)) (λ q i. first i)))
-
-  pub results_near : AllByRecursion (λ p. AllByRecursion (On Near) (listed p.result)) c.tree.procedures
-  results_near = results_count c.tree.procedures procedures_counted
-
-  pub parameters_near : AllByRecursion (λ p. AllByRecursion (λ x. On Near x.of) p.parameters) c.tree.procedures
-  parameters_near = procedures_count c.tree.procedures (starts_back Near (c1 ++ c2 ++ c3) c4 (starts_front Near (c1 ++ c2 ++ c3 ++ c4) (counts_of_all c.tree.body) (all_on Near (shape_starts (counts_of_module (types_of c) c.tree)) (λ q i. first i))))
+  pub insides_near : AllByRecursion (IsInside (On Near)) c.tree.procedures
+  insides_near = insides_count c.tree.procedures (starts_back Near (c1 ++ c2 ++ c3) c4 (starts_front Near (c1 ++ c2 ++ c3 ++ c4) (counts_of_all c.tree.body) (all_on Near (shape_starts (counts_of_module (types_of c) c.tree)) (λ q i. first i))))
 
   -- ---- over other interfaces, which show what the modules before declare
 

@@ -10,10 +10,12 @@ use Rattle.ob_tree.specs.declared.decl.Decl.TheOpen.{Decl-F}
 use Rattle.ob_tree.specs.declared.decl.Decl.TheFolds.{ind-Decl, fold-roll-Decl}
 use Rattle.ob_types.specs.declared.types.Mode.{Mode}
 use Rattle.ob_types.specs.declared.types.TypeRef.{TypeRef}
+use Rattle.ob_types.specs.declared.types.TypeRef.TheVariants as ref
 use Rattle.ob_types.specs.declared.desc.Desc.{Desc}
 use Rattle.ob_types.specs.declared.desc.Desc.TheVariants as desc
 use Rattle.ob_types.specs.declared.desc.Method.{Method}
 use Rattle.ob_types.specs.declared.typed.TypedType.{TypedType}
+use Rattle.ob_types.specs.declared.typed.TypedVariable.{TypedVariable}
 use Rattle.ob_types.specs.declared.typed.TypedParameter.{TypedParameter}
 use Rattle.ob_types.specs.declared.typed.TypedProcedure.{TypedProcedure}
 use Rattle.ob_types.specs.declared.typed.TypedModule.{TypedModule}
@@ -25,10 +27,12 @@ use Rattle.ob_rules.specs.Expressions.{phrase_of}
 use Rattle.ob_rules.specs.Types.{Parameters, WrittenSection, written_parameters, is_module_level}
 use Rattle.ob_rules.specs.Statements.{Judging, judging}
 use Rattle.ob_rules.specs.Headings.{Head, Heads, BoundAs, self_by, self_parameter, reversed}
-use Rattle.ob_rules.specs.Declarations.{Contents, Part, Written_procedure, Declaration, Plain, Procedure, plain_of, procedure_of, type_name_of, in_order, headings_in_order, heads_later, pointers_judged, closing_judged, around_body, self_parameters, typed_procedure, types_of_head, procedure_judged, procedures_judged, with_bound, binding_at, block, decl_rule, declaration}
+use Rattle.ob_rules.specs.Declarations.{Contents, Part, Written_procedure, Declaration, Plain, Procedure, plain_of, procedure_of, type_name_of, in_order, headings_in_order, heads_later, pointers_judged, closing_judged, around_body, self_parameters, typed_procedure, types_of_head, procedure_judged, procedures_judged, with_bound, binding_at, block_headed, block, decl_rule, declaration}
 use Rattle.ob_forms.specs.Said.{IsOneOf}
+use Rattle.ob_forms.specs.Formed.{IsDeclared}
 use Rattle.ob_relation.proofs.Names.{and_both}
 use Rattle.ob_described.proofs.Nodes.{IfThere}
+use Rattle.ob_distinct.proofs.Blocks.{headed_none}
 use Rattle.ob_typed.specs.Spelled.{all_true}
 use Rattle.ob_typed.specs.Bodies.{stmt_spelled}
 use Rattle.ob_bodies.specs.Spelled.{parameters_spelled, decl_layer, decl_spelled}
@@ -46,8 +50,8 @@ use Rattle.ob_bound.proofs.Blocks.{order_good as order_bound, plains_good as pla
 use Rattle.ob_ruled.specs.Variables.{AliasStands}
 use Rattle.ob_ruled.proofs.Shut.{AreGoodSections as AreShutSections}
 use Rattle.ob_ruled.proofs.Written.{written_parameters_good as parameters_shut}
-use Rattle.ob_ruled.proofs.Plain.{Any, Fine, IsPlain, constants, alias_grown, constant_plain, type_plain, variables_plain, order_plain, later_fine}
-use Rattle.ob_passed.proofs.Sections.{S, Fair, GoodSections, node_good, Passed, Given}
+use Rattle.ob_ruled.proofs.Plain.{Any, Fine, VariableIn, IsPlain, constants, alias_grown, constant_plain, type_plain, variables_plain, order_plain, later_fine}
+use Rattle.ob_passed.proofs.Sections.{S, Fair, GoodSections, node_good, Passed, PlainAt}
 use Rattle.ob_passed.proofs.Heads.{HeadIn, GoodHeadings, heads_fair}
 
 -- a module of that name
@@ -86,18 +90,26 @@ module _ (unit : List ℕ) (shown : QName → Option Desc) (out : is_out unit �
     pub mode : Mode
     pub is : x.passing ≡ passing_of (map_of w) mode x.of
 
-  pub record GivenIn (t : TypeRef) : Type 0 where
+  pub record PlainIn (t : TypeRef) : Type 0 where
     pub w : Around
     pub fine : G w
     pub stands : S unit shown out w.own t
     pub plain : is_structured (map_of w) t ≡ false
 
+  abbrev pub AreDeclared : List TypedVariable → Type 0
+  AreDeclared vs = AllByRecursion (VariableIn unit shown out all Among raw) vs
+
   pub record ProcedureIn (p : TypedProcedure) : Type 0 where
     pub parameters : AllByRecursion PassedIn p.parameters
-    pub result : AllByRecursion GivenIn (listed p.result)
+    pub result : AllByRecursion PlainIn (listed p.result)
+    pub locals : AreDeclared p.locals
 
   abbrev pub AreIn : List TypedProcedure → Type 0
   AreIn ps = AllByRecursion ProcedureIn ps
+
+  pub declared : (own : List TypedType) (t : TypeRef) → S unit shown out own t → IsDeclared t
+  declared own (ref.Basic b) h = tt
+  declared own (ref.Named q) h = h.0
 
   -- ---- one procedure
 
@@ -110,27 +122,30 @@ module _ (unit : List ℕ) (shown : QName → Option Desc) (out : is_out unit �
     self_in h (Some x) None k = tt
     self_in h None b k = tt
 
-    given_in : (t : TypeRef) → Given unit shown out own t → GivenIn t
-    given_in t h = record { w = h.w; fine = record { knows = h.fair.knows; aliases = h.fair.aliases; lies = λ s i. within s (h.within s i) }; stands = h.stands; plain = h.plain }
-
-    result_in : (o : Option TypeRef) → IfThere (Given unit shown out own) o → AllByRecursion GivenIn (listed o)
+    result_in : (o : Option TypeRef) → IfThere (PlainAt unit shown out own) o → AllByRecursion PlainIn (listed o)
     result_in None h = tt
-    result_in (Some t) h = (given_in t h, tt)
+    result_in (Some t) h = (record { w = h.w; fine = record { knows = h.fair.knows; aliases = h.fair.aliases; lies = λ s i. within s (h.within s i) }; stands = h.stands; plain = h.plain }, tt)
 
-    typed_in : (types : Map) (h : Head) → HeadIn unit shown out own h → (o : Option Parameters) → IfThere (λ (p : Parameters). AllByRecursion (Passed unit shown out own) p.parameters × IfThere (Given unit shown out own) p.signature.result) o → (c : Contents) → AreIn (typed_procedure types h o c)
-    typed_in types h g None k c = tt
-    typed_in types h g (Some p) k c = (
+    typed_in : (types : Map) (h : Head) → HeadIn unit shown out own h → (o : Option Parameters) → IfThere (λ (p : Parameters). AllByRecursion (Passed unit shown out own) p.parameters × IfThere (PlainAt unit shown out own) p.signature.result) o → (c : Contents) → AreDeclared c.variables → AreIn (typed_procedure types h o c)
+    typed_in types h g None k c vs = tt
+    typed_in types h g (Some p) k c vs = (
       record {
         parameters = all_both PassedIn (self_parameters h h.self h.bound) p.parameters (self_in h h.self h.bound g.self) (all_of (Passed unit shown out own) PassedIn p.parameters passed_in k.0);
         result = result_in p.signature.result k.1;
+        locals = vs;
       },
       tt,
     )
 
   -- ---- procedures in their order
 
+  -- its procedures, and the variables that it declares
+  pub record PartIn (c : Contents) : Type 0 where
+    pub procedures : AreIn c.procedures
+    pub variables : AreDeclared c.variables
+
   abbrev pub IsBlock : (Around → Part) → Type 0
-  IsBlock f = (u : Around) → G u → (f u).notes.broken ≡ [] → Lies (f u).contents.types all → AreIn (f u).contents.procedures
+  IsBlock f = (u : Around) → G u → (f u).notes.broken ≡ [] → Lies (f u).contents.types all → PartIn (f u).contents
 
   pub record GoodProcedure (p : Written_procedure) : Type 0 where
     pub heading : GoodSections unit shown out p.heading.parameters.sections
@@ -161,8 +176,8 @@ module _ (unit : List ℕ) (shown : QName → Option Desc) (out : is_out unit �
     judged_in p g h k false n l =
         let c = (p.inside (around_body u h)).contents in
         let quiet = second_empty (closing_judged h.name p.closing).broken _ (second_empty h.notes.broken _ n) in
-        all_both ProcedureIn (typed_procedure (map_of u) h h.parameters c) c.procedures (typed_in own within (map_of u) h k h.parameters k.parameters c)
-        (g.inside (around_body u h) (body_fine h k) quiet (λ t i. l t (one_right (types_of_head h.parameters) c.types t i)))
+        let r = g.inside (around_body u h) (body_fine h k) quiet (λ t i. l t (one_right (types_of_head h.parameters) c.types t i)) in
+        all_both ProcedureIn (typed_procedure (map_of u) h h.parameters c) c.procedures (typed_in own within (map_of u) h k h.parameters k.parameters c r.variables) r.procedures
 
     procedures_in : (ps : List Written_procedure) → AreGoodProcedures ps → (hs : List Head) → AllByRecursion (HeadIn unit shown out own) hs → (procedures_judged u ps hs).notes.broken ≡ [] → Lies (procedures_judged u ps hs).contents.types all → AreIn (procedures_judged u ps hs).contents.procedures
     procedures_in [] g hs k n l = tt
@@ -232,8 +247,11 @@ module _ (unit : List ℕ) (shown : QName → Option Desc) (out : is_out unit �
         aliases = aliases;
         lies = λ b i. let t = ch.from b i in let s = within t.0 t.1.0 in (s.0, (s.1.0, (s.1.1.0 ∙ t.1.1.0, more_then s.0.desc t.0.desc b.desc s.1.1.1 t.1.1.1)));
       } in
-      all_both ProcedureIn plain.part.contents.procedures _ (subst AreIn (sym (order_bound fs (plains_bound ds bound) base).procedures) tt)
-      (all_both ProcedureIn judged.contents.procedures [] (procedures_in hs.around.own within w fine ch.grows ps (procedures ds g) heads (reversed_all (HeadIn unit shown out hs.around.own) hs.before k.before) quiet judged_lie) tt)
+      record {
+        procedures = all_both ProcedureIn plain.part.contents.procedures _ (subst AreIn (sym (order_bound fs (plains_bound ds bound) base).procedures) tt)
+            (all_both ProcedureIn judged.contents.procedures [] (procedures_in hs.around.own within w fine ch.grows ps (procedures ds g) heads (reversed_all (HeadIn unit shown out hs.around.own) hs.before k.before) quiet judged_lie) tt);
+        variables = all_both (VariableIn unit shown out all Among raw) plain.part.contents.variables (block_headed u plain.part.notes.later ps body hs).contents.variables r.variables (subst AreDeclared (sym (headed_none u plain.part.notes.later ps body hs)) tt);
+      }
 
   -- ---- by induction over declarations
 
@@ -268,7 +286,7 @@ module _ (unit : List ℕ) (shown : QName → Option Desc) (out : is_out unit �
       let p = and_both (parameters_spelled h.parameters) (all_true (map decl_spelled (decls_in ds)) && all_true (map stmt_spelled body)) e in
       let q = and_both (all_true (map decl_spelled (decls_in ds))) (all_true (map stmt_spelled body)) p.1 in
       record { heading = sections_good h.parameters p.0; inside = block_in (map declaration (decls_in ds)) (all_in ds q.0) (decls_bound (decls_in ds)) (map judging body) })
-  decl_cases (Decl-F.Forward h) = layer (Decl-F.Forward h) (λ e. record { heading = sections_good h.parameters e; inside = λ u f n l. tt })
+  decl_cases (Decl-F.Forward h) = layer (Decl-F.Forward h) (λ e. record { heading = sections_good h.parameters e; inside = λ u f n l. record { procedures = tt; variables = tt } })
 
   decl_good : (x : Decl) → PD x
   decl_good = ind-Decl PD (λ x y is. subst (λ z. PD (roll-Decl z)) is (decl_cases y))

@@ -6,6 +6,7 @@ use Rattle.ob_tree.specs.declared.names.QName.{QName}
 use Rattle.ob_tree.specs.declared.ident.Ident.{Ident}
 use Rattle.ob_tree.specs.declared.ident.Mark.{Mark}
 use Rattle.ob_tree.specs.declared.decl.Receiver.{Receiver as RawReceiver}
+use Rattle.ob_types.specs.declared.types.TypeRef.{TypeRef}
 use Rattle.ob_types.specs.declared.desc.Desc.{Desc}
 use Rattle.ob_types.specs.declared.typed.TypedType.{TypedType}
 use Rattle.ob_types.specs.declared.typed.TypedParameter.{TypedParameter}
@@ -20,7 +21,7 @@ use Rattle.ob_bodies.specs.Knows.{EntityStands}
 use Rattle.ob_bodies.proofs.Lists.{all_of}
 use Rattle.ob_bodies.proofs.Standing.{Lies, lies_front, grows_as, all_grown}
 use Rattle.ob_ruled.proofs.Plain.{Any}
-use Rattle.ob_passed.proofs.Sections.{KnownIn, Fair, more_types, more_known, GoodSections, Passed, all_more, passed_more, Given, given_more, ArePassed, sections_known, parameters_passed, IsReceiver, owner_stands, self_passed, receiver_fair}
+use Rattle.ob_passed.proofs.Sections.{KnownIn, PlainAt, plain_more, Fair, more_types, more_known, GoodSections, Passed, all_more, passed_more, ArePassed, sections_known, parameters_passed, IsReceiver, owner_stands, self_passed, receiver_fair}
 
 module _ (unit : List ℕ) (shown : QName → Option Desc) (out : is_out unit ≡ false) where
   abbrev F : Around → Type 0
@@ -29,12 +30,15 @@ module _ (unit : List ℕ) (shown : QName → Option Desc) (out : is_out unit �
   abbrev P : List TypedType → TypedParameter → Type 0
   P own x = Passed unit shown out own x
 
+  abbrev R : List TypedType → TypeRef → Type 0
+  R own t = PlainAt unit shown out own t
+
   abbrev K : List TypedType → List Known → Type 0
   K own ks = KnownIn unit shown out own ks
 
   -- a heading, where these types are known in the end
   pub record HeadIn (own : List TypedType) (h : Head) : Type 0 where
-    pub parameters : IfThere (λ (p : Parameters). AllByRecursion (P own) p.parameters × IfThere (Given unit shown out own) p.signature.result) h.parameters
+    pub parameters : IfThere (λ (p : Parameters). AllByRecursion (P own) p.parameters × IfThere (R own) p.signature.result) h.parameters
     pub self : (x : Ident) → IfThere (λ (b : BoundAs). P own (self_by x b b.receiver)) h.bound
     pub inside : K own h.inside
     pub known : K own h.known
@@ -48,7 +52,7 @@ module _ (unit : List ℕ) (shown : QName → Option Desc) (out : is_out unit �
 
   head_more : (own more : List TypedType) → Lies own more → (h : Head) → HeadIn own h → HeadIn more h
   head_more own more l h g = record {
-    parameters = if_more _ _ h.parameters (λ p k. (all_more unit shown out own more l p.parameters k.0, if_more (Given unit shown out own) (Given unit shown out more) p.signature.result (given_more unit shown out own more l) k.1)) g.parameters;
+    parameters = if_more _ _ h.parameters (λ p k. (all_more unit shown out own more l p.parameters k.0, if_more (R own) (R more) p.signature.result (λ t. plain_more unit shown out own more l t) k.1)) g.parameters;
     self = λ x. if_more (λ (b : BoundAs). P own (self_by x b b.receiver)) (λ (b : BoundAs). P more (self_by x b b.receiver)) h.bound (λ b. passed_more unit shown out own more l (self_by x b b.receiver)) (g.self x);
     inside = known_more own more l h.inside g.inside;
     known = known_more own more l h.known g.known;
@@ -132,11 +136,11 @@ module _ (unit : List ℕ) (shown : QName → Option Desc) (out : is_out unit �
   behind_own u true h = refl
   behind_own u false h = procedure_own u h h.is_bound
 
-  made_passed : (own : List TypedType) (o : Option Parameters) → IfThere (ArePassed unit shown out own) o → IfThere (λ (p : Parameters). AllByRecursion (P (types_of o ++ own)) p.parameters × IfThere (Given unit shown out (types_of o ++ own)) p.signature.result) o
+  made_passed : (own : List TypedType) (o : Option Parameters) → IfThere (ArePassed unit shown out own) o → IfThere (λ (p : Parameters). AllByRecursion (P (types_of o ++ own)) p.parameters × IfThere (R (types_of o ++ own)) p.signature.result) o
   made_passed own None h = tt
-  made_passed own (Some p) h = (h.passed, if_more (Given unit shown out own) (Given unit shown out (p.made ++ own)) p.signature.result (given_more unit shown out own (p.made ++ own) (lies_front p.made own)) h.result)
+  made_passed own (Some p) h = (h.passed, if_more (R own) (R (p.made ++ own)) p.signature.result (λ t. plain_more unit shown out own (p.made ++ own) (lies_front p.made own) t) h.result)
 
-  declared_in : (own : List TypedType) (twice : Bool) (h : Head) → IfThere (λ (p : Parameters). AllByRecursion (P own) p.parameters × IfThere (Given unit shown out own) p.signature.result) h.parameters → ((x : Ident) → IfThere (λ (b : BoundAs). P own (self_by x b b.receiver)) h.bound) → K own h.inside → (u : Around) → K own u.known → HeadIn own (declared_head twice h u)
+  declared_in : (own : List TypedType) (twice : Bool) (h : Head) → IfThere (λ (p : Parameters). AllByRecursion (P own) p.parameters × IfThere (R own) p.signature.result) h.parameters → ((x : Ident) → IfThere (λ (b : BoundAs). P own (self_by x b b.receiver)) h.bound) → K own h.inside → (u : Around) → K own u.known → HeadIn own (declared_head twice h u)
   declared_in own true h p s i u k = record { parameters = tt; self = s; inside = i; known = k }
   declared_in own false h p s i u k = record { parameters = p; self = s; inside = i; known = k }
 

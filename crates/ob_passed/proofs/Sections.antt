@@ -95,22 +95,22 @@ module _ (unit : List ℕ) (shown : QName → Option Desc) (out : is_out unit �
   pub all_more : (own more : List TypedType) → Lies own more → (xs : List TypedParameter) → AllByRecursion (Passed own) xs → AllByRecursion (Passed more) xs
   all_more own more l xs h = all_of (Passed own) (Passed more) xs (passed_more own more l) h
 
-  -- where it is named, among these types, a result stands, and it is no array and no record
-  pub record Given (own : List TypedType) (t : TypeRef) : Type 0 where
+  -- where it is named, among these types, it stands, and is no array and no record
+  pub record PlainAt (own : List TypedType) (t : TypeRef) : Type 0 where
     pub w : Around
     pub fair : Fair w
     pub within : Lies w.own own
     pub stands : S w.own t
     pub plain : is_structured (map_of w) t ≡ false
 
-  pub given_more : (own more : List TypedType) → Lies own more → (t : TypeRef) → Given own t → Given more t
-  given_more own more l t h = record { w = h.w; fair = h.fair; within = lies_then h.w.own own more h.within l; stands = h.stands; plain = h.plain }
+  pub plain_more : (own more : List TypedType) → Lies own more → (t : TypeRef) → PlainAt own t → PlainAt more t
+  plain_more own more l t h = record { w = h.w; fair = h.fair; within = lies_then h.w.own own more h.within l; stands = h.stands; plain = h.plain }
 
   pub record ArePassed (own : List TypedType) (p : Parameters) : Type 0 where
     pub made : AllByRecursion (IsDescribed Any) p.made
     pub aliases : Aliases (p.made ++ own) p.made
     pub passed : AllByRecursion (Passed (p.made ++ own)) p.parameters
-    pub result : IfThere (Given own) p.signature.result
+    pub result : IfThere (PlainAt own) p.signature.result
 
   lies_swap : (a b own : List TypedType) → Lies (b ++ (a ++ own)) ((a ++ b) ++ own)
   lies_swap a b own t i = ⊎_elim (λ j. one_left (a ++ b) own t (one_right a b t j)) (λ j. ⊎_elim (λ k. one_left (a ++ b) own t (one_left a b t k)) (λ k. one_right (a ++ b) own t k) (one_joined a own t j)) (one_joined b (a ++ own) t i)
@@ -197,25 +197,23 @@ module _ (unit : List ℕ) (shown : QName → Option Desc) (out : is_out unit �
   -- ---- with their result
 
   fits : (P : TypeRef → Type 0) (u : Around) (at : Pos) (t : TypeRef) → (is_structured (map_of u) t ≡ false → P t) → Has (IfThere P) (result_fits u at t)
-  fits P u at t h = by (is_structured (map_of u) t) h
+  fits P u at t h = by (is_structured (map_of u) t) refl
     where
-      by : (b : Bool) → (b ≡ false → P t) → Has (IfThere P) (unless b 17 at (Some t))
-      by true f = tt
-      by false f = f refl
+      by : (b : Bool) → is_structured (map_of u) t ≡ b → Has (IfThere P) (unless b 17 at (Some t))
+      by true e = tt
+      by false e = h e
 
-  result_given : (u : Around) → Fair u → (o : Option Qualident) → Has (IfThere (Given u.own)) (result_of u o)
-  result_given u f None = tt
-  result_given u f (Some q) =
-      then_has (S u.own) (IfThere (Given u.own)) (type_named u q) (result_fits u (first_of q)) (type_named_stands Any unit shown u f.knows q)
-      (λ t h. fits (Given u.own) u (first_of q) t (λ e. record { w = u; fair = f; within = lies_same u.own; stands = h; plain = e }))
+  result_stands : (u : Around) → Fair u → (o : Option Qualident) → Has (IfThere (PlainAt u.own)) (result_of u o)
+  result_stands u f None = tt
+  result_stands u f (Some q) = then_has (S u.own) (IfThere (PlainAt u.own)) (type_named u q) (result_fits u (first_of q)) (type_named_stands Any unit shown u f.knows q) (λ t h. fits (PlainAt u.own) u (first_of q) t (λ e. record { w = u; fair = f; within = lies_same u.own; stands = h; plain = e }))
 
   pub parameters_passed : (u : Around) → Fair u → (name : List ℕ) (p : WrittenParameters) → GoodSections p.sections → Has (ArePassed u.own) (parameters_in u name p).found
   parameters_passed u f name p g =
       let s = sections u name 1 p.sections in
       let v : Around = record u { known = s.known } in
       let fair : Fair v = record { knows = record { unit_is = f.knows.unit_is; shown_is = f.knows.shown_is; own = f.knows.own; known = sections_known u.own p.sections u name 1 f.knows.known }; aliases = f.aliases; lies = λ s i. tt } in
-      then_has (λ (q : Parameters × Option TypeRef). ArePassed u.own q.0 × IfThere (Given u.own) q.1) (ArePassed u.own) (both s.found (result_of v p.result)) (λ p. sound (with_result p.0 p.1))
-      (both_have (ArePassed u.own) (IfThere (Given u.own)) s.found (result_of v p.result) (sections_passed p.sections g u f name 1) (result_given v fair p.result))
+      then_has (λ (q : Parameters × Option TypeRef). ArePassed u.own q.0 × IfThere (PlainAt u.own) q.1) (ArePassed u.own) (both s.found (result_of v p.result)) (λ p. sound (with_result p.0 p.1))
+      (both_have (ArePassed u.own) (IfThere (PlainAt u.own)) s.found (result_of v p.result) (sections_passed p.sections g u f name 1) (result_stands v fair p.result))
       (λ q h. record { made = h.0.made; aliases = h.0.aliases; passed = h.0.passed; result = h.1 })
 
   -- ---- receivers

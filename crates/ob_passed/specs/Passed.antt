@@ -16,10 +16,11 @@ use Rattle.ob_rules.specs.Names.{Around, map_of}
 use Rattle.ob_rules.specs.Declarations.{checked}
 use Rattle.ob_distinct.specs.Distinct.{AreDistinct}
 use Rattle.ob_forms.specs.Said.{IsOneOf}
+use Rattle.ob_forms.specs.Formed.{IsDeclared}
 use Rattle.ob_bodies.specs.Spelled.{tree_spelled}
 use Rattle.ob_bodies.specs.Knows.{Stands}
 use Rattle.ob_bodies.specs.Laws.{AreOthers}
-use Rattle.ob_ruled.specs.Variables.{AliasStands, IsSameType}
+use Rattle.ob_ruled.specs.Variables.{AliasStands, IsSameType, IsDeclaredWell}
 
 -- Where the parameter is declared its type stands, and it is passed as what is known there of its type asks for; what is known there is
 -- told by these types of the module.
@@ -33,8 +34,8 @@ pub record IsPassedWell (unit : List ℕ) (shown : QName → Option Desc) (types
   pub mode : Mode
   pub passing : x.passing ≡ passing_of (map_of w) mode x.of
 
--- Where the result is named its type stands, and by what is known there it is no array and no record.
-pub record IsGivenWell (unit : List ℕ) (shown : QName → Option Desc) (types : List TypedType) (t : TypeRef) : Type 0 where
+-- Where the type is named it stands, and is no array and no record.
+pub record IsPlainWell (unit : List ℕ) (shown : QName → Option Desc) (types : List TypedType) (t : TypeRef) : Type 0 where
   pub w : Around
   pub unit_is : w.unit ≡ unit
   pub shown_is : w.shown ≡ shown
@@ -43,10 +44,13 @@ pub record IsGivenWell (unit : List ℕ) (shown : QName → Option Desc) (types 
   pub stands : Stands unit shown w.own t
   pub plain : is_structured (map_of w) t ≡ false
 
-pub record HeadIsWell (unit : List ℕ) (shown : QName → Option Desc) (types : List TypedType) (p : TypedProcedure) : Type 0 where
+-- a procedure: its parameters, its result and its local variables
+pub record ProcedureIsWell (unit : List ℕ) (shown : QName → Option Desc) (types : List TypedType) (p : TypedProcedure) : Type 0 where
   pub parameters : AllByRecursion (IsPassedWell unit shown types) p.parameters
-  pub result : AllByRecursion (IsGivenWell unit shown types) (listed p.result)
+  pub result : AllByRecursion IsDeclared (listed p.result)
+  pub plain : AllByRecursion (IsPlainWell unit shown types) (listed p.result)
+  pub locals : AllByRecursion (IsDeclaredWell unit shown types) p.locals
 
--- THE LAW: so are the parameters of each procedure of a checked module that imports others alone, and whose types differ in name.
-abbrev pub ParametersArePassed : Type 0
-ParametersArePassed = (shown : QName → Option Desc) (tree : Tree) (m : TypedModule) → checked shown tree ≡ Some m → tree_spelled tree ≡ true → AreOthers tree.name.name tree.imports → AreDistinct (λ t. t.name) m.types → AllByRecursion (HeadIsWell m.name shown m.types) m.procedures
+-- THE LAW: so is each procedure of a checked module that imports others alone, and whose types differ in name.
+abbrev pub ProceduresAreWell : Type 0
+ProceduresAreWell = (shown : QName → Option Desc) (tree : Tree) (m : TypedModule) → checked shown tree ≡ Some m → tree_spelled tree ≡ true → AreOthers tree.name.name tree.imports → AreDistinct (λ t. t.name) m.types → AllByRecursion (ProcedureIsWell m.name shown m.types) m.procedures

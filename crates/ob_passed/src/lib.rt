@@ -1,11 +1,12 @@
-//! How the parameters of checked modules are passed.
+//! What the procedures of checked modules take, give and have inside, by what is known where they are
+//! declared.
 #![tactic(auto)]
 
-ghost use Rattle.ob_passed.specs.Passed.{ParametersArePassed};
+ghost use Rattle.ob_passed.specs.Passed.{ProceduresAreWell};
 
-/// A law, with nothing to run: each parameter of a procedure of a checked module, and each receiver,
-/// is passed as what is known of its type where it is declared asks for, where its types differ in
-/// name.
+/// A law, with nothing to run: in a checked module whose types differ in name each parameter of a
+/// procedure, and each receiver, is passed as what is known of its type where it is declared asks for;
+/// results are neither arrays nor records, and local variables are no open arrays.
 pub fn parameters_are_passed()
-    ensures { ParametersArePassed }
+    ensures { ProceduresAreWell }
 {}

@@ -1,51 +1,154 @@
 -- All that the headline takes for granted of builds is there.
-use Rattle.std.specs.Prelude.{List, ◌++◌, Some}
+use Rattle.std.proofs.Common.{◌≡◌, List, [], ◌∷◌, ◌++◌, Option, Some, sym, subst}
+use Rattle.std.specs.Prelude.{map, Contains}
+use Rattle.std.specs.List.{AllByRecursion}
+use Rattle.ob_types.specs.TypedSyntax.{Procedure, Module}
+use Rattle.ob_tree.specs.declared.names.QName.{QName}
+use Rattle.ob_types.specs.declared.desc.Desc.{Desc}
+use Rattle.ob_code.specs.Procedures.{body_of}
+use Rattle.ob_meaning.specs.Values.{Program, description}
+use Rattle.ob_env.specs.Faces.{face_named}
 use Rattle.ob_relation.specs.Setting.{Setting}
+use Rattle.ob_standing.specs.Described.{IsDescribed}
 use Rattle.ob_tables.specs.Image.{RulesKept}
 use Rattle.ob_valued.specs.Valued.{values}
-use Rattle.ob_ages.specs.Builds.{Build}
+use Rattle.ob_scoped.specs.Scoped.{BodyIsScoped, BodiesAreScoped}
+use Rattle.ob_scoped.proofs.Modules.{programs_are_scoped}
+use Rattle.ob_kept.specs.Kept as kept
+use Rattle.ob_accepted.specs.Accepted.{AreBuilt}
+use Rattle.ob_differ.proofs.Compiled.{compiled_types_differ}
+use Rattle.ob_ages.specs.Builds.{Build, tree_of, entry_of}
 use Rattle.ob_ages.specs.Laws.{Simulation}
 use Rattle.ob_ages.specs.Holds.{Promises}
+use Rattle.ob_ages.proofs.Apart.{entry_named}
 use Rattle.ob_ages.proofs.Linked.{builds_are_linked}
-use Rattle.ob_joining.specs.Builds.{AreLoaded, IsOf}
-use Rattle.ob_joining.proofs.Commands.{commands_stand}
+use Rattle.ob_ages.proofs.Members.{has_head, has_more}
 use Rattle.ob_simulation.proofs.Whole.{command_simulates, body_simulates}
+use Rattle.ob_joining.specs.Builds.{program_of, AreLoaded, IsOf}
+use Rattle.ob_joining.proofs.Commands.{commands_stand}
+use Rattle.ob_joining.proofs.Settings.{loaded_front}
 use Rattle.ob_locality.proofs.Following.{locality_holds}
+use Rattle.ob_stand.specs.Owed.{in_program}
+use Rattle.ob_ordered.specs.Loaded.{BoundAreThere, LoadedAreWhole, LoadedAreLaid}
 use Rattle.ob_ordered.proofs.Owing.{loaded_are_sound, loaded_describe}
 use Rattle.ob_whole.proofs.Whole.{loaded_whole}
 use Rattle.ob_whole.proofs.Passing.{loaded_passed}
 use Rattle.ob_laying.proofs.Loaded.{loaded_laid}
+use Rattle.ob_pointed.proofs.Loaded.{loaded_bases}
 use Rattle.ob_belonging.proofs.Loaded.{bound_there}
-use Rattle.ob_families.specs.Premises.{builds_of, TypesDiffer}
-use Rattle.ob_env.specs.Faces.{face_named}
-use Rattle.ob_differ.proofs.Compiled.{compiled_types_differ}
-use Rattle.ob_ages.specs.Builds.{entry_of}
-use Rattle.ob_ages.proofs.Apart.{entry_named}
+use Rattle.ob_families.specs.Premises.{builds_of, TypesDiffer, LoadedAreSound, LoadedDescribe, LoadedAreSame}
+use Rattle.ob_inherited.specs.Laws.{LoadedAreLike}
 use Rattle.ob_inherited.proofs.Loaded.{loaded_keep_rules}
+use Rattle.ob_likeness.proofs.Loaded.{loaded_like}
+use Rattle.ob_joint.proofs.Loaded.{loaded_are_same}
+use Rattle.ob_limits.specs.Limits.{KeepsLimits, AllKeepLimits}
+use Rattle.ob_limits.proofs.Loaded.{loaded_keep}
+use Rattle.ob_built.specs.Built.{IsBuiltModule}
+use Rattle.ob_built.proofs.Built.{loaded_are_built}
+use Rattle.ob_built.proofs.Nearest.{loaded_are_redefined}
+use Rattle.ob_lined.proofs.Loaded.{loaded_are_lined}
+use Rattle.ob_closed.proofs.Loaded.{loaded_closed}
+use Rattle.ob_encircled.specs.Encircled as encircled
+use Rattle.ob_encircled.specs.Encircled.{AreEncircled}
+use Rattle.ob_encircled.proofs.Encircled.{loaded_are_steady}
+use Rattle.ob_assured.specs.Checked.{IsLeft}
 use Rattle.ob_assured.proofs.Checked.{loaded_are_checked}
 use Rattle.ob_owing.specs.Left.{Left}
 use Rattle.ob_owing.proofs.Builds.{builds_ruled}
 use Rattle.ob_owing.proofs.Whole.{left_stands}
 use Rattle.ob_upheld.proofs.Upheld.{builds_are_written, simulation_suffices}
-use Rattle.ob_promised.specs.Promised.{Rest, Suffices}
+use Rattle.ob_promised.specs.Promised.{Promised}
 
 types_differ : TypesDiffer
 types_differ b c v = compiled_types_differ (λ name. entry_of (face_named b.against name)) (entry_named b.against) (Some b.source) c v.is
 
-module _ (r : Rest) where
-  rules : (bs more : List Build) → AreLoaded (bs ++ more) → (c : Setting) → IsOf c values bs more → RulesKept c (builds_of bs)
-  rules bs more loaded c is =
-    let written = builds_are_written in
-    let bound = bound_there written builds_ruled locality_holds r.bases in
-    let sound = loaded_are_sound written builds_ruled bound in
-    let whole = loaded_whole builds_ruled (loaded_passed written builds_ruled) in
-    let laid = loaded_laid written builds_ruled locality_holds in
-    let describe = loaded_describe written builds_ruled bound whole laid in
-    let checked = loaded_are_checked sound whole bs more loaded c is (r.left bs more loaded c is) in
-    loaded_keep_rules written locality_holds types_differ sound whole laid describe r.same r.like bs more loaded c is checked.0 checked.1
+bound : BoundAreThere
+bound = bound_there builds_are_written builds_ruled locality_holds
 
-  left : Left
-  left = record { written = builds_are_written; linked = builds_are_linked; bases = r.bases; same = r.same; rules = rules }
+sound : LoadedAreSound
+sound = loaded_are_sound builds_are_written builds_ruled bound
 
-pub suffices : Suffices
-suffices r = simulation_suffices (λ commands s settings. commands_stand command_simulates body_simulates (left_stands (left r)) s settings.most_heap commands)
+whole : LoadedAreWhole
+whole = loaded_whole builds_ruled (loaded_passed builds_are_written builds_ruled)
+
+laid : LoadedAreLaid
+laid = loaded_laid builds_are_written builds_ruled locality_holds
+
+describe : LoadedDescribe
+describe = loaded_describe builds_are_written builds_ruled bound whole laid
+
+same : LoadedAreSame
+same = loaded_are_same builds_are_written builds_ruled sound
+
+like : LoadedAreLike
+like = loaded_like builds_are_written locality_holds types_differ sound whole (loaded_bases builds_are_written builds_ruled)
+
+closed : encircled.LoadedAreClosed
+closed before b after l =
+    let c = (loaded_closed builds_are_written builds_ruled).front before b after l in
+    record { held = c.held; keeps = c.keeps }
+
+-- the maps of types around bodies are steady
+steady : (bs : List Build) → AreLoaded bs → AreEncircled (program_of bs)
+steady = loaded_are_steady builds_are_written locality_holds sound whole closed (loaded_are_lined builds_are_written builds_ruled)
+
+-- WHAT IS LEFT OF PROCEDURES
+
+module _ (c : Setting) (bs more : List Build) (loaded : AreLoaded (bs ++ more)) (is : IsOf c values bs more) where
+  front : AreLoaded bs
+  front = loaded_front bs more loaded
+
+  described : IsDescribed (description (program_of bs)) c.program
+  described = subst (λ p. IsDescribed (description (program_of bs)) p) (sym is.program) (describe bs front)
+
+  procedure_left : (m : Module) (p : Procedure) → BodyIsScoped (description (program_of bs)) m p → KeepsLimits (description (program_of bs)) m p → kept.IsLeft c (description (program_of bs)) m p
+  procedure_left m p s k = record { there = s; small = k.small; few = k.few }
+
+  procedures_left : (m : Module) (ps : List Procedure) → AllByRecursion (BodyIsScoped (description (program_of bs)) m) ps → AllByRecursion (KeepsLimits (description (program_of bs)) m) ps → AllByRecursion (kept.IsLeft c (description (program_of bs)) m) ps
+  procedures_left m [] s k = tt
+  procedures_left m (p ∷ ps) s k = (procedure_left m p s.0 k.0, procedures_left m ps s.1 k.1)
+
+  all_left : (xs : List Build) → ((b : Build) → Contains xs b → Contains bs b) → AllByRecursion (λ m. (types : QName → Option Desc) → BodiesAreScoped types m) (program_of xs) → AllByRecursion (IsBuiltModule (program_of bs)) (program_of xs) → AllByRecursion (kept.AreLeft c) (map (in_program (program_of bs)) xs)
+  all_left [] i s b = tt
+  all_left (x ∷ xs) i s b =
+      let scoped = s.0 (description (program_of bs)) in
+      let k : AllKeepLimits (description (program_of bs)) (tree_of x) = loaded_keep same bs more loaded x (i x (has_head x xs)) in (
+        record {
+          described = described;
+          named = b.0.named;
+          procedures = procedures_left (tree_of x) (tree_of x).procedures scoped.procedures k.procedures;
+          body = procedure_left (tree_of x) (body_of (tree_of x)) scoped.body k.body;
+        },
+        all_left xs (λ y j. i y (has_more x xs y j)) s.1 b.1,
+      )
+
+  all_built : (ms : List Module) → AllByRecursion (IsBuiltModule (program_of bs)) ms → AllByRecursion (AreBuilt (program_of bs)) ms
+  all_built [] b = tt
+  all_built (m ∷ ms) b = (b.0.built, all_built ms b.1)
+
+  left : AreEncircled (program_of bs) → IsLeft c bs
+  left so =
+      let b = loaded_are_built builds_are_written builds_ruled sound bs front in
+      record {
+        judged = so.judged;
+        steady = so.steady;
+        redefined = loaded_are_redefined builds_are_written locality_holds types_differ sound whole like bs front;
+        built = all_built (program_of bs) b;
+        limits = all_left bs (λ y j. j) (programs_are_scoped (program_of bs) so.judged) b;
+      }
+
+  rules : AreEncircled (program_of bs) → RulesKept c (builds_of bs)
+  rules so =
+      let checked = loaded_are_checked sound whole bs more loaded c is (left so) in
+      loaded_keep_rules builds_are_written locality_holds types_differ sound whole laid describe same like bs more loaded c is checked.0 checked.1
+
+-- COMMANDS
+
+left_so : Left
+left_so = record { written = builds_are_written; linked = builds_are_linked; same = same; rules = λ bs more loaded c is. rules c bs more loaded is (steady bs (loaded_front bs more loaded)) }
+
+pub simulation : Simulation
+simulation commands s settings = commands_stand command_simulates body_simulates (left_stands left_so) s settings.most_heap commands
+
+pub promised : Promised
+promised = simulation_suffices simulation

@@ -2,19 +2,16 @@
 use Rattle.std.proofs.Common.{◌≡◌, ◌⊎◌, inl, inr, ℕ, zero, suc, Bool, true, false, cond, List, [], ◌∷◌, map as each, Option, Some, None, refl, sym, ap, subst, ◌∙◌}
 use Rattle.std.specs.Prelude.{bytes_eq, IsSome}
 use Rattle.std.specs.List.{find}
-use Rattle.std.specs.Option.{option_map}
 use Rattle.std.proofs.lemmas.Slice.Eq.{bytes_eq-Decides}
 use Rattle.ob_tree.specs.declared.names.QName.{QName}
-use Rattle.ob_types.specs.declared.types.TypeRef.{TypeRef}
 use Rattle.ob_types.specs.declared.desc.Desc.{Desc}
 use Rattle.ob_types.specs.declared.desc.Desc.TheVariants as desc
 use Rattle.ob_types.specs.declared.desc.RecordDesc.{RecordDesc}
 use Rattle.ob_types.specs.declared.desc.Field.{Field}
 use Rattle.ob_types.specs.declared.desc.Method.{Method}
-use Rattle.ob_layout.specs.Lists.{or_else}
-use Rattle.ob_layout.specs.Members.{field_named, method_named, field_in_record, method_in_record, from_base, nearest_in, nearest, method_number_in}
+use Rattle.ob_layout.specs.Members.{field_named, method_named}
 use Rattle.ob_rules.specs.Shapes.{Map, Member, AField, AMethod, field_or, own_member, base_record, or_in_base, member_within, member}
-use Rattle.ob_seen.specs.Seen.{FieldSeen}
+use Rattle.ob_seen.specs.Seen.{HasField, HasMethod, FieldSeen}
 use Rattle.ob_seen.specs.Laws.{KeepsMembers}
 use Rattle.ob_seen.proofs.Setting.{IfThere}
 
@@ -67,23 +64,13 @@ named_method x [] h = absurd h
 named_method x (m ∷ ms) (inl e) = some_if (bytes_eq x m.name) m (method_named x ms) (inl (true_same x m.name (sym e)))
 named_method x (m ∷ ms) (inr h) = some_if (bytes_eq x m.name) m (method_named x ms) (inr (named_method x ms h))
 
--- ---- what a record has is found for it
-
-or_some : {A B : Type 0} (f : A → B) (o p : Option A) → IsSome o → IsSome (option_map f (or_else o p))
-or_some f (Some a) p h = refl
-or_some f None p h = absurd cc
+-- ---- what a record has is its own
 
 pub field_seen : (map : Map) (q : QName) (x : List ℕ) (r : RecordDesc) → map q ≡ Some (desc.Record r) → IsNamed x (each (λ f. f.name) r.fields) → FieldSeen map q x
-field_seen map q x r e h =
-    let up : TypeRef → Option Field = nearest (field_in_record x) map 200 in
-    subst (λ o. IsSome (option_map (λ (f : Field). f.place) (nearest_in (field_in_record x) up o))) (sym e)
-    (or_some (λ (f : Field). f.place) (field_named x r.fields) (from_base up r.base) (named_field x r.fields h))
+field_seen map q x r e h = subst (λ o. HasField o x) (sym e) (named_field x r.fields h)
 
-pub method_seen : (map : Map) (q : QName) (x : List ℕ) (r : RecordDesc) → map q ≡ Some (desc.Record r) → IsNamed x (each (λ m. m.name) r.methods) → IsSome (method_number_in map q x)
-method_seen map q x r e h =
-    let up : TypeRef → Option Method = nearest (method_in_record x) map 200 in
-    subst (λ o. IsSome (option_map (λ (m : Method). m.number) (nearest_in (method_in_record x) up o))) (sym e)
-    (or_some (λ (m : Method). m.number) (method_named x r.methods) (from_base up r.base) (named_method x r.methods h))
+pub method_seen : (map : Map) (q : QName) (x : List ℕ) (r : RecordDesc) → map q ≡ Some (desc.Record r) → IsNamed x (each (λ m. m.name) r.methods) → HasMethod (map q) x
+method_seen map q x r e h = subst (λ o. HasMethod o x) (sym e) (named_method x r.methods h)
 
 -- ---- the members of records
 
@@ -138,7 +125,7 @@ module _ (map other : Map) (has : HasRecords map other) where
   pub field_kept : (q : QName) (r : RecordDesc) (x : List ℕ) → other q ≡ Some (desc.Record r) → IsNamed x (each (λ f. f.name) r.fields) → FieldSeen map q x
   field_kept q r x e h = let s = has q r e in field_seen map q x s.0 s.1.0 (s.1.1.fields x h)
 
-  pub method_kept : (q : QName) (r : RecordDesc) (x : List ℕ) → other q ≡ Some (desc.Record r) → IsNamed x (each (λ m. m.name) r.methods) → IsSome (method_number_in map q x)
+  pub method_kept : (q : QName) (r : RecordDesc) (x : List ℕ) → other q ≡ Some (desc.Record r) → IsNamed x (each (λ m. m.name) r.methods) → HasMethod (map q) x
   method_kept q r x e h = let s = has q r e in method_seen map q x s.0 s.1.0 (s.1.1.methods x h)
 
   at_field : (q o : QName) (x : List ℕ) (f : Field) → member other q x ≡ Some (AField o f) → FieldSeen map o f.name
@@ -146,10 +133,10 @@ module _ (map other : Map) (has : HasRecords map other) where
       let a = member_at other x q (AField o f) e in
       subst (FieldSeen map o) (sym (found_name (λ (g : Field). g.name) x a.0.fields f a.1.1)) (field_kept o a.0 x a.1.0 (found_named (λ (g : Field). g.name) x a.0.fields f a.1.1))
 
-  at_method : (q o : QName) (x : List ℕ) (m : Method) → member other q x ≡ Some (AMethod o m) → IsSome (method_number_in map o m.name)
+  at_method : (q o : QName) (x : List ℕ) (m : Method) → member other q x ≡ Some (AMethod o m) → HasMethod (map o) m.name
   at_method q o x m e =
       let a = member_at other x q (AMethod o m) e in
-      subst (λ y. IsSome (method_number_in map o y)) (sym (found_name (λ (g : Method). g.name) x a.0.methods m a.1.1)) (method_kept o a.0 x a.1.0 (found_named (λ (g : Method). g.name) x a.0.methods m a.1.1))
+      subst (λ y. HasMethod (map o) y) (sym (found_name (λ (g : Method). g.name) x a.0.methods m a.1.1)) (method_kept o a.0 x a.1.0 (found_named (λ (g : Method). g.name) x a.0.methods m a.1.1))
 
   pub keeps_members : KeepsMembers map other
   keeps_members = record { fields = at_field; methods = at_method }

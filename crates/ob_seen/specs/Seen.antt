@@ -1,23 +1,36 @@
--- The members that statements name, fields of records and bound procedures, are members of their records in a map of descriptions.
+-- The members that statements name, fields of records and bound procedures, are those of the records that they name as their owners, in a
+-- map of descriptions.
 use Rattle.std.specs.Prelude.{ℕ, List, Option, Some, None, IsSome}
 use Rattle.std.specs.List.{AllByRecursion}
 use Rattle.ob_tree.specs.declared.names.QName.{QName}
+use Rattle.ob_types.specs.declared.desc.Desc.{Desc}
+use Rattle.ob_types.specs.declared.desc.Desc.TheVariants as desc
 use Rattle.ob_types.specs.declared.typed.Family.{Family}
 use Rattle.ob_types.specs.declared.typed.Callee.{Callee}
 use Rattle.ob_types.specs.declared.typed.Callee.TheVariants as callee
 use Rattle.ob_types.specs.declared.typed.Binding.{Binding}
 use Rattle.ob_types.specs.TypedSyntax.{Desig, OfVariable, Field, Index, Deref, Guard, Expr, Constant, ValueOf, ProcedureValue, Monadic, Dyadic, Logical, CompareTexts, IsPointer, IsRecord, Length, Call, CallVariable, Actuals, NoActual, AnActual, Stmt, Assign, CallProper, Updated, Copy, New, NewOpenArray, Assert, Halt, If, Case, While, Repeat, For, Loop, Exit, Return, With, Stmts, Nothing, Then, Branches, NoBranch, Branch, Cases, NoCase, OneCase, Otherwise, NoElse, Else, Procedure, Module}
 use Rattle.ob_rules.specs.Shapes.{Map}
-use Rattle.ob_layout.specs.Members.{field_place_in, method_number_in}
+use Rattle.ob_layout.specs.Members.{field_named, method_named}
+
+-- a record with a field of the name of its own
+abbrev pub HasField : Option Desc → List ℕ → Type 0
+HasField (Some (desc.Record r)) x = IsSome (field_named x r.fields)
+HasField d x = ⊥
+
+-- a record that introduces a bound procedure of the name
+abbrev pub HasMethod : Option Desc → List ℕ → Type 0
+HasMethod (Some (desc.Record r)) x = IsSome (method_named x r.methods)
+HasMethod d x = ⊥
 
 module _ (map : Map) where
-  -- the record has a field of the name
+  -- the record has a field of the name of its own
   abbrev pub FieldSeen : QName → List ℕ → Type 0
-  FieldSeen o x = IsSome (field_place_in map o x)
+  FieldSeen o x = HasField (map o) x
 
-  -- the record has a bound procedure of the name
+  -- the record introduces a bound procedure of the name
   abbrev pub FamilySeen : Family → Type 0
-  FamilySeen f = IsSome (method_number_in map f.owner f.name)
+  FamilySeen f = HasMethod (map f.owner) f.name
 
   abbrev pub CalleeSeen : Callee → Type 0
   CalleeSeen (callee.Declared q) = Unit {0}

@@ -11,7 +11,6 @@ ghost use Rattle.ob_ages.specs.Session.{bytes, Ends};
 ghost use Rattle.ob_ages.specs.Library.{Library};
 ghost use Rattle.ob_ages.specs.Headline.{Headline, Stands};
 ghost use Rattle.ob_ages.specs.Holds.{WritesPieces};
-ghost use Rattle.ob_ages.specs.Laws.{Simulation};
 ghost use Rattle.ob_session.specs.Stand.{Pieces};
 ghost use Rattle.ob_session.specs.Session.{Causes, StatusIs};
 
@@ -201,9 +200,7 @@ fn do_all<F: Folder, I: Source, O: Sink>(
 ///
 /// Beside what it does by the bytes of files, `headline` says what that means: over files that any
 /// earlier runs have left, so that some library of builds keeps them, the bytes written are those
-/// that the language's meaning gives the loaded modules' sources, taken afresh together. It takes
-/// one law of builds for granted, as a premise: that commands by the machine's table are those of
-/// the meaning (`Simulation`).
+/// that the language's meaning gives the loaded modules' sources, taken afresh together.
 pub fn session<F: Folder, I: Source, O: Sink>(
     alloc: Global,
     words: &[String],
@@ -225,11 +222,10 @@ pub fn session<F: Folder, I: Source, O: Sink>(
     // Where the files keep a library, and no two of the texts of its builds, and of those that the
     // lines make, have one print unless they are the same: what is written, answered and left is
     // what the meaning of the builds' sources says, whole or cut short, and the loaded sources,
-    // taken afresh together, are a well formed program at each line. One law of builds is taken for
-    // granted here: commands by the table are those of the meaning.
-    ensures headline { (s : TheSettings) → settings_of (map (λ w. w.bytes.items) words.now) ≡ Some s → I.tells script.old ≡ true → F.tells folder.old ≡ true → O.tells out.old ≡ true → (l : Library) → Simulation → Stands s (F.files folder.old) l (I.left script.old) → Headline s (O.taken out.old) (O.taken out.new) (F.files folder.old) (F.files folder.new) l (I.left script.old) result }
+    // taken afresh together, are a well formed program at each line.
+    ensures headline { (s : TheSettings) → settings_of (map (λ w. w.bytes.items) words.now) ≡ Some s → I.tells script.old ≡ true → F.tells folder.old ≡ true → O.tells out.old ≡ true → (l : Library) → Stands s (F.files folder.old) l (I.left script.old) → Headline s (O.taken out.old) (O.taken out.new) (F.files folder.old) (F.files folder.new) l (I.left script.old) result }
     // So are the lines done with status 3.
-    ensures headline_pieces { (s : TheSettings) → settings_of (map (λ w. w.bytes.items) words.now) ≡ Some s → I.tells script.old ≡ true → F.tells folder.old ≡ true → O.tells out.old ≡ true → (l : Library) → Simulation → Stands s (F.files folder.old) l (I.left script.old) → result ≡ 3 → WritesPieces s (O.taken out.old) (O.taken out.new) (F.files folder.old) l (I.left script.old) (I.left script.new) }
+    ensures headline_pieces { (s : TheSettings) → settings_of (map (λ w. w.bytes.items) words.now) ≡ Some s → I.tells script.old ≡ true → F.tells folder.old ≡ true → O.tells out.old ≡ true → (l : Library) → Stands s (F.files folder.old) l (I.left script.old) → result ≡ 3 → WritesPieces s (O.taken out.old) (O.taken out.new) (F.files folder.old) l (I.left script.old) (I.left script.new) }
 {
     do_all(alloc, words, folder, script, out)
 }

@@ -113,7 +113,7 @@ module _ (program : Program) (has : Formals → QName → Bool) (shown : QName �
         by : (c : Bool) → nat_lt 1 k.scope ≡ c → VariableIs program Has checked.name held result (map_of u) v t
         by false f =
             let g = h.outside f in
-            global_is program whole Has checked.name result (map_of u) formed left.grounded held m is.there (sym is.name) v t
+            global_is program whole Has checked.name result (map_of u) formed left.steady held m is.there (sym is.name) v t
             (subst (λ xs. IsGlobal checked.name xs v t) (sym is.variables) g.0) (subst (AllByRecursion (λ v. FormOk program (form_in program v.of))) (sym is.variables) is.forms) (known t g.1)
         by true f = inside k.scope v t b f (h.inside f (second_false (nat_lt 1 k.scope) (nat_lt k.scope u.level) f e))
 
@@ -200,7 +200,7 @@ module _ (program : Program) (has : Formals → QName → Bool) (shown : QName �
     surrounded : ResultIs program result → u.result ≡ result → IsSurrounded program Has checked.name held result u
     surrounded plain same = record {
       formed = formed;
-      grounded = left.grounded;
+      steady = left.steady;
       variables = variables;
       constants = λ x k v e f. entity_at x k (entity.Constant v) e f;
       procedures = procedures;
@@ -226,12 +226,12 @@ procedures_surrounded program has shown checked m whole is out constants values 
     let formed = all_formed u around.within in
     let received : (r : Received) → u.receiver ≡ Some r → IsReceived ConstantIs shown checked content p r = λ r e. subst (ReceiverStands ConstantIs shown checked content (Some p)) e around.receiver in
     surrounded program has shown checked m whole is out constants values redefined held p.result content (Some p) all_formed u around formed left
-    (λ r w t e s k. let x = received r e in receiver_is program whole (Having has) checked.name p.result (map_of u) formed left.grounded v different x.x x.there (one_all (λ (y : TypedParameter). IsPassed program y) p.parameters x.x h.0 x.there) r x.is (map_of x.w) (all_formed x.w x.within) x.record_is w t s k)
+    (λ r w t e s k. let x = received r e in receiver_is program whole (Having has) checked.name p.result (map_of u) formed left.steady v different x.x x.there (one_all (λ (y : TypedParameter). IsPassed program y) p.parameters x.x h.0 x.there) r x.is (map_of x.w) (all_formed x.w x.within) x.record_is w t s k)
     (λ scope w t b e g.
     let k = known_is ConstantIs checked.name shown u around.knows t g.1 in
     ⊎_elim
-    (λ l. local_is program whole (Having has) checked.name p.result (map_of u) formed left.grounded v different w t l forms k)
-    (λ l. parameter_is program whole (Having has) checked.name p.result (map_of u) formed left.grounded v different w t l h.0 k)
+    (λ l. local_is program whole (Having has) checked.name p.result (map_of u) formed left.steady v different w t l forms k)
+    (λ l. parameter_is program whole (Having has) checked.name p.result (map_of u) formed left.steady v different w t l h.0 k)
     g.0)
     (one_all (λ (p : TypedProcedure). ResultIs program p.result) checked.procedures p is.results i)
     around.result

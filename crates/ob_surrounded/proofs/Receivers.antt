@@ -7,7 +7,6 @@ use Rattle.ob_types.specs.declared.typed.Passing.TheVariants as passing
 use Rattle.ob_types.specs.declared.typed.Variable.{Variable}
 use Rattle.ob_types.specs.declared.typed.Variable.TheVariants as variable
 use Rattle.ob_types.specs.declared.typed.TypedParameter.{TypedParameter}
-use Rattle.ob_types.specs.Relations.{IsGrounded}
 use Rattle.ob_types.specs.TypedSyntax.{Procedure}
 use Rattle.ob_meaning.specs.Values.{Program, PointerForm, RecordForm, Fields, form_in, record_in, Formals}
 use Rattle.ob_relation.specs.Layout.{form_named, static_held}
@@ -18,6 +17,7 @@ use Rattle.ob_rules.specs.Shapes.{Map, record_of, pointed}
 use Rattle.ob_rules.specs.Designators.{same_variable}
 use Rattle.ob_forms.specs.Formed.{Formed}
 use Rattle.ob_forms.specs.Said.{IsOneOf}
+use Rattle.ob_forms.specs.Steady.{IsSteady}
 use Rattle.ob_forms.specs.Whole.{IsPassed, IsWhole}
 use Rattle.ob_forms.proofs.Shapes as shapes
 use Rattle.ob_typed.specs.Known.{pointee, VariableIs, ReceiverIs}
@@ -30,13 +30,13 @@ apart e = absurd cc
 same_base : {t u : TypeRef} → PointerForm t ≡ PointerForm u → t ≡ u
 same_base e = cc
 
-module _ (program : Program) (whole : IsWhole program) (Has : Formals → QName → Type 0) (unit : List ℕ) (result : Option TypeRef) (types : Map) (formed : Formed types program) (grounded : IsGrounded types) (p : Procedure) (different : AreDifferent (static_held program p)) where
+module _ (program : Program) (whole : IsWhole program) (Has : Formals → QName → Type 0) (unit : List ℕ) (result : Option TypeRef) (types : Map) (formed : Formed types program) (steady : IsSteady types) (p : Procedure) (different : AreDifferent (static_held program p)) where
   module _ (x : TypedParameter) (there : IsOneOf p.parameters x) (passed : IsPassed program x) where
     -- a variable of its name has its form
     named_form : (v : Variable) (t : TypeRef) → same_variable v (variable.Parameter x.passing x.name) ≡ true → VariableIs program Has unit (static_held program p) result types v t → form_in program t ≡ form_in program x.of
     named_form (variable.Module m y) t e h = absurd cc
     named_form (variable.Local y) t e h = absurd cc
-    named_form (variable.Parameter how y) t e h = sym h.fits.1 ∙ ap (form_named (static_held program p)) (bytes_true y x.name e) ∙ (slot_is program whole Has unit result types formed grounded p different x.passing x.name x.of passed.mode passed.passing (parameter_there program whole Has unit result types formed grounded p different x there)).1
+    named_form (variable.Parameter how y) t e h = sym h.fits.1 ∙ ap (form_named (static_held program p)) (bytes_true y x.name e) ∙ (slot_is program whole Has unit result types formed steady p different x.passing x.name x.of passed.mode passed.passing (parameter_there program whole Has unit result types formed steady p different x there)).1
 
     module _ (owner : QName) (map : Map) (known : Formed map program) where
       -- a record by VAR

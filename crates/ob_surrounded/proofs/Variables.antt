@@ -11,7 +11,6 @@ use Rattle.ob_types.specs.declared.typed.Variable.{Variable}
 use Rattle.ob_types.specs.declared.typed.Variable.TheVariants as variable
 use Rattle.ob_types.specs.declared.typed.TypedVariable.{TypedVariable}
 use Rattle.ob_types.specs.declared.typed.TypedParameter.{TypedParameter}
-use Rattle.ob_types.specs.Relations.{IsGrounded}
 use Rattle.ob_types.specs.TypedSyntax.{Procedure, Module}
 use Rattle.ob_meaning.specs.Values.{Program, Form, BasicForm, PointerForm, ProcedureForm, ArrayForm, OpenForm, RecordForm, form_in, Held, Own, Referred, Formals, Copied}
 use Rattle.ob_meaning.specs.Calls.{held_variable, hidden_held, hidden_of_all}
@@ -24,6 +23,7 @@ use Rattle.ob_rules.specs.Shapes.{Map, is_open, is_structured, is_record, by_val
 use Rattle.ob_rules.specs.Designators.{is_var_record}
 use Rattle.ob_forms.specs.Formed.{Formed}
 use Rattle.ob_forms.specs.Said.{IsOneOf}
+use Rattle.ob_forms.specs.Steady.{IsSteady}
 use Rattle.ob_forms.specs.Whole.{IsPassed, IsWhole}
 use Rattle.ob_forms.proofs.Modules.{variable_there}
 use Rattle.ob_forms.proofs.Sorts.{passing_form}
@@ -69,7 +69,7 @@ passed_record : (types : Map) (m : Mode) (t : TypeRef) → passing_of types m t 
 passed_record types mode.Value t e = absurd (value_record (is_open types t) (is_structured types t) e)
 passed_record types mode.Var t e = var_is_record (is_open types t) (is_record types t) e
 
-module _ (program : Program) (whole : IsWhole program) (Has : Formals → QName → Type 0) (unit : List ℕ) (result : Option TypeRef) (types : Map) (formed : Formed types program) (grounded : IsGrounded types) where
+module _ (program : Program) (whole : IsWhole program) (Has : Formals → QName → Type 0) (unit : List ℕ) (result : Option TypeRef) (types : Map) (formed : Formed types program) (steady : IsSteady types) where
   -- of the module
   global_variable : (held : List Held) (m : Module) → IsOneOf program m → (x : TypedVariable) → IsOneOf m.variables x → FormOk program (form_in program x.of) → IsKnown types x.of → VariableIs program Has unit held result types (variable.Module m.name x.name) x.of
   global_variable held m i x j f k =
@@ -116,7 +116,7 @@ module _ (program : Program) (whole : IsWhole program) (Has : Formals → QName 
     slot_is passing.VariableOpenArray x of m e i = (kind_there (IsReferred 2) held different (Referred x 2 (form_in program of)) i refl, form_there held different (Referred x 2 (form_in program of)) i)
 
     record_of : (how : Passing) (x : List ℕ) (t : TypeRef) (m : Mode) → how ≡ passing_for m (form_in program t) → IsKnown types t → is_var_record (variable.Parameter how x) ≡ true → is_record types t ≡ true
-    record_of passing.VariableRecord x t m e k v = passed_record types m t (passing_form types program formed grounded m t k.1 k.0 ∙ sym e)
+    record_of passing.VariableRecord x t m e k v = passed_record types m t (passing_form types program formed steady m t k.1 k.0 ∙ sym e)
     record_of passing.Scalar x t m e k v = absurd cc
     record_of passing.Structure x t m e k v = absurd cc
     record_of passing.OpenArray x t m e k v = absurd cc

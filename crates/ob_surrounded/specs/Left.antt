@@ -8,7 +8,6 @@ use Rattle.ob_types.specs.declared.desc.Desc.{Desc}
 use Rattle.ob_types.specs.declared.desc.Desc.TheVariants as desc
 use Rattle.ob_types.specs.declared.typed.TypedModule.{TypedModule}
 use Rattle.ob_types.specs.AssigningTests.{is_value}
-use Rattle.ob_types.specs.Relations.{IsGrounded}
 use Rattle.ob_types.specs.TypedSyntax.{Module}
 use Rattle.ob_types.specs.TypedView.{procedure_view}
 use Rattle.ob_types.specs.declared.desc.Method.{Method}
@@ -19,6 +18,7 @@ use Rattle.ob_rules.specs.Names.{Around, map_of}
 use Rattle.ob_rules.specs.Declarations.{Contents}
 use Rattle.ob_forms.specs.Formed.{Formed, IsProcedureOf}
 use Rattle.ob_forms.specs.Said.{IsOneOf}
+use Rattle.ob_forms.specs.Steady.{IsSteady}
 use Rattle.ob_typed.specs.Forms.{ResultIs}
 use Rattle.ob_typed.specs.Known.{ConstantIs}
 use Rattle.ob_bodies.specs.Judged.{IsWithin}
@@ -54,5 +54,5 @@ AreIntroducedOnce program map = (q b : QName) (x : List ℕ) (k m : Method) → 
 
 -- What is left to ask around a body: of the chains of its types; and of bound procedures, which are introduced once.
 pub record IsLeft (program : Program) (u : Around) : Type 0 where
-  pub grounded : IsGrounded (map_of u)
+  pub steady : IsSteady (map_of u)
   pub introduced : AreIntroducedOnce program (map_of u)

@@ -1,4 +1,4 @@
--- The forms of a program are as a map of descriptions that is formed and grounded says.
+-- The forms of a program are as a map of descriptions that is formed and steady says.
 use Rattle.std.proofs.Common.{◌≡◌, refl, sym, ◌∙◌, subst, ℕ, zero, suc, List, [], ◌∷◌, ◌++◌, map as each, Option, Some, None}
 use Rattle.std.specs.Prelude.{bytes_eq}
 use Rattle.std.specs.List.{find, flat_map, AllByRecursion}
@@ -12,7 +12,7 @@ use Rattle.ob_types.specs.declared.desc.RecordDesc.{RecordDesc}
 use Rattle.ob_types.specs.declared.desc.Field.{Field}
 use Rattle.ob_types.specs.declared.desc.Method.{Method}
 use Rattle.ob_types.specs.Maps.{IsHeld, listed, signature_types, named_by}
-use Rattle.ob_types.specs.Relations.{Is, is_open, IsPlainResult, IsGrounded}
+use Rattle.ob_types.specs.Relations.{Is, is_open, IsPlainResult}
 use Rattle.ob_meaning.specs.Values.{Program, form_in, record_in, Formals, Held}
 use Rattle.ob_relation.specs.Relation.{Sub}
 use Rattle.ob_relation.specs.Passed.{IsClosed}
@@ -20,6 +20,7 @@ use Rattle.ob_relation.specs.Typed as typed
 use Rattle.ob_relation.specs.Typed.{passing_for}
 use Rattle.ob_rules.specs.Shapes.{Map, Member, AField, AMethod, shape, pointed, signature_at, array_of, record_of, own_member, field_or, base_record, or_in_base, member, member_within}
 use Rattle.ob_forms.specs.Formed.{Formed, IsMethodOf}
+use Rattle.ob_forms.specs.Steady.{IsSteady}
 use Rattle.ob_forms.proofs.Finds as finds
 use Rattle.ob_forms.proofs.Shapes as shapes
 use Rattle.ob_forms.proofs.Members as members
@@ -41,9 +42,9 @@ methods_each : (P : TypeRef → Type 0) (ms : List Method) → AllByRecursion P 
 methods_each P [] h = tt
 methods_each P (m ∷ ms) h = let r = all_split P (signature_types m.signature) (flat_map (λ m. signature_types m.signature) ms) h in (r.0, methods_each P ms r.1)
 
-module _ (map : Map) (program : Program) (formed : Formed map program) (grounded : IsGrounded map) where
+module _ (map : Map) (program : Program) (formed : Formed map program) (steady : IsSteady map) where
   held_all : (q : QName) (d : Desc) → map q ≡ Some d → AllByRecursion (IsHeld map) (named_by d)
-  held_all q d e = grounded.held q d e
+  held_all q d e = steady.held q d e
 
   -- SIGNATURES
 
@@ -53,7 +54,7 @@ module _ (map : Map) (program : Program) (formed : Formed map program) (grounded
 
   result_known : (r : Option TypeRef) → AllByRecursion IsDeclared (listed r) → AllByRecursion (IsHeld map) (listed r) → IsPlainResult map (record { params = []; result = r }) → ResultIs program r
   result_known None h k p = tt
-  result_known (Some t) h k p = (h.0, plain_form map program formed grounded t k.0 p)
+  result_known (Some t) h k p = (h.0, plain_form map program formed steady t k.0 p)
 
   pub signature_is : (s : Signature) → AllByRecursion IsDeclared (signature_types s) → AllByRecursion (IsHeld map) (signature_types s) → IsPlainResult map s → SignatureIs program map s
   signature_is s h k p =
@@ -77,19 +78,19 @@ module _ (map : Map) (program : Program) (formed : Formed map program) (grounded
   procedure_known t g e =
       let h = finds.is_procedure (shape map t) g e in
       let s = shapes.shaped map program formed t (desc.ProcType h.0 g) h.1 in
-      signature_is g (formed.declared s.q (desc.ProcType h.0 g) s.has) (held_all s.q (desc.ProcType h.0 g) s.has) (grounded.keeps s.q (desc.ProcType h.0 g) s.has)
+      signature_is g (formed.declared s.q (desc.ProcType h.0 g) s.has) (held_all s.q (desc.ProcType h.0 g) s.has) (steady.keeps s.q (desc.ProcType h.0 g) s.has)
 
   array_known : (t u : TypeRef) (n : Option ℕ) → IsDeclared t → array_of map t ≡ Some (n, u) → ArrayIs program map (form_in program t) n u
   array_known t u None d e =
       let h = finds.is_open_array (shape map t) u e in
       let s = shapes.shaped map program formed t (desc.OpenArray h.0 u) h.1 in
       let k : IsKnown map u = ((formed.declared s.q (desc.OpenArray h.0 u) s.has).0, (held_all s.q (desc.OpenArray h.0 u) s.has).0) in
-      (shapes.open_array_form map program formed t u d e, (k, form_ok map program formed grounded u k.1 (grounded.keeps s.q (desc.OpenArray h.0 u) s.has)))
+      (shapes.open_array_form map program formed t u d e, (k, form_ok map program formed steady u k.1 (steady.keeps s.q (desc.OpenArray h.0 u) s.has)))
   array_known t u (Some n) d e =
       let h = finds.is_array (shape map t) n u e in
       let s = shapes.shaped map program formed t (desc.Array h.0 n u) h.1 in
       let k : IsKnown map u = ((formed.declared s.q (desc.Array h.0 n u) s.has).0, (held_all s.q (desc.Array h.0 n u) s.has).0) in
-      (shapes.array_form map program formed t n u e, (array_length map program formed t n u e, (k, form_ok map program formed grounded u k.1 (grounded.keeps s.q (desc.Array h.0 n u) s.has))))
+      (shapes.array_form map program formed t n u e, (array_length map program formed t n u e, (k, form_ok map program formed steady u k.1 (steady.keeps s.q (desc.Array h.0 n u) s.has))))
 
   -- MEMBERS
 
@@ -106,8 +107,8 @@ module _ (map : Map) (program : Program) (formed : Formed map program) (grounded
   own_held q r x m is a b ea eb e =
       let all = held_all q (desc.Record r) is in
       let s = all_split (IsHeld map) (listed r.base ++ each (λ f. f.of) r.fields) (flat_map (λ m. signature_types m.signature) r.methods) all in
-      let fs = two_all (λ f. IsHeld map f.of) (λ f. Is map is_open f.of → ⊥) r.fields (fields_each (IsHeld map) r.fields (all_split (IsHeld map) (listed r.base) (each (λ f. f.of) r.fields) s.0).1) (grounded.keeps q (desc.Record r) is).1.0 in
-      let ms = two_all (λ m. AllByRecursion (IsHeld map) (signature_types m.signature)) (λ m. IsPlainResult map m.signature) r.methods (methods_each (IsHeld map) r.methods s.1) (grounded.keeps q (desc.Record r) is).1.1 in
+      let fs = two_all (λ f. IsHeld map f.of) (λ f. Is map is_open f.of → ⊥) r.fields (fields_each (IsHeld map) r.fields (all_split (IsHeld map) (listed r.base) (each (λ f. f.of) r.fields) s.0).1) (steady.keeps q (desc.Record r) is).1.0 in
+      let ms = two_all (λ m. AllByRecursion (IsHeld map) (signature_types m.signature)) (λ m. IsPlainResult map m.signature) r.methods (methods_each (IsHeld map) r.methods s.1) (steady.keeps q (desc.Record r) is).1.1 in
       by a b ea eb e fs ms
     where
       by : (a : Option Field) (b : Option Method) → find (λ f. bytes_eq f.name x) r.fields ≡ a → find (λ m. bytes_eq m.name x) r.methods ≡ b → field_or q a b ≡ Some m → AllByRecursion (λ f. IsHeld map f.of × (Is map is_open f.of → ⊥)) r.fields → AllByRecursion (λ m. AllByRecursion (IsHeld map) (signature_types m.signature) × IsPlainResult map m.signature) r.methods → MemberHeld m
@@ -144,7 +145,7 @@ module _ (map : Map) (program : Program) (formed : Formed map program) (grounded
         let m = members.member_is map program formed 201 q x (AField o f) k in
         let ok = members.field_ok map program formed Has unit held result (record_in program q) q r.r x o f refl r.has k in
         let h = member_held 201 q x (AField o f) k in
-        (subst (λ y. typed.FieldOk program Has unit held result (record_in program q) o y (form_in program f.of)) (sym m.1.1.0) ok, (m.1.1.1.0, h.0), closed_form program (form_in program f.of) (form_ok map program formed grounded f.of h.0 h.1))
+        (subst (λ y. typed.FieldOk program Has unit held result (record_in program q) o y (form_in program f.of)) (sym m.1.1.0) ok, (m.1.1.1.0, h.0), closed_form program (form_in program f.of) (form_ok map program formed steady f.of h.0 h.1))
 
     -- the forms of the program, by the map
     pub forms_are : Forms program Has unit held result map
@@ -159,7 +160,7 @@ module _ (map : Map) (program : Program) (formed : Formed map program) (grounded
       same = shapes.same_form map program formed;
       extensions = λ a b t e k. let r = shapes.record_form map program formed t b e in (record_above map program formed a b r.r r.has k).sub;
       fields = field_known;
-      passings = λ m t d. passing_form map program formed grounded m t d.1 d.0;
+      passings = λ m t d. passing_form map program formed steady m t d.1 d.0;
       scalars = scalar_takes map program formed Has unit held result;
       structures = takes_sub map program formed Has unit held result;
     }

@@ -1,4 +1,4 @@
--- Where the map of types is formed and grounded, what is known around is so in the program.
+-- Where the map of types is formed and steady, what is known around is so in the program.
 use Rattle.std.proofs.Common.{◌≡◌, refl, ap, ◌∙◌, ℕ, List, ◌∷◌, Option, Some, None, false}
 use Rattle.std.specs.Prelude.{◌&&◌, bytes_eq, codes}
 use Rattle.ob_tree.specs.declared.names.QName.{QName}
@@ -34,13 +34,13 @@ module _ (program : Program) (Has : Formals → QName → Type 0) (unit : List �
   variable_shown q m t a b e =
       let i = shown_in q (desc.Var m t) a b e in
       let v = s.formed.variables q m t i in
-      record { fits = (v.there, v.form); declared = ((s.formed.declared q (desc.Var m t) i).0, (s.grounded.held q (desc.Var m t) i).0); passed = closed_form program (form_in program t) (form_ok (map_of u) program s.formed s.grounded t (s.grounded.held q (desc.Var m t) i).0 (s.grounded.keeps q (desc.Var m t) i)); var_record = λ e. not_true e }
+      record { fits = (v.there, v.form); declared = ((s.formed.declared q (desc.Var m t) i).0, (s.steady.held q (desc.Var m t) i).0); passed = closed_form program (form_in program t) (form_ok (map_of u) program s.formed s.steady t (s.steady.held q (desc.Var m t) i).0 (s.steady.keeps q (desc.Var m t) i)); var_record = λ e. not_true e }
 
   procedure_shown : (q : QName) (g : Signature) → is_out q.«module» ≡ false → bytes_eq q.«module» u.unit ≡ false → u.shown q ≡ Some (desc.Proc g) → ProcedureIs program Has unit held result (map_of u) q g
   procedure_shown q g a b e =
       let i = shown_in q (desc.Proc g) a b e in
       let p = s.formed.proper q g i in
-      let d : SignatureIs program (map_of u) g = signature_is (map_of u) program s.formed s.grounded g (s.formed.declared q (desc.Proc g) i) (s.grounded.held q (desc.Proc g) i) (s.grounded.keeps q (desc.Proc g) i) in
+      let d : SignatureIs program (map_of u) g = signature_is (map_of u) program s.formed s.steady g (s.formed.declared q (desc.Proc g) i) (s.steady.held q (desc.Proc g) i) (s.steady.keeps q (desc.Proc g) i) in
       record {
         p = p.p;
         found = p.found;
@@ -69,7 +69,7 @@ module _ (program : Program) (Has : Formals → QName → Type 0) (unit : List �
 
   super_is : (q b o : QName) (x : List ℕ) (m : Method) → base_record (map_of u) q ≡ Some b → member (map_of u) b x ≡ Some (AMethod o m) → SuperIs program Has unit held result (map_of u) b o m × Sub (record_in program q) (record_in program b)
   super_is q b o x m e f =
-      let k = method_is (map_of u) program s.formed s.grounded Has unit held result b o x m f in
+      let k = method_is (map_of u) program s.formed s.steady Has unit held result b o x m f in
       let i = base_is q b e in
       let r = s.redefined o (record { owner = o; name = m.name }) m.receiver k.0.name k.0.p k.0.type_is k.0.near k.0.found k.0.receives b i k.1 in (
         record {
@@ -91,7 +91,7 @@ module _ (program : Program) (Has : Formals → QName → Type 0) (unit : List �
 
   pub scoped_is : IsScoped program Has unit held result u
   scoped_is = record {
-    forms = forms_are (map_of u) program s.formed s.grounded Has unit held result;
+    forms = forms_are (map_of u) program s.formed s.steady Has unit held result;
     variables = s.variables;
     constants = s.constants;
     procedures = s.procedures;
@@ -104,7 +104,7 @@ module _ (program : Program) (Has : Formals → QName → Type 0) (unit : List �
     result_is = s.result_is;
     result_plain = s.result_plain;
     imports = s.imports;
-    methods = method_is (map_of u) program s.formed s.grounded Has unit held result;
+    methods = method_is (map_of u) program s.formed s.steady Has unit held result;
     receivers = s.receivers;
     names = λ q o x m e. (members.member_is (map_of u) program s.formed 201 q x (AMethod o m) e).1.1.0;
     kinds = s.kinds;

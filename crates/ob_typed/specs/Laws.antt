@@ -52,6 +52,6 @@ StatementsFit =
     → (ys : List TypedStmt) → (in_turn (map judging xs) u).node ≡ Some ys
     → typed.StmtsOk program (Having has) unit held result (stmts_view ys) u.in_loop
 
--- What stands around is as the laws above want it where its map is formed and grounded and its names are so.
+-- What stands around is as the laws above want it where its map is formed and steady and its names are so.
 abbrev pub SurroundingsFit : Type 0
 SurroundingsFit = (program : Program) (has : Formals → QName → Bool) (unit : List ℕ) (held : List Held) (result : Option TypeRef) (u : Around) → IsSurrounded program (Having has) unit held result u → IsScoped program (Having has) unit held result u

@@ -1,4 +1,4 @@
--- What is left to ask of what stands around a part of a text, where the map of types is formed and grounded.
+-- What is left to ask of what stands around a part of a text, where the map of types is formed and steady.
 use Rattle.std.specs.Prelude.{◌≡◌, ℕ, List, Option, Some, true, false, bytes_eq, codes}
 use Rattle.std.specs.List.{AllByRecursion}
 use Rattle.ob_tree.specs.declared.names.QName.{QName}
@@ -8,7 +8,6 @@ use Rattle.ob_types.specs.declared.value.Value.{Value as Literal}
 use Rattle.ob_types.specs.declared.desc.Desc.TheVariants as desc
 use Rattle.ob_types.specs.declared.typed.Variable.{Variable}
 use Rattle.ob_types.specs.AssigningTests.{is_value}
-use Rattle.ob_types.specs.Relations.{IsGrounded}
 use Rattle.ob_meaning.specs.Values.{Program, Formals, formals_in, Held}
 use Rattle.ob_rules.specs.declared.entity.Entity.TheVariants as entity
 use Rattle.ob_rules.specs.declared.entity.Known.{Known}
@@ -16,6 +15,7 @@ use Rattle.ob_rules.specs.declared.entity.Received.{Received}
 use Rattle.ob_rules.specs.Names.{Around, map_of, find_name, is_enclosing}
 use Rattle.ob_rules.specs.Designators.{same_variable}
 use Rattle.ob_forms.specs.Formed.{Formed, IsProcedureOf}
+use Rattle.ob_forms.specs.Steady.{IsSteady}
 use Rattle.ob_typed.specs.Makes.{IfThere}
 use Rattle.ob_typed.specs.Forms.{IsKnown, ResultIs, SignatureIs}
 use Rattle.ob_typed.specs.Known.{ConstantIs, VariableIs, ProcedureIs, ReceiverIs}
@@ -24,7 +24,7 @@ use Rattle.ob_typed.specs.Redefined.{AreRedefined, AreOfOneKind}
 -- What is known around is so in the program: the map of types by `Formed`, and the names that are declared one by one.
 pub record IsSurrounded (program : Program) (Has : Formals → QName → Type 0) (unit : List ℕ) (held : List Held) (result : Option TypeRef) (u : Around) : Type 0 where
   pub formed : Formed (map_of u) program
-  pub grounded : IsGrounded (map_of u)
+  pub steady : IsSteady (map_of u)
   -- declared names
   pub variables : (x : List ℕ) (k : Known) (v : Variable) (t : TypeRef) → find_name u.known x ≡ Some k → k.what ≡ entity.Variable v t → is_enclosing u k.scope ≡ false → VariableIs program Has unit held result (map_of u) v t
   pub constants : (x : List ℕ) (k : Known) (v : Literal) → find_name u.known x ≡ Some k → k.what ≡ entity.Constant v → ConstantIs v

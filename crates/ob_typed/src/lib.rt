@@ -10,7 +10,7 @@ ghost use Rattle.ob_typed.specs.Laws.{ExpressionsFit, DesignatorsFit, Statements
 /// that it is assignable to; a designator that keeps them comes to what is well typed
 /// (`specs/Meant.antt`); statements that keep them are well typed, where the procedure has the
 /// variables that FOR and CASE keep (`specs/Bodies.antt`). And what is known around is so where the map
-/// of types is formed and grounded, and the declared names are so one by one
+/// of types is formed and steady, and the declared names are so one by one
 /// (`specs/Surrounded.antt`).
 pub fn well_typed()
     ensures expressions { ExpressionsFit }

@@ -1,3 +1,4 @@
 pub mod Whole
 pub mod Alike
+pub mod Plain
 pub mod Passing

@@ -1,7 +1,7 @@
 //! What makes the program of builds that are loaded together whole.
 #![tactic(auto)]
 
-ghost use Rattle.ob_whole.specs.Whole.{LoadedPassed, LoadedWhole};
+ghost use Rattle.ob_whole.specs.Whole.{LoadedPassed, LoadedPlain, LoadedWhole};
 
 /// A law, with nothing to run. In builds that are loaded together the names of modules differ, and in
 /// each those of its types, procedures and variables. (Taken for granted: of each build alone
@@ -14,4 +14,10 @@ pub fn loaded_whole()
 /// (`LoadedArePassed`).
 pub fn loaded_passed()
     ensures { LoadedPassed }
+{}
+
+/// A law, with nothing to run: in the program local variables are no open arrays, and results are
+/// neither arrays nor records (`IsPlain`).
+pub fn loaded_plain()
+    ensures { LoadedPlain }
 {}

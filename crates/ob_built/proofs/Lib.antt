@@ -1,0 +1,11 @@
+pub mod Predeclared
+pub mod Calls
+pub mod Simple
+pub mod Places
+pub mod Reading
+pub mod Heads
+pub mod Blocks
+pub mod Procedures
+pub mod Different
+pub mod Built
+pub mod Nearest

@@ -1,0 +1,3 @@
+pub mod Lettered
+pub mod Procedures
+pub mod Built

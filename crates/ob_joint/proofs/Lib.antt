@@ -1,0 +1,15 @@
+pub mod Walk
+pub mod Shown
+pub mod Members
+pub mod Alike
+pub mod Others
+pub mod Bound
+pub mod Modules
+pub mod Sequences
+pub mod Words
+pub mod Objects
+pub mod Outward
+pub mod Nothing
+pub mod Apart
+pub mod Builds
+pub mod Loaded

@@ -1,0 +1,4 @@
+pub mod Bare
+pub mod Ordered
+pub mod Said
+pub mod Loaded
