@@ -31,7 +31,7 @@ use Rattle.ob_ages.specs.Laws.{IsBehind, BuildsAreWritten}
 use Rattle.ob_ruled.specs.Ruled.{types_of, IsRuled, BuildsAreRuled}
 use Rattle.ob_ordered.proofs.Shown.{Showing, found_type}
 use Rattle.ob_ordered.proofs.Used.{IsInside}
-use Rattle.ob_ordered.proofs.Loaded.{Before, Uses, valid_of, before_more, uses}
+use Rattle.ob_ordered.proofs.Loaded.{Before, valid_of, before_more, uses}
 use Rattle.ob_pointed.proofs.Found.{one_behind, shown_either}
 use Rattle.ob_closed.specs.Closed.{IsHeadRuled, HeadsAreRuled}
 use Rattle.ob_closed.proofs.Lists.{all_by}
