@@ -15,7 +15,7 @@ use Rattle.ob_types.specs.declared.desc.Desc.TheVariants as desc
 use Rattle.ob_types.specs.Maps.{is_type, stands_on, named_by, IsHeld, IsWithin}
 use Rattle.ob_meaning.specs.Values.{Program, description}
 use Rattle.ob_rules.specs.Shapes.{Map}
-use Rattle.ob_forms.specs.Said.{IsOneOf, IsSaid, IsSound}
+use Rattle.ob_forms.specs.Said.{IsSaid, IsSound}
 use Rattle.ob_forms.specs.Steady.{bare, without_members}
 use Rattle.ob_declares.proofs.Shown.{within_type}
 use Rattle.ob_bodies.proofs.Lists.{one_all}

@@ -1,5 +1,5 @@
 -- The map of the types of a checked module says what the program declares.
-use Rattle.std.proofs.Common.{◌≡◌, inl, refl, sym, ap, subst, ◌∙◌, ℕ, Bool, true, false, List, map as each, Option, Some, None}
+use Rattle.std.proofs.Common.{◌≡◌, inl, refl, sym, ap, subst, ◌∙◌, ℕ, Bool, true, false, List, Option, Some, None}
 use Rattle.std.specs.Prelude.{bytes_eq}
 use Rattle.std.specs.Option.{option_map}
 use Rattle.ob_tree.specs.declared.names.QName.{QName}
