@@ -9,3 +9,4 @@ mod Found
 mod Runs
 mod Bodies
 mod Commands
+pub mod Whole

@@ -1,1 +1,1 @@
-pub mod Promised
+pub mod Whole

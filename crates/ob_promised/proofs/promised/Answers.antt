@@ -1,6 +1,6 @@
 -- All that the headline takes for granted of builds is there.
-use Rattle.ob_promised.proofs.Promised as promised
+use Rattle.ob_promised.proofs.Whole as whole
 use Rattle.ob_promised.proofs.promised.Goals as goal
 
 pub returns : goal.returns
-returns c = promised.promised
+returns c = whole.promised

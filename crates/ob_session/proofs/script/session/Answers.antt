@@ -4,7 +4,7 @@ use Rattle.ob_words.specs.declared.asked.Settings.{Settings}
 use Rattle.ob_pieces.specs.Reading.{ended}
 use Rattle.ob_ages.proofs.Held.{whole_so, lines_so}
 use Rattle.ob_ages.proofs.Chosen.{settings_in}
-use Rattle.ob_promised.proofs.Promised.{promised}
+use Rattle.ob_promised.proofs.Whole.{promised}
 use Rattle.ob_session.proofs.script.session.Goals as goal
 
 abbrev is_some : Option Settings → Bool

@@ -23,9 +23,8 @@ use Rattle.ob_ages.specs.Holds.{Promises}
 use Rattle.ob_ages.proofs.Apart.{entry_named}
 use Rattle.ob_ages.proofs.Linked.{builds_are_linked}
 use Rattle.ob_ages.proofs.Members.{has_head, has_more}
-use Rattle.ob_simulation.proofs.Whole.{command_simulates, body_simulates}
 use Rattle.ob_joining.specs.Builds.{program_of, AreLoaded, IsOf}
-use Rattle.ob_joining.proofs.Commands.{commands_stand}
+use Rattle.ob_joining.proofs.Whole.{commands_follow}
 use Rattle.ob_joining.proofs.Settings.{loaded_front}
 use Rattle.ob_locality.proofs.Following.{locality_holds}
 use Rattle.ob_stand.specs.Owed.{in_program}
@@ -148,7 +147,7 @@ left_so : Left
 left_so = record { written = builds_are_written; linked = builds_are_linked; same = same; rules = λ bs more loaded c is. rules c bs more loaded is (steady bs (loaded_front bs more loaded)) }
 
 pub simulation : Simulation
-simulation commands s settings = commands_stand command_simulates body_simulates (left_stands left_so) s settings.most_heap commands
+simulation = commands_follow (left_stands left_so)
 
 pub promised : Promised
 promised = simulation_suffices simulation
