@@ -24,7 +24,7 @@ use Rattle.ob_declares.proofs.Ordered.{has_more, sees, types_named}
 use Rattle.ob_declares.proofs.Views.{type_found}
 use Rattle.ob_compiling.specs.Compiling.{Compiled}
 use Rattle.ob_ages.specs.Builds.{Text}
-use Rattle.ob_ruled.specs.Ruled.{types_of}
+use Rattle.ob_ordered.specs.ruled_laws.Ruled.{types_of}
 use Rattle.ob_ordered.proofs.Used.{near_named}
 
 pub core_alias : (e : Desc) (m : Mark) (t : TypeRef) → core e ≡ desc.Alias m t → e ≡ desc.Alias m t

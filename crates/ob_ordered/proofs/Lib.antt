@@ -5,3 +5,10 @@ pub mod Used
 pub mod Closed
 pub mod Loaded
 pub mod Owing
+pub mod ruled_laws
+pub mod passed_laws
+pub mod pointed_laws
+pub mod lined_laws
+pub mod whole_laws
+pub mod laying_laws
+pub mod closed_laws

@@ -42,7 +42,7 @@ use Rattle.ob_locality.proofs.Compiled.{comes_of}
 use Rattle.ob_locality.proofs.Named.{found_all}
 use Rattle.ob_locality.proofs.Walked.{have_none}
 use Rattle.ob_sized.proofs.Different.{build_comes}
-use Rattle.ob_ruled.specs.Ruled.{types_of, BuildsAreRuled}
+use Rattle.ob_ordered.specs.ruled_laws.Ruled.{types_of, BuildsAreRuled}
 use Rattle.ob_ordered.specs.Loaded.{LoadedStand, LoadedFormsStay, LoadedValuesStay}
 use Rattle.ob_ordered.specs.Staying.{AreVariablesHeld}
 use Rattle.ob_ordered.specs.Sound.{AreVariablesClosed}

@@ -15,7 +15,7 @@ use Rattle.ob_ages.specs.Laws.{AreTogether}
 use Rattle.ob_ages.proofs.Members.{In, to_in}
 use Rattle.ob_joining.specs.Builds.{program_of}
 use Rattle.ob_sized.proofs.Fields.{fields_have_names, nothing_of_out}
-use Rattle.ob_ruled.specs.Ruled.{HasLength, BuildsAreRuled}
+use Rattle.ob_ordered.specs.ruled_laws.Ruled.{HasLength, BuildsAreRuled}
 use Rattle.ob_ordered.specs.Loaded.{LoadedAreSound, LoadedVariables, LoadedDescribe}
 use Rattle.ob_ordered.proofs.Sound.{variables_have_forms, ordered_describe}
 use Rattle.ob_ordered.proofs.Loaded.{valid_of, in_order, kept_in}

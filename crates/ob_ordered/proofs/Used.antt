@@ -44,7 +44,7 @@ use Rattle.ob_declares.proofs.Keeping.{core_bare}
 use Rattle.ob_declares.proofs.Ordered.{seen_bare}
 use Rattle.ob_compiling.specs.Compiling.{Compiled}
 use Rattle.ob_ages.specs.Builds.{Text}
-use Rattle.ob_ruled.specs.Ruled.{types_of, bound_types, IsRuled}
+use Rattle.ob_ordered.specs.ruled_laws.Ruled.{types_of, bound_types, IsRuled}
 
 -- ---- lists and truths
 

@@ -1,3 +1,10 @@
 pub mod Staying
 pub mod Sound
 pub mod Loaded
+pub mod ruled_laws
+pub mod passed_laws
+pub mod pointed_laws
+pub mod lined_laws
+pub mod whole_laws
+pub mod laying_laws
+pub mod closed_laws

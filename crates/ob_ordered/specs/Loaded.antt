@@ -19,7 +19,7 @@ use Rattle.ob_local.specs.Agreeing.{Map, IsNear, On}
 use Rattle.ob_forms.specs.Formed.{IsMethodOf}
 use Rattle.ob_forms.specs.Said.{IsSound}
 use Rattle.ob_forms.specs.Whole.{IsWhole}
-use Rattle.ob_ruled.specs.Ruled.{BuildsAreRuled}
+use Rattle.ob_ordered.specs.ruled_laws.Ruled.{BuildsAreRuled}
 use Rattle.ob_declares.specs.Ordered.{StandInOrder}
 use Rattle.ob_declares.specs.Words.{AreLaidInOrder}
 use Rattle.ob_standing.specs.Described.{IsDescribed}

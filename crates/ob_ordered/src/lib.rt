@@ -2,6 +2,14 @@
 //! them with one more behind.
 #![tactic(auto)]
 
+pub mod law_closed;
+pub mod law_laying;
+pub mod law_lined;
+pub mod law_passed;
+pub mod law_pointed;
+pub mod law_ruled;
+pub mod law_whole;
+
 ghost use Rattle.ob_ordered.specs.Loaded.{LoadedAreSound, LoadedDescribe, LoadedFormsStay, LoadedStand, LoadedValuesStay, LoadedVariables};
 ghost use Rattle.ob_ordered.specs.Sound.{OrderedDescribe, VariablesHaveForms};
 ghost use Rattle.ob_ordered.specs.Staying.{OrderedStay};

@@ -1,1 +1,10 @@
 pub mod Whole
+pub mod inherited_laws
+pub mod built_laws
+pub mod belonging_laws
+pub mod likeness_laws
+pub mod joint_laws
+pub mod limits_laws
+pub mod assured_laws
+pub mod encircled_laws
+pub mod owing_laws

@@ -30,31 +30,31 @@ use Rattle.ob_locality.proofs.Following.{locality_holds}
 use Rattle.ob_stand.specs.Owed.{in_program}
 use Rattle.ob_ordered.specs.Loaded.{BoundAreThere, LoadedAreWhole, LoadedAreLaid}
 use Rattle.ob_ordered.proofs.Owing.{loaded_are_sound, loaded_describe}
-use Rattle.ob_whole.proofs.Whole.{loaded_whole}
-use Rattle.ob_whole.proofs.Passing.{loaded_passed}
-use Rattle.ob_laying.proofs.Loaded.{loaded_laid}
-use Rattle.ob_pointed.proofs.Loaded.{loaded_bases}
-use Rattle.ob_belonging.proofs.Loaded.{bound_there}
+use Rattle.ob_ordered.proofs.whole_laws.Whole.{loaded_whole}
+use Rattle.ob_ordered.proofs.whole_laws.Passing.{loaded_passed}
+use Rattle.ob_ordered.proofs.laying_laws.Loaded.{loaded_laid}
+use Rattle.ob_ordered.proofs.pointed_laws.Loaded.{loaded_bases}
+use Rattle.ob_promised.proofs.belonging_laws.Loaded.{bound_there}
 use Rattle.ob_families.specs.Premises.{builds_of, TypesDiffer, LoadedAreSound, LoadedDescribe, LoadedAreSame}
-use Rattle.ob_inherited.specs.Laws.{LoadedAreLike}
-use Rattle.ob_inherited.proofs.Loaded.{loaded_keep_rules}
-use Rattle.ob_likeness.proofs.Loaded.{loaded_like}
-use Rattle.ob_joint.proofs.Loaded.{loaded_are_same}
-use Rattle.ob_limits.specs.Limits.{KeepsLimits, AllKeepLimits}
-use Rattle.ob_limits.proofs.Loaded.{loaded_keep}
-use Rattle.ob_built.specs.Built.{IsBuiltModule}
-use Rattle.ob_built.proofs.Built.{loaded_are_built}
-use Rattle.ob_built.proofs.Nearest.{loaded_are_redefined}
-use Rattle.ob_lined.proofs.Loaded.{loaded_are_lined}
-use Rattle.ob_closed.proofs.Loaded.{loaded_closed}
-use Rattle.ob_encircled.specs.Encircled as encircled
-use Rattle.ob_encircled.specs.Encircled.{AreEncircled}
-use Rattle.ob_encircled.proofs.Encircled.{loaded_are_steady}
-use Rattle.ob_assured.specs.Checked.{IsLeft}
-use Rattle.ob_assured.proofs.Checked.{loaded_are_checked}
-use Rattle.ob_owing.specs.Left.{Left}
-use Rattle.ob_owing.proofs.Builds.{builds_ruled}
-use Rattle.ob_owing.proofs.Whole.{left_stands}
+use Rattle.ob_promised.specs.inherited_laws.Laws.{LoadedAreLike}
+use Rattle.ob_promised.proofs.inherited_laws.Loaded.{loaded_keep_rules}
+use Rattle.ob_promised.proofs.likeness_laws.Loaded.{loaded_like}
+use Rattle.ob_promised.proofs.joint_laws.Loaded.{loaded_are_same}
+use Rattle.ob_promised.specs.limits_laws.Limits.{KeepsLimits, AllKeepLimits}
+use Rattle.ob_promised.proofs.limits_laws.Loaded.{loaded_keep}
+use Rattle.ob_promised.specs.built_laws.Built.{IsBuiltModule}
+use Rattle.ob_promised.proofs.built_laws.Built.{loaded_are_built}
+use Rattle.ob_promised.proofs.built_laws.Nearest.{loaded_are_redefined}
+use Rattle.ob_ordered.proofs.lined_laws.Loaded.{loaded_are_lined}
+use Rattle.ob_ordered.proofs.closed_laws.Loaded.{loaded_closed}
+use Rattle.ob_promised.specs.encircled_laws.Encircled as encircled
+use Rattle.ob_promised.specs.encircled_laws.Encircled.{AreEncircled}
+use Rattle.ob_promised.proofs.encircled_laws.Encircled.{loaded_are_steady}
+use Rattle.ob_promised.specs.assured_laws.Checked.{IsLeft}
+use Rattle.ob_promised.proofs.assured_laws.Checked.{loaded_are_checked}
+use Rattle.ob_promised.specs.owing_laws.Left.{Left}
+use Rattle.ob_promised.proofs.owing_laws.Builds.{builds_ruled}
+use Rattle.ob_promised.proofs.owing_laws.Whole.{left_stands}
 use Rattle.ob_upheld.proofs.Upheld.{builds_are_written, simulation_suffices}
 use Rattle.ob_promised.specs.Promised.{Promised}
 

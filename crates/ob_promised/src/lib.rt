@@ -1,6 +1,16 @@
 //! All that the headline takes for granted of builds.
 #![tactic(auto)]
 
+pub mod law_assured;
+pub mod law_belonging;
+pub mod law_built;
+pub mod law_encircled;
+pub mod law_inherited;
+pub mod law_joint;
+pub mod law_likeness;
+pub mod law_limits;
+pub mod law_owing;
+
 ghost use Rattle.ob_promised.specs.Promised.{Promised};
 
 /// A law, with nothing to run. What `session`'s headline takes for granted of builds is so: a build is

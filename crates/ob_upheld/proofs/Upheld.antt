@@ -14,9 +14,9 @@ use Rattle.ob_ages.specs.Builds.{Text, Build, IsSpelled, IsValid, entry_of}
 use Rattle.ob_ages.specs.Laws.{BuildsAreWritten}
 use Rattle.ob_ages.proofs.Apart.{entry_named}
 use Rattle.ob_locality.proofs.Following.{locality_holds}
-use Rattle.ob_grounds.proofs.Builds.{builds_are_grounded}
-use Rattle.ob_based.proofs.Builds.{builds_are_based}
-use Rattle.ob_short_builds.proofs.Builds.{builds_short}
+use Rattle.ob_upheld.proofs.grounds_laws.Builds.{builds_are_grounded}
+use Rattle.ob_upheld.proofs.based_laws.Builds.{builds_are_based}
+use Rattle.ob_upheld.proofs.short_builds_laws.Builds.{builds_short}
 use Rattle.ob_upheld.specs.Upheld.{SimulationSuffices}
 
 fresh : (x : List ℕ) (ts : List TypedType) → AllByRecursion (λ y. bytes_eq x y ≡ false) (map (λ t. t.name) ts) → AllByRecursion (λ t. t.name ≢ x) ts

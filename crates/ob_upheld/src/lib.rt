@@ -1,6 +1,11 @@
 //! Laws of builds that are kept, and what of the headline's premises is left.
 #![tactic(auto)]
 
+pub mod law_based;
+pub mod law_grounds;
+pub mod law_seen;
+pub mod law_short_builds;
+
 ghost use Rattle.ob_ages.specs.Laws.{BuildsAreWritten};
 ghost use Rattle.ob_upheld.specs.Upheld.{SimulationSuffices};
 

@@ -1,5 +1,0 @@
-use Rattle.ob_joint.proofs.Loaded.{loaded_are_same}
-use Rattle.ob_joint.proofs.loaded_are_same.Goals as goal
-
-pub returns : goal.returns
-returns c = loaded_are_same

@@ -1,0 +1,24 @@
+-- The descriptions that modules were compiled with, and the declarations of their program: the law.
+use Rattle.std.specs.Prelude.{List, ◌++◌, Contains}
+use Rattle.ob_meaning.specs.Values.{description}
+use Rattle.ob_layout.specs.LaidOut.{viewed}
+use Rattle.ob_env.specs.Faces.{described}
+use Rattle.ob_forms.specs.Said.{IsSound}
+use Rattle.ob_linking.specs.Same.{ModuleSame}
+use Rattle.ob_ordered.specs.ruled_laws.Ruled.{BuildsAreRuled}
+use Rattle.ob_compiling.specs.Compiling.{Compiled}
+use Rattle.ob_ages.specs.Builds.{Text, Build, IsValid, of, tree_of}
+use Rattle.ob_ages.specs.Laws.{BuildsAreWritten}
+use Rattle.ob_joining.specs.Builds.{program_of, AreLoaded}
+use Rattle.ob_promised.specs.joint_laws.Named.{AreNamedApart}
+
+-- What a build shows that is no type has not the name of one of its types, and the bound procedures that a record introduces have
+-- different names.
+abbrev pub BuildsAreNamedApart : Type 0
+BuildsAreNamedApart = BuildsAreRuled → (b : Build) (c : Compiled Text) → IsValid b c → AreNamedApart c.tree
+
+-- THE LAW: the descriptions that a module was compiled with say of what it names what its declarations in the program say.
+abbrev pub LoadedAreSame : Type 0
+LoadedAreSame =
+    BuildsAreWritten → BuildsAreRuled → ((bs : List Build) → AreLoaded bs → IsSound (program_of bs)) →
+    (bs more : List Build) → AreLoaded (bs ++ more) → (b : Build) → Contains bs b → ModuleSame (viewed (described (of b).against) (tree_of b)) (description (program_of bs)) (tree_of b)

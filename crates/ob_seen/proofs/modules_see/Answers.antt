@@ -1,6 +1,0 @@
--- Builds.
-use Rattle.ob_seen.proofs.Builds.{modules_see}
-use Rattle.ob_seen.proofs.modules_see.Goals as goal
-
-pub returns : goal.returns
-returns c = modules_see
