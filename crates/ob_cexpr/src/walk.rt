@@ -14,7 +14,7 @@ ghost use Rattle.ob_cexpr.specs.Plain.{elements_judged, set_judged};
 
 use crate::designators::check_designator;
 use ob_coperand::{
-    bracketed, character, combined_if, constant_if, element_if, integer, name_in, opposite_if,
+    bracketed, character, combined_if, constant_if, element_if, integer, name_in, name_value, opposite_if,
     other_test, related_if, row_with, set_if, signed_if, start_of, string, there, type_test,
     value_if,
 };
@@ -66,6 +66,24 @@ pub fn check_expr<S: Surroundings>(
 // A designator as a value.
 #[cycle(walk)]
 fn check_value<S: Surroundings>(
+    alloc: Global,
+    here: &S,
+    book: &mut Notebook,
+    d: &Designator,
+) -> Result<Option<Valued>, AllocError>
+    ensures made { IfOk result (λ r. r ≡ (spec.meant_by InExpression (spec.named_of d.now) (S.around here.now) ▷ λ m. spec.value_meant (spec.named_of d.now).ident.pos m).node) }
+    ensures noted { OnOk result (book.new ≡ book_after book.old (spec.meant_by InExpression (spec.named_of d.now) (S.around here.now) ▷ λ m. spec.value_meant (spec.named_of d.now).ident.pos m).notes) }
+{
+    if d.selectors.as_slice().is_empty() {
+        name_value(alloc, here, book, &d.ident)
+    } else {
+        check_selected(alloc, here, book, d)
+    }
+}
+
+// A designator as a value, whatever stands behind its name.
+#[cycle(walk)]
+fn check_selected<S: Surroundings>(
     alloc: Global,
     here: &S,
     book: &mut Notebook,

@@ -3,6 +3,7 @@
 #![tactic(auto, using(ob_rules::proofs::BookLaws::after_none, ob_rules::proofs::BookLaws::after_joined))]
 
 mod literals;
+mod names;
 mod operands;
 mod phrases;
 mod selectors;
@@ -10,6 +11,7 @@ mod tests;
 mod values;
 
 pub use literals::{character, integer, string};
+pub use names::name_value;
 pub use operands::{bracketed, combined_if, opposite_if, related_if, signed_if};
 pub use phrases::{
     formal_at, is_one_type, name_behind, name_in, start_of, type_in_round, where_behind,

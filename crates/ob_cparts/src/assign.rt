@@ -1,15 +1,18 @@
 //! Assignments.
 
-ghost use Rattle.std.specs.Prelude.{◌≡◌, IfOk, OnOk};
+ghost use Rattle.std.specs.Prelude.{◌≡◌, IfOk, OnOk, None};
 ghost use Rattle.ob_rules.specs.Books.{book_after};
 ghost use Rattle.std.specs.Option.{option_copied};
-ghost use Rattle.ob_rules.specs.Judged.{if_sound, paired};
+ghost use Rattle.ob_rules.specs.Designators as designators;
+ghost use Rattle.ob_rules.specs.Judged.{if_sound, paired, ◌▷◌};
+ghost use Rattle.ob_rules.specs.Names as names;
 ghost use Rattle.ob_rules.specs.Statements as spec;
 ghost use Rattle.ob_cparts.specs.Seen.{stmt_in};
 
-use ob_cname::{fits, has_text, is_array, record_of, text_tree, tree_of};
-use ob_rules::{Meant, Notebook, Place, Valued};
-use ob_tree::{Pos, QName};
+use ob_cname::{fits, has_text, is_array, named, record_of, text_tree, tree_of};
+use ob_cplace::{front_of, variable_named};
+use ob_rules::{Entity, Meant, Notebook, Place, Surroundings, Valued};
+use ob_tree::{Ident, Pos, QName};
 use ob_trees::{ExprTree, StmtTree, copy_name};
 use ob_types::{Assigned, Types};
 use std::alloc::{AllocError, Global};
@@ -43,6 +46,59 @@ pub fn target_if(book: &mut Notebook, start: Pos, meant: Option<Meant>) -> Optio
     match meant {
         None => None,
         Some(meant) => target(book, start, meant),
+    }
+}
+
+fn entity_target<S: Surroundings>(
+    alloc: Global,
+    here: &S,
+    book: &mut Notebook,
+    x: &Ident,
+    entity: &Entity,
+) -> Result<Option<Place>, AllocError>
+    ensures made { IfOk result (λ r. r ≡ (designators.front_of (S.around here.now) x.now entity.now None ▷ λ m. spec.target x.now.«pos» m).node) }
+    ensures noted { OnOk result (book.new ≡ book_after book.old (designators.front_of (S.around here.now) x.now entity.now None ▷ λ m. spec.target x.now.«pos» m).notes) }
+{
+    match entity {
+        Entity::Variable(variable, t) => {
+            let place = variable_named(alloc, here, x.pos, *variable, t, false)?;
+            Ok(place_target(book, x.pos, place))
+        }
+        Entity::Constant(_)
+        | Entity::Procedure(_, _)
+        | Entity::Forward(_, _)
+        | Entity::Predeclared(_)
+        | Entity::Module(_)
+        | Entity::TypeName(_)
+        | Entity::LeftOut
+        | Entity::Unsound => {
+            let meant = front_of(alloc, here, book, x, entity, None)?;
+            Ok(target_if(book, x.pos, meant))
+        }
+    }
+}
+
+fn place_target(book: &mut Notebook, start: Pos, place: Option<Place>) -> Option<Place>
+{
+    match place {
+        None => None,
+        Some(place) => book.unless(place.read_only, 26, start, place),
+    }
+}
+
+/// What is assigned to where a name stands alone. Rule 26, and those of the name.
+pub fn name_target<S: Surroundings>(
+    alloc: Global,
+    here: &S,
+    book: &mut Notebook,
+    x: &Ident,
+) -> Result<Option<Place>, AllocError>
+    ensures made { IfOk result (λ r. r ≡ (names.named (S.around here.now) x.now ▷ λ k. designators.front_of (S.around here.now) x.now k None ▷ λ m. spec.target x.now.«pos» m).node) }
+    ensures noted { OnOk result (book.new ≡ book_after book.old (names.named (S.around here.now) x.now ▷ λ k. designators.front_of (S.around here.now) x.now k None ▷ λ m. spec.target x.now.«pos» m).notes) }
+{
+    match named(here, book, x) {
+        None => Ok(None),
+        Some(entity) => entity_target(alloc, here, book, x, entity),
     }
 }
 

@@ -10,7 +10,7 @@ mod loops;
 mod returns;
 mod rows;
 
-pub use assign::{assigns_if, target_if};
+pub use assign::{assigns_if, name_target, target_if};
 pub use cases::{case_value_if, label_if, selects_if};
 pub use compounds::{case_made, if_made, loop_made, repeat_made, while_made, with_made};
 pub use conditions::truth;

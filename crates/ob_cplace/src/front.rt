@@ -165,7 +165,9 @@ fn module_front<S: Surroundings>(
     }
 }
 
-fn front_of<S: Surroundings>(
+/// What the name at the front of a designator comes to where it stands for that entity, with the name
+/// behind its dot if it is a module's. None where it breaks a rule.
+pub fn front_of<S: Surroundings>(
     alloc: Global,
     here: &S,
     book: &mut Notebook,

@@ -9,6 +9,6 @@ mod places;
 
 pub use bound::super_call;
 pub use fields::{select, through};
-pub use front::{Front, front_named};
+pub use front::{Front, front_named, front_of};
 pub use guards::{guard, guard_of, if_extends};
 pub use places::{dereference, index, variable_named};

@@ -10,11 +10,24 @@ ghost use Rattle.ob_cparts.specs.Seen.{stmt_in};
 
 use ob_cexpr::{check_designator, check_expr};
 use ob_cname::types;
-use ob_cparts::{assigns_if, target_if};
+use ob_cparts::{assigns_if, name_target, target_if};
 use ob_rules::{Notebook, Place, Surroundings, Where};
 use ob_tree::{Designator, Expr, Pos};
 use ob_trees::StmtTree;
 use std::alloc::{AllocError, Global};
+
+fn selected_place<S: Surroundings>(
+    alloc: Global,
+    here: &S,
+    book: &mut Notebook,
+    designator: &Designator,
+) -> Result<Option<Place>, AllocError>
+    ensures made { IfOk result (λ r. r ≡ (exprs.meant_by Elsewhere (exprs.named_of designator.now) (S.around here.now) ▷ λ m. spec.target (exprs.named_of designator.now).ident.pos m).node) }
+    ensures noted { OnOk result (book.new ≡ book_after book.old (exprs.meant_by Elsewhere (exprs.named_of designator.now) (S.around here.now) ▷ λ m. spec.target (exprs.named_of designator.now).ident.pos m).notes) }
+{
+    let meant = check_designator(alloc, here, book, Where::Elsewhere, designator)?;
+    Ok(target_if(book, designator.ident.pos, meant))
+}
 
 // What is assigned to. Rule 26, and those of the designator.
 fn assigned_place<S: Surroundings>(
@@ -26,8 +39,11 @@ fn assigned_place<S: Surroundings>(
     ensures made { IfOk result (λ r. r ≡ (exprs.meant_by Elsewhere (exprs.named_of designator.now) (S.around here.now) ▷ λ m. spec.target (exprs.named_of designator.now).ident.pos m).node) }
     ensures noted { OnOk result (book.new ≡ book_after book.old (exprs.meant_by Elsewhere (exprs.named_of designator.now) (S.around here.now) ▷ λ m. spec.target (exprs.named_of designator.now).ident.pos m).notes) }
 {
-    let meant = check_designator(alloc, here, book, Where::Elsewhere, designator)?;
-    Ok(target_if(book, designator.ident.pos, meant))
+    if designator.selectors.as_slice().is_empty() {
+        name_target(alloc, here, book, &designator.ident)
+    } else {
+        selected_place(alloc, here, book, designator)
+    }
 }
 
 /// An assignment. Rules 26 and 31, and those of its parts.
