@@ -14,9 +14,9 @@ ghost use Rattle.ob_cexpr.specs.Plain.{elements_judged, set_judged};
 
 use crate::designators::check_designator;
 use ob_coperand::{
-    bracketed, character, combined_if, constant_if, element_if, integer, name_in, name_value, opposite_if,
-    other_test, related_if, row_with, set_if, signed_if, start_of, string, there, type_test,
-    value_if,
+    bracketed, character, combined_if, constant_if, element_if, integer, name_in, name_value,
+    opposite_if, other_test, related_if, row_with, set_if, signed_if, start_of, string, there,
+    type_test, value_if,
 };
 use ob_rules::{ElementOf, Notebook, Surroundings, Valued, Where};
 use ob_tree::{Designator, Element, Expr, Pos, Relation, Sign, Tail};

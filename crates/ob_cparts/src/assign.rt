@@ -1,10 +1,10 @@
 //! Assignments.
 
 ghost use Rattle.std.specs.Prelude.{◌≡◌, IfOk, OnOk, None};
-ghost use Rattle.ob_rules.specs.Books.{book_after};
 ghost use Rattle.std.specs.Option.{option_copied};
+ghost use Rattle.ob_rules.specs.Books.{book_after};
 ghost use Rattle.ob_rules.specs.Designators as designators;
-ghost use Rattle.ob_rules.specs.Judged.{if_sound, paired, ◌▷◌};
+ghost use Rattle.ob_rules.specs.Judged.{if_sound, no_notes, paired, ◌▷◌};
 ghost use Rattle.ob_rules.specs.Names as names;
 ghost use Rattle.ob_rules.specs.Statements as spec;
 ghost use Rattle.ob_cparts.specs.Seen.{stmt_in};
@@ -49,6 +49,30 @@ pub fn target_if(book: &mut Notebook, start: Pos, meant: Option<Meant>) -> Optio
     }
 }
 
+fn place_target(book: &mut Notebook, start: Pos, place: Option<Place>) -> Option<Place>
+    ensures made { result ≡ (designators.of_variable (record { node = place; notes = no_notes }) ▷ λ m. spec.target start m).node }
+    ensures noted { book.new ≡ book_after book.old (designators.of_variable (record { node = place; notes = no_notes }) ▷ λ m. spec.target start m).notes }
+{
+    match place {
+        None => None,
+        Some(place) => book.unless(place.read_only, 26, start, place),
+    }
+}
+
+fn other_target<S: Surroundings>(
+    alloc: Global,
+    here: &S,
+    book: &mut Notebook,
+    x: &Ident,
+    entity: &Entity,
+) -> Result<Option<Place>, AllocError>
+    ensures made { IfOk result (λ r. r ≡ (designators.front_of (S.around here.now) x.now entity.now None ▷ λ m. spec.target x.now.«pos» m).node) }
+    ensures noted { OnOk result (book.new ≡ book_after book.old (designators.front_of (S.around here.now) x.now entity.now None ▷ λ m. spec.target x.now.«pos» m).notes) }
+{
+    let meant = front_of(alloc, here, book, x, entity, None)?;
+    Ok(target_if(book, x.pos, meant))
+}
+
 fn entity_target<S: Surroundings>(
     alloc: Global,
     here: &S,
@@ -71,22 +95,12 @@ fn entity_target<S: Surroundings>(
         | Entity::Module(_)
         | Entity::TypeName(_)
         | Entity::LeftOut
-        | Entity::Unsound => {
-            let meant = front_of(alloc, here, book, x, entity, None)?;
-            Ok(target_if(book, x.pos, meant))
-        }
+        | Entity::Unsound => other_target(alloc, here, book, x, entity),
     }
 }
 
-fn place_target(book: &mut Notebook, start: Pos, place: Option<Place>) -> Option<Place>
-{
-    match place {
-        None => None,
-        Some(place) => book.unless(place.read_only, 26, start, place),
-    }
-}
-
-/// What is assigned to where a name stands alone. Rule 26, and those of the name.
+/// What is assigned to where a name stands with no selector behind it. Rule 26, and those of the
+/// name.
 pub fn name_target<S: Surroundings>(
     alloc: Global,
     here: &S,
