@@ -179,7 +179,7 @@ fn unless_guarded<T: Types>(
     } else {
         let passing = passing_of(types, Mode::Var, formal);
         let formal = copy_type(formal)?;
-        let Place { designator, .. } = place;
+        let designator = place.into_designator();
         Ok(Some(Passed {
             passing,
             formal,

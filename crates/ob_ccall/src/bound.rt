@@ -124,17 +124,12 @@ fn bound_callee(chosen: &Chosen) -> Result<Callee, AllocError>
 fn receiver_actual(alloc: Global, chosen: Chosen) -> Result<Passed, AllocError>
     ensures { IfOk result (λ r. actual_seen r ≡ spec.receiver_actual chosen.method.receiver chosen) }
 {
-    let Chosen {
-        receiver,
-        start,
-        pointed,
-        owner,
-        method,
-        ..
-    } = chosen;
-    match method.receiver {
+    let start = chosen.start;
+    let by = chosen.method.receiver;
+    let (receiver, pointed, owner) = chosen.into_receiver();
+    match by {
         Receiver::Pointer => {
-            let Place { designator, of, .. } = receiver;
+            let (designator, of) = receiver.into_typed();
             Ok(Passed {
                 passing: Passing::Scalar,
                 formal: of,
@@ -143,7 +138,7 @@ fn receiver_actual(alloc: Global, chosen: Chosen) -> Result<Passed, AllocError>
         }
         Receiver::Record => {
             let place = through(alloc, start, receiver, pointed)?;
-            let Place { designator, .. } = place;
+            let designator = place.into_designator();
             Ok(Passed {
                 passing: Passing::VariableRecord,
                 formal: TypeRef::Named(owner),

@@ -105,7 +105,7 @@ fn call_held(
     }
     let of = copy_result(&signature.result)?;
     let kind = result_kind(&signature.result)?;
-    let Place { designator, .. } = variable;
+    let designator = variable.into_designator();
     Ok(Some(Valued::Node(Computed {
         tree: ExprTree::call_variable(designator, actuals, at, of),
         of: kind,

@@ -9,7 +9,7 @@ ghost use Rattle.ob_rules.specs.Values as spec;
 ghost use Rattle.ob_cname.specs.Basics.{basic_in, computed_type, kind_basic};
 
 use crate::shapes::basic_of;
-use ob_rules::{Computed, Place, Valued};
+use ob_rules::Valued;
 use ob_tree::List;
 use ob_trees::ExprTree;
 use ob_types::{
@@ -101,14 +101,8 @@ pub fn tree_of(x: Valued) -> ExprTree
 {
     match x {
         Valued::Constant(value) => ExprTree::constant(value),
-        Valued::Place(place) => {
-            let Place { designator, .. } = place;
-            ExprTree::designator(designator)
-        }
-        Valued::Node(node) => {
-            let Computed { tree, .. } = node;
-            tree
-        }
+        Valued::Place(place) => ExprTree::designator(place.into_designator()),
+        Valued::Node(node) => node.into_tree(),
     }
 }
 

@@ -100,15 +100,11 @@ pub fn bracketed(x: Option<Valued>) -> Option<Valued>
     match x {
         None => None,
         Some(Valued::Place(place)) => {
-            let Place {
-                designator,
-                of,
-                root,
-                selected,
-                read_only,
-                guarded,
-                ..
-            } = place;
+            let root = place.root;
+            let selected = place.selected;
+            let read_only = place.read_only;
+            let guarded = place.guarded;
+            let (designator, of) = place.into_typed();
             Some(Valued::Place(Place {
                 designator,
                 of,

@@ -129,7 +129,7 @@ fn record_test(place: Place, guard: Option<(Guarded, QName)>) -> Option<Valued>
     match guard {
         None => None,
         Some((_, target)) => {
-            let Place { designator, .. } = place;
+            let designator = place.into_designator();
             Some(truth(ExprTree::is_record(designator, target)))
         }
     }

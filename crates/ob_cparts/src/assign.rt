@@ -171,7 +171,7 @@ fn assigns<T: Types>(
     }
     let assigned = assignment_of(types, &place, &x)?;
     let value = assigned_tree(alloc, is_array(types, &place.of), x)?;
-    let Place { designator, .. } = place;
+    let designator = place.into_designator();
     Ok(Some(StmtTree::assign(designator, assigned, value, at)))
 }
 

@@ -66,7 +66,7 @@ fn guard_test(
 ) -> Result<ExprTree, AllocError>
     ensures { IfOk result (λ r. r.inner ≡ spec.guard_test place guarded target) }
 {
-    let Place { designator, .. } = place;
+    let designator = place.into_designator();
     match guarded {
         Guarded::Pointer => {
             let operand = ExprTree::designator(designator);

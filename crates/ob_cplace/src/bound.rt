@@ -28,22 +28,7 @@ fn super_of(
 {
     match found {
         Some(Member::Method(introduced, method)) => {
-            let Chosen {
-                receiver,
-                start,
-                pointed,
-                owner,
-                ..
-            } = chosen;
-            Some(Meant::Bound(Chosen {
-                receiver,
-                start,
-                pointed,
-                owner,
-                introduced,
-                method,
-                base: Some(base),
-            }))
+            Some(Meant::Bound(chosen.begun_at(introduced, method, base)))
         }
         _ => {
             book.breaks(40, at);
@@ -69,9 +54,9 @@ fn super_in<T: Types>(
             Ok(None)
         }
         Some(base) => {
+            let from = copy_name(base)?;
             let found = find_member(alloc, types, base, &chosen.method.name)?;
-            let base = copy_name(base)?;
-            Ok(super_of(book, at, chosen, base, found))
+            Ok(super_of(book, at, chosen, from, found))
         }
     }
 }

@@ -56,14 +56,11 @@ fn field_of<S: Surroundings>(
 {
     let unit = here.unit();
     let foreign = owner.module.as_bytes() != unit.as_bytes();
-    let Place {
-        designator,
-        root,
-        read_only,
-        ..
-    } = place;
+    let root = place.root;
+    let read_only = place.read_only;
     let Field { name, mark, of, .. } = field;
     let more = copy_type(&of)?;
+    let designator = place.into_designator();
     let designator = DesignatorTree::field(alloc, designator, owner, name, more)?;
     Ok(Place {
         designator,

@@ -105,15 +105,12 @@ pub fn guarded_by(
     ensures { IfOk result (λ r. r ≡ spec.guarded_by place by t at written) }
 {
     let (guarded, target) = by;
-    let Place {
-        designator,
-        root,
-        selected,
-        read_only,
-        var_record,
-        ..
-    } = place;
+    let root = place.root;
+    let selected = place.selected;
+    let read_only = place.read_only;
+    let var_record = place.var_record;
     let of = copy_type(&t)?;
+    let designator = place.into_designator();
     let designator = DesignatorTree::guard(alloc, designator, guarded, target, at, of)?;
     Ok(Place {
         designator,

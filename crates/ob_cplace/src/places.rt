@@ -160,13 +160,10 @@ pub fn dereferenced(
 ) -> Result<Place, AllocError>
     ensures { IfOk result (λ r. r ≡ phrases.dereferenced place at t written) }
 {
-    let Place {
-        designator,
-        root,
-        selected,
-        ..
-    } = place;
+    let root = place.root;
+    let selected = place.selected;
     let of = copy_type(&t)?;
+    let designator = place.into_designator();
     let designator = DesignatorTree::deref(alloc, designator, at, of)?;
     Ok(Place {
         designator,
@@ -294,14 +291,11 @@ fn indexed(
     ensures { IfOk result (λ r. r ≡ spec.indexed place at index array) }
 {
     let (length, element) = array;
-    let Place {
-        designator,
-        root,
-        read_only,
-        ..
-    } = place;
+    let root = place.root;
+    let read_only = place.read_only;
     let of = copy_type(&element)?;
     let index = tree_of(index);
+    let designator = place.into_designator();
     let designator = DesignatorTree::index(alloc, designator, length, index, at, of)?;
     Ok(Place {
         designator,

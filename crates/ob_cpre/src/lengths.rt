@@ -57,7 +57,7 @@ fn length_constant(
     if length > 2147483647 {
         return Err(AllocError);
     }
-    let Place { designator, .. } = place;
+    let designator = place.into_designator();
     book.name_length(designator)?;
     Ok(Some(Meant::Call(Valued::Constant(Value::Int(length as i32)))))
 }
@@ -76,7 +76,7 @@ fn length_of(
         Some(length) => length_constant(book, length, place),
         None => {
             if first {
-                let Place { designator, .. } = place;
+                let designator = place.into_designator();
                 Ok(Some(Meant::Call(Valued::Node(Computed {
                     tree: ExprTree::length(designator),
                     of: ExprType::Of(TypeRef::Basic(Basic::LongInt)),

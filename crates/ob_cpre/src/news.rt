@@ -69,7 +69,7 @@ fn new_array(
         None => unfit(book, at),
         Some((None, _)) => unfit(book, at),
         Some((Some(_), _)) => {
-            let Place { designator, .. } = place;
+            let designator = place.into_designator();
             Some(Meant::Statement(StmtTree::new(designator, Made::Array(base), at)))
         }
     }
@@ -87,7 +87,7 @@ fn new_fixed<T: Types>(
 {
     match record_name(types, &base)? {
         Some(name) => {
-            let Place { designator, .. } = place;
+            let designator = place.into_designator();
             Ok(Some(Meant::Statement(StmtTree::new(designator, Made::Record(name), at))))
         }
         None => {
@@ -165,7 +165,7 @@ fn new_elements(
         None => unfit(book, at),
         Some((Some(_), _)) => unfit(book, at),
         Some((None, element)) => {
-            let Place { designator, .. } = place;
+            let designator = place.into_designator();
             Some(Meant::Statement(StmtTree::new_open_array(designator, element, tree_of(n), at)))
         }
     }

@@ -76,7 +76,7 @@ fn step_by(
             Some(width) => match by {
                 None => unfit(book, at),
                 Some(_) => {
-                    let Place { designator, .. } = place;
+                    let designator = place.into_designator();
                     let op = update_by(more, width);
                     let tree = StmtTree::update(op, designator, tree_of(n), at);
                     Some(Meant::Statement(tree))
@@ -121,7 +121,7 @@ fn element_by(
             None => unfit(book, at),
             Some(_) => {
                 if set {
-                    let Place { designator, .. } = place;
+                    let designator = place.into_designator();
                     let tree = StmtTree::update(op, designator, tree_of(n), at);
                     Some(Meant::Statement(tree))
                 } else {
@@ -226,7 +226,7 @@ fn copy_to(
         None => Ok(unfit(book, at)),
         Some(place) => {
             if fits {
-                let Place { designator, .. } = place;
+                let designator = place.into_designator();
                 let source = text_tree(alloc, x)?;
                 Ok(Some(Meant::Statement(StmtTree::copy(source, designator, at))))
             } else {

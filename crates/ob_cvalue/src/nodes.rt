@@ -10,7 +10,7 @@ ghost use Rattle.ob_rules.specs.Values as values;
 
 use ob_cname::{text_tree, tree_of};
 use ob_const::{fold_logical, fold_one, fold_texts, fold_two};
-use ob_rules::{Computed, Notebook, Place, Valued};
+use ob_rules::{Computed, Notebook, Valued};
 use ob_tree::Pos;
 use ob_trees::ExprTree;
 use ob_types::{
@@ -242,7 +242,7 @@ pub fn only_value(x: Valued) -> Valued
 {
     match x {
         Valued::Place(place) => {
-            let Place { designator, of, .. } = place;
+            let (designator, of) = place.into_typed();
             Valued::Node(Computed {
                 tree: ExprTree::designator(designator),
                 of: ExprType::Of(of),

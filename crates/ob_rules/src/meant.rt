@@ -1,3 +1,5 @@
+ghost use Rattle.std.specs.Prelude.{◌≡◌, Some};
+
 use crate::broken::Predeclared;
 use crate::values::{Place, Valued};
 use ob_tree::{Pos, QName};
@@ -5,7 +7,6 @@ use ob_trees::{ExprTree, StmtTree};
 use ob_types::{Method, OutProcedure, Signature, TypeRef, Value, Width};
 
 /// A bound procedure that is selected.
-#[derive(Drop)]
 pub struct Chosen {
     /// The variable that it is selected of.
     pub receiver: Place,
@@ -21,6 +22,64 @@ pub struct Chosen {
     pub method: Method,
     /// Of a super call, the base that it begins at.
     pub base: Option<QName>,
+}
+
+// By hand, as that of `Place`.
+impl Drop for Chosen {
+    fn drop(self) {
+        let Chosen {
+            receiver,
+            start,
+            pointed,
+            owner,
+            introduced,
+            method,
+            base,
+        } = self;
+    }
+}
+
+impl Chosen {
+    /// The super call of it: the procedure that the record `first` introduces, as a call finds it
+    /// that begins at the base `from`.
+    pub fn begun_at(self, first: QName, procedure: Method, from: QName) -> Chosen
+        ensures { result ≡ record { receiver = self.receiver; start = self.start; pointed = self.pointed; owner = self.owner; introduced = first; method = procedure; base = Some from } }
+    {
+        let Chosen {
+            receiver,
+            start,
+            pointed,
+            owner,
+            introduced,
+            method,
+            base,
+        } = self;
+        Chosen {
+            receiver,
+            start,
+            pointed,
+            owner,
+            introduced: first,
+            method: procedure,
+            base: Some(from),
+        }
+    }
+
+    /// Its receiver, what that points to, and the record that the procedure is looked for in.
+    pub fn into_receiver(self) -> (Place, Option<TypeRef>, QName)
+        ensures { result ≡ (self.receiver, self.pointed, self.owner) }
+    {
+        let Chosen {
+            receiver,
+            start,
+            pointed,
+            owner,
+            introduced,
+            method,
+            base,
+        } = self;
+        (receiver, pointed, owner)
+    }
 }
 
 /// What a designator comes to.

@@ -1,8 +1,9 @@
+ghost use Rattle.std.specs.Prelude.{◌≡◌};
+
 use ob_trees::{DesignatorTree, ExprTree};
 use ob_types::{ExprType, TypeRef, Value, Variable};
 
 /// A variable where it is named, with what later rules ask of it.
-#[derive(Drop)]
 pub struct Place {
     pub designator: DesignatorTree,
     pub of: TypeRef,
@@ -19,11 +20,76 @@ pub struct Place {
     pub guarded: bool,
 }
 
+// By hand, here and below: so a crate above has one call where such a value goes, and proves no
+// destructor of its parts.
+impl Drop for Place {
+    fn drop(self) {
+        let Place {
+            designator,
+            of,
+            root,
+            selected,
+            read_only,
+            var_record,
+            guarded,
+        } = self;
+    }
+}
+
+impl Place {
+    /// Its designator.
+    pub fn into_designator(self) -> DesignatorTree
+        ensures { result ≡ self.designator }
+    {
+        let Place {
+            designator,
+            of,
+            root,
+            selected,
+            read_only,
+            var_record,
+            guarded,
+        } = self;
+        designator
+    }
+
+    /// Its designator and its type.
+    pub fn into_typed(self) -> (DesignatorTree, TypeRef)
+        ensures { result ≡ (self.designator, self.of) }
+    {
+        let Place {
+            designator,
+            of,
+            root,
+            selected,
+            read_only,
+            var_record,
+            guarded,
+        } = self;
+        (designator, of)
+    }
+}
+
 /// A node with its type.
-#[derive(Drop)]
 pub struct Computed {
     pub tree: ExprTree,
     pub of: ExprType,
+}
+
+impl Drop for Computed {
+    fn drop(self) {
+        let Computed { tree, of } = self;
+    }
+}
+
+impl Computed {
+    /// Its node.
+    pub fn into_tree(self) -> ExprTree
+        ensures { result ≡ self.tree }
+    {
+        let Computed { tree, of } = self;
+        tree
+    }
 }
 
 /// A checked expression: a constant, a variable, or a node with its type.
