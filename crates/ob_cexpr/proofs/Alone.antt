@@ -1,5 +1,9 @@
 -- A name with nothing behind it, as a designator.
-use Rattle.std.proofs.Common.{◌≡◌, refl, sym, ap, ◌∙◌, ℕ, Bool, true, false, List, [], ◌∷◌, Option, Some, None}
+use Rattle.std.proofs.Common.{◌≡◌, refl, sym, ap, ◌∙◌, Bool, true, false, List, [], Option, Some, None, ◌==◌, length, map}
+use Rattle.std.proofs.lemmas.Bool.{eqb-true}
+use Rattle.std.proofs.lemmas.List.{nil_from_length}
+use Rattle.ob_tree.specs.declared.expr.Designator.{Designator}
+use Rattle.ob_tree.specs.declared.expr.Selector.{Selector}
 use Rattle.ob_tree.specs.declared.pos.Pos.{Pos}
 use Rattle.ob_tree.specs.declared.ident.Ident.{Ident}
 use Rattle.ob_rules.specs.declared.entity.Entity.{Entity}
@@ -11,7 +15,9 @@ use Rattle.ob_rules.specs.Judged.{Judged, Notes, joined, made, no_notes, noted, 
 use Rattle.ob_rules.specs.Names.{Around, named}
 use Rattle.ob_rules.specs.Phrases.{Behind}
 use Rattle.ob_rules.specs.Designators.{behind, designates, front, front_of, from_front, is_module}
+use Rattle.ob_rules.specs.Expressions.{behind_of, meant_by, named_of}
 use Rattle.ob_rules.proofs.BookLaws.{after_none, after_joined}
+use Rattle.ob_cexpr.proofs.ExprViews.{named_is}
 
 -- notes, and then nothing
 then_none : (b : Notebook) (n : Notes) → book_after b (joined n no_notes) ≡ book_after b n
@@ -60,9 +66,26 @@ named_noted u w x b None n f =
     then_none b (joined k (joined no_notes no_notes)) ∙ sym (after_joined b k (joined no_notes no_notes)) ∙ then_none (book_after b k) no_notes ∙ after_none (book_after b k)
 named_noted u w x b (Some k) n f = front_noted u w x.pos b n (is_module k) (front_of u x k None).node (front_of u x k None).notes f
 
--- the designator says what the name says, and then what it stands for
-pub alone_node : {A : Type 0} (u : Around) (w : Where) (x : Ident) (f : Meant → Judged A) → (designates u w x [] ▷ f).node ≡ (named u x ▷ λ k. front_of u x k None ▷ f).node
-alone_node u w x f = named_node u w x (named u x).node (named u x).notes f
+-- a designator says what its name says, and then what that stands for
+designates_node : {A : Type 0} (u : Around) (w : Where) (x : Ident) (f : Meant → Judged A) → (designates u w x [] ▷ f).node ≡ (named u x ▷ λ k. front_of u x k None ▷ f).node
+designates_node u w x f = named_node u w x (named u x).node (named u x).notes f
 
-pub alone_noted : {A : Type 0} (u : Around) (w : Where) (x : Ident) (b : Notebook) (f : Meant → Judged A) → book_after b (designates u w x [] ▷ f).notes ≡ book_after b (named u x ▷ λ k. front_of u x k None ▷ f).notes
-alone_noted u w x b f = named_noted u w x b (named u x).node (named u x).notes f
+designates_noted : {A : Type 0} (u : Around) (w : Where) (x : Ident) (b : Notebook) (f : Meant → Judged A) → book_after b (designates u w x [] ▷ f).notes ≡ book_after b (named u x ▷ λ k. front_of u x k None ▷ f).notes
+designates_noted u w x b f = named_noted u w x b (named u x).node (named u x).notes f
+
+no_selector : (d : Designator) (ss : List Selector) → ss ≡ d.selectors → true ≡ (length ss == 0) → d.selectors ≡ []
+no_selector d ss e t = sym e ∙ nil_from_length ss (eqb-true (length ss) 0 (sym t))
+
+pub alone_node : {A : Type 0} (u : Around) (w : Where) (d : Designator) (ss : List Selector) (f : Pos → Meant → Judged A) → ss ≡ d.selectors → true ≡ (length ss == 0)
+    → (named u d.ident ▷ λ k. front_of u d.ident k None ▷ f d.ident.pos).node ≡ (meant_by w (named_of d) u ▷ f (named_of d).ident.pos).node
+alone_node u w d ss f e t =
+    sym (designates_node u w d.ident (f d.ident.pos))
+    ∙ ap (λ s. (designates u w d.ident (map behind_of s) ▷ f d.ident.pos).node) (sym (no_selector d ss e t))
+    ∙ ap (λ n. (meant_by w n u ▷ f n.ident.pos).node) (sym (named_is d))
+
+pub alone_noted : {A : Type 0} (u : Around) (w : Where) (d : Designator) (ss : List Selector) (f : Pos → Meant → Judged A) (b : Notebook) → ss ≡ d.selectors → true ≡ (length ss == 0)
+    → book_after b (named u d.ident ▷ λ k. front_of u d.ident k None ▷ f d.ident.pos).notes ≡ book_after b (meant_by w (named_of d) u ▷ f (named_of d).ident.pos).notes
+alone_noted u w d ss f b e t =
+    sym (designates_noted u w d.ident b (f d.ident.pos))
+    ∙ ap (λ s. book_after b (designates u w d.ident (map behind_of s) ▷ f d.ident.pos).notes) (sym (no_selector d ss e t))
+    ∙ ap (λ n. book_after b (meant_by w n u ▷ f n.ident.pos).notes) (sym (named_is d))

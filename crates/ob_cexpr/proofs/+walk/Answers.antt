@@ -17,6 +17,7 @@ use Rattle.ob_rules.proofs.BookLaws.{after_none}
 use Rattle.ob_coperand.specs.Plain.{plain}
 use Rattle.ob_cround.specs.declared.opening.Opened.TheVariants as opens
 use Rattle.ob_cexpr.specs.Plain.{set_judged, goes_on, visited_one}
+use Rattle.ob_cexpr.proofs.Alone.{alone_node, alone_noted}
 use Rattle.ob_cexpr.proofs.Further.{further_node, further_noted, too_many_node, too_many_noted, no_parameter_node, no_parameter_noted, most_rest}
 use Rattle.ob_cexpr.proofs.Rounds.{actuals_step, actuals_end_noted, parameters_step, parameters_end_noted, extreme_node, extreme_noted, call_noted, left_noted}
 use Rattle.ob_cexpr.proofs.Rows.{on_ok_from}
@@ -161,15 +162,23 @@ walk::check_expr-returns-in-Designator-clause-noted g t c =
     let whole : (spec.phrase_of c.args.e.now).value u ≡ (v ▷ λ m. spec.value_meant (spec.named_of d).ident.pos m) = ap (λ y. (spec.phrase_of y).value u) c.in-Designator.is ∙ value_designator d u in
     noted_as c.check_value.result c.check_value.new.book c.args.book.now ((spec.phrase_of c.args.e.now).value u) _ whole c.check_value.ensures.noted
 
-pub walk::check_value-returns-clause-made : goal.walk::check_value-returns-clause-made
-walk::check_value-returns-clause-made g t c =
+pub walk::check_value-returns-then-is_empty-clause-made : goal.walk::check_value-returns-then-is_empty-clause-made
+walk::check_value-returns-then-is_empty-clause-made g t c =
+    IfOk-weaker c.name_value.result _ _ (λ r h. h ∙ alone_node (g.S.Surroundings.around c.args.here.now) InExpression c.args.d.now c.as_slice.result.now spec.value_meant c.as_slice.ensures (c.if-is_empty.true ∙ c.is_empty.ensures)) c.name_value.ensures.made
+
+pub walk::check_value-returns-then-is_empty-clause-noted : goal.walk::check_value-returns-then-is_empty-clause-noted
+walk::check_value-returns-then-is_empty-clause-noted g t c =
+    on_ok_weaker c.name_value.result (λ h. h ∙ alone_noted (g.S.Surroundings.around c.args.here.now) InExpression c.args.d.now c.as_slice.result.now spec.value_meant c.args.book.now c.as_slice.ensures (c.if-is_empty.true ∙ c.is_empty.ensures)) c.name_value.ensures.noted
+
+pub walk::check_selected-returns-clause-made : goal.walk::check_selected-returns-clause-made
+walk::check_selected-returns-clause-made g t c =
     let u = g.S.Surroundings.around c.args.here.now in
     let d = c.args.d.now in
     let v = spec.meant_by InExpression (spec.named_of d) u in
     made_as c.value_if.result (v ▷ λ m. spec.value_meant (spec.named_of d).ident.pos m) (v ▷ λ m. spec.value_meant d.ident.pos m) (ap (λ n. v ▷ λ m. spec.value_meant n.ident.pos m) (named_is d)) (then_made c.value_if.result v (λ m. spec.value_meant d.ident.pos m) c.in_ok-m.m c.in_ok-m.ensures.made c.value_if.ensures.made)
 
-pub walk::check_value-returns-clause-noted : goal.walk::check_value-returns-clause-noted
-walk::check_value-returns-clause-noted g t c =
+pub walk::check_selected-returns-clause-noted : goal.walk::check_selected-returns-clause-noted
+walk::check_selected-returns-clause-noted g t c =
     let u = g.S.Surroundings.around c.args.here.now in
     let d = c.args.d.now in
     let v = spec.meant_by InExpression (spec.named_of d) u in
