@@ -1,7 +1,5 @@
 -- The maps around the bodies of a checked module are grounded, or steady.
-use Rattle.std.proofs.Common.{◌≡◌, inl, sym, subst, ℕ, true, false, List, [], map, Option, Some}
-use Rattle.std.specs.Prelude.{bytes_eq}
-use Rattle.std.specs.List.{AllByRecursion}
+use Rattle.std.proofs.Common.{◌≡◌, inl, sym, subst, ℕ, true, false, List, map, Option, Some}
 use Rattle.ob_tree.specs.declared.names.QName.{QName}
 use Rattle.ob_tree.specs.declared.stmt.Stmt.{Stmt}
 use Rattle.ob_tree.specs.declared.decl.Decl.{Decl}
@@ -11,13 +9,11 @@ use Rattle.ob_types.specs.declared.typed.TypedType.{TypedType}
 use Rattle.ob_types.specs.declared.typed.TypedModule.{TypedModule}
 use Rattle.ob_types.specs.declared.types.TypeRef.{TypeRef}
 use Rattle.ob_types.specs.Maps.{IsHeld, IsWithin}
-use Rattle.ob_rules.specs.Names.{Around, is_out}
+use Rattle.ob_rules.specs.Names.{Around}
 use Rattle.ob_rules.specs.Statements.{judging}
-use Rattle.ob_rules.specs.Declarations.{declaration, all_described, module_part, typed_module, target_of, deep_of, imports_declared, around_module, checked}
+use Rattle.ob_rules.specs.Declarations.{declaration, module_part, typed_module, deep_of, imports_declared, around_module, checked}
 use Rattle.ob_forms.specs.Said.{IsOneOf}
 use Rattle.ob_typed.specs.Known.{ConstantIs}
-use Rattle.ob_distinct.specs.Distinct.{AreDistinct}
-use Rattle.ob_distinct.proofs.Blocks.{unbroken_is, not_out}
 use Rattle.ob_said.specs.Procedures.{is_named_plainly}
 use Rattle.ob_said.specs.Procedures as said
 use Rattle.ob_bodies.specs.Spelled.{tree_spelled}
@@ -26,15 +22,17 @@ use Rattle.ob_bodies.specs.Around.{IsAround}
 use Rattle.ob_bodies.specs.Laws.{ConstantsAre}
 use Rattle.ob_bodies.proofs.Around.{HandsOn, around_more}
 use Rattle.ob_bodies.proofs.Modules.{bodies_hold}
-use Rattle.ob_grounded.specs.Laws.{IsApart, types_of}
-use Rattle.ob_grounded.specs.Steady.{IsClosed, IsEnding, HasSteadyMap, BodiesAreSteady}
+use Rattle.ob_grounded.specs.Laws.{types_of}
+use Rattle.ob_grounded.specs.Steady.{IsEnding, HasSteadyMap, BodiesAreSteady}
 use Rattle.ob_grounded.specs.Bodies.{HasGroundedMap, BodiesAreGrounded}
 use Rattle.ob_grounded.proofs.Stand.{bases_shown}
 use Rattle.ob_grounded.proofs.Blocks.{Start, block_starts}
 use Rattle.ob_grounded.proofs.Modules.{Made, made_named, decls_good, start}
-use Rattle.ob_grounded.proofs.Grounded.{one, grounded_closed, around_grounded, around_steady}
+use Rattle.ob_grounded.proofs.Known.{IsMade, made_of, one}
+use Rattle.ob_grounded.proofs.Around.{around_steady}
+use Rattle.ob_grounded.proofs.Grounded.{grounded_closed, around_grounded}
 
-module _ (shown : QName → Option Desc) (tree : Tree) (kept : IsClosed shown) (apart : IsApart shown tree.name.name) (out : is_out tree.name.name ≡ false) (imports : AllByRecursion (λ i. bytes_eq (target_of i).name tree.name.name ≡ false) tree.imports) (e : (module_part shown tree).notes.broken ≡ []) (distinct : AreDistinct (λ (t : TypedType). t.name) (all_described (module_part shown tree).contents.bound (module_part shown tree).contents.types)) where
+module _ (shown : QName → Option Desc) (tree : Tree) (made : IsMade shown tree) where
   abbrev unit : List ℕ
   unit = tree.name.name
 
@@ -42,51 +40,44 @@ module _ (shown : QName → Option Desc) (tree : Tree) (kept : IsClosed shown) (
   F = (module_part shown tree).contents.types
 
   abbrev In : TypedType → Type 0
-  In s = Made shown tree kept apart out imports e (one shown tree kept apart out imports e distinct) s
+  In s = Made shown tree made.kept made.apart made.out made.imports made.unbroken (one shown tree made) s
 
   -- what is known there is made by the module, and whole
   abbrev pub Begins : Around → Type 0
-  Begins u = Start shown unit kept apart out In F (λ s i. inl i) (made_named shown tree kept apart out imports e (one shown tree kept apart out imports e distinct)) (one shown tree kept apart out imports e distinct) u
+  Begins u = Start shown unit made.kept made.apart made.out In F (λ s i. inl i) (made_named shown tree made.kept made.apart made.out made.imports made.unbroken (one shown tree made)) (one shown tree made) u
 
   pub begins : Begins (imports_declared tree.imports (around_module shown unit (map declaration tree.decls))).around
-  begins = start shown tree kept apart out imports e (one shown tree kept apart out imports e distinct) In (λ s i. inl i) (made_named shown tree kept apart out imports e (one shown tree kept apart out imports e distinct))
+  begins = start shown tree made.kept made.apart made.out made.imports made.unbroken (one shown tree made) In (λ s i. inl i) (made_named shown tree made.kept made.apart made.out made.imports made.unbroken (one shown tree made))
 
   pub hands : (ds : List Decl) (xs : List Stmt) → HandsOn Begins (module_part shown tree).contents (map declaration ds) (map judging xs)
   hands ds xs u a n l b =
       let among : (s : TypedType) → IsOneOf F s → In s = λ s i. inl i in
-      let named = made_named shown tree kept apart out imports e (one shown tree kept apart out imports e distinct) in
-      let all = one shown tree kept apart out imports e distinct in
-      block_starts shown unit kept apart out In F among named all (map declaration ds) (decls_good shown unit kept apart out In F among named all ds) (map judging xs) u a n l b
+      let named = made_named shown tree made.kept made.apart made.out made.imports made.unbroken (one shown tree made) in
+      let all = one shown tree made in
+      block_starts shown unit made.kept made.apart made.out In F among named all (map declaration ds) (decls_good shown unit made.kept made.apart made.out In F among named all ds) (map judging xs) u a n l b
 
   pub grounds : ((t : TypeRef) → IsHeld shown t → IsWithin shown 201 t) → deep_of shown tree.name (map declaration tree.decls) (module_part shown tree) ≡ false → (u : Around) → Begins u → HasGroundedMap u
-  grounds chains deep u h = around_grounded shown tree kept apart out imports e distinct chains deep u h.knows.unit_is h.knows.shown_is h.whole h.within
+  grounds chains deep u h = around_grounded shown tree made chains deep u h.knows.unit_is h.knows.shown_is h.whole h.within
 
   abbrev T : TypedModule
   T = typed_module shown tree.name tree.imports (map declaration tree.decls) (module_part shown tree)
 
   pub steadies : IsEnding (types_of shown tree T) → (u : Around) → Begins u → HasSteadyMap u
-  steadies h u b = around_steady shown tree kept apart out imports e distinct h.lines u b.knows.unit_is b.knows.shown_is b.whole b.within h.ends
+  steadies h u b = around_steady shown tree made h.lines u b.knows.unit_is b.knows.shown_is b.whole b.within h.ends
 
   pub bodies_judged : (m : TypedModule) → checked shown tree ≡ Some m → tree_spelled tree ≡ true → said.all_true (map is_named_plainly tree.decls) ≡ true → ConstantsAre unit shown → (j : BodiesAreJudged ConstantIs shown m) × IsAround Begins ConstantIs shown m j
   bodies_judged m is spelled plain constants =
-      bodies_hold ConstantIs (λ b. tt) shown tree Begins hands begins m is (λ out x e u h. (constants u h x e).node) spelled (bases_shown shown unit kept apart) plain imports
+      bodies_hold ConstantIs (λ b. tt) shown tree Begins hands begins m is (λ out x e u h. (constants u h x e).node) spelled (bases_shown shown unit made.kept made.apart.own) plain made.imports
 
 pub bodies_are_grounded : BodiesAreGrounded
 bodies_are_grounded shown tree m c spelled plain constants =
-    let p = module_part shown tree in
-    let k = unbroken_is p.notes.broken (typed_module shown tree.name tree.imports (map declaration tree.decls) p) m c.is in
-    let out : is_out tree.name.name ≡ false = subst (λ (x : TypedModule). is_out x.name ≡ false) (sym k.1) (not_out shown tree m c.is) in
-    let names = subst (λ (x : TypedModule). AreDistinct (λ (t : TypedType). t.name) x.types) (sym k.1) c.names in
-    let kept = grounded_closed shown c.grounded in
-    let r = bodies_judged shown tree kept c.apart out c.imports k.0 names m c.is spelled plain constants in
-    record { judged = r.0; grounded = around_more (Begins shown tree kept c.apart out c.imports k.0 names) HasGroundedMap (grounds shown tree kept c.apart out c.imports k.0 names c.grounded.chains c.shallow) ConstantIs shown m r.0 r.1 }
+    let k = (made_of shown tree m c.is (grounded_closed shown c.grounded) c.apart c.imports c.names).0 in
+    let r = bodies_judged shown tree k m c.is spelled plain constants in
+    record { judged = r.0; grounded = around_more (Begins shown tree k) HasGroundedMap (grounds shown tree k c.grounded.chains c.shallow) ConstantIs shown m r.0 r.1 }
 
 pub bodies_are_steady : BodiesAreSteady
 bodies_are_steady shown tree m c ending spelled plain constants =
-    let p = module_part shown tree in
-    let k = unbroken_is p.notes.broken (typed_module shown tree.name tree.imports (map declaration tree.decls) p) m c.is in
-    let out : is_out tree.name.name ≡ false = subst (λ (x : TypedModule). is_out x.name ≡ false) (sym k.1) (not_out shown tree m c.is) in
-    let names = subst (λ (x : TypedModule). AreDistinct (λ (t : TypedType). t.name) x.types) (sym k.1) c.names in
+    let k = made_of shown tree m c.is c.closed c.apart c.imports c.names in
     let ends = subst (λ (x : TypedModule). IsEnding (types_of shown tree x)) (sym k.1) ending in
-    let r = bodies_judged shown tree c.closed c.apart out c.imports k.0 names m c.is spelled plain constants in
-    record { judged = r.0; steady = around_more (Begins shown tree c.closed c.apart out c.imports k.0 names) HasSteadyMap (steadies shown tree c.closed c.apart out c.imports k.0 names ends) ConstantIs shown m r.0 r.1 }
+    let r = bodies_judged shown tree k.0 m c.is spelled plain constants in
+    record { judged = r.0; steady = around_more (Begins shown tree k.0) HasSteadyMap (steadies shown tree k.0 ends) ConstantIs shown m r.0 r.1 }

@@ -132,7 +132,7 @@ module _ (shown : QName → Option Desc) (unit : List ℕ) (kept : IsClosed show
   based u k h w = record {
     pointed = all_of (WholeAt unit shown In L u.own) (λ (s : TypedType). PointsWell u s.desc) u.own (λ s i. whole_points u k s.name s.desc i) w;
     later = λ x e. has_holds u.own (u.path ++ x) (subst (λ p. HasName u.own (p ++ x)) (sym k.path_is) (h x (subst (λ ns. is_among x ns ≡ true) k.names_is e)));
-    shown = subst (λ n. Rattle.ob_said.specs.Procedures.ShowBases u.shown n) (sym k.knows.unit_is) (subst (λ f. Rattle.ob_said.specs.Procedures.ShowBases f unit) (sym k.knows.shown_is) (bases_shown shown unit kept apart));
+    shown = subst (λ n. Rattle.ob_said.specs.Procedures.ShowBases u.shown n) (sym k.knows.unit_is) (subst (λ f. Rattle.ob_said.specs.Procedures.ShowBases f unit) (sym k.knows.shown_is) (bases_shown shown unit kept apart.own));
   }
 
   -- ---- one heading

@@ -10,8 +10,12 @@ pub mod Pointers
 pub mod Blocks
 pub mod Modules
 pub mod Maps
-pub mod Lines
 pub mod Sorts
 pub mod Same
+pub mod Names
+pub mod Keeping
+pub mod Known
+pub mod Kept
+pub mod Around
 pub mod Grounded
 pub mod Bodies

@@ -22,6 +22,7 @@ use Rattle.ob_rules.specs.Names.{Around, map_of, type_desc, is_out, out_string}
 use Rattle.ob_rules.specs.Depth.{chain_of, is_within}
 use Rattle.ob_relation.proofs.Names.{bytes_sym, bytes_true, and_both}
 use Rattle.ob_forms.specs.Said.{IsOneOf}
+use Rattle.ob_forms.specs.Steady.{bare}
 use Rattle.ob_typed.specs.Makes.{IfThere}
 use Rattle.ob_bodies.specs.Knows.{IsDescribed}
 use Rattle.ob_bodies.proofs.Lists.{one_all, all_of, all_both}
@@ -82,6 +83,22 @@ stood_on S (desc.Record r) h = front_of S (listed r.base ++ each (λ f. f.of) r.
 stood_on S (desc.Const v) h = tt
 stood_on S (desc.Var m t) h = tt
 stood_on S (desc.Proc s) h = tt
+
+-- without members it stands on the same, or on fewer
+pub stands_bare : (S : TypeRef → Type 0) (d : Desc) → AllByRecursion S (stands_on d) → AllByRecursion S (stands_on (bare d))
+stands_bare S (desc.Record r) h = base r.base h
+  where
+    base : (o : Option TypeRef) → AllByRecursion S (listed o ++ each (λ f. f.of) r.fields) → AllByRecursion S (listed o ++ [])
+    base None h = tt
+    base (Some t) h = (h.0, tt)
+stands_bare S (desc.Const v) h = h
+stands_bare S (desc.Var m t) h = h
+stands_bare S (desc.Proc s) h = h
+stands_bare S (desc.Alias m t) h = h
+stands_bare S (desc.Array m n t) h = h
+stands_bare S (desc.OpenArray m t) h = h
+stands_bare S (desc.Pointer m t) h = h
+stands_bare S (desc.ProcType m s) h = h
 
 some_is : {A : Type 0} (x y : A) → Some x ≡ Some y → x ≡ y
 some_is x y e = cc

@@ -12,7 +12,7 @@ use Rattle.ob_types.specs.Maps.{is_type, stands_on, IsWithin}
 use Rattle.ob_rules.specs.Shapes.{Map}
 use Rattle.ob_forms.specs.Steady.{bare, without_members}
 use Rattle.ob_grounded.proofs.Sorts.{strip, stripped, type_stripped, stands_stripped}
-use Rattle.ob_grounded.proofs.Lines.{stands_bare}
+use Rattle.ob_grounded.proofs.Maps.{stands_bare}
 
 bare_stripped : (o : Option Desc) → stripped (option_map bare o) ≡ option_map bare (stripped o)
 bare_stripped None = refl

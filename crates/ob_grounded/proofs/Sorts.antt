@@ -17,8 +17,8 @@ use Rattle.ob_rules.specs.Shapes.{Map, shape, open_at, array_at, record_at, is_o
 use Rattle.ob_rules.specs.Headings.{change_desc}
 use Rattle.ob_bodies.specs.Judged.{with_methods, HasMore}
 use Rattle.ob_forms.specs.Steady.{without_members}
+use Rattle.ob_forms.proofs.Steady.{is_end}
 use Rattle.ob_grounded.proofs.Firm.{is_solid}
-use Rattle.ob_grounded.proofs.Lines.{line_target}
 
 -- a description without its bound procedures
 abbrev pub strip : Desc → Desc
@@ -280,7 +280,7 @@ not_both false e f = absurd cc
 
 module _ (map : Map) (t : TypeRef) (within : IsWithin (without_members map) 201 t) where
   it : StandsFor map t (target map 201 t)
-  it = line_target map 201 201 t (omega arith) within
+  it = (is_end map 201 201 t (omega arith) within).stands
 
   pub not_open : is_open map t ≡ false → Is map is_open_desc t → ⊥
   not_open e h = not_both (is_open map t) e (subst (λ u. is_some (open_at (shape_at map u)) ≡ true) (sym (unique map it h.1.0)) (open_true (map h.0) h.1.1))

@@ -127,10 +127,17 @@ module _ (shown : QName → Option Desc) (unit : List ℕ) (kept : IsClosed show
       all [] h = tt
       all (t ∷ ts) h = (shown_stands own t h.0, all ts h.1)
 
+-- ---- what shows none of its types
+
+module _ (shown : QName → Option Desc) (unit : List ℕ) (kept : IsClosed shown) (none : (q : QName) → bytes_eq q.«module» unit ≡ true → shown q ≡ None) where
   base_shown : (b : TypeRef) → IsHeld shown b → IsShown shown unit b
   base_shown (ref.Basic x) h = tt
-  base_shown (ref.Named q) h = (no_own q (bytes_eq q.«module» unit) refl (shown q) refl h, there (shown q) h)
+  base_shown (ref.Named q) h = (other (bytes_eq q.«module» unit) refl, there (shown q) h)
     where
+      other : (x : Bool) → bytes_eq q.«module» unit ≡ x → x ≡ false
+      other false e = refl
+      other true e = absurd (subst (λ o. MatchOption o ⊥ (λ d. IsTrue (is_type d))) (none q e) h)
+
       there : (o : Option Desc) → MatchOption o ⊥ (λ d. IsTrue (is_type d)) → is_some o ≡ true
       there None h = absurd h
       there (Some d) h = refl

@@ -1,5 +1,6 @@
 pub mod Lists
 pub mod Found
+pub mod Reaching
 pub mod Reached
 pub mod Objects
 pub mod Seen

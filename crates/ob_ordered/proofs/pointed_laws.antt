@@ -1,4 +1,1 @@
-pub mod Found
-pub mod Reached
-pub mod Objects
 pub mod Loaded

@@ -13,9 +13,9 @@ pub fn heads_ruled()
 /// show is a type that they show too, whatever interfaces they were compiled against: one of the
 /// object's own module is reached through it, so it is among its objects, and one of another module
 /// counts for its uses, whose texts are met. Each such object keeps what its description has to: bases
-/// are records, open arrays stand where they may, and results are neither records nor arrays. Nothing
-/// is said of how long chains of types are. (Taken for granted: `BuildsAreWritten`, and of each build
-/// alone `BuildsAreRuled`.)
+/// are records, open arrays stand where they may, and results are neither records nor arrays
+/// (`IsClosed` of ob_grounded). Nothing is said of how long chains of types are. (Taken for granted:
+/// `BuildsAreWritten`, and of each build alone `BuildsAreRuled`.)
 pub fn loaded_closed()
     ensures { LoadedClosed }
 {}

@@ -14,8 +14,8 @@ pub fn loaded_are_lined()
 
 /// A law, with nothing to run. A map that holds the types that its descriptions name, and says of
 /// types what a program declares (`IsSaid` of ob_forms) in which chains end and lines are short, has
-/// chains that end and short lines too; where each of its descriptions keeps what it has to, it is
-/// steady (`IsSteady` of ob_forms).
+/// chains that end and short lines too (`IsEnding` of ob_grounded); where each of its descriptions
+/// keeps what it has to, it is steady (`IsSteady` of ob_forms).
 pub fn said_are_steady()
     ensures ends { SaidHaveEnds }
     ensures steady { SaidAreSteady }

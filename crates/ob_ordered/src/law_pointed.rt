@@ -4,9 +4,8 @@ ghost use Rattle.ob_ordered.specs.pointed_laws.Pointed.{LoadedBases};
 
 /// A law, with nothing to run. Where one of the builds that are loaded before another shows a pointer
 /// type whose base is a named type, they show that type too, whatever interfaces they were compiled
-/// against: a type of its own module is among its objects, and one of another module counts for its
-/// uses, whose texts are met. (Taken for granted: `BuildsAreWritten`, and of each build alone
-/// `BuildsAreRuled`.)
+/// against, since what they show is closed (`loaded_closed`); and it is none of the other's module.
+/// (Taken for granted: `BuildsAreWritten`, and of each build alone `BuildsAreRuled`.)
 pub fn loaded_bases()
     ensures { LoadedBases }
 {}

@@ -1,12 +1,12 @@
 -- All that the headline takes for granted of builds is there.
-use Rattle.std.proofs.Common.{◌≡◌, List, [], ◌∷◌, ◌++◌, Option, Some, sym, subst}
+use Rattle.std.proofs.Common.{List, [], ◌∷◌, ◌++◌, Option, Some, sym, subst}
 use Rattle.std.specs.Prelude.{map, Contains}
 use Rattle.std.specs.List.{AllByRecursion}
 use Rattle.ob_types.specs.TypedSyntax.{Procedure, Module}
 use Rattle.ob_tree.specs.declared.names.QName.{QName}
 use Rattle.ob_types.specs.declared.desc.Desc.{Desc}
 use Rattle.ob_code.specs.Procedures.{body_of}
-use Rattle.ob_meaning.specs.Values.{Program, description}
+use Rattle.ob_meaning.specs.Values.{description}
 use Rattle.ob_env.specs.Faces.{face_named}
 use Rattle.ob_relation.specs.Setting.{Setting}
 use Rattle.ob_standing.specs.Described.{IsDescribed}
@@ -19,7 +19,6 @@ use Rattle.ob_accepted.specs.Accepted.{AreBuilt}
 use Rattle.ob_differ.proofs.Compiled.{compiled_types_differ}
 use Rattle.ob_ages.specs.Builds.{Build, tree_of, entry_of}
 use Rattle.ob_ages.specs.Laws.{Simulation}
-use Rattle.ob_ages.specs.Holds.{Promises}
 use Rattle.ob_ages.proofs.Apart.{entry_named}
 use Rattle.ob_ages.proofs.Linked.{builds_are_linked}
 use Rattle.ob_ages.proofs.Members.{has_head, has_more}
@@ -45,9 +44,6 @@ use Rattle.ob_promised.proofs.limits_laws.Loaded.{loaded_keep}
 use Rattle.ob_promised.specs.built_laws.Built.{IsBuiltModule}
 use Rattle.ob_promised.proofs.built_laws.Built.{loaded_are_built}
 use Rattle.ob_promised.proofs.built_laws.Nearest.{loaded_are_redefined}
-use Rattle.ob_ordered.proofs.lined_laws.Loaded.{loaded_are_lined}
-use Rattle.ob_ordered.proofs.closed_laws.Loaded.{loaded_closed}
-use Rattle.ob_promised.specs.encircled_laws.Encircled as encircled
 use Rattle.ob_promised.specs.encircled_laws.Encircled.{AreEncircled}
 use Rattle.ob_promised.proofs.encircled_laws.Encircled.{loaded_are_steady}
 use Rattle.ob_promised.specs.assured_laws.Checked.{IsLeft}
@@ -82,14 +78,9 @@ same = loaded_are_same builds_are_written builds_ruled sound
 like : LoadedAreLike
 like = loaded_like builds_are_written locality_holds types_differ sound whole (loaded_bases builds_are_written builds_ruled)
 
-closed : encircled.LoadedAreClosed
-closed before b after l =
-    let c = (loaded_closed builds_are_written builds_ruled).front before b after l in
-    record { held = c.held; keeps = c.keeps }
-
 -- the maps of types around bodies are steady
 steady : (bs : List Build) → AreLoaded bs → AreEncircled (program_of bs)
-steady = loaded_are_steady builds_are_written locality_holds sound whole closed (loaded_are_lined builds_are_written builds_ruled)
+steady = loaded_are_steady builds_are_written builds_ruled locality_holds sound whole
 
 -- WHAT IS LEFT OF PROCEDURES
 

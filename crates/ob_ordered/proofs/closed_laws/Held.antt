@@ -32,10 +32,9 @@ use Rattle.ob_ordered.specs.ruled_laws.Ruled.{types_of, IsRuled, BuildsAreRuled}
 use Rattle.ob_ordered.proofs.Shown.{Showing, found_type}
 use Rattle.ob_ordered.proofs.Used.{IsInside}
 use Rattle.ob_ordered.proofs.Loaded.{Before, valid_of, before_more, uses}
-use Rattle.ob_ordered.proofs.pointed_laws.Found.{one_behind, shown_either}
 use Rattle.ob_ordered.specs.closed_laws.Closed.{IsHeadRuled, HeadsAreRuled}
-use Rattle.ob_ordered.proofs.closed_laws.Lists.{all_by}
-use Rattle.ob_ordered.proofs.closed_laws.Found.{more_shown, last_shown}
+use Rattle.ob_ordered.proofs.closed_laws.Lists.{all_by, one_back}
+use Rattle.ob_ordered.proofs.closed_laws.Found.{more_shown, last_shown, shown_either}
 use Rattle.ob_ordered.proofs.closed_laws.Reached.{IsIn, type_in, variable_in, head_in}
 use Rattle.ob_ordered.proofs.closed_laws.Objects.{IsTypeIn, type_at, objects_have}
 use Rattle.ob_ordered.proofs.closed_laws.Seen.{shown_less, seen_named}
@@ -78,7 +77,7 @@ module _ (written : BuildsAreWritten) (ruled : BuildsAreRuled) (heads : HeadsAre
 
   -- the build shows its tree
   showing : Showing b
-  showing = of_all Showing (before ++ b ∷ []) b (before_more written ruled before b k h).showing (one_behind before (b ∷ []) b (inl refl))
+  showing = of_all Showing (before ++ b ∷ []) b (before_more written ruled before b k h).showing (one_back before (b ∷ []) b (inl refl))
 
   rules : IsRuled (of b)
   rules = ruled b (of b) (valid_of written ruled b h.valid.0 h.valid.1)

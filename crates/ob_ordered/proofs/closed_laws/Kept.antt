@@ -32,9 +32,8 @@ use Rattle.ob_ordered.proofs.Closed as closed
 use Rattle.ob_ordered.proofs.Shown.{Showing}
 use Rattle.ob_ordered.proofs.Used.{IsInside}
 use Rattle.ob_ordered.proofs.Loaded.{Before, map_last, valid_of, before_more, more_all, uses}
-use Rattle.ob_ordered.proofs.pointed_laws.Found.{one_behind}
 use Rattle.ob_ordered.specs.closed_laws.Closed.{IsHeadRuled, HeadsAreRuled}
-use Rattle.ob_ordered.proofs.closed_laws.Lists.{all_by}
+use Rattle.ob_ordered.proofs.closed_laws.Lists.{all_by, one_back}
 use Rattle.ob_ordered.proofs.closed_laws.Objects.{seen_type, objects_have}
 
 pub structure_own : (d : Desc) → is_structure d ≡ true → is_alias d ≡ false
@@ -108,7 +107,7 @@ module _ (written : BuildsAreWritten) (ruled : BuildsAreRuled) (heads : HeadsAre
     -- the objects of the build
     objects_keep : AllByRecursion (λ v. Is (description program) is_open v.of → ⊥) (tree_of b).variables → (x : List ℕ) (d : Desc) → object_named (shows_of b).objects x ≡ Some d → TypeOrKept program d
     objects_keep shut x d e =
-        let showing : Showing b = of_all Showing (before ++ b ∷ []) b (before_more written ruled before b k h).showing (one_behind before (b ∷ []) b (inl refl)) in
+        let showing : Showing b = of_all Showing (before ++ b ∷ []) b (before_more written ruled before b k h).showing (one_back before (b ∷ []) b (inl refl)) in
         objects_have (tree_of b) (TypeOrKept program) (λ c. inr tt)
         (all_by (λ v. is_shown v.mark ≡ true → TypeOrKept program (desc.Var v.mark v.of)) (tree_of b).variables (λ v i s. inr (of_all (λ v. Is (description program) is_open v.of → ⊥) (tree_of b).variables v shut i)))
         (all_by (λ p. is_exported p ≡ true → TypeOrKept program (desc.Proc (signature_of p))) (tree_of b).procedures (λ p i s. inr (head_keeps p i)))

@@ -1,5 +1,5 @@
 -- Members of lists, and what all of them have.
-use Rattle.std.proofs.Common.{◌≡◌, inl, inr, Bool, true, false, List, [], ◌∷◌, ◌++◌, map as each, refl, sym, subst, ◌∙◌}
+use Rattle.std.proofs.Common.{◌≡◌, inl, inr, Bool, true, false, List, [], ◌∷◌, ◌++◌, map as each, refl, sym, ap, subst, ◌∙◌}
 use Rattle.std.specs.Prelude.{cond}
 use Rattle.std.specs.List.{filter, flat_map, AllByRecursion}
 use Rattle.ob_forms.specs.Said.{IsOneOf}
@@ -14,7 +14,7 @@ one_front [] ys x h = absurd h
 one_front (y ∷ xs) ys x (inl e) = inl e
 one_front (y ∷ xs) ys x (inr k) = inr (one_front xs ys x k)
 
-one_back : {A : Type 0} (xs ys : List A) (x : A) → IsOneOf ys x → IsOneOf (xs ++ ys) x
+pub one_back : {A : Type 0} (xs ys : List A) (x : A) → IsOneOf ys x → IsOneOf (xs ++ ys) x
 one_back [] ys x h = h
 one_back (z ∷ xs) ys x h = inr (one_back xs ys x h)
 
@@ -22,6 +22,16 @@ pub one_flat : {A B : Type 0} (f : A → List B) (xs : List A) (x : A) (y : B) �
 one_flat f [] x y h i = absurd h
 one_flat f (z ∷ xs) x y (inl e) i = one_front (f z) (flat_map f xs) y (subst (λ u. IsOneOf (f u) y) (sym e) i)
 one_flat f (z ∷ xs) x y (inr k) i = one_back (f z) (flat_map f xs) y (one_flat f xs x y k i)
+
+-- one that is kept
+pub one_kept : {A : Type 0} (f : A → Bool) (xs : List A) (x : A) → f x ≡ true → IsOneOf xs x → IsOneOf (filter f xs) x
+one_kept f [] x e h = absurd h
+one_kept f (y ∷ ys) x e (inl i) = subst (λ (b : Bool). IsOneOf (cond b (y ∷ filter f ys) (filter f ys)) x) (sym (ap f i ∙ e)) (inl i)
+one_kept f (y ∷ ys) x e (inr k) = by (f y) (one_kept f ys x e k)
+  where
+    by : (b : Bool) → IsOneOf (filter f ys) x → IsOneOf (cond b (y ∷ filter f ys) (filter f ys)) x
+    by true i = inr i
+    by false i = i
 
 -- what all have that are kept
 pub sifted : {A : Type 0} (test : A → Bool) (P : A → Type 0) (xs : List A) → AllByRecursion P (filter test xs) → AllByRecursion (λ x. test x ≡ true → P x) xs

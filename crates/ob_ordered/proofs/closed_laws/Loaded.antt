@@ -12,6 +12,7 @@ use Rattle.ob_meaning.specs.Values.{description}
 use Rattle.ob_env.specs.Faces.{described}
 use Rattle.ob_env.specs.Shown.{blank, shown}
 use Rattle.ob_written.proofs.Lists.{all_map}
+use Rattle.ob_grounded.specs.Steady.{IsClosed}
 use Rattle.ob_declares.specs.Near.{core}
 use Rattle.ob_declares.proofs.Keeping.{Says, core_bare}
 use Rattle.ob_declares.proofs.Ordered.{seen_bare, program_sound}
@@ -22,14 +23,14 @@ use Rattle.ob_joining.proofs.Settings.{loaded_front}
 use Rattle.ob_ordered.specs.ruled_laws.Ruled.{BuildsAreRuled}
 use Rattle.ob_ordered.proofs.Shown.{builds_show}
 use Rattle.ob_ordered.proofs.Loaded.{Before, before_more, none, in_order, kept_in}
-use Rattle.ob_ordered.specs.closed_laws.Closed.{IsClosed, HeadsAreRuled, LoadedClosed}
+use Rattle.ob_ordered.specs.closed_laws.Closed.{HeadsAreRuled, LoadedClosed}
 use Rattle.ob_ordered.proofs.closed_laws.Heads.{heads_ruled}
 use Rattle.ob_ordered.proofs.closed_laws.Objects.{IsTypeIn}
 use Rattle.ob_ordered.proofs.closed_laws.Seen.{blank_type, blank_core, blank_named, keeps_blank, keeps_seen, keeps_smaller}
 use Rattle.ob_ordered.proofs.closed_laws.Held.{AreHeld, held_next}
 use Rattle.ob_ordered.proofs.closed_laws.Kept.{all_keep}
 
-append_none : (xs : List Build) → xs ++ [] ≡ xs
+pub append_none : (xs : List Build) → xs ++ [] ≡ xs
 append_none [] = refl
 append_none (y ∷ ys) = ap (λ r. y ∷ r) (append_none ys)
 

@@ -26,7 +26,7 @@ use Rattle.ob_forms.specs.Said.{IsOneOf}
 use Rattle.ob_forms.proofs.Modules.{of_all}
 use Rattle.ob_declares.proofs.Shown.{object_found}
 use Rattle.ob_declares.proofs.Views.{one_each}
-use Rattle.ob_ordered.proofs.pointed_laws.Found.{one_kept}
+use Rattle.ob_ordered.proofs.closed_laws.Lists.{one_kept}
 
 abbrev Object : Type 0
 Object = List ℕ × Desc

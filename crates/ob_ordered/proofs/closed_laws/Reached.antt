@@ -22,9 +22,8 @@ use Rattle.ob_uses.proofs.Searching.{itself, left_of, right_of, in_front, in_bac
 use Rattle.ob_uses.proofs.Pairing.{has_of_among, among_of_has, kept_has}
 use Rattle.ob_forms.specs.Said.{IsOneOf}
 use Rattle.ob_declares.proofs.Views.{one_each}
-use Rattle.ob_ordered.proofs.pointed_laws.Found.{one_kept}
-use Rattle.ob_ordered.proofs.pointed_laws.Reached.{to_reached, from_reached}
-use Rattle.ob_ordered.proofs.closed_laws.Lists.{all_by, one_flat}
+use Rattle.ob_ordered.proofs.closed_laws.Reaching.{to_reached, from_reached}
+use Rattle.ob_ordered.proofs.closed_laws.Lists.{all_by, one_flat, one_kept}
 
 names_one : (ts : List TypeRef) (p : QName) → IsOneOf ts (ref.Named p) → is_among (names_of ts) p ≡ true
 names_one [] p h = absurd h

@@ -1,5 +1,5 @@
 -- Maps without the members of records.
-use Rattle.std.proofs.Common.{◌≡◌, ℕ, zero, suc, [], ◌++◌, map as each, Option, Some, None, refl, sym, ap, subst, ◌∙◌}
+use Rattle.std.proofs.Common.{◌≡◌, ℕ, zero, suc, Option, Some, None, refl, sym, ap, subst, ◌∙◌}
 use Rattle.std.specs.Prelude.{true, MatchOption, IsTrue}
 use Rattle.std.specs.Option.{option_map}
 use Rattle.std.specs.List.{AllByRecursion}
@@ -8,10 +8,11 @@ use Rattle.ob_types.specs.declared.types.TypeRef.{TypeRef}
 use Rattle.ob_types.specs.declared.types.TypeRef.TheVariants as ref
 use Rattle.ob_types.specs.declared.desc.Desc.{Desc}
 use Rattle.ob_types.specs.declared.desc.Desc.TheVariants as desc
-use Rattle.ob_types.specs.Maps.{is_type, listed, stands_on, IsHeld, IsWithin}
+use Rattle.ob_types.specs.Maps.{is_type, stands_on, IsHeld, IsWithin}
 use Rattle.ob_forms.specs.Steady.{bare, without_members}
 use Rattle.ob_forms.proofs.Within.{all_from}
 use Rattle.ob_forms.proofs.Staying.{HasMore}
+use Rattle.ob_grounded.proofs.Maps.{stands_bare}
 
 pub type_bare : (d : Desc) → is_type (bare d) ≡ is_type d
 type_bare (desc.Const v) = refl
@@ -23,22 +24,6 @@ type_bare (desc.OpenArray m t) = refl
 type_bare (desc.Pointer m t) = refl
 type_bare (desc.ProcType m s) = refl
 type_bare (desc.Record r) = refl
-
--- what a description stands on without members it stands on with them
-pub bare_parts : (P : TypeRef → Type 0) (d : Desc) → AllByRecursion P (stands_on d) → AllByRecursion P (stands_on (bare d))
-bare_parts P (desc.Const v) h = h
-bare_parts P (desc.Var m t) h = h
-bare_parts P (desc.Proc s) h = h
-bare_parts P (desc.Alias m t) h = h
-bare_parts P (desc.Array m n t) h = h
-bare_parts P (desc.OpenArray m t) h = h
-bare_parts P (desc.Pointer m t) h = h
-bare_parts P (desc.ProcType m s) h = h
-bare_parts P (desc.Record r) h = by r.base h
-  where
-    by : (o : Option TypeRef) → AllByRecursion P (listed o ++ each (λ f. f.of) r.fields) → AllByRecursion P (listed o ++ [])
-    by None h = tt
-    by (Some t) h = (h.0, tt)
 
 -- a description of the map without members is one of the map, bare
 pub bare_back : (o : Option Desc) (b : Desc) → option_map bare o ≡ Some b → (d : Desc) × ((o ≡ Some d) × (bare d ≡ b))
@@ -69,4 +54,4 @@ lines_larger small large says (suc n) (ref.Named q) h = by (small q) refl h (λ 
         let s = says q d e h.0 in
         let there : without_members large q ≡ Some (bare d) = ap (option_map bare) s.1.0 ∙ ap (λ x. Some x) s.1.1 in
         let parts = all_from (λ t. IsWithin small n t) (λ t. IsWithin (without_members large) n t) r (stands_on d) h.1 in
-        subst (λ o. MatchOption o ⊥ (λ d. IsTrue (is_type d) × AllByRecursion (λ t. IsWithin (without_members large) n t) (stands_on d))) (sym there) (type_bare d ∙ h.0, bare_parts (λ t. IsWithin (without_members large) n t) d parts)
+        subst (λ o. MatchOption o ⊥ (λ d. IsTrue (is_type d) × AllByRecursion (λ t. IsWithin (without_members large) n t) (stands_on d))) (sym there) (type_bare d ∙ h.0, stands_bare (λ t. IsWithin (without_members large) n t) d parts)

@@ -2,7 +2,7 @@
 use Rattle.std.proofs.Common.{◌≡◌, ◌⊎◌, ⊎_elim, inl, inr, ℕ, zero, suc, List, [], ◌∷◌, ◌++◌, map as each, Option, Some, None, refl, sym, ap, subst, ◌∙◌}
 use Rattle.std.specs.Prelude.{true, MatchOption, IsTrue}
 use Rattle.std.specs.Option.{option_map}
-use Rattle.std.specs.List.{AllByRecursion, flat_map}
+use Rattle.std.specs.List.{AllByRecursion}
 use Rattle.ob_tree.specs.declared.names.QName.{QName}
 use Rattle.ob_types.specs.declared.types.Basic.TheVariants as basic
 use Rattle.ob_types.specs.declared.types.TypeRef.{TypeRef}
@@ -10,14 +10,15 @@ use Rattle.ob_types.specs.declared.types.TypeRef.TheVariants as ref
 use Rattle.ob_types.specs.declared.desc.Desc.{Desc}
 use Rattle.ob_types.specs.declared.desc.Desc.TheVariants as desc
 use Rattle.ob_types.specs.declared.desc.Field.{Field}
-use Rattle.ob_types.specs.Maps.{is_type, listed, signature_types, stands_on, named_by, IsHeld, IsWithin}
+use Rattle.ob_types.specs.Maps.{is_type, listed, signature_types, stands_on, IsHeld, IsWithin}
 use Rattle.ob_meaning.specs.Values.{Program, description}
 use Rattle.ob_forms.specs.Said.{IsOneOf, IsAmong, IsSaid, ChainsEnd}
 use Rattle.ob_forms.specs.Steady.{bare, without_members}
 use Rattle.ob_forms.proofs.Within.{all_from}
 use Rattle.ob_forms.proofs.Modules.{of_all}
+use Rattle.ob_grounded.proofs.Maps.{stood_on, stands_bare}
 use Rattle.ob_ordered.specs.lined_laws.Lined.{AreLined, SaysOf, HoldsNamed, SaidHaveEnds, SaidAreSteady}
-use Rattle.ob_ordered.proofs.lined_laws.Bare.{type_bare, bare_parts, bare_back, held_bare}
+use Rattle.ob_ordered.proofs.lined_laws.Bare.{type_bare, bare_back, held_bare}
 
 -- ---- lists
 
@@ -27,10 +28,6 @@ Among xs ts = AllByRecursion (λ t. IsOneOf xs t) ts
 all_among : (xs : List TypeRef) → Among xs xs
 all_among [] = tt
 all_among (x ∷ xs) = (inl refl, all_from (λ t. IsOneOf xs t) (λ t. IsOneOf (x ∷ xs) t) (λ t i. inr i) xs (all_among xs))
-
-front : (P : TypeRef → Type 0) (xs ys : List TypeRef) → AllByRecursion P (xs ++ ys) → AllByRecursion P xs
-front P [] ys h = tt
-front P (x ∷ xs) ys h = (h.0, front P xs ys h.1)
 
 field_among : (gs : List Field) (g : Field) → IsOneOf gs g → IsOneOf (each (λ f. f.of) gs) g.of
 field_among [] g i = i
@@ -44,18 +41,6 @@ fields_among gs (f ∷ fs) h = (subst (λ t. IsOneOf (each (λ f. f.of) gs) t) h
 record_among : (o : Option TypeRef) (gs fs : List Field) → AllByRecursion (λ f. IsAmong gs f) fs → Among (listed o ++ each (λ f. f.of) gs) (listed o ++ each (λ f. f.of) fs)
 record_among None gs fs h = fields_among gs fs h
 record_among (Some t) gs fs h = (inl refl, all_from (λ u. IsOneOf (each (λ f. f.of) gs) u) (λ u. IsOneOf (t ∷ each (λ f. f.of) gs) u) (λ u i. inr i) (each (λ f. f.of) fs) (fields_among gs fs h))
-
--- what a type stands on it names
-stands_named : (P : TypeRef → Type 0) (d : Desc) → AllByRecursion P (named_by d) → AllByRecursion P (stands_on d)
-stands_named P (desc.Const v) h = h
-stands_named P (desc.Var m t) h = tt
-stands_named P (desc.Proc s) h = tt
-stands_named P (desc.Alias m t) h = h
-stands_named P (desc.Array m n t) h = h
-stands_named P (desc.OpenArray m t) h = h
-stands_named P (desc.Pointer m t) h = tt
-stands_named P (desc.ProcType m s) h = h
-stands_named P (desc.Record r) h = front P (listed r.base ++ each (λ f. f.of) r.fields) (flat_map (λ m. signature_types m.signature) r.methods) h
 
 -- ---- what is said of a type, by what it stands on
 
@@ -124,13 +109,13 @@ module _ (declared map : QName → Option Desc) (over : (q : QName) (d : Desc) �
 
 module _ (program : Program) (ended : ChainsEnd program) (lined : AreLined program) (map : QName → Option Desc) (says : SaysOf program map) (holds : HoldsNamed map) where
   stood : (q : QName) (d : Desc) → map q ≡ Some d → AllByRecursion (λ t. IsHeld map t) (stands_on d)
-  stood q d e = stands_named (λ t. IsHeld map t) d (holds q d e)
+  stood q d e = stood_on (λ t. IsHeld map t) d (holds q d e)
 
   stood_bare : (q : QName) (b : Desc) → without_members map q ≡ Some b → AllByRecursion (λ t. IsHeld (without_members map) t) (stands_on b)
   stood_bare q b e =
       let s = bare_back (map q) b e in
       subst (λ d. AllByRecursion (λ t. IsHeld (without_members map) t) (stands_on d)) s.1.1
-      (bare_parts (λ t. IsHeld (without_members map) t) s.0 (all_from (λ t. IsHeld map t) (λ t. IsHeld (without_members map) t) (held_bare map) (stands_on s.0) (stood q s.0 s.1.0)))
+      (stands_bare (λ t. IsHeld (without_members map) t) s.0 (all_from (λ t. IsHeld map t) (λ t. IsHeld (without_members map) t) (held_bare map) (stands_on s.0) (stood q s.0 s.1.0)))
 
   over : (q : QName) (d : Desc) → map q ≡ Some d → is_type d ≡ true → IsOfChars d ⊎ ((e : Desc) × ((description program q ≡ Some e) × Among (stands_on e) (stands_on d)))
   over q d e ty = ⊎_elim (λ c. inl c.0) (λ (s : IsDeclaredOver program q d). inr (s.e, (s.there, s.full))) (said_over program q d ty (says q d e ty))

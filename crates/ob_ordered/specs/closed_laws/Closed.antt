@@ -1,23 +1,19 @@
 -- What builds that are loaded together show is closed, and keeps what types have to: the law.
-use Rattle.std.specs.Prelude.{◌≡◌, List, ◌∷◌, ◌++◌, map, Option, Some}
+use Rattle.std.specs.Prelude.{List, ◌∷◌, ◌++◌, map, Option}
 use Rattle.std.specs.List.{AllByRecursion}
 use Rattle.ob_tree.specs.declared.names.QName.{QName}
 use Rattle.ob_types.specs.declared.desc.Desc.{Desc}
-use Rattle.ob_types.specs.Maps.{IsHeld, named_by, signature_types}
-use Rattle.ob_types.specs.Relations.{Keeps, IsPlainResult}
+use Rattle.ob_types.specs.Maps.{IsHeld, signature_types}
+use Rattle.ob_types.specs.Relations.{IsPlainResult}
 use Rattle.ob_types.specs.TypedSyntax.{Procedure}
 use Rattle.ob_env.specs.Shown.{shown}
 use Rattle.ob_uses.specs.Objects.{signature_of}
 use Rattle.ob_compiling.specs.Compiling.{Compiled}
+use Rattle.ob_grounded.specs.Steady.{IsClosed}
 use Rattle.ob_ages.specs.Builds.{Text, Build, IsValid, shows_of}
 use Rattle.ob_ages.specs.Laws.{BuildsAreWritten}
 use Rattle.ob_joining.specs.Builds.{AreLoaded}
 use Rattle.ob_ordered.specs.ruled_laws.Ruled.{types_of, BuildsAreRuled}
-
--- Each type that a description names is held, and each description keeps what it has to.
-pub record IsClosed (types : QName → Option Desc) : Type 0 where
-  pub held : (q : QName) (d : Desc) → types q ≡ Some d → AllByRecursion (λ t. IsHeld types t) (named_by d)
-  pub keeps : (q : QName) (d : Desc) → types q ≡ Some d → Keeps types d
 
 -- what is shown by builds that are loaded together, and by those before one of them
 pub record LoadedAreClosed : Type 0 where

@@ -1,8 +1,7 @@
 -- Lines of types, by aliases, elements, bases and signatures: they are short in programs, and in maps that say what a program declares.
-use Rattle.std.specs.Prelude.{◌≡◌, ℕ, true, List, [], Option, Some}
+use Rattle.std.specs.Prelude.{◌≡◌, true, List, [], Option, Some}
 use Rattle.std.specs.List.{AllByRecursion}
 use Rattle.ob_tree.specs.declared.names.QName.{QName}
-use Rattle.ob_types.specs.declared.types.TypeRef.{TypeRef}
 use Rattle.ob_types.specs.declared.types.TypeRef.TheVariants as ref
 use Rattle.ob_types.specs.declared.desc.Desc.{Desc}
 use Rattle.ob_types.specs.Maps.{is_type, named_by, IsHeld, IsWithin}
@@ -11,6 +10,7 @@ use Rattle.ob_meaning.specs.Values.{Program, description}
 use Rattle.ob_forms.specs.Said.{IsSaid, ChainsEnd}
 use Rattle.ob_forms.specs.Steady.{without_members, IsSteady}
 use Rattle.ob_declares.specs.Ordered.{StandInOrder}
+use Rattle.ob_grounded.specs.Steady.{IsEnding}
 use Rattle.ob_ordered.specs.ruled_laws.Ruled.{BuildsAreRuled}
 use Rattle.ob_ages.specs.Builds.{Build}
 use Rattle.ob_ages.specs.Laws.{BuildsAreWritten}
@@ -41,14 +41,9 @@ SaysOf program map = (q : QName) (d : Desc) → map q ≡ Some d → is_type d �
 abbrev pub HoldsNamed : (QName → Option Desc) → Type 0
 HoldsNamed map = (q : QName) (d : Desc) → map q ≡ Some d → AllByRecursion (λ t. IsHeld map t) (named_by d)
 
--- each chain of types ends, and lines are short
-pub record HasEnds (map : QName → Option Desc) : Type 0 where
-  pub ends : (t : TypeRef) → IsHeld map t → (n : ℕ) × IsWithin map n t
-  pub lines : (t : TypeRef) → IsHeld map t → IsWithin (without_members map) 201 t
-
--- so it is where the map says what a program declares in which chains end and lines are short
+-- Its chains end and its lines are short, where it says what a program declares in which they do and are.
 abbrev pub SaidHaveEnds : Type 0
-SaidHaveEnds = (program : Program) → ChainsEnd program → AreLined program → (map : QName → Option Desc) → SaysOf program map → HoldsNamed map → HasEnds map
+SaidHaveEnds = (program : Program) → ChainsEnd program → AreLined program → (map : QName → Option Desc) → SaysOf program map → HoldsNamed map → IsEnding map
 
 -- and the map is steady, where each of its descriptions keeps what it has to
 abbrev pub SaidAreSteady : Type 0

@@ -25,18 +25,18 @@ use Rattle.ob_promised.proofs.inherited_laws.Loaded.{IsSome, in_front, in_middle
 use Rattle.ob_ordered.specs.pointed_laws.Pointed.{LoadedShowBases}
 use Rattle.ob_promised.specs.assured_laws.Judged.{LoadedAreJudged}
 
-map_both : {A B : Type 0} (f : A → B) (xs ys : List A) → map f (xs ++ ys) ≡ map f xs ++ map f ys
+pub map_both : {A B : Type 0} (f : A → B) (xs ys : List A) → map f (xs ++ ys) ≡ map f xs ++ map f ys
 map_both f [] ys = refl
 map_both f (x ∷ xs) ys = ap (λ r. f x ∷ r) (map_both f xs ys)
 
-all_spelled : BuildsAreWritten → (xs : List Build) → ((b : Build) → In xs b → IsSome b) → AllByRecursion IsSpelled (map shows_of xs)
+pub all_spelled : BuildsAreWritten → (xs : List Build) → ((b : Build) → In xs b → IsSome b) → AllByRecursion IsSpelled (map shows_of xs)
 all_spelled written [] v = tt
 all_spelled written (b ∷ xs) v =
     let x = v b (inl refl) in
     (subst (λ (y : Compiled Text). IsSpelled y.shows) (sym (of_is b x.0 x.1)) (written b x.0 x.1).symbols, all_spelled written xs (λ y j. v y (inr j)))
 
 -- a build shows the name of its module
-shows_name : (b : Build) → IsSome b → name_of b ≡ (tree_of b).name
+pub shows_name : (b : Build) → IsSome b → name_of b ≡ (tree_of b).name
 shows_name b v = subst (λ (x : Compiled Text). x.shows.«module» ≡ x.tree.name) (sym (of_is b v.0 v.1)) (subst (λ (x : Compiled Text). x.shows.«module» ≡ x.tree.name) (sym (comes texts _ (Some b.source) v.0 v.1.is).is) refl)
 
 module _ (written : BuildsAreWritten) (locality : Locality) (bases : LoadedShowBases) where

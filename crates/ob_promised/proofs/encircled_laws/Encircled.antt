@@ -1,5 +1,5 @@
 -- Each module of builds that are loaded together is judged over the interfaces of those before it, where the maps of types are steady.
-use Rattle.std.proofs.Common.{◌≡◌, inl, inr, refl, sym, ap, subst, ◌∙◌, ℕ, List, [], ◌∷◌, ◌++◌, map, Option, Some, append_assoc}
+use Rattle.std.proofs.Common.{◌≡◌, refl, sym, ap, subst, ◌∙◌, ℕ, List, [], ◌∷◌, ◌++◌, map, Option, append_assoc}
 use Rattle.std.specs.List.{AllByRecursion}
 use Rattle.std.specs.Prelude.{Contains}
 use Rattle.ob_tree.specs.declared.names.QName.{QName}
@@ -11,7 +11,6 @@ use Rattle.ob_meaning.specs.Values.{Program}
 use Rattle.ob_env.specs.Faces.{described}
 use Rattle.ob_env.specs.Shown.{shown}
 use Rattle.ob_rules.specs.Declarations.{Contents}
-use Rattle.ob_compiling.specs.Compiling.{Compiled, texts}
 use Rattle.ob_said.proofs.Texts.{headings_are_named}
 use Rattle.ob_strings.proofs.Trees.{readings_spelled}
 use Rattle.ob_typed.specs.Known.{ConstantIs}
@@ -30,35 +29,23 @@ use Rattle.ob_grounded.proofs.Grounded.{types_are_held}
 use Rattle.ob_grounded.proofs.Bodies.{bodies_are_steady}
 use Rattle.ob_judged.specs.Judged.{IsJudgedModule}
 use Rattle.ob_introduced.specs.Steady.{AreSteady, IsSteadyModule, AreSteadyModules}
-use Rattle.ob_ages.specs.Builds.{Text, Build, IsSpelled, shows_of, tree_of, name_of}
+use Rattle.ob_ages.specs.Builds.{Build, shows_of, tree_of, name_of}
 use Rattle.ob_ages.specs.Laws.{IsBehind, AreTogether, Locality, BuildsAreWritten}
-use Rattle.ob_ages.proofs.Compiled.{comes}
-use Rattle.ob_ages.proofs.Stood.{of_is}
 use Rattle.ob_ages.proofs.Gone.{all_valid}
 use Rattle.ob_ages.proofs.Members.{In}
 use Rattle.ob_joining.specs.Builds.{program_of, AreLoaded}
 use Rattle.ob_promised.proofs.inherited_laws.Checked.{checked_at}
 use Rattle.ob_families.specs.Premises.{LoadedAreSound}
+use Rattle.ob_ordered.specs.ruled_laws.Ruled.{BuildsAreRuled}
 use Rattle.ob_ordered.specs.Loaded.{LoadedAreWhole}
+use Rattle.ob_ordered.proofs.lined_laws.Said.{said_have_ends}
+use Rattle.ob_ordered.proofs.lined_laws.Loaded.{loaded_are_lined}
+use Rattle.ob_ordered.proofs.closed_laws.Loaded.{loaded_closed}
 use Rattle.ob_promised.proofs.inherited_laws.Loaded.{IsSome, tree_in, in_front, in_middle, all_shown}
-use Rattle.ob_promised.specs.encircled_laws.Encircled.{LoadedAreClosed, LoadedAreLined, LoadedAreSteady}
+use Rattle.ob_promised.specs.encircled_laws.Encircled.{LoadedAreSteady}
+use Rattle.ob_promised.proofs.assured_laws.Judged.{map_both, all_spelled, shows_name}
 use Rattle.ob_promised.proofs.encircled_laws.Apart.{shown_apart, all_named}
 use Rattle.ob_promised.proofs.encircled_laws.Types.{types_said}
-use Rattle.ob_promised.proofs.encircled_laws.Ending.{ending}
-
-map_both : {A B : Type 0} (f : A → B) (xs ys : List A) → map f (xs ++ ys) ≡ map f xs ++ map f ys
-map_both f [] ys = refl
-map_both f (x ∷ xs) ys = ap (λ r. f x ∷ r) (map_both f xs ys)
-
-all_spelled : BuildsAreWritten → (xs : List Build) → ((b : Build) → In xs b → IsSome b) → AllByRecursion IsSpelled (map shows_of xs)
-all_spelled written [] v = tt
-all_spelled written (b ∷ xs) v =
-    let x = v b (inl refl) in
-    (subst (λ (y : Compiled Text). IsSpelled y.shows) (sym (of_is b x.0 x.1)) (written b x.0 x.1).symbols, all_spelled written xs (λ y j. v y (inr j)))
-
--- a build shows the name of its module
-shows_name : (b : Build) → IsSome b → name_of b ≡ (tree_of b).name
-shows_name b v = subst (λ (x : Compiled Text). x.shows.«module» ≡ x.tree.name) (sym (of_is b v.0 v.1)) (subst (λ (x : Compiled Text). x.shows.«module» ≡ x.tree.name) (sym (comes texts _ (Some b.source) v.0 v.1.is).is) refl)
 
 each_steady : (shown : QName → Option Desc) (m : TypedModule) (content : Contents) (ps : List TypedProcedure) (h : AllByRecursion (ProcedureIsJudged ConstantIs shown m content) ps) → IsAroundEach HasSteadyMap ConstantIs shown m content ps h → AreSteady shown m content ps h
 each_steady shown m content [] h k = tt
@@ -69,7 +56,7 @@ record IsEncircled (program : Program) (m : Module) : Type 0 where
   judged : IsJudgedModule program m
   steady : IsSteadyModule program m judged
 
-module _ (written : BuildsAreWritten) (locality : Locality) (sounds : LoadedAreSound) (wholes : LoadedAreWhole) (closed : LoadedAreClosed) (lined : LoadedAreLined) where
+module _ (written : BuildsAreWritten) (ruled : BuildsAreRuled) (locality : Locality) (sounds : LoadedAreSound) (wholes : LoadedAreWhole) where
   is_encircled : (before : List Build) (b : Build) (after : List Build) → AreLoaded (before ++ b ∷ after) → IsBehind before b → IsEncircled (program_of (before ++ b ∷ after)) (tree_of b)
   is_encircled before b after l behind =
       let all = before ++ b ∷ after in
@@ -82,17 +69,17 @@ module _ (written : BuildsAreWritten) (locality : Locality) (sounds : LoadedAreS
       let tree_name : (tree_of b).name ≡ k.tree.name.name = ap (λ (m : Module). m.name) k.is ∙ checked_name (shown faces) k.tree k.t k.checked_is in
       let name : name_of b ≡ k.tree.name.name = shows_name b v ∙ tree_name in
       let apart = shown_apart before first k.tree.name.name (subst (λ (n : List ℕ). Contains (map name_of before) n → ⊥) name behind.new) in
-      let shut = closed before b after l in
+      let shut = (loaded_closed written ruled).front before b after l in
       let c : IsOver (shown faces) k.tree k.t = record {
         is = k.checked_is;
         closed = shut;
         apart = apart;
         imports = (apart_of v.0 k.tree (comes_of b v.0 k.tree v.1 k.read)).imports;
-        names = read_types_differ b.source k.tree (shown faces) k.t (short_is b v.0 v.1) (bases_shown (shown faces) k.tree.name.name shut apart) k.read k.checked_is;
+        names = read_types_differ b.source k.tree (shown faces) k.t (short_is b v.0 v.1) (bases_shown (shown faces) k.tree.name.name shut apart.own) k.read k.checked_is;
       } in
       let sound = sounds all l in
       let said = types_said program sound (wholes all l) faces (all_shown all before (λ x i. in_front before (b ∷ after) x i) valid) (tree_of b) (tree_in all b (in_middle before b after)) (described faces) k.t k.is k.tree (sym tree_name) in
-      let end = ending program sound (lined all l) (types_of (shown faces) k.tree k.t) said (types_are_held (shown faces) k.tree k.t c) in
+      let end = said_have_ends program sound.ends (loaded_are_lined written ruled all l) (types_of (shown faces) k.tree k.t) (λ q d e type. said q d e) (types_are_held (shown faces) k.tree k.t c) in
       let h = bodies_are_steady (shown faces) k.tree k.t c end (readings_spelled b.source k.tree k.read) (headings_are_named b.source k.tree k.read) (constants_stand k.tree.name.name (shown faces) (spelled_shown faces (all_spelled written before first))) in
       record {
         judged = record {
@@ -121,4 +108,4 @@ module _ (written : BuildsAreWritten) (locality : Locality) (sounds : LoadedAreS
       ((x.judged, r.0), (x.steady, r.1))
 
 pub loaded_are_steady : LoadedAreSteady
-loaded_are_steady written locality sounds wholes closed lined bs l = let r = all_encircled written locality sounds wholes closed lined bs [] bs refl l l.together in record { judged = r.0; steady = r.1 }
+loaded_are_steady written ruled locality sounds wholes bs l = let r = all_encircled written ruled locality sounds wholes bs [] bs refl l l.together in record { judged = r.0; steady = r.1 }

@@ -25,7 +25,8 @@ use Rattle.ob_bodies.proofs.Standing.{grows_same, stands_grown}
 use Rattle.ob_bodies.proofs.Binding.{AreOne, IsFrom}
 use Rattle.ob_grounded.proofs.Stand.{found_name}
 use Rattle.ob_grounded.proofs.Modules.{bound_from}
-use Rattle.ob_grounded.proofs.Grounded.{one_of, grounded_closed}
+use Rattle.ob_grounded.proofs.Names.{one_of}
+use Rattle.ob_grounded.proofs.Grounded.{grounded_closed}
 use Rattle.ob_upheld.specs.based_laws.Based.{AreBased}
 use Rattle.ob_upheld.specs.based_laws.Laws.{ModulesAreBased}
 use Rattle.ob_grounded.proofs.Firm.{AnyValue}

@@ -1,12 +1,8 @@
--- The base of a pointer type that is reached in a module is reached too, if it is a type of the module.
-use Rattle.std.proofs.Common.{◌≡◌, ◌⊎◌, ⊎_elim, inl, inr, Bool, true, List, [], ◌∷◌, ◌++◌, map as each, Option, Some, None, refl, sym, ap, subst, ◌∙◌}
-use Rattle.std.specs.Prelude.{cond}
+-- The types of a module that its interface leads to are those that are reached, in however many steps.
+use Rattle.std.proofs.Common.{◌≡◌, ◌⊎◌, ⊎_elim, inl, inr, true, List, [], ◌∷◌, ◌++◌, map as each, Option, Some, None, refl, sym, ap, subst, ◌∙◌}
 use Rattle.std.specs.List.{filter, flat_map}
 use Rattle.ob_tree.specs.declared.names.QName.{QName}
-use Rattle.ob_tree.specs.declared.ident.Mark.{Mark}
-use Rattle.ob_types.specs.declared.types.TypeRef.TheVariants as ref
 use Rattle.ob_types.specs.declared.desc.Desc.{Desc}
-use Rattle.ob_types.specs.declared.desc.Desc.TheVariants as desc
 use Rattle.ob_types.specs.declared.typed.TypedType.{TypedType}
 use Rattle.ob_types.specs.TypedSyntax.{Module}
 use Rattle.ob_types.specs.Maps.{signature_types}
@@ -22,7 +18,7 @@ use Rattle.ob_uses.specs.Closed.{is_among, of_found, reached_from}
 use Rattle.ob_uses.specs.Reaching.{Reaches, first, onward, AreEnough}
 use Rattle.ob_uses.specs.Objects.{own_names, first_shown, signature_of, is_exported, shown_types, reached_types}
 use Rattle.ob_uses.specs.Ways.{leads_by, desc_leads}
-use Rattle.ob_uses.proofs.Searching.{itself, either, left_of, in_which, exact_here}
+use Rattle.ob_uses.proofs.Searching.{either, in_which, exact_here}
 use Rattle.ob_uses.proofs.Pairing.{has_of_among, kept_only}
 use Rattle.ob_uses.proofs.Objecting.{full_name, named_there, length_each}
 
@@ -77,10 +73,3 @@ module _ (m : Module) where
 
   pub from_reached : (q : QName) → IsReached q → is_among (reached_types m) q ≡ true
   from_reached q r = sym (ap (λ k. is_among (reached_from leads k (first_shown m)) q) (length_each (own_name m) m.types)) ∙ (exact_here leads (first_shown m) (each (own_name m) m.types) enough q).1 r
-
-  -- the base of a pointer type that is reached
-  pub base_reached : (t : TypedType) (k : Mark) (p : QName) → type_named m.types t.name ≡ Some t.desc → t.desc ≡ desc.Pointer k (ref.Named p) → is_own m p ≡ true → is_among (reached_types m) (own_name m t) ≡ true → is_among (reached_types m) p ≡ true
-  base_reached t k p found is own there =
-      let named : type_named m.types t.name ≡ Some (desc.Pointer k (ref.Named p)) = found ∙ ap (λ (d : Desc). Some d) is in
-      let kept : is_among (cond (is_own m p) (p ∷ []) []) p ≡ true = ap (λ (b : Bool). is_among (cond b (p ∷ []) []) p) own ∙ left_of (same_object p p) (is_among [] p) (itself p) in
-      from_reached p (onward (to_reached (own_name m t) there) (ap (λ (o : Option Desc). is_among (of_found (desc_leads way.Shown m.name (own_name m t)) o) p) named ∙ kept))
