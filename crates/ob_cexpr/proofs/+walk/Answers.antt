@@ -164,11 +164,11 @@ walk::check_expr-returns-in-Designator-clause-noted g t c =
 
 pub walk::check_value-returns-then-is_empty-clause-made : goal.walk::check_value-returns-then-is_empty-clause-made
 walk::check_value-returns-then-is_empty-clause-made g t c =
-    IfOk-weaker c.name_value.result _ _ (λ r h. h ∙ alone_node (g.S.Surroundings.around c.args.here.now) InExpression c.args.d.now c.as_slice.result.now spec.value_meant c.as_slice.ensures (c.if-is_empty.true ∙ c.is_empty.ensures)) c.name_value.ensures.made
+    IfOk-weaker c.name_value.result _ _ (λ r h. h ∙ alone_node (g.S.Surroundings.around c.args.here.now) InExpression c.args.d.now c.as_slice.result.now spec.value_meant c.as_slice.ensures (sym c.if-is_empty.true ∙ c.is_empty.ensures)) c.name_value.ensures.made
 
 pub walk::check_value-returns-then-is_empty-clause-noted : goal.walk::check_value-returns-then-is_empty-clause-noted
 walk::check_value-returns-then-is_empty-clause-noted g t c =
-    on_ok_weaker c.name_value.result (λ h. h ∙ alone_noted (g.S.Surroundings.around c.args.here.now) InExpression c.args.d.now c.as_slice.result.now spec.value_meant c.args.book.now c.as_slice.ensures (c.if-is_empty.true ∙ c.is_empty.ensures)) c.name_value.ensures.noted
+    on_ok_weaker c.name_value.result (λ h. h ∙ alone_noted (g.S.Surroundings.around c.args.here.now) InExpression c.args.d.now c.as_slice.result.now spec.value_meant c.args.book.now c.as_slice.ensures (sym c.if-is_empty.true ∙ c.is_empty.ensures)) c.name_value.ensures.noted
 
 pub walk::check_selected-returns-clause-made : goal.walk::check_selected-returns-clause-made
 walk::check_selected-returns-clause-made g t c =
