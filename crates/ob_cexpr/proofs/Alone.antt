@@ -1,5 +1,5 @@
 -- A name with nothing behind it, as a designator.
-use Rattle.std.proofs.Common.{◌≡◌, refl, sym, ap, ◌∙◌, Bool, true, false, List, [], Option, Some, None, ◌==◌, length, map}
+use Rattle.std.proofs.Common.{◌≡◌, refl, sym, ap, ◌∙◌, Bool, true, false, List, [], Option, Some, None, Result, IfOk, OnOk, ◌==◌, length, map, subst}
 use Rattle.std.proofs.lemmas.Bool.{eqb-true}
 use Rattle.std.proofs.lemmas.List.{nil_from_length}
 use Rattle.ob_tree.specs.declared.expr.Designator.{Designator}
@@ -76,16 +76,25 @@ designates_noted u w x b f = named_noted u w x b (named u x).node (named u x).no
 no_selector : (d : Designator) (ss : List Selector) → ss ≡ d.selectors → true ≡ (length ss == 0) → d.selectors ≡ []
 no_selector d ss e t = sym e ∙ nil_from_length ss (eqb-true (length ss) 0 (sym t))
 
-pub alone_node : {A : Type 0} (u : Around) (w : Where) (d : Designator) (ss : List Selector) (f : Pos → Meant → Judged A) → ss ≡ d.selectors → true ≡ (length ss == 0)
+alone_node : {A : Type 0} (u : Around) (w : Where) (d : Designator) (ss : List Selector) (f : Pos → Meant → Judged A) → ss ≡ d.selectors → true ≡ (length ss == 0)
     → (named u d.ident ▷ λ k. front_of u d.ident k None ▷ f d.ident.pos).node ≡ (meant_by w (named_of d) u ▷ f (named_of d).ident.pos).node
 alone_node u w d ss f e t =
     sym (designates_node u w d.ident (f d.ident.pos))
     ∙ ap (λ s. (designates u w d.ident (map behind_of s) ▷ f d.ident.pos).node) (sym (no_selector d ss e t))
     ∙ ap (λ n. (meant_by w n u ▷ f n.ident.pos).node) (sym (named_is d))
 
-pub alone_noted : {A : Type 0} (u : Around) (w : Where) (d : Designator) (ss : List Selector) (f : Pos → Meant → Judged A) (b : Notebook) → ss ≡ d.selectors → true ≡ (length ss == 0)
+alone_noted : {A : Type 0} (u : Around) (w : Where) (d : Designator) (ss : List Selector) (f : Pos → Meant → Judged A) (b : Notebook) → ss ≡ d.selectors → true ≡ (length ss == 0)
     → book_after b (named u d.ident ▷ λ k. front_of u d.ident k None ▷ f d.ident.pos).notes ≡ book_after b (meant_by w (named_of d) u ▷ f (named_of d).ident.pos).notes
 alone_noted u w d ss f b e t =
     sym (designates_noted u w d.ident b (f d.ident.pos))
     ∙ ap (λ s. book_after b (designates u w d.ident (map behind_of s) ▷ f d.ident.pos).notes) (sym (no_selector d ss e t))
     ∙ ap (λ n. book_after b (meant_by w n u ▷ f n.ident.pos).notes) (sym (named_is d))
+
+-- what is made of a name alone is made of the designator
+pub alone_made : {A E : Type 0} (u : Around) (w : Where) (d : Designator) (ss : List Selector) (f : Pos → Meant → Judged A) (r : Result (Option A) E) → ss ≡ d.selectors → true ≡ (length ss == 0)
+    → IfOk r (λ o. o ≡ (named u d.ident ▷ λ k. front_of u d.ident k None ▷ λ m. f d.ident.pos m).node) → IfOk r (λ o. o ≡ (meant_by w (named_of d) u ▷ λ m. f (named_of d).ident.pos m).node)
+alone_made u w d ss f r e t h = subst (λ z. IfOk r (λ o. o ≡ z)) (alone_node u w d ss f e t) h
+
+pub alone_said : {A T E : Type 0} (u : Around) (w : Where) (d : Designator) (ss : List Selector) (f : Pos → Meant → Judged A) (r : Result T E) (b n : Notebook) → ss ≡ d.selectors → true ≡ (length ss == 0)
+    → OnOk r (n ≡ book_after b (named u d.ident ▷ λ k. front_of u d.ident k None ▷ λ m. f d.ident.pos m).notes) → OnOk r (n ≡ book_after b (meant_by w (named_of d) u ▷ λ m. f (named_of d).ident.pos m).notes)
+alone_said u w d ss f r b n e t h = subst (λ z. OnOk r (n ≡ z)) (alone_noted u w d ss f b e t) h

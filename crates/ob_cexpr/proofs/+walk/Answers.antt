@@ -17,7 +17,7 @@ use Rattle.ob_rules.proofs.BookLaws.{after_none}
 use Rattle.ob_coperand.specs.Plain.{plain}
 use Rattle.ob_cround.specs.declared.opening.Opened.TheVariants as opens
 use Rattle.ob_cexpr.specs.Plain.{set_judged, goes_on, visited_one}
-use Rattle.ob_cexpr.proofs.Alone.{alone_node, alone_noted}
+use Rattle.ob_cexpr.proofs.Alone.{alone_made, alone_said}
 use Rattle.ob_cexpr.proofs.Further.{further_node, further_noted, too_many_node, too_many_noted, no_parameter_node, no_parameter_noted, most_rest}
 use Rattle.ob_cexpr.proofs.Rounds.{actuals_step, actuals_end_noted, parameters_step, parameters_end_noted, extreme_node, extreme_noted, call_noted, left_noted}
 use Rattle.ob_cexpr.proofs.Rows.{on_ok_from}
@@ -164,11 +164,11 @@ walk::check_expr-returns-in-Designator-clause-noted g t c =
 
 pub walk::check_value-returns-then-is_empty-clause-made : goal.walk::check_value-returns-then-is_empty-clause-made
 walk::check_value-returns-then-is_empty-clause-made g t c =
-    IfOk-weaker c.name_value.result _ _ (λ r h. h ∙ alone_node (g.S.Surroundings.around c.args.here.now) InExpression c.args.d.now c.as_slice.result.now spec.value_meant c.as_slice.ensures (sym c.if-is_empty.true ∙ c.is_empty.ensures)) c.name_value.ensures.made
+    alone_made (g.S.Surroundings.around c.args.here.now) InExpression c.args.d.now c.as_slice.result.now (λ p m. spec.value_meant p m) c.name_value.result c.as_slice.ensures (sym c.if-is_empty.true ∙ c.is_empty.ensures) c.name_value.ensures.made
 
 pub walk::check_value-returns-then-is_empty-clause-noted : goal.walk::check_value-returns-then-is_empty-clause-noted
 walk::check_value-returns-then-is_empty-clause-noted g t c =
-    on_ok_weaker c.name_value.result (λ h. h ∙ alone_noted (g.S.Surroundings.around c.args.here.now) InExpression c.args.d.now c.as_slice.result.now spec.value_meant c.args.book.now c.as_slice.ensures (sym c.if-is_empty.true ∙ c.is_empty.ensures)) c.name_value.ensures.noted
+    alone_said (g.S.Surroundings.around c.args.here.now) InExpression c.args.d.now c.as_slice.result.now (λ p m. spec.value_meant p m) c.name_value.result c.args.book.now c.name_value.new.book c.as_slice.ensures (sym c.if-is_empty.true ∙ c.is_empty.ensures) c.name_value.ensures.noted
 
 pub walk::check_selected-returns-clause-made : goal.walk::check_selected-returns-clause-made
 walk::check_selected-returns-clause-made g t c =
