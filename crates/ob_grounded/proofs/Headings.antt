@@ -16,11 +16,11 @@ use Rattle.ob_types.specs.declared.typed.TypedType.{TypedType}
 use Rattle.ob_rules.specs.declared.notes.Later.{Later}
 use Rattle.ob_rules.specs.declared.notes.Later.TheVariants as later
 use Rattle.ob_rules.specs.declared.entity.Known.{Known}
-use Rattle.ob_rules.specs.Judged.{Judged, joined, both, paired, made}
+use Rattle.ob_rules.specs.Judged.{joined, paired, made}
 use Rattle.ob_rules.specs.Shapes.{Map, Member, AField, AMethod, member, is_record, is_structured}
 use Rattle.ob_rules.specs.Names.{Around, map_of, is_among, in_unit, is_out, type_named}
 use Rattle.ob_rules.specs.Types.{Parameters, with_types, marked, inner}
-use Rattle.ob_rules.specs.Headings.{BoundAs, owner_of, owner_if, knows_receiver, self_of, WrittenHeading, Head, Heads, path_by, forward_name, of_scope, as_parameters, heading_parameters, head_of, entity_as, head_entity, name_twice, declared_head, knows_procedure, known_behind, types_of, add_heading, signature_if, signature_or_none, no_signature, new_method, with_method, change_desc, changed_if, change_type, Binding, redefined, bind_method, bind_by, bind_one, bind_all, of_record, bind_records, counted, counts, reversed, bindings}
+use Rattle.ob_rules.specs.Headings.{BoundAs, owner_of, owner_if, knows_receiver, WrittenHeading, Head, Heads, path_by, forward_name, as_parameters, heading_parameters, head_of, entity_as, head_entity, name_twice, declared_head, knows_procedure, known_behind, types_of, signature_if, signature_or_none, new_method, with_method, change_desc, changed_if, change_type, Binding, redefined, bind_method, bind_by, bind_one, bind_all, of_record, bind_records, counted, counts, reversed, bindings}
 use Rattle.ob_rules.specs.Declarations.{Written_procedure, headings_in_order, around_body, procedure_judged, procedures_judged, closing_judged, types_of_head}
 use Rattle.ob_forms.specs.Said.{IsOneOf}
 use Rattle.ob_said.proofs.Judges.{Has, Speaks, Anything, front_empty, rest_empty, has_more, made_speaks}
@@ -32,12 +32,12 @@ use Rattle.ob_said.proofs.Sequences.{not_twice}
 use Rattle.ob_later.proofs.Leaves.{Nil, then_nil, made_nil, type_nil}
 use Rattle.ob_later.proofs.Typings.{mark_nil}
 use Rattle.ob_blocks.proofs.Heads.{heads_of}
-use Rattle.ob_bodies.specs.Knows.{HasName, Grows, Stands, EntityStands, Knows}
+use Rattle.ob_bodies.specs.Knows.{HasName, Grows, EntityStands}
 use Rattle.ob_bodies.proofs.Lists.{one_left, one_right, one_joined, all_of, all_both}
-use Rattle.ob_bodies.proofs.Standing.{Lies, lies_same, lies_then, lies_front, lies_behind, grows_as, grows_front, grows_behind, grows_then, grows_same, stands_grown, own_stands, all_grown, entity_grown}
+use Rattle.ob_bodies.proofs.Standing.{Lies, lies_same, lies_then, lies_front, lies_behind, grows_as, grows_front, stands_grown, own_stands, all_grown}
 use Rattle.ob_grounded.specs.Laws.{IsApart}
 use Rattle.ob_grounded.specs.Steady.{IsClosed}
-use Rattle.ob_grounded.proofs.Firm.{Firm, firm_more, SignatureFirm, signature_more, AnyValue, S, Seen, seen_more, Closed, closed_more, IsLeft, WholeBase, WholeAt, whole_more, firm_alias, firm_described, IfAlias, Aliased, IsLate, Base, FirmAt, AreFirm}
+use Rattle.ob_grounded.proofs.Firm.{firm_more, SignatureFirm, signature_more, AnyValue, S, Seen, seen_more, Closed, closed_more, WholeBase, WholeAt, whole_more, firm_alias, firm_described, IfAlias, Base, FirmAt, AreFirm}
 use Rattle.ob_grounded.proofs.Typings.{Within, AreTold, Place}
 use Rattle.ob_grounded.proofs.Sections.{E, P, AreParameters, AreFirmSections, known_place, inner_place, parameters_firm, sections_entities}
 use Rattle.ob_grounded.proofs.Plain.{HasAll}
