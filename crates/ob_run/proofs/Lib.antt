@@ -1,3 +1,4 @@
 pub mod Blanks
 pub mod Chars
+pub mod Several
 pub mod Turns
