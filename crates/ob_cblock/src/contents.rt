@@ -24,7 +24,7 @@ use ob_rules::Notebook;
 use ob_tree::{Ident, List, Name, Stmt};
 use ob_trees::{ProcedureTrees, StmtTrees, copy_name, copy_type};
 use ob_types::{
-    Binding, Family, Passing, Receiver, Signature, TypedParameter, TypedType, TypedVariable, Types,
+    Binding, Family, Passing, Receiver, TypedParameter, TypedType, TypedVariable, Types,
 };
 use std::alloc::{AllocError, Global};
 
@@ -146,11 +146,11 @@ fn typed_procedure<T: Types>(
                 parameters,
                 made,
             } = parameters;
-            let Signature { params: _, result } = signature;
+            let of = signature.into_result();
             let binding = bound_to(alloc, types, &name, &bound)?;
             let parameters = with_self(alloc, &receiver, &bound, parameters)?;
             let mut typed = ProcedureTrees::new(alloc);
-            typed.push(path, mark, at, binding, parameters, result, locals, body)?;
+            typed.push(path, mark, at, binding, parameters, of, locals, body)?;
             Ok((made, typed))
         }
     }

@@ -44,16 +44,14 @@ fn no_nil(book: &mut Notebook, at: Pos, value: Value) -> Option<Value>
     ensures made { result ≡ (spec.no_nil at value).node }
     ensures noted { book.new ≡ book_after book.old (spec.no_nil at value).notes }
 {
-    match value {
+    match &value {
         Value::Nil => {
             book.breaks(10, at);
             None
         }
-        Value::Bool(b) => Some(Value::Bool(b)),
-        Value::Char(c) => Some(Value::Char(c)),
-        Value::Int(n) => Some(Value::Int(n)),
-        Value::Set(s) => Some(Value::Set(s)),
-        Value::Str(text) => Some(Value::Str(text)),
+        Value::Bool(_) | Value::Char(_) | Value::Int(_) | Value::Set(_) | Value::Str(_) => Some(
+            value,
+        ),
     }
 }
 

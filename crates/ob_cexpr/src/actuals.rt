@@ -19,6 +19,7 @@ use std::alloc::{AllocError, Global};
 
 /// An argument, judged by itself.
 #[cycle(walk)]
+#[inline(always)]
 pub fn check_argument<S: Surroundings>(
     alloc: Global,
     here: &S,
@@ -39,6 +40,7 @@ pub fn check_argument<S: Surroundings>(
 /// Each argument with its formal parameter; what stands behind the last formal one is judged too.
 /// None where one of them breaks a rule.
 #[cycle(walk)]
+#[inline(never)]
 pub fn check_actuals<S: Surroundings>(
     alloc: Global,
     here: &S,

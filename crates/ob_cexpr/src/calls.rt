@@ -17,6 +17,7 @@ use std::alloc::{AllocError, Global};
 /// Round brackets behind what comes before: a guard, or a call. None where they break a rule. The
 /// arguments are judged in turn, each with what is asked of it.
 #[cycle(walk)]
+#[inline(never)]
 pub fn check_round<S: Surroundings>(
     alloc: Global,
     here: &S,

@@ -126,6 +126,7 @@ fn check_selector<S: Surroundings>(
 }
 
 #[cycle(walk)]
+#[inline(never)]
 fn check_step<S: Surroundings>(
     alloc: Global,
     here: &S,
@@ -164,6 +165,7 @@ fn check_step<S: Surroundings>(
 }
 
 #[cycle(walk)]
+#[inline(never)]
 fn visit_selectors<S: Surroundings>(
     alloc: Global,
     here: &S,

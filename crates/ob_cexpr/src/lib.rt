@@ -1,4 +1,5 @@
-//! Expressions and designators, judged by the rules.
+//! Expressions and designators, judged by the rules. What the walk over a text calls is not inlined, here
+//! and in the crates below, so that a level of nesting takes little of the stack.
 #![tactic(auto, using(ob_rules::proofs::BookLaws::after_none, ob_rules::proofs::BookLaws::after_joined))]
 
 mod actuals;

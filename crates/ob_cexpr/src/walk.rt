@@ -145,6 +145,7 @@ fn check_signed<S: Surroundings>(
 }
 
 #[cycle(walk)]
+#[inline(never)]
 fn check_tails<S: Surroundings>(
     alloc: Global,
     here: &S,
@@ -164,6 +165,7 @@ fn check_tails<S: Surroundings>(
 }
 
 #[cycle(walk)]
+#[inline(never)]
 fn check_relation<S: Surroundings>(
     alloc: Global,
     here: &S,
@@ -213,6 +215,7 @@ fn check_test<S: Surroundings>(
 }
 
 #[cycle(walk)]
+#[inline(never)]
 fn check_set<S: Surroundings>(
     alloc: Global,
     here: &S,

@@ -164,20 +164,15 @@ fn parameters_joined(first: Parameters, more: Parameters) -> Result<Parameters, 
         parameters,
         made,
     } = first;
-    let Signature { params, result: _ } = signature;
     let Parameters {
         signature: more_signature,
         parameters: more_parameters,
         made: more_made,
     } = more;
-    let Signature {
-        params: more_params,
-        result: _,
-    } = more_signature;
-    let mut params = params;
+    let mut params = signature.into_params();
     let mut parameters = parameters;
     let mut made = made;
-    params.append(more_params)?;
+    params.append(more_signature.into_params())?;
     parameters.append(more_parameters)?;
     made.append(more_made)?;
     Ok(Parameters {
@@ -226,7 +221,7 @@ pub fn with_result(
                     parameters,
                     made,
                 } = p;
-                let Signature { params, result: _ } = signature;
+                let params = signature.into_params();
                 Some(Parameters {
                     signature: Signature { params, result: of },
                     parameters,

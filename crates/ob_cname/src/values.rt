@@ -161,16 +161,14 @@ pub fn array_type(x: &Valued) -> Option<&TypeRef>
 fn text_constant(alloc: Global, value: Value) -> Result<ExprTree, AllocError>
     ensures { IfOk result (λ r. r.inner ≡ spec.text_tree (spec.constant value)) }
 {
-    match value {
+    match &value {
         Value::Char(c) => {
-            let text = List::from_slice(alloc, &[c])?;
+            let text = List::from_slice(alloc, &[*c])?;
             Ok(ExprTree::constant(Value::Str(text)))
         }
-        Value::Bool(b) => Ok(ExprTree::constant(Value::Bool(b))),
-        Value::Int(n) => Ok(ExprTree::constant(Value::Int(n))),
-        Value::Set(set) => Ok(ExprTree::constant(Value::Set(set))),
-        Value::Str(text) => Ok(ExprTree::constant(Value::Str(text))),
-        Value::Nil => Ok(ExprTree::constant(Value::Nil)),
+        Value::Bool(_) | Value::Int(_) | Value::Set(_) | Value::Str(_) | Value::Nil => {
+            Ok(ExprTree::constant(value))
+        }
     }
 }
 

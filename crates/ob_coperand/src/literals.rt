@@ -47,6 +47,7 @@ pub fn character(book: &mut Notebook, at: Pos, text: &[u8]) -> Option<Valued>
 }
 
 /// A string.
+#[inline(never)]
 pub fn string(alloc: Global, text: &[u8]) -> Result<Option<Valued>, AllocError>
     ensures { IfOk result (λ r. r ≡ (judged.sound (values.constant (text_value text.now))).node) }
 {

@@ -74,6 +74,7 @@ fn entity_value<S: Surroundings>(
 
 /// What a name comes to as a value, with no selector behind it. None where it breaks a rule, or its
 /// declaration does.
+#[inline(never)]
 pub fn name_value<S: Surroundings>(
     alloc: Global,
     here: &S,

@@ -15,6 +15,7 @@ use ob_tree::{Operator, Pos, Relation, Sign};
 use std::alloc::{AllocError, Global};
 
 /// `~` before a value.
+#[inline(never)]
 pub fn opposite_if<S: Surroundings>(
     alloc: Global,
     here: &S,
@@ -32,6 +33,7 @@ pub fn opposite_if<S: Surroundings>(
 }
 
 /// A sign before a value.
+#[inline(never)]
 pub fn signed_if<S: Surroundings>(
     alloc: Global,
     here: &S,
@@ -50,6 +52,7 @@ pub fn signed_if<S: Surroundings>(
 }
 
 /// An operator between two operands.
+#[inline(never)]
 pub fn combined_if<S: Surroundings>(
     alloc: Global,
     here: &S,
@@ -72,6 +75,7 @@ pub fn combined_if<S: Surroundings>(
 }
 
 /// A relation, but IS, of two operands.
+#[inline(never)]
 pub fn related_if<S: Surroundings>(
     alloc: Global,
     here: &S,
@@ -94,6 +98,7 @@ pub fn related_if<S: Surroundings>(
 }
 
 /// A value in round brackets, which is no variable that is tested or passed.
+#[inline(never)]
 pub fn bracketed(x: Option<Valued>) -> Option<Valued>
     ensures { result ≡ (judged.if_sound x (λ v. judged.sound (spec.bracketed v))).node }
 {

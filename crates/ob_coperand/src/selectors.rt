@@ -18,6 +18,7 @@ use ob_types::TypeRef;
 use std::alloc::{AllocError, Global};
 
 /// A dot and a name. None where it breaks rule 2, 22 or 39.
+#[inline(never)]
 pub fn select_step<S: Surroundings>(
     alloc: Global,
     here: &S,
@@ -71,6 +72,7 @@ fn index_place<S: Surroundings>(
 }
 
 /// An index that is judged, and noted, already. None where it breaks rule 22.
+#[inline(never)]
 pub fn index_step<S: Surroundings>(
     alloc: Global,
     here: &S,
@@ -112,6 +114,7 @@ fn dereference_place<S: Surroundings>(
 }
 
 /// `^`: a dereference, or a super call. None where it breaks rule 22 or 40.
+#[inline(never)]
 pub fn up_step<S: Surroundings>(
     alloc: Global,
     here: &S,

@@ -212,6 +212,7 @@ fn test<S: Surroundings>(
 }
 
 /// A test for the type of that name. None where it breaks rule 23, or the name breaks a rule.
+#[inline(never)]
 pub fn type_test<S: Surroundings>(
     alloc: Global,
     here: &S,
@@ -239,6 +240,7 @@ fn misfit<T: Types>(types: &T, book: &mut Notebook, at: Pos, x: &Valued)
 
 /// IS with something else on its right, which breaks rule 21. What stands on both sides is noted
 /// already.
+#[inline(never)]
 pub fn other_test<S: Surroundings>(
     here: &S,
     book: &mut Notebook,

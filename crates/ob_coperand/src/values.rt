@@ -52,6 +52,7 @@ pub fn constant_if(book: &mut Notebook, start: Pos, x: Option<Valued>, quiet: bo
 }
 
 /// An element of a set, or a range of them. None where it breaks rule 11 or 21.
+#[inline(never)]
 pub fn element_if<S: Surroundings>(
     alloc: Global,
     here: &S,
@@ -73,6 +74,7 @@ pub fn element_if<S: Surroundings>(
 }
 
 /// The set of these elements.
+#[inline(never)]
 pub fn set_if(alloc: Global, elements: Option<Vec<ElementOf>>) -> Result<Option<Valued>, AllocError>
     ensures { IfOk result (λ r. r ≡ option_map (λ xs. operators.set_of xs.items) elements) }
 {
@@ -107,6 +109,7 @@ fn procedure_value(
 }
 
 /// What a designator comes to as a value. None where it breaks rule 39.
+#[inline(never)]
 pub fn value_if(
     alloc: Global,
     book: &mut Notebook,
@@ -154,6 +157,7 @@ pub fn no_type(x: Option<Valued>) -> Option<Option<TypeRef>>
 }
 
 /// The type of that name as a parameter of MAX or MIN. None where the name breaks a rule.
+#[inline(never)]
 pub fn type_parameter<S: Surroundings>(
     alloc: Global,
     here: &S,
@@ -170,6 +174,7 @@ pub fn type_parameter<S: Surroundings>(
 }
 
 /// The row with one more at its end. None where one of them is none.
+#[inline(never)]
 pub fn row_with<A: Drop>(row: Option<Vec<A>>, x: Option<A>) -> Result<Option<Vec<A>>, AllocError>
     ensures { IfOk result (λ r. option_map (λ v. v.items) r ≡ onto (option_map (λ v. v.items) row) (alone x)) }
 {

@@ -1,18 +1,10 @@
 -- The view of the alternatives that have a list or an ELSE in them.
 use Rattle.std.proofs.Common.{◌≡◌, List, ◌∷◌, ap}
-use Rattle.ob_types.specs.declared.typed.Designator.TheFolds.{fold_out-Actual}
-use Rattle.ob_types.specs.declared.typed.Actual.{Actual}
 use Rattle.ob_types.specs.declared.typed.TypedStmt.TheFolds.{fold_out-TypedBranch, fold_out-TypedCase}
 use Rattle.ob_types.specs.declared.typed.TypedBranch.{TypedBranch}
 use Rattle.ob_types.specs.declared.typed.TypedCase.{TypedCase}
-use Rattle.ob_types.specs.TypedSyntax.{Desig, Expr, Stmt, AnActual, Branch, OneCase}
-use Rattle.ob_types.specs.TypedView.{OneActual, designator_layer, expr_layer, actual_layer, actual_view, expr_view, actuals_view, OneBranch, LabelledBody, stmt_layer, branch_layer, case_layer, stmts_view, branch_view, branches_view, case_view, cases_view}
-
-view_actual : (x : Actual) → actual_view x ≡ record { passing = x.passing; formal = x.formal; e = expr_view x.value }
-view_actual x = fold_out-Actual Desig Expr OneActual designator_layer expr_layer actual_layer x
-
-pub view_actuals : (x : Actual) (xs : List Actual) → actuals_view (x ∷ xs) ≡ AnActual x.passing x.formal (expr_view x.value) (actuals_view xs)
-view_actuals x xs = ap (λ o. AnActual o.passing o.formal o.e (actuals_view xs)) (view_actual x)
+use Rattle.ob_types.specs.TypedSyntax.{Stmt, Branch, OneCase}
+use Rattle.ob_types.specs.TypedView.{expr_view, OneBranch, LabelledBody, stmt_layer, branch_layer, case_layer, stmts_view, branch_view, branches_view, case_view, cases_view}
 
 view_branch : (x : TypedBranch) → branch_view x ≡ record { test = expr_view x.test; body = stmts_view x.body }
 view_branch x = fold_out-TypedBranch Stmt OneBranch LabelledBody stmt_layer branch_layer case_layer x

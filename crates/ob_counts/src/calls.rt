@@ -20,7 +20,7 @@ fn takes_receiver(callee: &Callee) -> bool
 }
 
 // The actual parameters behind the first.
-#[tactic(auto, using(crate::proofs::Views::view_actuals))]
+#[tactic(auto, using(ob_layout::proofs::UsedTexts::view_actuals))]
 fn others(actuals: &[Actual]) -> &[Actual]
     ensures { actuals_view result.now ≡ behind_first (actuals_view actuals.now) }
 {

@@ -147,6 +147,7 @@ fn count_binding<T: Types>(
 
 #[tactic(auto, using(crate::proofs::Parting::note_five))]
 fn count_procedure<T: Types>(
+    alloc: Global,
     found: &mut Noted,
     types: &T,
     procedure: &TypedProcedure,
@@ -157,10 +158,11 @@ fn count_procedure<T: Types>(
     note_result(found, &procedure.result)?;
     count_variables(found, procedure.locals.as_slice())?;
     count_binding(found, types, &procedure.binding)?;
-    count_stmts(found, procedure.body.as_slice())
+    count_stmts(alloc, found, procedure.body.as_slice())
 }
 
 fn count_procedures<T: Types>(
+    alloc: Global,
     found: &mut Noted,
     types: &T,
     procedures: &[TypedProcedure],
@@ -168,7 +170,7 @@ fn count_procedures<T: Types>(
     ensures { OnOk result (found.new ≡ noted found.old (flat_map (counts_of_procedure (T.types types.now)) (each procedure_view procedures.now))) }
 {
     'procedures: for procedure in procedures {
-        count_procedure(found, types, procedure)?;
+        count_procedure(alloc, found, types, procedure)?;
     }
     Ok(())
 }
@@ -193,33 +195,38 @@ fn count_named_types(found: &mut Noted, types: &[TypeRef]) -> Result<(), AllocEr
     Ok(())
 }
 
-fn count_lengths(found: &mut Noted, lengths: &[Designator]) -> Result<(), AllocError>
+fn count_lengths(alloc: Global, found: &mut Noted, lengths: &[Designator]) -> Result<(), AllocError>
     ensures { OnOk result (found.new ≡ noted found.old (flat_map counts_of_designator (each designator_view lengths.now))) }
 {
     'lengths: for d in lengths {
-        count_designator(found, d)?;
+        count_designator(alloc, found, d)?;
     }
     Ok(())
 }
 
 #[tactic(auto, using(crate::proofs::Parting::note_three))]
-fn count_mentioned(found: &mut Noted, module: &TypedModule) -> Result<(), AllocError>
+fn count_mentioned(alloc: Global, found: &mut Noted, module: &TypedModule) -> Result<(), AllocError>
     ensures { OnOk result (found.new ≡ noted found.old (counts_of_mentioned (module_view «module».now))) }
 {
     count_objects(found, module.mentioned.objects.as_slice())?;
     count_named_types(found, module.mentioned.types.as_slice())?;
-    count_lengths(found, module.mentioned.lengths.as_slice())
+    count_lengths(alloc, found, module.mentioned.lengths.as_slice())
 }
 
 #[tactic(auto, using(crate::proofs::Parting::note_five))]
-fn count_all<T: Types>(found: &mut Noted, types: &T, module: &TypedModule) -> Result<(), AllocError>
+fn count_all<T: Types>(
+    alloc: Global,
+    found: &mut Noted,
+    types: &T,
+    module: &TypedModule,
+) -> Result<(), AllocError>
     ensures { OnOk result (found.new ≡ noted found.old (counts_of_module (T.types types.now) (module_view «module».now))) }
 {
-    count_mentioned(found, module)?;
+    count_mentioned(alloc, found, module)?;
     count_types(found, module, module.types.as_slice())?;
     count_variables(found, module.variables.as_slice())?;
-    count_procedures(found, types, module.procedures.as_slice())?;
-    count_stmts(found, module.body.as_slice())
+    count_procedures(alloc, found, types, module.procedures.as_slice())?;
+    count_stmts(alloc, found, module.body.as_slice())
 }
 
 /// All that counts in a module, over the map of its own types and of those around it. An error is
@@ -235,6 +242,6 @@ pub fn count_module<T: Types>(
         shapes: List::new(alloc),
         layouts: List::new(alloc),
     };
-    count_all(&mut found, types, module)?;
+    count_all(alloc, &mut found, types, module)?;
     Ok(found)
 }

@@ -9,7 +9,7 @@ use crate::exprs::{count_designator, count_expr};
 use crate::noted::Noted;
 use crate::notes::note_layout;
 use ob_types::{Assigned, Designator, Made, TypeRef, TypedBranch, TypedCase, TypedExpr, TypedStmt};
-use std::alloc::AllocError;
+use std::alloc::{AllocError, Global};
 
 #[tactic(auto, using(ob_types::proofs::TypedViews::view_variable, ob_types::proofs::TypedViews::view_field, ob_types::proofs::TypedViews::view_index, ob_types::proofs::TypedViews::view_deref, ob_types::proofs::TypedViews::view_guard))]
 fn type_of(d: &Designator) -> &TypeRef
@@ -49,19 +49,19 @@ fn note_made(found: &mut Noted, made: &Made) -> Result<(), AllocError>
 }
 
 #[tactic(auto, using(crate::proofs::Parting::note_none))]
-fn count_optional(found: &mut Noted, e: &Option<TypedExpr>) -> Result<(), AllocError>
+fn count_optional(alloc: Global, found: &mut Noted, e: &Option<TypedExpr>) -> Result<(), AllocError>
     ensures { OnOk result (found.new ≡ noted found.old (counts_of_optional (option_map expr_view e.now))) }
 {
     match e {
         None => Ok(()),
-        Some(value) => count_expr(found, value),
+        Some(value) => count_expr(alloc, found, value),
     }
 }
 
 /// What a statement counts.
 #[cycle(count_stmt)]
 #[tactic(auto, using(crate::proofs::Parting::note_none, crate::proofs::Parting::note_two, crate::proofs::Parting::note_three, crate::proofs::Parting::note_one_none, crate::proofs::Parting::note_two_none, ob_types::proofs::TypedViews::view_case_none, ob_types::proofs::TypedViews::view_case_some, ob_types::proofs::TypedViews::view_with_none, ob_types::proofs::TypedViews::view_with_some, ob_types::proofs::TypedViews::view_assign, ob_types::proofs::TypedViews::view_call_proper, ob_types::proofs::TypedViews::view_updated, ob_types::proofs::TypedViews::view_copy, ob_types::proofs::TypedViews::view_new, ob_types::proofs::TypedViews::view_new_open_array, ob_types::proofs::TypedViews::view_assert, ob_types::proofs::TypedViews::view_halt, ob_types::proofs::TypedViews::view_if, ob_types::proofs::TypedViews::view_while, ob_types::proofs::TypedViews::view_repeat, ob_types::proofs::TypedViews::view_for, ob_types::proofs::TypedViews::view_loop, ob_types::proofs::TypedViews::view_exit, ob_types::proofs::TypedViews::view_return))]
-fn count_stmt(found: &mut Noted, s: &TypedStmt) -> Result<(), AllocError>
+fn count_stmt(alloc: Global, found: &mut Noted, s: &TypedStmt) -> Result<(), AllocError>
     ensures { OnOk result (found.new ≡ noted found.old (counts_of (stmt_view s.now))) }
 {
     match s {
@@ -71,25 +71,25 @@ fn count_stmt(found: &mut Noted, s: &TypedStmt) -> Result<(), AllocError>
             value,
             ..
         } => {
-            count_designator(found, target)?;
-            count_expr(found, value)?;
+            count_designator(alloc, found, target)?;
+            count_expr(alloc, found, value)?;
             note_target(found, assigned, type_of(target))
         }
-        TypedStmt::Call(e) => count_expr(found, e),
+        TypedStmt::Call(e) => count_expr(alloc, found, e),
         TypedStmt::Update {
             target,
             operand,
             ..
         } => {
-            count_designator(found, target)?;
-            count_expr(found, operand)
+            count_designator(alloc, found, target)?;
+            count_expr(alloc, found, operand)
         }
         TypedStmt::Copy { source, target, .. } => {
-            count_expr(found, source)?;
-            count_designator(found, target)
+            count_expr(alloc, found, source)?;
+            count_designator(alloc, found, target)
         }
         TypedStmt::New { target, made, .. } => {
-            count_designator(found, target)?;
+            count_designator(alloc, found, target)?;
             note_made(found, made)
         }
         TypedStmt::NewOpenArray {
@@ -98,18 +98,18 @@ fn count_stmt(found: &mut Noted, s: &TypedStmt) -> Result<(), AllocError>
             length,
             ..
         } => {
-            count_designator(found, target)?;
-            count_expr(found, length)?;
+            count_designator(alloc, found, target)?;
+            count_expr(alloc, found, length)?;
             note_layout(found, element)
         }
-        TypedStmt::Assert { condition, .. } => count_expr(found, condition),
+        TypedStmt::Assert { condition, .. } => count_expr(alloc, found, condition),
         TypedStmt::Halt { .. } => Ok(()),
         TypedStmt::If {
             branches,
             otherwise,
         } => {
-            count_branches(found, branches.as_slice())?;
-            count_stmts(found, otherwise.as_slice())
+            count_branches(alloc, found, branches.as_slice())?;
+            count_stmts(alloc, found, otherwise.as_slice())
         }
         TypedStmt::Case {
             value,
@@ -117,20 +117,20 @@ fn count_stmt(found: &mut Noted, s: &TypedStmt) -> Result<(), AllocError>
             otherwise,
             ..
         } => {
-            count_expr(found, value)?;
-            count_cases(found, cases.as_slice())?;
+            count_expr(alloc, found, value)?;
+            count_cases(alloc, found, cases.as_slice())?;
             match otherwise {
                 None => Ok(()),
-                Some(body) => count_stmts(found, body.as_slice()),
+                Some(body) => count_stmts(alloc, found, body.as_slice()),
             }
         }
         TypedStmt::While { test, body, .. } => {
-            count_expr(found, test)?;
-            count_stmts(found, body.as_slice())
+            count_expr(alloc, found, test)?;
+            count_stmts(alloc, found, body.as_slice())
         }
         TypedStmt::Repeat { body, test, .. } => {
-            count_stmts(found, body.as_slice())?;
-            count_expr(found, test)
+            count_stmts(alloc, found, body.as_slice())?;
+            count_expr(alloc, found, test)
         }
         TypedStmt::For {
             start,
@@ -138,22 +138,22 @@ fn count_stmt(found: &mut Noted, s: &TypedStmt) -> Result<(), AllocError>
             body,
             ..
         } => {
-            count_expr(found, start)?;
-            count_expr(found, end)?;
-            count_stmts(found, body.as_slice())
+            count_expr(alloc, found, start)?;
+            count_expr(alloc, found, end)?;
+            count_stmts(alloc, found, body.as_slice())
         }
-        TypedStmt::Loop { body, .. } => count_stmts(found, body.as_slice()),
+        TypedStmt::Loop { body, .. } => count_stmts(alloc, found, body.as_slice()),
         TypedStmt::Exit => Ok(()),
-        TypedStmt::Return(e) => count_optional(found, e),
+        TypedStmt::Return(e) => count_optional(alloc, found, e),
         TypedStmt::With {
             branches,
             otherwise,
             ..
         } => {
-            count_branches(found, branches.as_slice())?;
+            count_branches(alloc, found, branches.as_slice())?;
             match otherwise {
                 None => Ok(()),
-                Some(body) => count_stmts(found, body.as_slice()),
+                Some(body) => count_stmts(alloc, found, body.as_slice()),
             }
         }
     }
@@ -161,40 +161,44 @@ fn count_stmt(found: &mut Noted, s: &TypedStmt) -> Result<(), AllocError>
 
 /// What the statements count.
 #[cycle(count_stmt)]
-pub fn count_stmts(found: &mut Noted, body: &[TypedStmt]) -> Result<(), AllocError>
+pub fn count_stmts(alloc: Global, found: &mut Noted, body: &[TypedStmt]) -> Result<(), AllocError>
     ensures { OnOk result (found.new ≡ noted found.old (counts_of_all (stmts_view body.now))) }
 {
     'statements: for s in body {
-        count_stmt(found, s)?;
+        count_stmt(alloc, found, s)?;
     }
     Ok(())
 }
 
 #[cycle(count_stmt)]
 #[tactic(auto, using(crate::proofs::Parting::note_two))]
-fn count_branch(found: &mut Noted, branch: &TypedBranch) -> Result<(), AllocError>
+fn count_branch(alloc: Global, found: &mut Noted, branch: &TypedBranch) -> Result<(), AllocError>
     ensures { OnOk result (found.new ≡ noted found.old (counts_of_expr (expr_view branch.now.test) ++ counts_of_all (stmts_view branch.now.body))) }
 {
-    count_expr(found, &branch.test)?;
-    count_stmts(found, branch.body.as_slice())
+    count_expr(alloc, found, &branch.test)?;
+    count_stmts(alloc, found, branch.body.as_slice())
 }
 
 #[cycle(count_stmt)]
-fn count_branches(found: &mut Noted, branches: &[TypedBranch]) -> Result<(), AllocError>
+fn count_branches(
+    alloc: Global,
+    found: &mut Noted,
+    branches: &[TypedBranch],
+) -> Result<(), AllocError>
     ensures { OnOk result (found.new ≡ noted found.old (counts_of_branches (branches_view branches.now))) }
 {
     'branches: for branch in branches {
-        count_branch(found, branch)?;
+        count_branch(alloc, found, branch)?;
     }
     Ok(())
 }
 
 #[cycle(count_stmt)]
-fn count_cases(found: &mut Noted, cases: &[TypedCase]) -> Result<(), AllocError>
+fn count_cases(alloc: Global, found: &mut Noted, cases: &[TypedCase]) -> Result<(), AllocError>
     ensures { OnOk result (found.new ≡ noted found.old (counts_of_cases (cases_view cases.now))) }
 {
     'cases: for case in cases {
-        count_stmts(found, case.body.as_slice())?;
+        count_stmts(alloc, found, case.body.as_slice())?;
     }
     Ok(())
 }

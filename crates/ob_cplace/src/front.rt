@@ -226,6 +226,7 @@ fn front_with(meant: Option<Meant>, with_name: bool) -> Option<Front>
 
 /// What the name at the front of a designator comes to, behind which stands a dot with that name, or
 /// something else. None where it breaks a rule.
+#[inline(never)]
 pub fn front_named<S: Surroundings>(
     alloc: Global,
     here: &S,

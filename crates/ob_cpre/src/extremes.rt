@@ -114,6 +114,7 @@ fn extreme_unless<T: Types>(
 /// A call of MAX, or else of MIN, with one parameter, which is judged already: a type, or none where
 /// the parameter is no type's name. None where the parameter is not sound, or the call breaks
 /// rule 27 or 28. The type is noted as named.
+#[inline(never)]
 pub fn extreme<S: Surroundings>(
     here: &S,
     book: &mut Notebook,

@@ -223,6 +223,7 @@ fn fit_there<S: Surroundings>(
 /// The call of a predeclared procedure, but MAX and MIN, with these parameters, which are judged
 /// already. None where they are none, or the call breaks rule 27 or 28, or one of an operation on
 /// constants.
+#[inline(never)]
 pub fn call_fit<S: Surroundings>(
     alloc: Global,
     here: &S,

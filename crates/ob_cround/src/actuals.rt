@@ -69,6 +69,7 @@ fn passed<S: Surroundings>(
 
 /// The row with one more actual parameter, for the formal one that comes next; behind the last formal
 /// one it is a value that nothing takes. None where one of them is none, or breaks rule 25, 26 or 38.
+#[inline(never)]
 pub fn with_actual<S: Surroundings>(
     alloc: Global,
     here: &S,

@@ -90,6 +90,7 @@ fn finish(
 /// The call with these actual parameters, which are judged already; `count` are written. None where
 /// they are none, or the call breaks rule 24 or 27.
 #[tactic(auto, using(crate::proofs::JudgedLaws::call_quiet))]
+#[inline(never)]
 pub fn called(
     alloc: Global,
     book: &mut Notebook,

@@ -163,6 +163,7 @@ fn behind_predeclared<S: Surroundings>(
 
 /// What round brackets behind that open. What is judged already is noted; the arguments of a call are
 /// left, and where nothing is opened.
+#[inline(never)]
 pub fn open_round<S: Surroundings>(
     alloc: Global,
     here: &S,

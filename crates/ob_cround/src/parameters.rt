@@ -28,6 +28,7 @@ fn changed(book: &mut Notebook, start: Pos, argument: Argument) -> Option<Valued
 }
 
 /// An argument as a parameter of which that is asked. None where it is none, or breaks rule 10 or 26.
+#[inline(never)]
 pub fn parameter(
     alloc: Global,
     book: &mut Notebook,
@@ -50,6 +51,7 @@ pub fn parameter(
 
 /// A call of MAX or MIN with further parameters, which are judged already: rule 28, and perhaps rule
 /// 27, where they are sound. Takes no memory.
+#[inline(never)]
 pub fn further(
     book: &mut Notebook,
     place: Where,

@@ -4,8 +4,14 @@
 //! with single spaces. Numbers are decimal without leading zeros.
 #![tactic(auto)]
 
+mod constants;
 mod kind;
+mod members;
 mod reading;
+mod shapes;
+mod signatures;
+mod types;
+mod words;
 mod writing;
 
 pub use kind::{ConstKind, Kind};

@@ -14,7 +14,7 @@ use ob_types::{Actual, Designator, TypedExpr};
 /// The index behind the code of a designator that begins at an index. A fault is want of memory,
 /// or says that the code is longer than a module's may be.
 #[cycle(end_expr)]
-#[tactic(auto, using(crate::proofs::Behinds::place_behind, crate::proofs::Behinds::pointer_behind, crate::proofs::Behinds::guard_behind, crate::proofs::Behinds::variable_behind, ob_types::proofs::TypedViews::view_variable, ob_types::proofs::TypedViews::view_field, ob_types::proofs::TypedViews::view_index, ob_types::proofs::TypedViews::view_deref, ob_types::proofs::TypedViews::view_guard))]
+#[tactic(auto, using(crate::proofs::Behinds::variable_behind, ob_types::proofs::TypedViews::view_variable))]
 pub fn end_designator<S: Scope>(
     scope: &S,
     want: Want,
@@ -23,30 +23,42 @@ pub fn end_designator<S: Scope>(
 ) -> Result<usize, GenFault>
     ensures { IfOk result (λ n. n ≡ end_desig (S.context scope.now) want (designator_view d.now) pc) }
 {
-    match d {
-        Designator::Variable { variable, .. } => further(pc, variable_size(want, variable)),
-        Designator::Field { inner, .. } => {
-            let end = end_designator(scope, Want::Place, inner.get(), pc)?;
-            further(end, place_size(want) + 1)
-        }
-        Designator::Index {
-            inner,
-            length,
-            index,
-            ..
-        } => {
-            let array = end_designator(scope, want_for_index(*length), inner.get(), pc)?;
-            let end = end_expr(scope, Want::Value, index.get(), array)?;
-            further(end, place_size(want) + 1)
-        }
-        Designator::Deref { inner, of, .. } => {
-            let end = end_designator(scope, Want::Value, inner.get(), pc)?;
-            let lines = pointer_size(scope, want, of)?;
-            further(end, lines)
-        }
-        Designator::Guard { inner, guarded, .. } => {
-            let end = end_designator(scope, want_for_guard(*guarded, want), inner.get(), pc)?;
-            further(end, guard_size(*guarded, want) + 1)
+    let mut rest = d;
+    let mut wanted = want;
+    let mut end = pc;
+    // The selectors from the last one inward: the sum is the same in any order.
+    'selectors: loop {
+        match rest {
+            Designator::Variable { variable, .. } => {
+                return further(end, variable_size(wanted, variable));
+            }
+            Designator::Field { inner, .. } => {
+                end = further(end, place_size(wanted) + 1)?;
+                wanted = Want::Place;
+                rest = inner.get();
+            }
+            Designator::Index {
+                inner,
+                length,
+                index,
+                ..
+            } => {
+                let line = end_expr(scope, Want::Value, index.get(), end)?;
+                end = further(line, place_size(wanted) + 1)?;
+                wanted = want_for_index(*length);
+                rest = inner.get();
+            }
+            Designator::Deref { inner, of, .. } => {
+                let lines = pointer_size(scope, wanted, of)?;
+                end = further(end, lines)?;
+                wanted = Want::Value;
+                rest = inner.get();
+            }
+            Designator::Guard { inner, guarded, .. } => {
+                end = further(end, guard_size(*guarded, wanted) + 1)?;
+                wanted = want_for_guard(*guarded, wanted);
+                rest = inner.get();
+            }
         }
     }
 }
@@ -54,7 +66,7 @@ pub fn end_designator<S: Scope>(
 /// The index behind the code of an expression that begins at an index, with the faults of
 /// `end_designator`.
 #[cycle(end_expr)]
-#[tactic(auto, using(crate::proofs::Behinds::constant_behind, crate::proofs::Behinds::unary_behind, crate::proofs::Behinds::logical_ends, ob_types::proofs::TypedViews::view_constant, ob_types::proofs::TypedViews::view_value_of, ob_types::proofs::TypedViews::view_procedure_value, ob_types::proofs::TypedViews::view_monadic, ob_types::proofs::TypedViews::view_dyadic, ob_types::proofs::TypedViews::view_logical, ob_types::proofs::TypedViews::view_compare_texts, ob_types::proofs::TypedViews::view_is_pointer, ob_types::proofs::TypedViews::view_is_record, ob_types::proofs::TypedViews::view_length, ob_types::proofs::TypedViews::view_call, ob_types::proofs::TypedViews::view_call_variable))]
+#[tactic(auto, using(crate::proofs::Behinds::constant_behind, crate::proofs::Behinds::unary_behind, ob_types::proofs::TypedViews::view_constant, ob_types::proofs::TypedViews::view_value_of, ob_types::proofs::TypedViews::view_procedure_value, ob_types::proofs::TypedViews::view_monadic, ob_types::proofs::TypedViews::view_compare_texts, ob_types::proofs::TypedViews::view_is_pointer, ob_types::proofs::TypedViews::view_is_record, ob_types::proofs::TypedViews::view_length, ob_types::proofs::TypedViews::view_call, ob_types::proofs::TypedViews::view_call_variable))]
 pub fn end_expr<S: Scope>(
     scope: &S,
     want: Want,
@@ -63,51 +75,60 @@ pub fn end_expr<S: Scope>(
 ) -> Result<usize, GenFault>
     ensures { IfOk result (λ n. n ≡ end_expr (S.context scope.now) want (expr_view e.now) pc) }
 {
-    match e {
-        TypedExpr::Constant(value) => further(pc, constant_size(want, value)),
-        TypedExpr::Designator(d) => end_designator(scope, want, d, pc),
-        TypedExpr::Procedure { .. } => further(pc, 1),
-        TypedExpr::Unary { op, operand, .. } => {
-            let end = end_expr(scope, Want::Value, operand.get(), pc)?;
-            further(end, unary_size(*op))
-        }
-        TypedExpr::Binary { left, right, .. } => {
-            let middle = end_expr(scope, Want::Value, left.get(), pc)?;
-            let end = end_expr(scope, Want::Value, right.get(), middle)?;
-            further(end, 1)
-        }
-        TypedExpr::Logical {
-            connective,
-            left,
-            right,
-        } => {
-            let middle = end_expr(scope, Want::Value, left.get(), pc)?;
-            let start = further(middle, between(*connective))?;
-            let end = end_expr(scope, Want::Value, right.get(), start)?;
-            further(end, joined(*connective))
-        }
-        TypedExpr::CompareTexts { left, right, .. } => {
-            let middle = end_expr(scope, Want::PlaceAndLength, left.get(), pc)?;
-            let end = end_expr(scope, Want::PlaceAndLength, right.get(), middle)?;
-            further(end, 1)
-        }
-        TypedExpr::IsPointer { operand, .. } => {
-            let end = end_expr(scope, Want::Value, operand.get(), pc)?;
-            further(end, 1)
-        }
-        TypedExpr::IsRecord { inner, .. } => {
-            let end = end_designator(scope, Want::Tag, inner, pc)?;
-            further(end, 1)
-        }
-        TypedExpr::Length(d) => end_designator(scope, Want::Length, d, pc),
-        TypedExpr::Call { actuals, .. } => {
-            let end = end_actuals(scope, actuals.as_slice(), pc)?;
-            further(end, 1)
-        }
-        TypedExpr::CallVariable { inner, actuals, .. } => {
-            let held = end_designator(scope, Want::Value, inner, pc)?;
-            let end = end_actuals(scope, actuals.as_slice(), held)?;
-            further(end, 1)
+    let mut rest = e;
+    let mut wanted = want;
+    let mut end = pc;
+    // The operators of a chain from the last one to its first operand: the sum is the same in any
+    // order.
+    'operators: loop {
+        match rest {
+            TypedExpr::Constant(value) => return further(end, constant_size(wanted, value)),
+            TypedExpr::Designator(d) => return end_designator(scope, wanted, d, end),
+            TypedExpr::Procedure { .. } => return further(end, 1),
+            TypedExpr::Unary { op, operand, .. } => {
+                let behind = end_expr(scope, Want::Value, operand.get(), end)?;
+                return further(behind, unary_size(*op));
+            }
+            TypedExpr::Binary { left, right, .. } => {
+                let line = end_expr(scope, Want::Value, right.get(), end)?;
+                end = further(line, 1)?;
+                wanted = Want::Value;
+                rest = left.get();
+            }
+            TypedExpr::Logical {
+                connective,
+                left,
+                right,
+            } => {
+                let start = further(end, between(*connective))?;
+                let behind = end_expr(scope, Want::Value, right.get(), start)?;
+                end = further(behind, joined(*connective))?;
+                wanted = Want::Value;
+                rest = left.get();
+            }
+            TypedExpr::CompareTexts { left, right, .. } => {
+                let middle = end_expr(scope, Want::PlaceAndLength, left.get(), end)?;
+                let behind = end_expr(scope, Want::PlaceAndLength, right.get(), middle)?;
+                return further(behind, 1);
+            }
+            TypedExpr::IsPointer { operand, .. } => {
+                let behind = end_expr(scope, Want::Value, operand.get(), end)?;
+                return further(behind, 1);
+            }
+            TypedExpr::IsRecord { inner, .. } => {
+                let behind = end_designator(scope, Want::Tag, inner, end)?;
+                return further(behind, 1);
+            }
+            TypedExpr::Length(d) => return end_designator(scope, Want::Length, d, end),
+            TypedExpr::Call { actuals, .. } => {
+                let behind = end_actuals(scope, actuals.as_slice(), end)?;
+                return further(behind, 1);
+            }
+            TypedExpr::CallVariable { inner, actuals, .. } => {
+                let held = end_designator(scope, Want::Value, inner, end)?;
+                let behind = end_actuals(scope, actuals.as_slice(), held)?;
+                return further(behind, 1);
+            }
         }
     }
 }

@@ -109,6 +109,11 @@ impl Code {
         }
     }
 
+    /// What the parts of the code take their memory from.
+    pub fn allocator(&self) -> Global {
+        *self.instrs.allocator()
+    }
+
     /// The index of the next instruction.
     pub fn place(&self) -> usize
         ensures { result ≡ length self.now.instrs }

@@ -1,9 +1,14 @@
-ghost use Rattle.std.specs.Prelude.{◌≡◌, ◌++◌, ◌∷◌, [], length, pos, ◌+◌, ◌<◌, OnOk};
+ghost use Rattle.std.specs.Prelude.{◌≡◌, ◌≤◌, ◌++◌, ◌∷◌, [], length, pos, ◌+◌, ◌<◌, OnOk, IfOk, IfSome};
+ghost use Rattle.std.specs.Option.{option_map, option_copied};
+ghost use Rattle.std.specs.List.{All};
+ghost use Rattle.ob_types.specs.declared.typed.Designator.{size-Designator};
+ghost use Rattle.ob_types.specs.declared.typed.TypedExpr.{size-TypedExpr};
 ghost use Rattle.ob_types.specs.TypedView.{designator_view, expr_view, actual_view, actuals_view};
 ghost use Rattle.ob_code.specs.Lines.{plain, none, line_of, count};
 ghost use Rattle.ob_code.specs.Context.{Context, words, type_operand};
 ghost use Rattle.ob_code.specs.Coded.{Coded, appended, place_in};
 ghost use Rattle.ob_code.specs.Expressions.{wanted, desig_code, expr_code, actuals_code};
+ghost use Rattle.ob_gexpr.specs.Chains.{left_of, with_selector, with_operator, outward};
 
 use crate::calls::{put_call, put_held_call};
 use crate::constants::put_constant;
@@ -18,9 +23,89 @@ use ob_gcode::{
 use ob_instr::Opcode;
 use ob_tree::Which;
 use ob_types::{Actual, Connective, Designator, TypedExpr};
+use std::alloc::{AllocError, Global};
+
+// The designators from a whole one inward to its variable, each with how it is wanted.
+#[tactic(auto)]
+fn selectors_of<'a>(
+    alloc: Global,
+    want: Want,
+    d: &'a Designator,
+) -> Result<Vec<(Want, &'a Designator)>, AllocError>
+    ensures whole { IfOk result (λ v. (c : Context) (k : Coded) → outward (λ p. with_selector c p.0 (designator_view p.1.now)) v.items k ≡ appended k (desig_code c want (designator_view d.now) (place_in k))) }
+    ensures sizes { IfOk result (λ v. All (λ p. size-Designator p.1.now ≤ size-Designator d.now) v.items) }
+{
+    let mut links = Vec::new(alloc);
+    let mut rest = d;
+    let mut wanted = want;
+    'links: loop {
+        links.push((wanted, rest))?;
+        match rest {
+            Designator::Variable { .. } => return Ok(links),
+            Designator::Field { inner, .. } => {
+                wanted = Want::Place;
+                rest = inner.get();
+            }
+            Designator::Index { inner, length, .. } => {
+                wanted = want_for_index(*length);
+                rest = inner.get();
+            }
+            Designator::Deref { inner, .. } => {
+                wanted = Want::Value;
+                rest = inner.get();
+            }
+            Designator::Guard { inner, guarded, .. } => {
+                wanted = want_for_guard(*guarded, wanted);
+                rest = inner.get();
+            }
+        }
+    }
+}
+
+// The left operand of an operator that may stand in a chain.
+#[tactic(auto, using(ob_types::proofs::TypedViews::view_constant, ob_types::proofs::TypedViews::view_value_of, ob_types::proofs::TypedViews::view_procedure_value, ob_types::proofs::TypedViews::view_monadic, ob_types::proofs::TypedViews::view_dyadic, ob_types::proofs::TypedViews::view_logical, ob_types::proofs::TypedViews::view_compare_texts, ob_types::proofs::TypedViews::view_is_pointer, ob_types::proofs::TypedViews::view_is_record, ob_types::proofs::TypedViews::view_length, ob_types::proofs::TypedViews::view_call, ob_types::proofs::TypedViews::view_call_variable))]
+fn left_of(e: &TypedExpr) -> Option<&TypedExpr>
+    ensures is { option_map expr_view (option_copied result) ≡ left_of (expr_view e.now) }
+    ensures smaller { IfSome result (λ x. size-TypedExpr x.now < size-TypedExpr e.now) }
+{
+    match e {
+        TypedExpr::Binary { left, .. } => Some(left.get()),
+        TypedExpr::Logical { left, .. } => Some(left.get()),
+        TypedExpr::Constant(_)
+        | TypedExpr::Designator(_)
+        | TypedExpr::Procedure { .. }
+        | TypedExpr::Unary { .. }
+        | TypedExpr::CompareTexts { .. }
+        | TypedExpr::IsPointer { .. }
+        | TypedExpr::IsRecord { .. }
+        | TypedExpr::Length(_)
+        | TypedExpr::Call { .. }
+        | TypedExpr::CallVariable { .. } => None,
+    }
+}
+
+// The expressions from a whole one inward to its first operand, each with how it is wanted.
+fn operators_of<'a>(
+    alloc: Global,
+    want: Want,
+    e: &'a TypedExpr,
+) -> Result<Vec<(Want, &'a TypedExpr)>, AllocError>
+    ensures whole { IfOk result (λ v. (c : Context) (k : Coded) → outward (λ p. with_operator c p.0 (expr_view p.1.now)) v.items k ≡ appended k (expr_code c want (expr_view e.now) (place_in k))) }
+    ensures sizes { IfOk result (λ v. All (λ p. size-TypedExpr p.1.now ≤ size-TypedExpr e.now) v.items) }
+{
+    let mut links = Vec::new(alloc);
+    let mut rest = e;
+    let mut wanted = want;
+    'links: while let Some(left) = left_of(rest) {
+        links.push((wanted, rest))?;
+        wanted = Want::Value;
+        rest = left;
+    }
+    links.push((wanted, rest))?;
+    Ok(links)
+}
 
 #[cycle(put_expr)]
-#[tactic(auto, using(ob_code::proofs::Appends::put_two, ob_code::proofs::Puts::place_and_expr, ob_types::proofs::TypedViews::view_variable, ob_types::proofs::TypedViews::view_field, ob_types::proofs::TypedViews::view_index, ob_types::proofs::TypedViews::view_deref, ob_types::proofs::TypedViews::view_guard))]
 pub fn put_designator<S: Scope>(
     code: &mut Code,
     scope: &S,
@@ -29,47 +114,57 @@ pub fn put_designator<S: Scope>(
 ) -> Result<(), GenFault>
     ensures { OnOk result (code.new ≡ appended code.old (desig_code (S.context scope.now) want (designator_view d.now) (place_in code.old))) }
 {
+    if let Designator::Variable { variable, of } = d {
+        return put_variable(code, scope, want, variable, of);
+    }
+    let mut links = selectors_of(code.allocator(), want, d)?;
+    'links: while let Some((wanted, link)) = links.pop() {
+        put_selector(code, scope, wanted, link)?;
+    }
+    Ok(())
+}
+
+// A variable; or a selector alone, behind the code of what it selects from.
+#[cycle(put_expr)]
+#[tactic(auto, using(ob_code::proofs::Appends::put_two, ob_types::proofs::TypedViews::view_variable, ob_types::proofs::TypedViews::view_field, ob_types::proofs::TypedViews::view_index, ob_types::proofs::TypedViews::view_deref, ob_types::proofs::TypedViews::view_guard))]
+fn put_selector<S: Scope>(
+    code: &mut Code,
+    scope: &S,
+    want: Want,
+    d: &Designator,
+) -> Result<(), GenFault>
+    ensures { OnOk result (code.new ≡ with_selector (S.context scope.now) want (designator_view d.now) code.old) }
+{
     match d {
         Designator::Variable { variable, of } => put_variable(code, scope, want, variable, of),
         Designator::Field {
-            inner,
             owner,
             name,
             of,
-        } => {
-            put_designator(code, scope, Want::Place, inner.get())?;
-            put_field(code, scope, owner, name, want, of)
-        }
+            ..
+        } => put_field(code, scope, owner, name, want, of),
         Designator::Index {
-            inner,
             length,
             index,
             pos,
             of,
+            ..
         } => {
-            put_designator(code, scope, want_for_index(*length), inner.get())?;
             put_expr(code, scope, Want::Value, index.get())?;
             put_index(code, scope, *length, want, of, *pos)
         }
-        Designator::Deref { inner, pos, of } => {
-            put_designator(code, scope, Want::Value, inner.get())?;
-            put_from_pointer(code, scope, want, of, *pos)
-        }
+        Designator::Deref { pos, of, .. } => put_from_pointer(code, scope, want, of, *pos),
         Designator::Guard {
-            inner,
             guarded,
             target,
             pos,
             of,
-        } => {
-            put_designator(code, scope, want_for_guard(*guarded, want), inner.get())?;
-            put_from_guard(code, scope, *guarded, target, want, of, *pos)
-        }
+            ..
+        } => put_from_guard(code, scope, *guarded, target, want, of, *pos),
     }
 }
 
 #[cycle(put_expr)]
-#[tactic(auto, using(ob_code::proofs::Appends::put_two, ob_code::proofs::Puts::two_exprs_and, ob_code::proofs::Puts::place_and_actuals, ob_types::proofs::TypedViews::view_constant, ob_types::proofs::TypedViews::view_value_of, ob_types::proofs::TypedViews::view_procedure_value, ob_types::proofs::TypedViews::view_monadic, ob_types::proofs::TypedViews::view_dyadic, ob_types::proofs::TypedViews::view_compare_texts, ob_types::proofs::TypedViews::view_is_pointer, ob_types::proofs::TypedViews::view_is_record, ob_types::proofs::TypedViews::view_length, ob_types::proofs::TypedViews::view_call, ob_types::proofs::TypedViews::view_call_variable))]
 pub fn put_expr<S: Scope>(
     code: &mut Code,
     scope: &S,
@@ -77,6 +172,27 @@ pub fn put_expr<S: Scope>(
     e: &TypedExpr,
 ) -> Result<(), GenFault>
     ensures { OnOk result (code.new ≡ appended code.old (expr_code (S.context scope.now) want (expr_view e.now) (place_in code.old))) }
+{
+    if left_of(e).is_none() {
+        return put_operator(code, scope, want, e);
+    }
+    let mut links = operators_of(code.allocator(), want, e)?;
+    'links: while let Some((wanted, link)) = links.pop() {
+        put_operator(code, scope, wanted, link)?;
+    }
+    Ok(())
+}
+
+// An operator and its right operand, behind the code of its left one; or any other expression.
+#[cycle(put_expr)]
+#[tactic(auto, using(ob_code::proofs::Appends::put_two, ob_code::proofs::Puts::two_exprs_and, ob_code::proofs::Puts::place_and_actuals, ob_types::proofs::TypedViews::view_constant, ob_types::proofs::TypedViews::view_value_of, ob_types::proofs::TypedViews::view_procedure_value, ob_types::proofs::TypedViews::view_monadic, ob_types::proofs::TypedViews::view_dyadic, ob_types::proofs::TypedViews::view_compare_texts, ob_types::proofs::TypedViews::view_is_pointer, ob_types::proofs::TypedViews::view_is_record, ob_types::proofs::TypedViews::view_length, ob_types::proofs::TypedViews::view_call, ob_types::proofs::TypedViews::view_call_variable))]
+fn put_operator<S: Scope>(
+    code: &mut Code,
+    scope: &S,
+    want: Want,
+    e: &TypedExpr,
+) -> Result<(), GenFault>
+    ensures { OnOk result (code.new ≡ with_operator (S.context scope.now) want (expr_view e.now) code.old) }
 {
     match e {
         TypedExpr::Constant(value) => put_constant(code, want, value),
@@ -86,41 +202,32 @@ pub fn put_expr<S: Scope>(
             put_expr(code, scope, Want::Value, operand.get())?;
             put_unary(code, *op, *pos)
         }
-        TypedExpr::Binary {
-            op,
-            left,
-            right,
-            pos,
-        } => {
-            put_expr(code, scope, Want::Value, left.get())?;
+        TypedExpr::Binary { op, right, pos, .. } => {
             put_expr(code, scope, Want::Value, right.get())?;
             put_binary(code, *op, *pos)
         }
         TypedExpr::Logical {
             connective,
-            left,
             right,
-        } => {
-            put_expr(code, scope, Want::Value, left.get())?;
-            match connective {
-                Connective::And => {
-                    let test = code.place();
-                    put_count(code, Opcode::JumpF, 0)?;
-                    put_expr(code, scope, Want::Value, right.get())?;
-                    put_ahead(code, Opcode::Jump, 2)?;
-                    code.aim(test, Opcode::JumpF)?;
-                    put_count(code, Opcode::Int, 0)
-                }
-                Connective::Or => {
-                    put_ahead(code, Opcode::JumpF, 3)?;
-                    put_count(code, Opcode::Int, 1)?;
-                    let over = code.place();
-                    put_count(code, Opcode::Jump, 0)?;
-                    put_expr(code, scope, Want::Value, right.get())?;
-                    code.aim(over, Opcode::Jump)
-                }
+            ..
+        } => match connective {
+            Connective::And => {
+                let test = code.place();
+                put_count(code, Opcode::JumpF, 0)?;
+                put_expr(code, scope, Want::Value, right.get())?;
+                put_ahead(code, Opcode::Jump, 2)?;
+                code.aim(test, Opcode::JumpF)?;
+                put_count(code, Opcode::Int, 0)
             }
-        }
+            Connective::Or => {
+                put_ahead(code, Opcode::JumpF, 3)?;
+                put_count(code, Opcode::Int, 1)?;
+                let over = code.place();
+                put_count(code, Opcode::Jump, 0)?;
+                put_expr(code, scope, Want::Value, right.get())?;
+                code.aim(over, Opcode::Jump)
+            }
+        },
         TypedExpr::CompareTexts {
             comparison,
             left,

@@ -1,22 +1,63 @@
 -- Strings that are found one behind the other.
-use Rattle.std.proofs.Common.{◌≡◌, ℕ, suc, ◌+◌, List, [], ◌∷◌, ◌++◌, length, Option, Some, None, refl, sym, ap, ◌∙◌, append-nil, append_assoc, arith}
+use Rattle.std.proofs.Common.{◌≡◌, ℕ, suc, ◌+◌, ◌<◌, ◌≤◌, List, [], ◌∷◌, ◌++◌, length, get_or, take, drop, ◌-◌, Option, Some, None, refl, sym, ap, ◌∙◌, append-nil, append_assoc, arith}
 use Rattle.std.specs.Prelude.{map}
-use Rattle.std.proofs.lemmas.List.{map-append}
+use Rattle.std.proofs.lemmas.List.{map-append, take_rest}
 use Rattle.ob_types.specs.declared.value.Value.{Value}
 use Rattle.ob_types.specs.declared.value.Value.TheVariants as literal
 use Rattle.ob_types.specs.declared.typed.Passing.TheVariants as passing
 use Rattle.std.specs.List.{flat_map}
 use Rattle.ob_types.specs.declared.types.TypeRef.{TypeRef}
 use Rattle.ob_types.specs.declared.typed.TypedProcedure.{TypedProcedure}
-use Rattle.ob_types.specs.TypedView.{stmts_view, procedure_view}
-use Rattle.ob_types.specs.TypedSyntax.{Expr, Constant, ValueOf, ProcedureValue, Monadic, Dyadic, Logical, CompareTexts, IsPointer, IsRecord, Length, Call, CallVariable}
+use Rattle.ob_types.specs.declared.typed.Actual.{Actual}
+use Rattle.ob_types.specs.declared.typed.Designator.TheFolds.{fold_out-Actual}
+use Rattle.ob_types.specs.TypedView.{OneActual, designator_layer, expr_layer, actual_layer, expr_view, actual_view, actuals_view, stmts_view, procedure_view}
+use Rattle.ob_types.specs.TypedSyntax.{Desig, Expr, AnActual, Constant, ValueOf, ProcedureValue, Monadic, Dyadic, Logical, CompareTexts, IsPointer, IsRecord, Length, Call, CallVariable}
 use Rattle.ob_types.proofs.TypedViews.{view_variable, view_field, view_index, view_deref, view_guard, view_constant, view_value_of, view_procedure_value, view_monadic, view_dyadic, view_logical, view_compare_texts, view_is_pointer, view_is_record, view_length, view_call, view_call_variable, view_assign, view_call_proper, view_updated, view_copy, view_new, view_new_open_array, view_assert, view_halt, view_if, view_case_none, view_case_some, view_while, view_repeat, view_for, view_loop, view_exit, view_return, view_with_none, view_with_some}
 use Rattle.ob_layout.specs.declared.texts.UsedText.{UsedText}
 use Rattle.ob_layout.specs.Texts.{AText, texts_of_value, passed_texts, texts_of_all}
+use Rattle.ob_layout.specs.declared.texts.Part.{Part}
+use Rattle.ob_layout.specs.Parts.{size_of_part, size_of_parts, texts_of_part, texts_of_parts}
 use Rattle.ob_layout.specs.Used.{as_text, used, text_of_value, written_text}
 
 pub one_more : (us : List UsedText) (u : UsedText) → used (us ++ u ∷ []) ≡ used us ++ as_text u ∷ []
 one_more us u = map-append as_text us (u ∷ [])
+
+-- one part more
+pub part_more : (words : TypeRef → ℕ) (ps : List Part) (p : Part) → texts_of_parts words (ps ++ p ∷ []) ≡ texts_of_part words p ++ texts_of_parts words ps
+part_more words [] p = sym (append-nil (texts_of_part words p))
+part_more words (q ∷ ps) p = ap (λ l. l ++ texts_of_part words q) (part_more words ps p) ∙ append_assoc (texts_of_part words p) (texts_of_parts words ps) (texts_of_part words q)
+
+pub size_more : (ps : List Part) (p : Part) → size_of_parts (ps ++ p ∷ []) ≡ size_of_part p + size_of_parts ps
+size_more [] p = omega arith
+size_more (q ∷ ps) p = let h = size_more ps p in omega arith
+
+view_actual : (x : Actual) → actual_view x ≡ record { passing = x.passing; formal = x.formal; e = expr_view x.value }
+view_actual x = fold_out-Actual Desig Expr OneActual designator_layer expr_layer actual_layer x
+
+pub view_actuals : (x : Actual) (xs : List Actual) → actuals_view (x ∷ xs) ≡ AnActual x.passing x.formal (expr_view x.value) (actuals_view xs)
+view_actuals x xs = ap (λ o. AnActual o.passing o.formal o.e (actuals_view xs)) (view_actual x)
+
+-- the first actual parameter, and the others
+pub first_actual : (xs : List Actual) (x : Actual) → 1 ≤ length xs → x ≡ get_or xs 0 x → actuals_view xs ≡ AnActual x.passing x.formal (expr_view x.value) (actuals_view (take (length xs - 1) (drop 1 xs)))
+first_actual [] x some is = absurd (omega arith)
+first_actual (y ∷ ys) x some is = view_actuals y ys ∙ ap (λ (z : Actual). AnActual z.passing z.formal (expr_view z.value) (actuals_view ys)) (sym is)
+    ∙ ap (λ l. AnActual x.passing x.formal (expr_view x.value) (actuals_view l)) (sym (take_rest (y ∷ ys) 1))
+
+-- what was found in the first, and a part for the others
+pub texts_behind : (words : TypeRef → ℕ) (t left a whole : List AText) (old mid : List Part) (q : Part) → left ≡ t ++ (a ++ texts_of_parts words mid) → mid ≡ old ++ q ∷ [] → whole ≡ a ++ texts_of_part words q → left ≡ t ++ (whole ++ texts_of_parts words old)
+texts_behind words t left a whole old mid q h m w =
+    h ∙ ap (λ l. t ++ l) (ap (λ ps. a ++ texts_of_parts words ps) m ∙ ap (λ l. a ++ l) (part_more words old q)
+    ∙ sym (append_assoc a (texts_of_part words q) (texts_of_parts words old)) ∙ ap (λ l. l ++ texts_of_parts words old) (sym w))
+
+pub size_behind : (n e whole : ℕ) (old mid : List Part) (q : Part) → n ≤ e + size_of_parts mid → mid ≡ old ++ q ∷ [] → whole ≡ suc (e + size_of_part q) → n < whole + size_of_parts old
+size_behind n e whole old mid q h m w = let s = size_more old q in let same = ap size_of_parts m in omega arith
+
+-- the part that is taken next is apart
+pub texts_next : (words : TypeRef → ℕ) (found left whole : List AText) (parts rest : List Part) (p : Part) → left ≡ found ++ (texts_of_part words p ++ texts_of_parts words rest) → parts ≡ rest ++ p ∷ [] → found ++ texts_of_parts words parts ≡ whole → left ≡ whole
+texts_next words found left whole parts rest p h m inv = h ∙ ap (λ l. found ++ l) (sym (part_more words rest p) ∙ ap (texts_of_parts words) (sym m)) ∙ inv
+
+pub size_next : (n : ℕ) (parts rest : List Part) (p : Part) → n < size_of_part p + size_of_parts rest → parts ≡ rest ++ p ∷ [] → n < size_of_parts parts
+size_next n parts rest p h m = let s = size_more rest p in let same = ap size_of_parts m in omega arith
 
 pub no_text : (v : Value) → text_of_value v ≡ None → texts_of_value v ≡ []
 no_text (literal.Str t) e = absurd cc

@@ -1,4 +1,5 @@
 pub mod Shapes
+pub mod Chains
 pub mod Anywhere
 pub mod Lists
 pub mod Few

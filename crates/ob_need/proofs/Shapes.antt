@@ -30,21 +30,12 @@ max_capped a b m n h k = omega (arith, h, k)
 pub above_capped : (k b n : ℕ) → n ≡ capped b → capped (k + n) ≡ capped (k + b)
 above_capped k b n h = omega (arith, h)
 
--- a part, and then what is wanted
-pub one_behind : (w : Want) (a m n : ℕ) → m ≡ capped a → n ≡ operands_of w → max m n ≡ capped (max a (operands_of w))
-one_behind w a m n h k = max_capped a (operands_of w) m n h (k ∙ few_wanted w)
-
 pub result_behind : (t : Option TypeRef) (a m n : ℕ) → m ≡ capped a → n ≡ result_operands t → max m n ≡ capped (max a (result_operands t))
 result_behind t a m n h k = max_capped a (result_operands t) m n h (k ∙ few_result t)
 
 -- two parts, the second above what the first left
 pub above_needs : (k a b m n s : ℕ) → m ≡ capped a → n ≡ capped b → s ≡ capped (k + n) → max m s ≡ capped (max a (k + b))
 above_needs k a b m n s h i j = max_capped a (k + b) m s h (j ∙ above_capped k b n i)
-
--- an array, and above it its index
-pub index_needs : (v w : Want) (a b m n o s u : ℕ) → m ≡ capped a → n ≡ capped b → o ≡ operands_of v → s ≡ capped (o + n) → u ≡ operands_of w → max m (max s u) ≡ capped (max a (max (operands_of v + b) (operands_of w)))
-index_needs v w a b m n o s u h i j k l =
-    max_capped a (max (operands_of v + b) (operands_of w)) m (max s u) h (one_behind w (operands_of v + b) s u (k ∙ ap (λ x. capped (x + n)) j ∙ above_capped (operands_of v) b n i) l)
 
 -- a target, and above it what is assigned
 pub target_needs : (w : Want) (a b m n o s : ℕ) → m ≡ capped a → n ≡ capped b → o ≡ operands_of w → s ≡ capped (o + n) → max m s ≡ capped (max a (operands_of w + b))

@@ -4,91 +4,105 @@ ghost use Rattle.ob_code.specs.Needs.{need_desig, need_expr, need_actuals};
 ghost use Rattle.ob_need.specs.Capped.{capped};
 ghost use Rattle.ob_need.specs.Nowhere.{nowhere, passed};
 
-use crate::wants::{
-    above, larger, operands_of, operands_of_result, want_for_actual, want_for_guard, want_for_index,
-};
-use ob_code::Want;
+use crate::wants::{above, larger, operands_of, operands_of_result, want_for_actual};
+use ob_code::{Want, want_for_guard, want_for_index};
 use ob_types::{Actual, Designator, TypedExpr};
 
 /// How many operands stand at most while a designator's code runs, above those that stood before it; more than 256 are
-/// answered as 257. Takes no memory.
+/// answered as 257. Takes no memory, and a chain of selectors takes no more stack than one.
 #[cycle(need_expr)]
-#[tactic(auto, using(crate::proofs::Shapes::few_wanted, crate::proofs::Shapes::one_behind, crate::proofs::Shapes::index_needs, ob_types::proofs::TypedViews::view_variable, ob_types::proofs::TypedViews::view_field, ob_types::proofs::TypedViews::view_index, ob_types::proofs::TypedViews::view_deref, ob_types::proofs::TypedViews::view_guard))]
+#[tactic(auto, using(crate::proofs::Chains::variable_over, crate::proofs::Chains::selector, ob_types::proofs::TypedViews::view_field, ob_types::proofs::TypedViews::view_deref, ob_types::proofs::TypedViews::view_guard))]
 pub fn operands_of_designator(want: Want, d: &Designator) -> u32
     ensures { result ≡ capped (need_desig nowhere want (designator_view d.now)) }
 {
-    match d {
-        Designator::Variable { .. } => operands_of(want),
-        Designator::Field { inner, .. } => larger(
-            operands_of_designator(Want::Place, inner.get()),
-            operands_of(want),
-        ),
-        Designator::Index {
-            inner,
-            length,
-            index,
-            ..
-        } => {
-            let whole = want_for_index(*length);
-            let array = operands_of_designator(whole, inner.get());
-            let at = above(
-                operands_of(whole),
-                operands_of_expr(Want::Value, index.get()),
-            );
-            larger(array, larger(at, operands_of(want)))
+    let mut need = 0;
+    let mut wanted = want;
+    let mut rest = d;
+    'selectors: loop {
+        need = larger(need, operands_of(wanted));
+        match rest {
+            Designator::Variable { .. } => return need,
+            Designator::Field { inner, .. } => {
+                wanted = Want::Place;
+                rest = inner.get();
+            }
+            Designator::Index {
+                inner,
+                length,
+                index,
+                ..
+            } => {
+                wanted = want_for_index(*length);
+                let at = operands_of_expr(Want::Value, index.get());
+                need = larger(need, above(operands_of(wanted), at));
+                rest = inner.get();
+            }
+            Designator::Deref { inner, .. } => {
+                wanted = Want::Value;
+                rest = inner.get();
+            }
+            Designator::Guard { inner, guarded, .. } => {
+                wanted = want_for_guard(*guarded, wanted);
+                rest = inner.get();
+            }
         }
-        Designator::Deref { inner, .. } => larger(
-            operands_of_designator(Want::Value, inner.get()),
-            operands_of(want),
-        ),
-        Designator::Guard { inner, guarded, .. } => larger(
-            operands_of_designator(want_for_guard(*guarded, want), inner.get()),
-            operands_of(want),
-        ),
     }
 }
 
 /// How many operands stand at most while an expression's code runs, above those that stood before it; more than 256 are
-/// answered as 257. Takes no memory.
+/// answered as 257. Takes no memory, and a chain of operators takes no more stack than one.
 #[cycle(need_expr)]
-#[tactic(auto, using(crate::proofs::Shapes::max_capped, crate::proofs::Shapes::one_behind, crate::proofs::Shapes::above_needs, crate::proofs::Shapes::result_behind, crate::proofs::Shapes::few_wanted, ob_types::proofs::TypedViews::view_constant, ob_types::proofs::TypedViews::view_value_of, ob_types::proofs::TypedViews::view_procedure_value, ob_types::proofs::TypedViews::view_monadic, ob_types::proofs::TypedViews::view_dyadic, ob_types::proofs::TypedViews::view_logical, ob_types::proofs::TypedViews::view_compare_texts, ob_types::proofs::TypedViews::view_is_pointer, ob_types::proofs::TypedViews::view_is_record, ob_types::proofs::TypedViews::view_length, ob_types::proofs::TypedViews::view_call, ob_types::proofs::TypedViews::view_call_variable))]
+#[tactic(auto, using(crate::proofs::Chains::binary_turn, crate::proofs::Chains::logical_turn, crate::proofs::Chains::chain_over, crate::proofs::Shapes::above_needs, crate::proofs::Shapes::result_behind, crate::proofs::Shapes::few_wanted, ob_types::proofs::TypedViews::view_constant, ob_types::proofs::TypedViews::view_value_of, ob_types::proofs::TypedViews::view_procedure_value, ob_types::proofs::TypedViews::view_monadic, ob_types::proofs::TypedViews::view_compare_texts, ob_types::proofs::TypedViews::view_is_pointer, ob_types::proofs::TypedViews::view_is_record, ob_types::proofs::TypedViews::view_length, ob_types::proofs::TypedViews::view_call, ob_types::proofs::TypedViews::view_call_variable))]
 pub fn operands_of_expr(want: Want, e: &TypedExpr) -> u32
     ensures { result ≡ capped (need_expr nowhere want (expr_view e.now)) }
 {
-    match e {
-        TypedExpr::Constant(_) => operands_of(want),
-        TypedExpr::Designator(d) => operands_of_designator(want, d),
-        TypedExpr::Procedure { .. } => 1,
-        TypedExpr::Unary { operand, .. } => operands_of_expr(Want::Value, operand.get()),
-        TypedExpr::Binary { left, right, .. } => {
-            let first = operands_of_expr(Want::Value, left.get());
-            let second = operands_of_expr(Want::Value, right.get());
-            larger(first, above(1, second))
-        }
-        TypedExpr::Logical { left, right, .. } => {
-            let first = operands_of_expr(Want::Value, left.get());
-            let second = operands_of_expr(Want::Value, right.get());
-            larger(first, second)
-        }
-        TypedExpr::CompareTexts { left, right, .. } => {
-            let first = operands_of_expr(Want::PlaceAndLength, left.get());
-            let second = operands_of_expr(Want::PlaceAndLength, right.get());
-            larger(first, above(2, second))
-        }
-        TypedExpr::IsPointer { operand, .. } => operands_of_expr(Want::Value, operand.get()),
-        TypedExpr::IsRecord { inner, .. } => operands_of_designator(Want::Tag, inner),
-        TypedExpr::Length(d) => operands_of_designator(Want::Length, d),
-        TypedExpr::Call {
-            actuals,
-            result: outcome,
-            ..
-        } => larger(
-            operands_of_actuals(actuals.as_slice()),
-            operands_of_result(outcome),
-        ),
-        TypedExpr::CallVariable { inner, actuals, .. } => {
-            let called = operands_of_designator(Want::Value, inner);
-            larger(called, above(1, operands_of_actuals(actuals.as_slice())))
+    let mut need = 0;
+    let mut wanted = want;
+    let mut rest = e;
+    'operators: loop {
+        match rest {
+            TypedExpr::Constant(_) => return larger(need, operands_of(wanted)),
+            TypedExpr::Designator(d) => return larger(need, operands_of_designator(wanted, d)),
+            TypedExpr::Procedure { .. } => return larger(need, 1),
+            TypedExpr::Unary { operand, .. } => {
+                return larger(need, operands_of_expr(Want::Value, operand.get()));
+            }
+            TypedExpr::Binary { left, right, .. } => {
+                let second = operands_of_expr(Want::Value, right.get());
+                need = larger(need, above(1, second));
+                wanted = Want::Value;
+                rest = left.get();
+            }
+            TypedExpr::Logical { left, right, .. } => {
+                need = larger(need, operands_of_expr(Want::Value, right.get()));
+                wanted = Want::Value;
+                rest = left.get();
+            }
+            TypedExpr::CompareTexts { left, right, .. } => {
+                let first = operands_of_expr(Want::PlaceAndLength, left.get());
+                let second = operands_of_expr(Want::PlaceAndLength, right.get());
+                return larger(need, larger(first, above(2, second)));
+            }
+            TypedExpr::IsPointer { operand, .. } => {
+                return larger(need, operands_of_expr(Want::Value, operand.get()));
+            }
+            TypedExpr::IsRecord { inner, .. } => {
+                return larger(need, operands_of_designator(Want::Tag, inner));
+            }
+            TypedExpr::Length(d) => return larger(need, operands_of_designator(Want::Length, d)),
+            TypedExpr::Call {
+                actuals,
+                result: outcome,
+                ..
+            } => {
+                let passed = operands_of_actuals(actuals.as_slice());
+                return larger(need, larger(passed, operands_of_result(outcome)));
+            }
+            TypedExpr::CallVariable { inner, actuals, .. } => {
+                let called = operands_of_designator(Want::Value, inner);
+                let passed = operands_of_actuals(actuals.as_slice());
+                return larger(need, larger(called, above(1, passed)));
+            }
         }
     }
 }

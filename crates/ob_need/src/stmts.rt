@@ -6,10 +6,8 @@ ghost use Rattle.ob_need.specs.Capped.{capped};
 ghost use Rattle.ob_need.specs.Nowhere.{nowhere};
 
 use crate::exprs::{operands_of_designator, operands_of_expr};
-use crate::wants::{
-    above, larger, operands_of, operands_of_labels, want_for_source, want_for_target,
-};
-use ob_code::Want;
+use crate::wants::{above, larger, operands_of, operands_of_labels};
+use ob_code::{Want, want_for_source, want_for_target};
 use ob_types::{TypedBranch, TypedCase, TypedExpr, TypedStmt};
 
 fn operands_of_value(value: &Option<TypedExpr>) -> u32

@@ -82,7 +82,7 @@ pub enum ObjFault {
     Memory,
 }
 
-const MAGIC: [u8; 5] = [79, 79, 66, 74, 1];
+const MAGIC: [u8; 5] = *b"OOBJ\x01";
 
 const MOST_TYPES: usize = 1_048_576;
 

@@ -2,3 +2,4 @@ pub mod Gaps
 pub mod Longest
 pub mod Beginnings
 pub mod Leads
+pub mod Reserved

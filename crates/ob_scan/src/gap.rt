@@ -10,10 +10,10 @@ use crate::bytes::is_blank;
 use crate::fault::ScanFault;
 use ob_tree::Pos;
 
-/// A place among blanks and comments: how many comments are open there, and where the outermost
-/// of them began.
+/// A position in a gap, among its blanks and comments: how many comments are open there, and where
+/// the outermost of them began.
 #[derive(Clone, Copy)]
-pub struct Place {
+pub struct GapPosition {
     at: usize,
     depth: usize,
     start: Pos,
@@ -60,14 +60,14 @@ fn closes(a: u8, b: u8) -> bool
     a == b'*' && b == b')'
 }
 
-fn outer_start(p: Place) -> Pos
+fn outer_start(p: GapPosition) -> Pos
     ensures { result ≡ gaps.outer_start p }
 {
     if p.depth == 0 { p.here } else { p.start }
 }
 
 // One byte further at the text's last byte.
-fn last_turn(text: &[u8], p: Place) -> Option<Place>
+fn last_turn(text: &[u8], p: GapPosition) -> Option<GapPosition>
     requires within { p.at + 1 ≡ length text.now }
     requires room { IsRoomy text.now p }
     ensures { Turns text.now p result }
@@ -76,7 +76,7 @@ fn last_turn(text: &[u8], p: Place) -> Option<Place>
     if p.depth == 0 && !is_blank(a) {
         None
     } else {
-        Some(Place {
+        Some(GapPosition {
             at: p.at + 1,
             depth: p.depth,
             start: p.start,
@@ -86,7 +86,7 @@ fn last_turn(text: &[u8], p: Place) -> Option<Place>
 }
 
 // One byte further, or over a comment's first or last symbol; none where a symbol begins.
-fn pair_turn(text: &[u8], p: Place) -> Option<Place>
+fn pair_turn(text: &[u8], p: GapPosition) -> Option<GapPosition>
     requires within { p.at + 1 < length text.now }
     requires room { IsRoomy text.now p }
     ensures { Turns text.now p result }
@@ -94,7 +94,7 @@ fn pair_turn(text: &[u8], p: Place) -> Option<Place>
     let a = text[p.at];
     let b = text[p.at + 1];
     if opens(a, b) {
-        Some(Place {
+        Some(GapPosition {
             at: p.at + 2,
             depth: p.depth + 1,
             start: outer_start(p),
@@ -102,7 +102,7 @@ fn pair_turn(text: &[u8], p: Place) -> Option<Place>
         })
     } else if p.depth == 0 {
         if is_blank(a) {
-            Some(Place {
+            Some(GapPosition {
                 at: p.at + 1,
                 depth: p.depth,
                 start: p.start,
@@ -112,14 +112,14 @@ fn pair_turn(text: &[u8], p: Place) -> Option<Place>
             None
         }
     } else if closes(a, b) {
-        Some(Place {
+        Some(GapPosition {
             at: p.at + 2,
             depth: p.depth - 1,
             start: p.start,
             here: two_further(p.here),
         })
     } else {
-        Some(Place {
+        Some(GapPosition {
             at: p.at + 1,
             depth: p.depth,
             start: p.start,
@@ -129,7 +129,7 @@ fn pair_turn(text: &[u8], p: Place) -> Option<Place>
 }
 
 // The same at any byte.
-fn turn(text: &[u8], p: Place) -> Option<Place>
+fn turn(text: &[u8], p: GapPosition) -> Option<GapPosition>
     requires within { p.at < length text.now }
     requires room { IsRoomy text.now p }
     ensures { Turns text.now p result }
@@ -146,7 +146,7 @@ pub fn skip(text: &[u8], pos: Pos) -> Result<(usize, Pos), ScanFault>
     requires { HasRoom pos text.now }
     ensures { Skips (spec.behind zero pos pos text.now) text.now result }
 {
-    let mut p = Place {
+    let mut p = GapPosition {
         at: 0,
         depth: 0,
         start: pos,

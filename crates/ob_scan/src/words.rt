@@ -1,11 +1,33 @@
 //! Reserved words.
 
 ghost use Rattle.std.specs.Prelude.{◌≡◌};
+ghost use Rattle.ob_scan.specs.Kinds.{begins_small};
 ghost use Rattle.ob_scan.specs.Vocabulary as spec;
 
 use ob_tree::Symbol;
 
+// Whether it begins with a byte from `a` on: no reserved word does.
+fn begins_small(text: &[u8]) -> bool
+    ensures { result ≡ begins_small text.now }
+{
+    match text {
+        [] => false,
+        [first, ..] => b'a' <= *first,
+    }
+}
+
+/// The reserved word that this is, or an identifier.
 pub fn word_symbol(text: &[u8]) -> Symbol
+    ensures { result ≡ spec.word_symbol text.now }
+{
+    if begins_small(text) {
+        Symbol::Ident
+    } else {
+        word_from_array(text)
+    }
+}
+
+fn word_from_array(text: &[u8]) -> Symbol
     ensures { result ≡ spec.word_symbol text.now }
 {
     if text == b"ARRAY".as_slice() {

@@ -1,4 +1,5 @@
 pub mod Shapes
+pub mod Chains
 pub mod Lengths
 pub mod Turns
 pub mod Short

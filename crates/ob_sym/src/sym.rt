@@ -11,7 +11,7 @@ use ob_tree::{List, Name, Text};
 use ob_types::{Interface, Use};
 use std::alloc::{AllocError, Global};
 
-const MAGIC: [u8; 5] = [79, 83, 89, 77, 1];
+const MAGIC: [u8; 5] = *b"OSYM\x01";
 
 fn may_import(name: &Name) -> bool
     ensures { result ≡ is_import name.now }

@@ -3,6 +3,7 @@ ghost use Rattle.ob_types.specs.declared.typed.TypedExpr.TheVariants as e;
 ghost use Rattle.ob_types.specs.declared.typed.Actual.{roll-Actual};
 
 use crate::designator::DesignatorTree;
+use crate::parting::{part_actuals, part_expr};
 use ob_tree::{Boxed, List, Pos, QName};
 use ob_types::{
     Actual, Binary, Callee, Comparison, Connective, Passing, Signature, TypeRef, TypedExpr, Unary,
@@ -18,6 +19,7 @@ pub struct ExprTree {
 impl Drop for ExprTree {
     fn drop(self) {
         let ExprTree { inner } = self;
+        part_expr(inner);
     }
 }
 
@@ -200,6 +202,7 @@ pub struct ActualTrees {
 impl Drop for ActualTrees {
     fn drop(self) {
         let ActualTrees { inner } = self;
+        part_actuals(inner);
     }
 }
 

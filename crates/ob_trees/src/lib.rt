@@ -7,6 +7,7 @@ mod copies;
 mod designator;
 mod expr;
 mod module;
+mod parting;
 mod stmt;
 
 pub use copies::{

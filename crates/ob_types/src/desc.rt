@@ -1,3 +1,5 @@
+ghost use Rattle.std.specs.Prelude.{◌≡◌};
+
 use crate::types::{Signature, TypeRef};
 use crate::value::Value;
 use ob_tree::{List, Mark, Name};
@@ -26,7 +28,7 @@ pub enum Desc {
 }
 
 /// A record type.
-#[derive(Debug, Drop, Clone)]
+#[derive(Debug, Clone)]
 pub struct RecordDesc {
     pub mark: Mark,
     /// The type that it extends.
@@ -37,10 +39,49 @@ pub struct RecordDesc {
     /// The bound procedures that it introduces, ascending by number. Those with the mark `Hidden`
     /// stand in no text, and are there for a record of the module at hand alone.
     pub methods: List<Method>,
-    /// Its words, its base's included. More than 1,048,576 are kept as 1,048,577.
+    /// Its words, its base's included: of the module at hand as they are laid out, where more than
+    /// 1,048,576 are 1,048,577; of another as its file says.
     pub words: u32,
     /// The number of its bound procedures, its base's included.
     pub procedures: u32,
+}
+
+// By hand, as that of `TypeRef`; and so below.
+impl Drop for RecordDesc {
+    fn drop(self) {
+        let RecordDesc {
+            mark,
+            base,
+            fields,
+            methods,
+            words,
+            procedures,
+        } = self;
+    }
+}
+
+impl RecordDesc {
+    /// This record type with so many words and so many bound procedures.
+    pub fn sized(self, words: u32, procedures: u32) -> RecordDesc
+        ensures { result ≡ record { mark = self.mark; base = self.base; fields = self.fields; methods = self.methods; words = words; procedures = procedures } }
+    {
+        let RecordDesc {
+            mark,
+            base,
+            fields,
+            methods,
+            words: _,
+            procedures: _,
+        } = self;
+        RecordDesc {
+            mark,
+            base,
+            fields,
+            methods,
+            words,
+            procedures,
+        }
+    }
 }
 
 /// A field of a record.
@@ -48,8 +89,8 @@ pub struct RecordDesc {
 pub struct Field {
     pub name: Name,
     pub mark: Mark,
-    /// Its first word, counted from the start of the record. More than 1,048,576 is kept as
-    /// 1,048,577.
+    /// Its first word, counted from the start of the record: of the module at hand as it is laid
+    /// out, where more than 1,048,576 is 1,048,577; of another as its file says.
     pub place: u32,
     pub of: TypeRef,
 }
@@ -64,7 +105,7 @@ pub enum Receiver {
 }
 
 /// A bound procedure that a record introduces.
-#[derive(Debug, Drop, Clone)]
+#[derive(Debug, Clone)]
 pub struct Method {
     pub name: Name,
     /// `Full` or `Hidden`.
@@ -74,4 +115,16 @@ pub struct Method {
     pub receiver: Receiver,
     /// Its parameters without the receiver, and its result.
     pub signature: Signature,
+}
+
+impl Drop for Method {
+    fn drop(self) {
+        let Method {
+            name,
+            mark,
+            number,
+            receiver,
+            signature,
+        } = self;
+    }
 }

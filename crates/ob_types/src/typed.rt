@@ -171,7 +171,7 @@ pub struct Family {
 }
 
 /// What a call names, but a procedure variable.
-#[derive(Debug, Drop)]
+#[derive(Debug)]
 pub enum Callee {
     /// A declared procedure, by its module and its name there: `P`, or `P/Q` for one inside P.
     Declared(QName),
@@ -190,6 +190,25 @@ pub enum Callee {
     },
     /// A procedure of Out.
     Out(OutProcedure),
+}
+
+// By hand, as that of `TypeRef`; and where it says so below.
+impl Drop for Callee {
+    fn drop(self) {
+        match self {
+            Callee::Declared(_) => {}
+            Callee::Bound {
+                family: _,
+                receiver: _,
+            } => {}
+            Callee::Super {
+                base: _,
+                family: _,
+                receiver: _,
+            } => {}
+            Callee::Out(_) => {}
+        }
+    }
 }
 
 /// A designator of a variable, with the type that each of its prefixes has.
@@ -481,10 +500,17 @@ pub struct TypedConstant {
 /// A declared type, or one without a name of its own under its derived name: its name in the
 /// module, and what it is. A record's fields and bound procedures are all there, in the order of
 /// the text and with places, numbers and words 0, until the module is laid out.
-#[derive(Debug, Drop)]
+#[derive(Debug)]
 pub struct TypedType {
     pub name: ObjName,
     pub desc: Desc,
+}
+
+// By hand, as that of `TypeRef`.
+impl Drop for TypedType {
+    fn drop(self) {
+        let TypedType { name, desc } = self;
+    }
 }
 
 /// A declared variable. The mark of a local one is `Hidden`.
@@ -555,7 +581,7 @@ pub struct TypedModule {
 }
 
 /// The type of an expression.
-#[derive(Debug, Drop)]
+#[derive(Debug)]
 pub enum ExprType {
     Of(TypeRef),
     /// A string that is no character.
@@ -565,4 +591,17 @@ pub enum ExprType {
     Procedure(Signature),
     /// A call without a result.
     Nothing,
+}
+
+// By hand, as that of `TypeRef`.
+impl Drop for ExprType {
+    fn drop(self) {
+        match self {
+            ExprType::Of(_) => {}
+            ExprType::Str => {}
+            ExprType::Nil => {}
+            ExprType::Procedure(_) => {}
+            ExprType::Nothing => {}
+        }
+    }
 }

@@ -22,10 +22,21 @@ pub enum Basic {
 }
 
 /// A type: a basic one, or the one that a name stands for.
-#[derive(Debug, Drop, Clone)]
+#[derive(Debug, Clone)]
 pub enum TypeRef {
     Basic(Basic),
     Named(QName),
+}
+
+// By hand, here and where it says so below: so a crate above has one call where such a value goes,
+// and proves no destructor of its parts.
+impl Drop for TypeRef {
+    fn drop(self) {
+        match self {
+            TypeRef::Basic(_) => {}
+            TypeRef::Named(_) => {}
+        }
+    }
 }
 
 /// How a parameter is passed.
@@ -36,10 +47,38 @@ pub enum Mode {
 }
 
 /// The parameters of a procedure in order, and its result, none for a proper procedure.
-#[derive(Debug, Drop, Clone)]
+#[derive(Debug, Clone)]
 pub struct Signature {
     pub params: List<(Mode, TypeRef)>,
     pub result: Option<TypeRef>,
+}
+
+// By hand, as that of `TypeRef`.
+impl Drop for Signature {
+    fn drop(self) {
+        let Signature { params, result } = self;
+    }
+}
+
+impl Signature {
+    /// Its parameters.
+    pub fn into_params(self) -> List<(Mode, TypeRef)>
+        ensures { result ≡ self.params }
+    {
+        let Signature { params, result: _ } = self;
+        params
+    }
+
+    /// Its result.
+    pub fn into_result(self) -> Option<TypeRef>
+        ensures { result ≡ self.result }
+    {
+        let Signature {
+            params: _,
+            result: of,
+        } = self;
+        of
+    }
 }
 
 /// A finite map from names to descriptions.

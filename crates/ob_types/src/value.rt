@@ -1,7 +1,7 @@
 use ob_tree::Text;
 
 /// The value of a constant.
-#[derive(Debug, Drop, Clone)]
+#[derive(Debug, Clone)]
 pub enum Value {
     Bool(bool),
     /// A character, 0X to 0FFX.
@@ -14,4 +14,18 @@ pub enum Value {
     /// checked tree where it serves as an array.
     Str(Text),
     Nil,
+}
+
+// By hand, as that of `TypeRef`.
+impl Drop for Value {
+    fn drop(self) {
+        match self {
+            Value::Bool(_) => {}
+            Value::Char(_) => {}
+            Value::Int(_) => {}
+            Value::Set(_) => {}
+            Value::Str(_) => {}
+            Value::Nil => {}
+        }
+    }
 }

@@ -2,7 +2,7 @@ use Rattle.std.proofs.Common.{List, [], ◌∷◌, refl, ap}
 use Rattle.ob_counts.proofs.Parting.{turn, over}
 use Rattle.ob_types.specs.declared.typed.Actual.{Actual}
 use Rattle.ob_types.specs.TypedView.{actuals_view}
-use Rattle.ob_counts.proofs.Views.{view_actuals}
+use Rattle.ob_layout.proofs.UsedTexts.{view_actuals}
 use Rattle.ob_counts.specs.Counts.{Shapes, formals}
 use Rattle.ob_counts.proofs.calls.note_formals.Goals as goal
 

@@ -1,7 +1,9 @@
 use Rattle.std.proofs.Common.{◌≡◌, subst, arith}
+use Rattle.ob_types.specs.declared.typed.Designator.TheViews.{sized-Index}
 use Rattle.ob_types.specs.TypedView.{expr_view}
 use Rattle.ob_need.specs.Nowhere.{passed}
 use Rattle.ob_short.specs.Lengths.{capped, expr_lines}
+use Rattle.ob_short.proofs.Chains.{index_turn}
 use Rattle.ob_short.proofs.Turns.{actuals_turn, actuals_over}
 use Rattle.ob_short.proofs.exprs.+expr_lines.Goals as goal
 
@@ -17,3 +19,11 @@ lines_of_actuals-actuals-preserved g t c =
 pub lines_of_actuals-returns : goal.lines_of_actuals-returns
 lines_of_actuals-returns g t c =
     actuals_over (g.T.Types.types c.args.types.now) c.args.actuals.now c.actuals.actual-index c.actuals.lines _ c.actuals-test.false c.actuals.invariant.1 c.actuals.invariant.0
+
+-- a step past an index: the size of what it stands on is told by that of the whole
+pub lines_of_designator-selectors-preserved-in-Index : goal.lines_of_designator-selectors-preserved-in-Index
+lines_of_designator-selectors-preserved-in-Index g t c = (
+  index_turn _ _ _ _ _ _ _ _ _ _ _ _ _ _ _ _ _ c.in-Index.is c.get-rest-in-Index.ensures c.get.ensures c.want_for_index-wanted.ensures c.more-lines-in-Index.ensures c.more-in-Index.ensures
+      c.place_size-in-Index.ensures.is c.lines_of_expr-at.ensures c.selectors.invariant.0,
+  grind (arith, sized-Index, c.in-Index.is, c.get-rest-in-Index.ensures, c.selectors.invariant.1),
+)
