@@ -7,8 +7,8 @@ use crate::sizes::{
     between, constant_size, further, guard_size, joined, place_size, pointer_size, unary_size,
     variable_size,
 };
-use ob_code::Want;
-use ob_gcode::{GenFault, Scope, want_for, want_for_guard, want_for_index};
+use ob_code::{Want, want_for_guard, want_for_index};
+use ob_gcode::{GenFault, Scope, want_for};
 use ob_types::{Actual, Designator, TypedExpr};
 
 /// The index behind the code of a designator that begins at an index. A fault is want of memory,

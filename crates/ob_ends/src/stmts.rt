@@ -9,8 +9,8 @@ ghost use Rattle.ob_ends.specs.Sizes.{end_for_head};
 
 use crate::exprs::{end_designator, end_expr};
 use crate::sizes::{behind_labels, further, variable_size};
-use ob_code::Want;
-use ob_gcode::{GenFault, Scope, want_for_source, want_for_target};
+use ob_code::{Want, want_for_source, want_for_target};
+use ob_gcode::{GenFault, Scope};
 use ob_types::{Label, TypedBranch, TypedCase, TypedExpr, TypedStmt, Variable};
 
 fn end_labels<S: Scope>(scope: &S, labels: &[Label], pc: usize) -> Result<usize, GenFault>

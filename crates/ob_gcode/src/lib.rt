@@ -16,7 +16,6 @@ pub use lines::{
     bytes_of, put_bare, put_bare_at, put_count, put_jump, put_jump_back, put_placed, put_plain,
 };
 pub use links::Links;
-pub use ob_code::{has_tag, want_for_guard, want_for_index, want_for_source, want_for_target};
 pub use scope::Scope;
 pub use type_links::TypeLinks;
 pub use typed::{put_typed, put_typed_and, put_typed_behind};

@@ -16,10 +16,8 @@ use crate::pieces::{put_binary, put_unary};
 use crate::places::{put_field, put_from_pointer, put_index, put_variable};
 use crate::relations::put_relation;
 use crate::types::{put_from_guard, put_procedure_value};
-use ob_code::Want;
-use ob_gcode::{
-    Code, GenFault, Scope, put_count, put_typed, want_for, want_for_guard, want_for_index,
-};
+use ob_code::{Want, want_for_guard, want_for_index};
+use ob_gcode::{Code, GenFault, Scope, put_count, put_typed, want_for};
 use ob_instr::Opcode;
 use ob_tree::Which;
 use ob_types::{Actual, Connective, Designator, TypedExpr};

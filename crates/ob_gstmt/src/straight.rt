@@ -11,10 +11,10 @@ ghost use Rattle.ob_code.specs.Coded.{Coded, appended, place_in};
 ghost use Rattle.ob_code.specs.Statements.{text_words_of, text_words, copy_record, assign_line, new_line};
 ghost use Rattle.ob_gstmt.specs.Straight.{straight_code};
 
-use ob_code::Want;
+use ob_code::{Want, has_tag, want_for_source, want_for_target};
 use ob_gcode::{
-    Code, GenFault, Scope, bytes_of, has_tag, put_bare, put_bare_at, put_count, put_placed,
-    put_typed, put_typed_behind, want_for_source, want_for_target,
+    Code, GenFault, Scope, bytes_of, put_bare, put_bare_at, put_count, put_placed, put_typed,
+    put_typed_behind,
 };
 use ob_gexpr::{put_designator, put_expr};
 use ob_instr::Opcode;

@@ -4,9 +4,8 @@ ghost use Rattle.ob_need.specs.Nowhere.{passed};
 ghost use Rattle.ob_short.specs.Lengths.{capped, desig_lines, expr_lines, actuals_lines};
 
 use crate::pieces::{more, pointed_size};
-use ob_code::Want;
+use ob_code::{Want, want_for_guard, want_for_index};
 use ob_ends::{between, constant_size, guard_size, joined, place_size, unary_size, variable_size};
-use ob_gcode::{want_for_guard, want_for_index};
 use ob_need::want_for_actual;
 use ob_types::{Actual, Designator, TypedExpr, Types};
 

@@ -6,8 +6,7 @@ ghost use Rattle.ob_short.specs.Lengths.{capped, expr_lines, result_lines, stmt_
 
 use crate::exprs::{lines_of_designator, lines_of_expr};
 use crate::pieces::{for_size, lines_of_labels, more};
-use ob_code::Want;
-use ob_gcode::{want_for_source, want_for_target};
+use ob_code::{Want, want_for_source, want_for_target};
 use ob_types::{TypedBranch, TypedCase, TypedExpr, TypedStmt, Types};
 
 #[tactic(auto, using(crate::proofs::Shapes::one))]
