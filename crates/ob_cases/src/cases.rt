@@ -2,7 +2,9 @@
 
 use crate::faults::{Failing, run, table};
 use crate::files::Files;
+use crate::listing::listing_of;
 use crate::numbered::{numbered, repeated};
+use ob_obj::{ObjFault, read_obj};
 use std::alloc::{AllocError, Global};
 
 /// A case as far as it was told: its files, the words of the next session, how often the numbered lines of the
@@ -148,6 +150,7 @@ impl Case {
             }
             "size" => self.print_size(name),
             "hex" => self.print_bytes(name),
+            "listing" => self.print_listing(name),
             "every-prefix" => self.run_prefixes(name, body),
             _ => anyhow::bail!("no section of one name"),
         }
@@ -172,6 +175,16 @@ impl Case {
             text.push_str(&format!(in self.alloc; "{byte:02x}")?)?;
         }
         self.print(&[&text, "\n"])
+    }
+
+    // The tables and the code of an object file.
+    fn print_listing(&mut self, name: &str) -> anyhow::Result<()> {
+        let lines = match read_obj(self.alloc, self.file(name)?) {
+            Ok(file) => listing_of(self.alloc, &file)?,
+            Err(ObjFault::Damaged) => anyhow::bail!("no object file"),
+            Err(ObjFault::Memory) => anyhow::bail!("no memory"),
+        };
+        self.print(&["== listing ", name, "\n", &lines])
     }
 
     fn tell_two(&mut self, what: &str, name: &str, other: &str) -> anyhow::Result<()> {

@@ -1,11 +1,13 @@
 //! Does the cases of some texts, each over files in memory, and prints what each session wrote, its
 //! status, and what is asked of the files: `cases.txt` has worked examples, `rules.txt` broken
-//! rules, `refusals.txt` refusals with their causes, and `faults.txt` calls that fail.
+//! rules, `refusals.txt` refusals with their causes, `faults.txt` calls that fail, and
+//! `listings.txt` modules whose object files are listed.
 #![tactic(auto)]
 
 mod cases;
 mod faults;
 mod files;
+mod listing;
 mod numbered;
 
 use cases::Case;
@@ -16,7 +18,8 @@ fn main(rt: HostRuntime) -> anyhow::Result<()> {
     do_text(&rt, "cases.txt")?;
     do_text(&rt, "rules.txt")?;
     do_text(&rt, "refusals.txt")?;
-    do_text(&rt, "faults.txt")
+    do_text(&rt, "faults.txt")?;
+    do_text(&rt, "listings.txt")
 }
 
 // Does the cases of a text.
