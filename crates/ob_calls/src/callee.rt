@@ -9,7 +9,7 @@ use ob_store::Words;
 use ob_tree::ProcRef;
 
 /// What the instruction of a call names.
-#[derive(Clone, Copy, Debug, PartialEq, Eq, Drop)]
+#[derive(Clone, Copy, PartialEq, Eq, Drop)]
 pub enum Callee {
     /// A procedure, called with as many of the operands as it has slots.
     With(ProcRef),

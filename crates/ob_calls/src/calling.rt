@@ -14,7 +14,7 @@ use ob_tree::ProcRef;
 use ob_values::State;
 
 /// What a call or a return came to.
-#[derive(Clone, Copy, Debug, PartialEq, Eq, Drop)]
+#[derive(Clone, Copy, PartialEq, Eq, Drop)]
 pub enum Called {
     /// The machine goes on at the place.
     Goes,

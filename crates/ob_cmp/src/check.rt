@@ -18,7 +18,7 @@ use ob_types::{Aspect, Interface, Object, Use};
 use std::alloc::{AllocError, Global};
 
 /// Why the uses of a module were not checked.
-#[derive(Debug, Drop)]
+#[derive(Drop)]
 pub enum CheckFault {
     /// The module has no object file.
     NoObject,

@@ -4,7 +4,7 @@ use ob_tree::Text;
 use ob_types::Interface;
 
 /// What the compile of a module gives: its interface, and the bytes of its two files.
-#[derive(Debug, Drop)]
+#[derive(Drop)]
 pub struct Built {
     pub face: Interface,
     pub sym: Text,

@@ -5,7 +5,7 @@ use ob_tree::{Name, Pos, Print, QName, Which};
 use ob_types::Aspect;
 
 /// Why a compile is refused.
-#[derive(Debug, Drop)]
+#[derive(Drop)]
 pub enum CompileRefusal {
     /// The folder has no such file.
     NoSource,
@@ -48,7 +48,7 @@ pub enum CompileRefusal {
 }
 
 /// Why nothing was compiled.
-#[derive(Debug, Drop)]
+#[derive(Drop)]
 pub enum CompileFault {
     Refused(CompileRefusal),
     /// The folder failed, and its count of faults rose.

@@ -2,7 +2,7 @@ use ob_tree::{List, QName};
 
 /// The names of types that count, in the order of the walk and as often as they came up; basic
 /// types have none.
-#[derive(Debug, Drop)]
+#[derive(Drop)]
 pub struct Noted {
     /// Those whose shape counts, with the shapes of all types near them.
     pub shapes: List<QName>,

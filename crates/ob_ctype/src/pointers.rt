@@ -22,7 +22,7 @@ use ob_types::{Desc, TypeRef, TypedType};
 use std::alloc::{AllocError, Global};
 
 // What the base of a pointer is.
-#[derive(Clone, Copy, Debug)]
+#[derive(Clone, Copy)]
 struct Kinds {
     structured: bool,
     pointer: bool,

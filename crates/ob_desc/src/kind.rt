@@ -1,5 +1,5 @@
 /// The keyword that a shape text begins with.
-#[derive(Clone, Copy, Debug, PartialEq, Eq)]
+#[derive(Clone, Copy, PartialEq, Eq)]
 pub enum Kind {
     Const,
     Var,
@@ -13,7 +13,7 @@ pub enum Kind {
 }
 
 /// The word of a constant's text that says what kind of value follows.
-#[derive(Clone, Copy, Debug, PartialEq, Eq)]
+#[derive(Clone, Copy, PartialEq, Eq)]
 pub enum ConstKind {
     Boolean,
     Char,

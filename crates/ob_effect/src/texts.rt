@@ -9,7 +9,7 @@ use ob_values::{State, Step, push, take_four};
 use std::cmp::Ordering;
 
 /// How the text of a character array ends.
-#[derive(Clone, Copy, Debug, PartialEq, Eq, Drop)]
+#[derive(Clone, Copy, PartialEq, Eq, Drop)]
 pub enum Ending {
     /// An address up to the first 0, or up to the array's end, is not there.
     Missing,

@@ -7,7 +7,7 @@ ghost use Rattle.ob_gorder.specs.Ordered.{by_defined, defined_total};
 use std::cmp::Ordering;
 
 /// The procedure of a number, ordered by the number alone.
-#[derive(Debug, Drop)]
+#[derive(Drop)]
 pub struct Defined {
     pub number: u32,
     pub procedure: u32,

@@ -8,7 +8,7 @@ use ob_tree::Name;
 use std::cmp::Ordering;
 
 /// A number with a name, ordered by the name alone.
-#[derive(Debug, Drop)]
+#[derive(Drop)]
 pub struct Named {
     pub name: Name,
     pub number: u32,

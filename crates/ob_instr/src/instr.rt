@@ -9,7 +9,7 @@ use std::alloc::{AllocError, Global};
 
 /// An instruction: its operation, and the operands that the operation names. An operand that it does
 /// not name is 0.
-#[derive(Clone, Copy, Debug, PartialEq, Eq)]
+#[derive(Clone, Copy, PartialEq, Eq)]
 pub struct Instr {
     pub op: Opcode,
     pub a: i32,

@@ -8,7 +8,7 @@ use ob_tree::{List, Pos};
 use std::alloc::{AllocError, Global};
 
 /// How a call passes a parameter: the slots that it has in the new activation.
-#[derive(Clone, Copy, Debug, PartialEq, Eq, Drop)]
+#[derive(Clone, Copy, PartialEq, Eq, Drop)]
 pub enum Param {
     /// One slot with a scalar value; a pointer receiver too.
     Scalar,
@@ -26,7 +26,7 @@ pub enum Param {
 }
 
 /// A procedure of a module.
-#[derive(Debug, Drop)]
+#[derive(Drop)]
 pub struct Procedure {
     /// The index of its first instruction.
     pub entry: u32,
@@ -39,7 +39,7 @@ pub struct Procedure {
 }
 
 /// The position in the source of an instruction that can trap or spend a turn.
-#[derive(Clone, Copy, Debug, PartialEq, Eq, Drop)]
+#[derive(Clone, Copy, PartialEq, Eq, Drop)]
 pub struct Position {
     /// The instruction's index in its module's code.
     pub at: u32,

@@ -125,7 +125,7 @@ fn find_bound<'a>(bound: &'a [Bound], owner: &QName, name: &Name) -> Option<&'a 
 }
 
 /// How many names are known, and how many types the module has, at a place of a module.
-#[derive(Clone, Copy, Debug)]
+#[derive(Clone, Copy)]
 pub struct Marked {
     pub known: usize,
     pub own: usize,

@@ -14,7 +14,7 @@ use std::alloc::{AllocError, Global};
 
 /// A string that is used as an array, and the words that it has among the globals, those above
 /// 4,294,967,296 as that number.
-#[derive(Debug, Drop)]
+#[derive(Drop)]
 pub struct UsedText {
     pub text: Text,
     pub words: u64,

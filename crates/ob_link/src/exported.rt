@@ -3,7 +3,7 @@
 use ob_tree::Name;
 
 /// An exported procedure of a loaded module.
-#[derive(Debug, Drop)]
+#[derive(Drop)]
 pub struct Exported {
     pub name: Name,
     /// Its number in the module.

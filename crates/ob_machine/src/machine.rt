@@ -36,7 +36,7 @@ impl Model for Machine {
 }
 
 /// What `Machine::enter` tells.
-#[derive(Clone, Copy, Debug, PartialEq, Eq, Drop)]
+#[derive(Clone, Copy, PartialEq, Eq, Drop)]
 pub struct Entered {
     /// The number of the first module that was entered.
     pub first: u32,

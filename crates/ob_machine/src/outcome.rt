@@ -1,7 +1,7 @@
 use ob_tree::{Name, Pos};
 
 /// How a run ended.
-#[derive(Clone, Copy, Debug, PartialEq, Drop)]
+#[derive(Clone, Copy, PartialEq, Drop)]
 pub enum Outcome {
     /// The procedure that the run began in returned.
     Done,

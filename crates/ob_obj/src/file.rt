@@ -18,7 +18,7 @@ use std::alloc::{AllocError, Global};
 use thiserror::Error;
 
 /// Which module the file is of, and what it shows and uses.
-#[derive(Debug, Drop)]
+#[derive(Drop)]
 pub struct Head {
     pub module: Name,
     /// At most 64, distinct, in the order of the source; `Out` is left out.
@@ -30,7 +30,7 @@ pub struct Head {
 }
 
 /// What of the globals area the module has: together at most 262,144 words.
-#[derive(Debug, Drop)]
+#[derive(Drop)]
 pub struct Globals {
     /// The words of its variables.
     pub variable_words: u32,
@@ -41,7 +41,7 @@ pub struct Globals {
 }
 
 /// What of other modules the code names.
-#[derive(Debug, Drop)]
+#[derive(Drop)]
 pub struct Links {
     pub variables: List<Link>,
     pub procedures: List<Link>,
@@ -49,7 +49,7 @@ pub struct Links {
 }
 
 /// The module's types and code.
-#[derive(Debug, Drop)]
+#[derive(Drop)]
 pub struct Body {
     /// Its record types, a base before those that extend it. Their names differ.
     pub types: List<RecordType>,
@@ -63,7 +63,7 @@ pub struct Body {
 }
 
 /// An object file.
-#[derive(Debug, Drop)]
+#[derive(Drop)]
 pub struct ObjFile {
     pub head: Head,
     pub globals: Globals,

@@ -13,7 +13,7 @@ use std::alloc::{AllocError, Global};
 use std::cmp::Ordering;
 
 /// What of an exported object others may rely on, with its print.
-#[derive(Debug, Drop)]
+#[derive(Drop)]
 pub struct Export {
     pub name: ObjName,
     pub aspect: Aspect,
@@ -21,7 +21,7 @@ pub struct Export {
 }
 
 /// A string constant that the code uses as an array.
-#[derive(Debug, Drop)]
+#[derive(Drop)]
 pub struct StringConst {
     /// Its characters, without the 0X behind them.
     pub text: Text,
@@ -30,7 +30,7 @@ pub struct StringConst {
 }
 
 /// An exported variable.
-#[derive(Debug, Drop)]
+#[derive(Drop)]
 pub struct Variable {
     pub name: Name,
     /// Its first word, counted from the module's first.
@@ -38,14 +38,14 @@ pub struct Variable {
 }
 
 /// A variable or a procedure of another module.
-#[derive(Debug, Drop)]
+#[derive(Drop)]
 pub struct Link {
     pub module: Name,
     pub name: Name,
 }
 
 /// The base of a record type.
-#[derive(Clone, Copy, Debug, PartialEq, Eq)]
+#[derive(Clone, Copy, PartialEq, Eq)]
 pub enum Base {
     None,
     /// A type of the same file, by its index.
@@ -55,7 +55,7 @@ pub enum Base {
 }
 
 /// A bound procedure that a type defines.
-#[derive(Clone, Copy, Debug, PartialEq, Eq)]
+#[derive(Clone, Copy, PartialEq, Eq)]
 pub struct Definition {
     /// Its number among the type's bound procedures.
     pub number: u32,
@@ -64,7 +64,7 @@ pub struct Definition {
 }
 
 /// A record type of the module.
-#[derive(Debug, Drop)]
+#[derive(Drop)]
 pub struct RecordType {
     pub name: ObjName,
     pub base: Base,
@@ -77,7 +77,7 @@ pub struct RecordType {
 }
 
 /// An exported procedure.
-#[derive(Debug, Drop)]
+#[derive(Drop)]
 pub struct Command {
     pub name: Name,
     /// Its index among the procedures.

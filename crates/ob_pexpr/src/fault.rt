@@ -5,7 +5,7 @@ use ob_tree::Pos;
 use std::alloc::{AllocError, AllocFailed};
 
 /// Why tokens are no module.
-#[derive(Clone, Copy, Debug, PartialEq, Eq, Drop)]
+#[derive(Clone, Copy, PartialEq, Eq, Drop)]
 pub enum ParseFault {
     /// No module goes on with the token that stands here.
     Syntax { pos: Pos },

@@ -1,5 +1,5 @@
 /// Why there is no next line.
-#[derive(Clone, Copy, Debug, PartialEq, Eq, Drop)]
+#[derive(Clone, Copy, PartialEq, Eq, Drop)]
 pub enum NextFault {
     /// The script failed, and its count of faults rose.
     Failed,
@@ -7,7 +7,7 @@ pub enum NextFault {
 }
 
 /// What is next in a script, so many bytes of which are then taken.
-#[derive(Clone, Copy, Debug, PartialEq, Eq)]
+#[derive(Clone, Copy, PartialEq, Eq)]
 pub enum Next {
     /// A line whose byte 10 is taken.
     Line(u32),

@@ -1,7 +1,7 @@
 //! How many objects of an interface are new, changed and gone.
 
 /// The objects of an interface beside one that stood there.
-#[derive(Clone, Copy, Debug, PartialEq, Eq, Drop)]
+#[derive(Clone, Copy, PartialEq, Eq, Drop)]
 pub struct Counts {
     pub objects: usize,
     /// Names that only the new one has.

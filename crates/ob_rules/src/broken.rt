@@ -4,14 +4,14 @@ ghost use Rattle.ob_rules.specs.Judged as spec;
 use ob_tree::Pos;
 
 /// A rule, by its number, and where it is broken.
-#[derive(Clone, Copy, Debug, PartialEq, Eq)]
+#[derive(Clone, Copy, PartialEq, Eq)]
 pub struct Broken {
     pub rule: u8,
     pub pos: Pos,
 }
 
 /// A predeclared procedure.
-#[derive(Clone, Copy, Debug, PartialEq, Eq)]
+#[derive(Clone, Copy, PartialEq, Eq)]
 pub enum Predeclared {
     Abs,
     Ash,

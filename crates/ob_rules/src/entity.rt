@@ -41,7 +41,7 @@ pub struct Bound {
 }
 
 /// A bound procedure that the text has further on: its receiver's type, and its name.
-#[derive(Clone, Copy, Debug)]
+#[derive(Clone, Copy)]
 pub struct Coming {
     pub owner: Name,
     pub name: Name,

@@ -97,7 +97,7 @@ pub enum Meant {
 }
 
 /// Where a designator stands: a call there has a result, has none, or is not asked for one.
-#[derive(Clone, Copy, Debug, PartialEq, Eq)]
+#[derive(Clone, Copy, PartialEq, Eq)]
 pub enum Where {
     InExpression,
     AsStatement,
@@ -106,7 +106,7 @@ pub enum Where {
 
 /// What is asked of a parameter of a predeclared procedure: a value, a variable that is changed, or
 /// a constant.
-#[derive(Clone, Copy, Debug, PartialEq, Eq)]
+#[derive(Clone, Copy, PartialEq, Eq)]
 pub enum Asked {
     Value,
     Changed,
@@ -115,7 +115,7 @@ pub enum Asked {
 
 /// What the labels of a CASE are to be: characters, or integers of a type that the value's type
 /// includes.
-#[derive(Clone, Copy, Debug, PartialEq, Eq)]
+#[derive(Clone, Copy, PartialEq, Eq)]
 pub enum Selects {
     Characters,
     Integers(Width),

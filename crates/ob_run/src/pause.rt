@@ -1,7 +1,7 @@
 use ob_instr::Instr;
 
 /// Where the instructions of a call end, or are to go on in another one.
-#[derive(Clone, Copy, Debug, PartialEq, Eq, Drop)]
+#[derive(Clone, Copy, PartialEq, Eq, Drop)]
 pub enum Pause {
     /// The next instruction is this call or return.
     Calls(Instr),

@@ -5,7 +5,7 @@ use ob_tree::Pos;
 use std::alloc::{AllocError, AllocFailed};
 
 /// Why a text has no tokens.
-#[derive(Clone, Copy, Debug, PartialEq, Eq, Drop)]
+#[derive(Clone, Copy, PartialEq, Eq, Drop)]
 pub enum ScanFault {
     /// No symbol of the vocabulary begins here. An unfinished string or comment is one at its
     /// start, and so is a string with a line end or a byte above 127 in it.

@@ -3,7 +3,7 @@
 use ob_types::Interface;
 
 /// What a symbol file is, of whatever module.
-#[derive(Debug, Drop)]
+#[derive(Drop)]
 pub enum SymbolFile {
     Missing,
     /// It has more than 16,777,216 bytes.

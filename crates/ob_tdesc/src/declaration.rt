@@ -1,7 +1,7 @@
 use ob_tree::{List, Name, ObjName, ProcRef};
 
 /// A bound procedure that a record type defines.
-#[derive(Clone, Copy, Debug, Drop)]
+#[derive(Clone, Copy, Drop)]
 pub struct OwnMethod {
     /// Its number among the type's bound procedures.
     pub number: u32,
@@ -10,7 +10,7 @@ pub struct OwnMethod {
 }
 
 /// A record type by what it declares itself.
-#[derive(Debug, Drop)]
+#[derive(Drop)]
 pub struct Declaration {
     /// The module that declares the type.
     pub module: Name,

@@ -2,7 +2,7 @@ use ob_tree::{List, Name, ObjName, ProcRef};
 
 /// What the machine knows of a record type, in the contracts. Its procedure table is kept as what the type
 /// and its bases define.
-#[derive(Debug, Drop)]
+#[derive(Drop)]
 pub struct Descriptor {
     /// The module that declares the type.
     pub module: Name,

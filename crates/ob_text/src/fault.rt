@@ -2,7 +2,7 @@ use ob_pexpr::ParseFault;
 use ob_scan::ScanFault;
 
 /// Why a text is no module. The faults inside are never Memory.
-#[derive(Clone, Copy, Debug, PartialEq, Eq, Drop)]
+#[derive(Clone, Copy, PartialEq, Eq, Drop)]
 pub enum TextFault {
     /// The text has no tokens.
     Scan(ScanFault),

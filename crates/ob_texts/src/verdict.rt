@@ -10,7 +10,7 @@ use ob_tree::Pos;
 use std::alloc::Global;
 
 /// A module, or none, with the first fault and its place.
-#[derive(Clone, Copy, Debug, PartialEq, Eq, Drop)]
+#[derive(Clone, Copy, PartialEq, Eq, Drop)]
 pub enum Verdict {
     Module,
     Symbol(Pos),

@@ -7,7 +7,7 @@ use crate::stmt::Stmt;
 use crate::type_node::{FormalPars, TypeNode};
 
 /// A receiver: `owner` is the name of its type.
-#[derive(Clone, Copy, Debug, PartialEq)]
+#[derive(Clone, Copy, PartialEq)]
 pub struct Receiver {
     pub is_var: bool,
     pub ident: Ident,
@@ -15,7 +15,7 @@ pub struct Receiver {
 }
 
 /// The heading of a procedure.
-#[derive(Debug, Drop)]
+#[derive(Drop)]
 pub struct Heading {
     pub receiver: Option<Receiver>,
     pub name: IdentDef,
@@ -24,7 +24,7 @@ pub struct Heading {
 
 /// A declaration. Those of one sequence stand in the order of the text, whatever words of
 /// CONST, TYPE and VAR are between them.
-#[derive(Debug, Drop)]
+#[derive(Drop)]
 pub enum Decl {
     Constant {
         name: IdentDef,
@@ -51,7 +51,7 @@ pub enum Decl {
 }
 
 /// A module. Without BEGIN its body is empty. `closing` is the name behind END.
-#[derive(Debug, Drop)]
+#[derive(Drop)]
 pub struct Module {
     pub name: Ident,
     pub imports: List<Import>,

@@ -7,7 +7,7 @@ use crate::pos::Pos;
 use crate::text::Text;
 
 /// A relation of two operands.
-#[derive(Clone, Copy, Debug, PartialEq, Eq, Drop)]
+#[derive(Clone, Copy, PartialEq, Eq, Drop)]
 pub enum Relation {
     Equal,
     NotEqual,
@@ -20,7 +20,7 @@ pub enum Relation {
 }
 
 /// An operator between terms or factors.
-#[derive(Clone, Copy, Debug, PartialEq, Eq, Drop)]
+#[derive(Clone, Copy, PartialEq, Eq, Drop)]
 pub enum Operator {
     Add,
     Subtract,
@@ -36,7 +36,7 @@ pub enum Operator {
 }
 
 /// A sign before the first term.
-#[derive(Clone, Copy, Debug, PartialEq, Eq, Drop)]
+#[derive(Clone, Copy, PartialEq, Eq, Drop)]
 pub enum Sign {
     Plus,
     Minus,
@@ -45,7 +45,7 @@ pub enum Sign {
 /// An expression. `pos` is the operator's position at `Signed` and `Relate`, and else that of
 /// the first symbol.
 #[cycle(expr)]
-#[derive(Debug, Drop)]
+#[derive(Drop)]
 pub enum Expr {
     /// A designator, which may end in a call.
     Designator(Designator),
@@ -101,7 +101,7 @@ pub enum Expr {
 
 /// An operator of a chain where it stands, and its right operand.
 #[cycle(expr)]
-#[derive(Debug, Drop)]
+#[derive(Drop)]
 pub struct Tail {
     pub operator: Operator,
     pub pos: Pos,
@@ -110,7 +110,7 @@ pub struct Tail {
 
 /// An element of a set, or a label of a case: one value, or all from `low` to `high`.
 #[cycle(expr)]
-#[derive(Debug, Drop)]
+#[derive(Drop)]
 pub struct Element {
     pub low: Expr,
     pub high: Option<Expr>,
@@ -118,7 +118,7 @@ pub struct Element {
 
 /// A name and its selectors, in the order of the text.
 #[cycle(expr)]
-#[derive(Debug, Drop)]
+#[derive(Drop)]
 pub struct Designator {
     pub ident: Ident,
     pub selectors: List<Selector>,
@@ -126,7 +126,7 @@ pub struct Designator {
 
 /// A selector. `pos` is that of its first symbol.
 #[cycle(expr)]
-#[derive(Debug, Drop)]
+#[derive(Drop)]
 pub enum Selector {
     /// `.` and a name.
     Field { pos: Pos, ident: Ident },

@@ -1,5 +1,5 @@
 /// A place in a source: its line, and its column in bytes, both counted from 1.
-#[derive(Clone, Copy, Debug, PartialEq, Eq, Drop)]
+#[derive(Clone, Copy, PartialEq, Eq, Drop)]
 pub struct Pos {
     pub line: u32,
     pub col: u32,

@@ -1,6 +1,6 @@
 /// A procedure of a machine: its module's number, and its own number in that module.
 /// Number 0 is the module's body.
-#[derive(Clone, Copy, Debug, PartialEq, Eq, Drop)]
+#[derive(Clone, Copy, PartialEq, Eq, Drop)]
 pub struct ProcRef {
     pub module: u32,
     pub proc: u32,

@@ -7,7 +7,7 @@ use crate::pos::Pos;
 
 /// A statement. `pos` is that of `:=` at an assignment, and else that of the first symbol.
 #[cycle(stmt)]
-#[derive(Debug, Drop)]
+#[derive(Drop)]
 pub enum Stmt {
     Empty,
     /// A designator alone: a call, with or without brackets.
@@ -65,7 +65,7 @@ pub enum Stmt {
 
 /// A condition, and what is done where it holds.
 #[cycle(stmt)]
-#[derive(Debug, Drop)]
+#[derive(Drop)]
 pub struct Branch {
     pub test: Expr,
     pub body: List<Stmt>,
@@ -73,7 +73,7 @@ pub struct Branch {
 
 /// Labels, and what is done for them. An empty case has neither.
 #[cycle(stmt)]
-#[derive(Debug, Drop)]
+#[derive(Drop)]
 pub struct Case {
     pub labels: List<Element>,
     pub body: List<Stmt>,
@@ -81,14 +81,14 @@ pub struct Case {
 
 /// A branch of WITH.
 #[cycle(stmt)]
-#[derive(Debug, Drop)]
+#[derive(Drop)]
 pub struct GuardedBranch {
     pub guard: Guard,
     pub body: List<Stmt>,
 }
 
 /// A variable, and the type that it is tested for.
-#[derive(Clone, Copy, Debug, PartialEq)]
+#[derive(Clone, Copy, PartialEq)]
 pub struct Guard {
     pub variable: Qualident,
     pub target: Qualident,

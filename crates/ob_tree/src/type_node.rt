@@ -8,7 +8,7 @@ use crate::pos::Pos;
 
 /// A type. Its position is that of its first symbol.
 #[cycle(type_node)]
-#[derive(Debug, Drop)]
+#[derive(Drop)]
 pub enum TypeNode {
     Named(Qualident),
     /// `ARRAY a, b OF T` has both lengths. There are none in an open array.
@@ -34,7 +34,7 @@ pub enum TypeNode {
 
 /// Fields of one type. An empty field list is not in the tree.
 #[cycle(type_node)]
-#[derive(Debug, Drop)]
+#[derive(Drop)]
 pub struct FieldList {
     pub names: List<IdentDef>,
     pub node: TypeNode,
@@ -43,7 +43,7 @@ pub struct FieldList {
 /// Parameters and the type of the result. Where no list of parameters is written, it is as
 /// if `()` were.
 #[cycle(type_node)]
-#[derive(Debug, Drop)]
+#[derive(Drop)]
 pub struct FormalPars {
     pub sections: List<Section>,
     pub result_type: Option<Qualident>,
@@ -51,7 +51,7 @@ pub struct FormalPars {
 
 /// Parameters of one type, all by value or all by variable.
 #[cycle(type_node)]
-#[derive(Debug, Drop)]
+#[derive(Drop)]
 pub struct Section {
     pub is_var: bool,
     pub names: List<Ident>,

@@ -1,5 +1,5 @@
 /// A limit that a module can exceed, by the word that a refusal prints.
-#[derive(Clone, Copy, Debug, PartialEq, Eq, Drop)]
+#[derive(Clone, Copy, PartialEq, Eq, Drop)]
 pub enum Which {
     /// 64 imports in a module.
     Imports,

@@ -5,7 +5,7 @@ use crate::value::Value;
 use ob_tree::{List, Mark, Name};
 
 /// What an object is: one variant for each kind of description, with its parts.
-#[derive(Debug, Drop, Clone)]
+#[derive(Drop, Clone)]
 pub enum Desc {
     /// A constant.
     Const(Value),
@@ -28,7 +28,7 @@ pub enum Desc {
 }
 
 /// A record type.
-#[derive(Debug, Clone)]
+#[derive(Clone)]
 pub struct RecordDesc {
     pub mark: Mark,
     /// The type that it extends.
@@ -85,7 +85,7 @@ impl RecordDesc {
 }
 
 /// A field of a record.
-#[derive(Debug, Drop, Clone)]
+#[derive(Drop, Clone)]
 pub struct Field {
     pub name: Name,
     pub mark: Mark,
@@ -96,7 +96,7 @@ pub struct Field {
 }
 
 /// What the receiver of a bound procedure is.
-#[derive(Clone, Copy, Debug, PartialEq, Eq)]
+#[derive(Clone, Copy, PartialEq, Eq)]
 pub enum Receiver {
     /// A VAR parameter of the record type.
     Record,
@@ -105,7 +105,7 @@ pub enum Receiver {
 }
 
 /// A bound procedure that a record introduces.
-#[derive(Debug, Clone)]
+#[derive(Clone)]
 pub struct Method {
     pub name: Name,
     /// `Full` or `Hidden`.

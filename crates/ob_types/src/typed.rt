@@ -13,7 +13,7 @@ use crate::value::Value;
 use ob_tree::{Boxed, List, Mark, Name, ObjName, Pos, QName};
 
 /// An integer type, as that in which an operation computes.
-#[derive(Clone, Copy, Debug, PartialEq, Eq)]
+#[derive(Clone, Copy, PartialEq, Eq)]
 pub enum Width {
     /// -128 to 127.
     ShortInt,
@@ -24,7 +24,7 @@ pub enum Width {
 }
 
 /// How a parameter is passed.
-#[derive(Clone, Copy, Debug, PartialEq, Eq)]
+#[derive(Clone, Copy, PartialEq, Eq)]
 pub enum Passing {
     /// By value, of a type that is neither array nor record. A receiver that is a pointer is
     /// passed so.
@@ -42,7 +42,7 @@ pub enum Passing {
 }
 
 /// A variable where it is named.
-#[derive(Clone, Copy, Debug)]
+#[derive(Clone, Copy)]
 pub enum Variable {
     /// A variable of a module, of the module at hand too.
     Module { module: Name, name: Name },
@@ -53,7 +53,7 @@ pub enum Variable {
 }
 
 /// What a guard stands on.
-#[derive(Clone, Copy, Debug, PartialEq, Eq)]
+#[derive(Clone, Copy, PartialEq, Eq)]
 pub enum Guarded {
     /// A variable of a pointer type.
     Pointer,
@@ -62,7 +62,7 @@ pub enum Guarded {
 }
 
 /// A relation between values that have an order, or are compared for equality.
-#[derive(Clone, Copy, Debug, PartialEq, Eq)]
+#[derive(Clone, Copy, PartialEq, Eq)]
 pub enum Comparison {
     Equal,
     NotEqual,
@@ -73,7 +73,7 @@ pub enum Comparison {
 }
 
 /// What a comparison compares. All but `Integer` and `Char` know `Equal` and `NotEqual` alone.
-#[derive(Clone, Copy, Debug, PartialEq, Eq)]
+#[derive(Clone, Copy, PartialEq, Eq)]
 pub enum Compared {
     Integer,
     Char,
@@ -86,7 +86,7 @@ pub enum Compared {
 }
 
 /// An operation on one value. The sign `+` and round brackets leave no node.
-#[derive(Clone, Copy, Debug, PartialEq, Eq)]
+#[derive(Clone, Copy, PartialEq, Eq)]
 pub enum Unary {
     /// `-` of an integer; outside the type it traps.
     Negate(Width),
@@ -115,7 +115,7 @@ pub enum Unary {
 /// An operation on two values, both of which are computed. A set that is no constant is the
 /// union of what stands before, at first the empty set, with each of its elements in turn; each
 /// such union has the position of its element.
-#[derive(Clone, Copy, Debug, PartialEq, Eq)]
+#[derive(Clone, Copy, PartialEq, Eq)]
 pub enum Binary {
     /// `+` of integers; outside the type it traps.
     Add(Width),
@@ -146,14 +146,14 @@ pub enum Binary {
 }
 
 /// `&` or `OR`, which leave out their right operand where the left one decides.
-#[derive(Clone, Copy, Debug, PartialEq, Eq)]
+#[derive(Clone, Copy, PartialEq, Eq)]
 pub enum Connective {
     And,
     Or,
 }
 
 /// A procedure of the built-in module Out.
-#[derive(Clone, Copy, Debug, PartialEq, Eq)]
+#[derive(Clone, Copy, PartialEq, Eq)]
 pub enum OutProcedure {
     Char,
     /// Its parameter is an open array by value.
@@ -164,14 +164,13 @@ pub enum OutProcedure {
 
 /// A bound procedure with all its redefinitions: the record type that introduces it, and its
 /// name.
-#[derive(Debug, Drop)]
+#[derive(Drop)]
 pub struct Family {
     pub owner: QName,
     pub name: Name,
 }
 
 /// What a call names, but a procedure variable.
-#[derive(Debug)]
 pub enum Callee {
     /// A declared procedure, by its module and its name there: `P`, or `P/Q` for one inside P.
     Declared(QName),
@@ -213,7 +212,7 @@ impl Drop for Callee {
 
 /// A designator of a variable, with the type that each of its prefixes has.
 #[cycle(typed)]
-#[derive(Debug, Drop)]
+#[derive(Drop)]
 pub enum Designator {
     Variable {
         variable: Variable,
@@ -258,7 +257,7 @@ pub enum Designator {
 
 /// An expression. `pos` is that of the node, where a trap stands.
 #[cycle(typed)]
-#[derive(Debug, Drop)]
+#[derive(Drop)]
 pub enum TypedExpr {
     /// A constant, of the smallest type that has it. A string stands only where an array is
     /// wanted; one of a single character that serves as an array is a `Str`.
@@ -328,7 +327,7 @@ pub enum TypedExpr {
 /// of a record the record type that the call is selected of. That of `Out.String` is an open array
 /// of CHAR which no module declares, by the name `String(1` of Out.
 #[cycle(typed)]
-#[derive(Debug, Drop)]
+#[derive(Drop)]
 pub struct Actual {
     pub passing: Passing,
     pub formal: TypeRef,
@@ -336,7 +335,7 @@ pub struct Actual {
 }
 
 /// What kind of value an assignment assigns.
-#[derive(Debug, Drop)]
+#[derive(Drop)]
 pub enum Assigned {
     /// A value of a type that is neither array nor record.
     Scalar,
@@ -350,7 +349,7 @@ pub enum Assigned {
 }
 
 /// INC, DEC, INCL or EXCL. INC and DEC without a second parameter have the constant 1.
-#[derive(Clone, Copy, Debug, PartialEq, Eq)]
+#[derive(Clone, Copy, PartialEq, Eq)]
 pub enum Update {
     /// INC; outside the variable's type it traps.
     Inc(Width),
@@ -363,7 +362,7 @@ pub enum Update {
 }
 
 /// What NEW makes, but an open array.
-#[derive(Debug, Drop)]
+#[derive(Drop)]
 pub enum Made {
     /// A record of this type.
     Record(QName),
@@ -372,7 +371,7 @@ pub enum Made {
 }
 
 /// A label of CASE: all values from `low` to `high`. A character stands for its number.
-#[derive(Clone, Copy, Debug)]
+#[derive(Clone, Copy)]
 pub struct Label {
     pub low: i32,
     pub high: i32,
@@ -380,7 +379,7 @@ pub struct Label {
 
 /// A statement. `pos` is that of the node, where a trap or spent turns stand.
 #[cycle(typed_stmt)]
-#[derive(Debug, Drop)]
+#[derive(Drop)]
 pub enum TypedStmt {
     Assign {
         target: Designator,
@@ -475,7 +474,7 @@ pub enum TypedStmt {
 
 /// A condition, and what is done where it holds.
 #[cycle(typed_stmt)]
-#[derive(Debug, Drop)]
+#[derive(Drop)]
 pub struct TypedBranch {
     pub test: TypedExpr,
     pub body: List<TypedStmt>,
@@ -483,14 +482,14 @@ pub struct TypedBranch {
 
 /// Labels, and what is done for them.
 #[cycle(typed_stmt)]
-#[derive(Debug, Drop)]
+#[derive(Drop)]
 pub struct TypedCase {
     pub labels: List<Label>,
     pub body: List<TypedStmt>,
 }
 
 /// A declared constant.
-#[derive(Debug, Drop)]
+#[derive(Drop)]
 pub struct TypedConstant {
     pub name: Name,
     pub mark: Mark,
@@ -500,7 +499,6 @@ pub struct TypedConstant {
 /// A declared type, or one without a name of its own under its derived name: its name in the
 /// module, and what it is. A record's fields and bound procedures are all there, in the order of
 /// the text and with places, numbers and words 0, until the module is laid out.
-#[derive(Debug)]
 pub struct TypedType {
     pub name: ObjName,
     pub desc: Desc,
@@ -514,7 +512,7 @@ impl Drop for TypedType {
 }
 
 /// A declared variable. The mark of a local one is `Hidden`.
-#[derive(Debug, Drop)]
+#[derive(Drop)]
 pub struct TypedVariable {
     pub name: Name,
     pub mark: Mark,
@@ -522,7 +520,7 @@ pub struct TypedVariable {
 }
 
 /// A formal parameter.
-#[derive(Debug, Drop)]
+#[derive(Drop)]
 pub struct TypedParameter {
     pub name: Name,
     pub passing: Passing,
@@ -531,7 +529,7 @@ pub struct TypedParameter {
 
 /// What a bound procedure is bound to: the record type, the kind of receiver, and the family
 /// that it begins or redefines.
-#[derive(Debug, Drop)]
+#[derive(Drop)]
 pub struct Binding {
     pub owner: QName,
     pub receiver: Receiver,
@@ -541,7 +539,7 @@ pub struct Binding {
 /// A procedure: `name` is its name in the module, `P`, `P/Q` for one inside P, and `T.P` for one
 /// bound to the record T. `pos` is that of its name in its heading, where a function without
 /// RETURN traps. A receiver is the first parameter.
-#[derive(Debug, Drop)]
+#[derive(Drop)]
 pub struct TypedProcedure {
     pub name: ObjName,
     pub mark: Mark,
@@ -557,7 +555,7 @@ pub struct TypedProcedure {
 /// the tree: each object of another module that the text names anywhere, in the order of the
 /// text, doubles too; the types that MAX and MIN name; and the designators of each LEN that is a
 /// constant, which are not evaluated.
-#[derive(Debug, Drop)]
+#[derive(Drop)]
 pub struct Mentioned {
     pub objects: List<QName>,
     pub types: List<TypeRef>,
@@ -568,7 +566,7 @@ pub struct Mentioned {
 /// without Out. The types are in the order in which they begin in the text, those of procedures
 /// too, an inner array behind the one that it is the element of; the procedures in the order of
 /// their names in the text, inner ones too.
-#[derive(Debug, Drop)]
+#[derive(Drop)]
 pub struct TypedModule {
     pub name: Name,
     pub imports: List<Name>,
@@ -581,7 +579,6 @@ pub struct TypedModule {
 }
 
 /// The type of an expression.
-#[derive(Debug)]
 pub enum ExprType {
     Of(TypeRef),
     /// A string that is no character.

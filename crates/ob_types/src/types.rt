@@ -8,7 +8,7 @@ use crate::desc::Desc;
 use ob_tree::{List, QName};
 
 /// A basic type.
-#[derive(Clone, Copy, Debug, PartialEq, Eq)]
+#[derive(Clone, Copy, PartialEq, Eq)]
 pub enum Basic {
     Boolean,
     Char,
@@ -22,7 +22,7 @@ pub enum Basic {
 }
 
 /// A type: a basic one, or the one that a name stands for.
-#[derive(Debug, Clone)]
+#[derive(Clone)]
 pub enum TypeRef {
     Basic(Basic),
     Named(QName),
@@ -40,14 +40,14 @@ impl Drop for TypeRef {
 }
 
 /// How a parameter is passed.
-#[derive(Clone, Copy, Debug, PartialEq, Eq)]
+#[derive(Clone, Copy, PartialEq, Eq)]
 pub enum Mode {
     Value,
     Var,
 }
 
 /// The parameters of a procedure in order, and its result, none for a proper procedure.
-#[derive(Debug, Clone)]
+#[derive(Clone)]
 pub struct Signature {
     pub params: List<(Mode, TypeRef)>,
     pub result: Option<TypeRef>,

@@ -10,7 +10,7 @@ use ob_types::Object;
 use std::cmp::Ordering;
 
 /// An object, ordered by its name alone.
-#[derive(Debug, Drop)]
+#[derive(Drop)]
 pub struct Entry {
     pub object: Object,
 }

@@ -10,7 +10,7 @@ use ob_types::Field;
 use std::cmp::Ordering;
 
 /// A field, ordered by its place, and at one place by its name.
-#[derive(Debug, Drop)]
+#[derive(Drop)]
 pub struct Placed {
     pub field: Field,
 }

@@ -1,7 +1,7 @@
 //! Ways from one type to others.
 
 /// Through which types others are reached.
-#[derive(Clone, Copy, Debug, PartialEq, Eq)]
+#[derive(Clone, Copy, PartialEq, Eq)]
 pub enum Way {
     /// Through all types that stand near a type: what an alias stands for, a pointer's base, an
     /// array's element, a record's base, and the parameters and the result of a procedure type.

@@ -3,7 +3,7 @@ ghost use Rattle.ob_instr.specs.Rows.{Effect, on_width, in_width, is_within, is_
 ghost use Rattle.ob_values.specs.Effects.{holds_of, on_fit};
 
 /// How two words are compared.
-#[derive(Clone, Copy, Debug, PartialEq, Eq, Drop)]
+#[derive(Clone, Copy, PartialEq, Eq, Drop)]
 pub enum Comparison {
     /// `=`
     Equal,
@@ -20,7 +20,7 @@ pub enum Comparison {
 }
 
 /// A number in the integer type of so many bytes.
-#[derive(Clone, Copy, Debug, PartialEq, Eq, Drop)]
+#[derive(Clone, Copy, PartialEq, Eq, Drop)]
 pub enum Fit {
     /// There is no such type.
     Without,

@@ -14,7 +14,7 @@ pub struct State {
 }
 
 /// What one instruction did.
-#[derive(Clone, Copy, Debug, PartialEq, Eq, Drop)]
+#[derive(Clone, Copy, PartialEq, Eq, Drop)]
 pub enum Step {
     /// The machine goes on behind the instruction.
     Goes,

@@ -1,7 +1,7 @@
 use thiserror::Error;
 
 /// The settings of the program.
-#[derive(Clone, Copy, Debug, PartialEq, Eq, Drop)]
+#[derive(Clone, Copy, PartialEq, Eq, Drop)]
 pub struct Settings {
     /// The turns of a command, 1 to 1,000,000,000.
     pub turns: u32,
