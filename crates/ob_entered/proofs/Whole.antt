@@ -7,8 +7,8 @@ use Rattle.ob_ages.specs.Builds.{Text, Build, IsValid}
 use Rattle.ob_ages.specs.Laws.{AreTogether}
 use Rattle.ob_ages.proofs.Members.{In, to_in}
 use Rattle.ob_ages.proofs.Gone.{all_valid}
-use Rattle.ob_filed.proofs.Law.{files_have, files_have_commands}
-use Rattle.ob_filed.proofs.Entering.{files_enter}
+use Rattle.ob_entered.proofs.Law.{files_have, files_have_commands}
+use Rattle.ob_entered.proofs.Entering.{files_enter}
 use Rattle.ob_entered.specs.Loaded.{NamesAreShown, WordsAreCounted, CommandsAreThere, LoadedEnter}
 
 all_at : {A : Type 0} (P : A → Type 0) (xs : List A) (x : A) → In xs x → AllByRecursion P xs → P x

@@ -4,3 +4,4 @@ pub mod Walk
 pub mod Descs
 pub mod Programs
 pub mod Whole
+pub mod Bodies

@@ -25,7 +25,7 @@ use Rattle.ob_forms.specs.Whole.{Different, HeadingOk, IsWholeModule}
 use Rattle.ob_forms.proofs.Modules.{of_all, other_name}
 use Rattle.ob_typed.specs.Laws.{Having}
 use Rattle.ob_valued.specs.Valued.{values}
-use Rattle.ob_accepted.specs.Accepted.{IsBuilt, AreBuilt, IsWellTyped, AreWellTyped}
+use Rattle.ob_introduced.specs.Accepted.{IsBuilt, AreBuilt, IsWellTyped, AreWellTyped}
 use Rattle.ob_kept.specs.Kept.{IsLeft, AreLeft, IsTyped, WellTypedKeeps}
 use Rattle.ob_kept.proofs.Names.{AllNamed, names_stand}
 use Rattle.ob_kept.proofs.Parameters.{all_fit}

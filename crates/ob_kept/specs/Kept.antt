@@ -16,7 +16,7 @@ use Rattle.ob_tables.specs.Image.{AllBodiesChecked}
 use Rattle.ob_forms.specs.Said.{IsSound}
 use Rattle.ob_forms.specs.Whole.{IsWhole}
 use Rattle.ob_valued.specs.Valued.{values}
-use Rattle.ob_accepted.specs.Accepted.{AreBuilt, AreWellTyped}
+use Rattle.ob_introduced.specs.Accepted.{AreBuilt, AreWellTyped}
 
 -- What is left of a procedure: the variables that it names are its own, FOR has steps other than 0, and it keeps the limits of activations
 -- and operands.

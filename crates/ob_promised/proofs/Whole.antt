@@ -15,7 +15,7 @@ use Rattle.ob_valued.specs.Valued.{values}
 use Rattle.ob_scoped.specs.Scoped.{BodyIsScoped, BodiesAreScoped}
 use Rattle.ob_scoped.proofs.Modules.{programs_are_scoped}
 use Rattle.ob_kept.specs.Kept as kept
-use Rattle.ob_accepted.specs.Accepted.{AreBuilt}
+use Rattle.ob_introduced.specs.Accepted.{AreBuilt}
 use Rattle.ob_differ.proofs.Compiled.{compiled_types_differ}
 use Rattle.ob_ages.specs.Builds.{Build, tree_of, entry_of}
 use Rattle.ob_ages.specs.Laws.{Simulation}
@@ -27,14 +27,14 @@ use Rattle.ob_joining.proofs.Whole.{commands_follow}
 use Rattle.ob_joining.proofs.Settings.{loaded_front}
 use Rattle.ob_locality.proofs.Following.{locality_holds}
 use Rattle.ob_stand.specs.Owed.{in_program}
-use Rattle.ob_ordered.specs.Loaded.{BoundAreThere, LoadedAreWhole, LoadedAreLaid}
-use Rattle.ob_ordered.proofs.Owing.{loaded_are_sound, loaded_describe}
-use Rattle.ob_ordered.proofs.whole_laws.Whole.{loaded_whole}
-use Rattle.ob_ordered.proofs.whole_laws.Passing.{loaded_passed}
-use Rattle.ob_ordered.proofs.laying_laws.Loaded.{loaded_laid}
-use Rattle.ob_ordered.proofs.pointed_laws.Loaded.{loaded_bases}
+use Rattle.ob_promised.specs.Loaded.{BoundAreThere, LoadedAreWhole, LoadedAreLaid}
+use Rattle.ob_promised.proofs.Owing.{loaded_are_sound, loaded_describe}
+use Rattle.ob_promised.proofs.whole_laws.Whole.{loaded_whole}
+use Rattle.ob_promised.proofs.whole_laws.Passing.{loaded_passed}
+use Rattle.ob_promised.proofs.laying_laws.Loaded.{loaded_laid}
+use Rattle.ob_promised.proofs.pointed_laws.Loaded.{loaded_bases}
 use Rattle.ob_promised.proofs.belonging_laws.Loaded.{bound_there}
-use Rattle.ob_families.specs.Premises.{builds_of, TypesDiffer, LoadedAreSound, LoadedDescribe, LoadedAreSame}
+use Rattle.ob_stand.specs.Premises.{builds_of, TypesDiffer, LoadedAreSound, LoadedDescribe, LoadedAreSame}
 use Rattle.ob_promised.specs.inherited_laws.Laws.{LoadedAreLike}
 use Rattle.ob_promised.proofs.inherited_laws.Loaded.{loaded_keep_rules}
 use Rattle.ob_promised.proofs.likeness_laws.Loaded.{loaded_like}
@@ -51,7 +51,7 @@ use Rattle.ob_promised.proofs.assured_laws.Checked.{loaded_are_checked}
 use Rattle.ob_promised.specs.owing_laws.Left.{Left}
 use Rattle.ob_promised.proofs.owing_laws.Builds.{builds_ruled}
 use Rattle.ob_promised.proofs.owing_laws.Whole.{left_stands}
-use Rattle.ob_upheld.proofs.Upheld.{builds_are_written, simulation_suffices}
+use Rattle.ob_promised.proofs.Upheld.{builds_are_written, simulation_suffices}
 use Rattle.ob_promised.specs.Promised.{Promised}
 
 types_differ : TypesDiffer

@@ -1,1 +1,9 @@
 pub mod Whole
+pub mod Settled
+pub mod Declared
+pub mod Fit
+pub mod Numbered
+pub mod Introduced
+pub mod Once
+pub mod Named
+pub mod Like

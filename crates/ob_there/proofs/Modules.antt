@@ -43,9 +43,9 @@ use Rattle.ob_outward.proofs.Blocks as outward
 use Rattle.ob_outward.proofs.Families as families
 use Rattle.ob_redefined.specs.Laws.{with_own, IsOwned}
 use Rattle.ob_blocks.proofs.Bound.{IsJudged}
-use Rattle.ob_matched.specs.Matched.{HeadingsAre}
-use Rattle.ob_matched.proofs.Judged.{headings_are_judged}
-use Rattle.ob_matched.proofs.Procedures.{map_same}
+use Rattle.ob_there.specs.Matched.{HeadingsAre}
+use Rattle.ob_there.proofs.Judged.{headings_are_judged}
+use Rattle.ob_there.proofs.Procedures.{map_same}
 use Rattle.ob_bound.specs.Bound.{methods_of}
 use Rattle.ob_bound.proofs.Typings.{IsRaw, AreRaw, MakeRaw}
 use Rattle.ob_bound.proofs.Heads.{GoodHead}

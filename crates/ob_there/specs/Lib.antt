@@ -1,2 +1,4 @@
 pub mod There
 pub mod Methods
+pub mod Matched
+pub mod Procedures

@@ -5,13 +5,13 @@ use Rattle.ob_meaning.specs.Values.{Program}
 use Rattle.ob_forms.specs.Said.{IsSound}
 use Rattle.ob_forms.specs.Whole.{IsWhole}
 use Rattle.ob_valued.specs.Valued.{values}
-use Rattle.ob_accepted.specs.Accepted.{AreBuilt, AreWellTyped}
-use Rattle.ob_accepted.proofs.Bodies.{accepted_is_well_typed}
+use Rattle.ob_introduced.specs.Accepted.{AreBuilt, AreWellTyped}
+use Rattle.ob_introduced.proofs.Bodies.{accepted_is_well_typed}
 use Rattle.ob_kept.proofs.Kept.{well_typed_keeps}
 use Rattle.ob_joining.specs.Builds.{program_of}
 use Rattle.ob_joining.proofs.Settings.{loaded_front}
-use Rattle.ob_families.specs.Premises.{builds_of}
-use Rattle.ob_families.proofs.Fit.{units}
+use Rattle.ob_stand.specs.Premises.{builds_of}
+use Rattle.ob_stand.proofs.Fit.{units}
 use Rattle.ob_promised.specs.assured_laws.Checked.{LoadedAreChecked}
 
 pub loaded_are_checked : LoadedAreChecked

@@ -22,7 +22,7 @@ use Rattle.ob_ages.proofs.Members.{In}
 use Rattle.ob_joining.specs.Builds.{program_of, AreLoaded}
 use Rattle.ob_promised.proofs.inherited_laws.Checked.{checked_at}
 use Rattle.ob_promised.proofs.inherited_laws.Loaded.{IsSome, in_front, in_middle, all_shown}
-use Rattle.ob_ordered.specs.pointed_laws.Pointed.{LoadedShowBases}
+use Rattle.ob_promised.specs.pointed_laws.Pointed.{LoadedShowBases}
 use Rattle.ob_promised.specs.assured_laws.Judged.{LoadedAreJudged}
 
 pub map_both : {A B : Type 0} (f : A → B) (xs ys : List A) → map f (xs ++ ys) ≡ map f xs ++ map f ys

@@ -25,16 +25,16 @@ use Rattle.ob_ages.proofs.Stood.{of_is}
 use Rattle.ob_ages.proofs.Gone.{all_valid}
 use Rattle.ob_ages.proofs.Members.{In}
 use Rattle.ob_joining.specs.Builds.{program_of, AreLoaded}
-use Rattle.ob_ordered.specs.ruled_laws.Ruled.{BuildsAreRuled}
-use Rattle.ob_ordered.proofs.ruled_laws.Builds.{names_laid}
-use Rattle.ob_ordered.proofs.Loaded.{in_order}
-use Rattle.ob_ordered.proofs.whole_laws.Passing.{loaded_passed}
-use Rattle.ob_ordered.proofs.whole_laws.Whole.{loaded_whole}
-use Rattle.ob_bindings.proofs.Named.{bindings_are_named}
+use Rattle.ob_promised.specs.ruled_laws.Ruled.{BuildsAreRuled}
+use Rattle.ob_promised.proofs.ruled_laws.Builds.{names_laid}
+use Rattle.ob_promised.proofs.Loaded.{in_order}
+use Rattle.ob_promised.proofs.whole_laws.Passing.{loaded_passed}
+use Rattle.ob_promised.proofs.whole_laws.Whole.{loaded_whole}
+use Rattle.ob_stand.proofs.Named.{bindings_are_named}
 use Rattle.ob_promised.proofs.inherited_laws.Checked.{checked_at}
 use Rattle.ob_promised.proofs.inherited_laws.Loaded.{IsSome, tree_in, all_shown, in_front, in_middle}
 use Rattle.ob_there.proofs.Modules.{methods_introduced}
-use Rattle.ob_ordered.proofs.pointed_laws.Loaded.{loaded_bases}
+use Rattle.ob_promised.proofs.pointed_laws.Loaded.{loaded_bases}
 use Rattle.ob_promised.specs.belonging_laws.Loaded.{LoadedBelong}
 use Rattle.ob_promised.proofs.belonging_laws.Methods.{TypesHave, module_has, found_in}
 

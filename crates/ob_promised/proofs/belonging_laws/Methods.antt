@@ -35,7 +35,7 @@ use Rattle.ob_forms.proofs.Modules.{of_all, type_there}
 use Rattle.ob_declares.specs.Ages.{AreShown}
 use Rattle.ob_declares.proofs.Sounds.{types_shown}
 use Rattle.ob_declares.proofs.Views.{one_each, type_found, own_found}
-use Rattle.ob_bindings.specs.Named.{IsNamed}
+use Rattle.ob_stand.specs.Named.{IsNamed}
 use Rattle.ob_bound.specs.Bound.{methods_of}
 use Rattle.ob_there.specs.There.{is_record, type_of, IsIntroduced, type_in}
 use Rattle.ob_there.specs.Methods.{IsTypeSaid, TypesAreSaid, IsNamedSo, HasChecked}

@@ -24,7 +24,7 @@ use Rattle.ob_distinct.specs.Procedures.{HasNames}
 use Rattle.ob_distinct.proofs.Procedures.{procedures_have_names}
 use Rattle.ob_rising.specs.Placed.{are_rising}
 use Rattle.ob_rising.proofs.Modules.{places_rise}
-use Rattle.ob_accepted.specs.Accepted.{IsBuilt}
+use Rattle.ob_introduced.specs.Accepted.{IsBuilt}
 use Rattle.ob_kept.proofs.Parameters.{closed_ok}
 use Rattle.ob_ages.specs.Builds.{Text, Build, IsValid, of, tree_of}
 use Rattle.ob_ages.proofs.Gone.{all_valid}
@@ -32,10 +32,10 @@ use Rattle.ob_ages.proofs.Stood.{of_is}
 use Rattle.ob_joining.specs.Builds.{program_of}
 use Rattle.ob_locality.proofs.Compiled.{ComesOf, comes_of}
 use Rattle.ob_sized.proofs.Different.{build_comes}
-use Rattle.ob_ordered.proofs.Sound.{variables_have_forms}
-use Rattle.ob_ordered.proofs.Loaded.{kept_in}
-use Rattle.ob_ordered.specs.whole_laws.Whole.{IsPlain}
-use Rattle.ob_ordered.proofs.whole_laws.Passing.{loaded_plain}
+use Rattle.ob_promised.proofs.Sound.{variables_have_forms}
+use Rattle.ob_promised.proofs.Loaded.{kept_in}
+use Rattle.ob_promised.specs.whole_laws.Whole.{IsPlain}
+use Rattle.ob_promised.proofs.whole_laws.Passing.{loaded_plain}
 use Rattle.ob_promised.specs.built_laws.Procedures.{IsGiven, AreGiven}
 use Rattle.ob_promised.specs.built_laws.Built.{IsBuiltModule, LoadedAreBuilt}
 use Rattle.ob_promised.proofs.built_laws.Different.{are_different}

@@ -23,8 +23,8 @@ use Rattle.ob_tables.specs.Redefined.{RedefinitionsKept}
 use Rattle.ob_tables.proofs.Redefined.{families_stand}
 use Rattle.ob_tables.proofs.Settled.{built_from}
 use Rattle.ob_joining.specs.Builds.{program_of}
-use Rattle.ob_families.proofs.Settled.{sound_are_settled}
-use Rattle.ob_bindings.proofs.Like.{like_are_redefined}
+use Rattle.ob_stand.proofs.Settled.{sound_are_settled}
+use Rattle.ob_stand.proofs.Like.{like_are_redefined}
 use Rattle.ob_promised.proofs.inherited_laws.Loaded.{loaded_have_bindings}
 use Rattle.ob_promised.specs.built_laws.Built.{LikeAreNearest, LoadedAreRedefined}
 

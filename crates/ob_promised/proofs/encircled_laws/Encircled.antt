@@ -35,12 +35,12 @@ use Rattle.ob_ages.proofs.Gone.{all_valid}
 use Rattle.ob_ages.proofs.Members.{In}
 use Rattle.ob_joining.specs.Builds.{program_of, AreLoaded}
 use Rattle.ob_promised.proofs.inherited_laws.Checked.{checked_at}
-use Rattle.ob_families.specs.Premises.{LoadedAreSound}
-use Rattle.ob_ordered.specs.ruled_laws.Ruled.{BuildsAreRuled}
-use Rattle.ob_ordered.specs.Loaded.{LoadedAreWhole}
-use Rattle.ob_ordered.proofs.lined_laws.Said.{said_have_ends}
-use Rattle.ob_ordered.proofs.lined_laws.Loaded.{loaded_are_lined}
-use Rattle.ob_ordered.proofs.closed_laws.Loaded.{loaded_closed}
+use Rattle.ob_stand.specs.Premises.{LoadedAreSound}
+use Rattle.ob_promised.specs.ruled_laws.Ruled.{BuildsAreRuled}
+use Rattle.ob_promised.specs.Loaded.{LoadedAreWhole}
+use Rattle.ob_promised.proofs.lined_laws.Said.{said_have_ends}
+use Rattle.ob_promised.proofs.lined_laws.Loaded.{loaded_are_lined}
+use Rattle.ob_promised.proofs.closed_laws.Loaded.{loaded_closed}
 use Rattle.ob_promised.proofs.inherited_laws.Loaded.{IsSome, tree_in, in_front, in_middle, all_shown}
 use Rattle.ob_promised.specs.encircled_laws.Encircled.{LoadedAreSteady}
 use Rattle.ob_promised.proofs.assured_laws.Judged.{map_both, all_spelled, shows_name}

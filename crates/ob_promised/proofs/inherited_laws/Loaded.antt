@@ -34,17 +34,17 @@ use Rattle.ob_ages.proofs.Stood.{of_is}
 use Rattle.ob_joining.specs.Builds.{program_of, AreLoaded}
 use Rattle.ob_joining.proofs.Settings.{loaded_front}
 use Rattle.ob_stand.specs.Owed.{in_program}
-use Rattle.ob_families.specs.Premises.{builds_of, TypesDiffer}
-use Rattle.ob_families.proofs.Settled.{sound_are_settled}
-use Rattle.ob_families.proofs.Declared.{loaded_are_declared}
-use Rattle.ob_families.proofs.Fit.{units, loaded_values_are, loaded_types_fit}
-use Rattle.ob_families.proofs.Numbered.{methods_are_numbered}
-use Rattle.ob_bindings.specs.Families.{IsBinding, HasBindings}
-use Rattle.ob_bindings.specs.Named.{IsNamed}
-use Rattle.ob_bindings.proofs.Introduced.{families_are_introduced}
-use Rattle.ob_bindings.proofs.Once.{bindings_are_once}
-use Rattle.ob_bindings.proofs.Named.{bindings_are_named}
-use Rattle.ob_bindings.proofs.Like.{like_are_redefined}
+use Rattle.ob_stand.specs.Premises.{builds_of, TypesDiffer}
+use Rattle.ob_stand.proofs.Settled.{sound_are_settled}
+use Rattle.ob_stand.proofs.Declared.{loaded_are_declared}
+use Rattle.ob_stand.proofs.Fit.{units, loaded_values_are, loaded_types_fit}
+use Rattle.ob_stand.proofs.Numbered.{methods_are_numbered}
+use Rattle.ob_stand.specs.Families.{IsBinding, HasBindings}
+use Rattle.ob_stand.specs.Named.{IsNamed}
+use Rattle.ob_stand.proofs.Introduced.{families_are_introduced}
+use Rattle.ob_stand.proofs.Once.{bindings_are_once}
+use Rattle.ob_stand.proofs.Named.{bindings_are_named}
+use Rattle.ob_stand.proofs.Like.{like_are_redefined}
 use Rattle.ob_promised.specs.inherited_laws.Laws.{LoadedHaveBindings, LoadedFamiliesFit, LoadedKeepRules}
 use Rattle.ob_promised.proofs.inherited_laws.Checked.{checked_at}
 

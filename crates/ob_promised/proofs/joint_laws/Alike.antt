@@ -19,7 +19,7 @@ use Rattle.ob_code.specs.Descriptions.{name_in, elements_in, open_words, open_wo
 use Rattle.ob_uses.specs.Uses.{near_types, flat_types}
 use Rattle.ob_local.specs.Agreeing.{Map, On}
 use Rattle.ob_linking.specs.Same.{IsSame, IsSameField, IsSameFamily}
-use Rattle.ob_upheld.specs.seen_laws.Seen.{FieldSeen, FamilySeen}
+use Rattle.ob_promised.specs.seen_laws.Seen.{FieldSeen, FamilySeen}
 use Rattle.ob_promised.specs.joint_laws.Agreement.{AgreeAs}
 use Rattle.ob_promised.proofs.joint_laws.Shown.{Told, ToldWhole, opened, targets_told, elements_told, targets_whole, words_whole, opened_whole}
 use Rattle.ob_promised.proofs.joint_laws.Members.{picked, fields_told, methods_told}

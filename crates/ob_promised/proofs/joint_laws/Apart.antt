@@ -15,14 +15,14 @@ use Rattle.ob_distinct.specs.Distinct.{AreDistinct}
 use Rattle.ob_said.proofs.Faces.{faces_show}
 use Rattle.ob_said.proofs.Texts.{headings_are_named}
 use Rattle.ob_written.proofs.Reading.{readings_named}
-use Rattle.ob_matched.proofs.Judged.{headings_are_judged}
+use Rattle.ob_there.proofs.Judged.{headings_are_judged}
 use Rattle.ob_worded.proofs.Reading.{readings_are_worded}
 use Rattle.ob_forms.specs.Said.{IsOneOf}
 use Rattle.ob_declares.proofs.Shown.{one_mapped}
 use Rattle.ob_planned.proofs.Checked.{compiled_marked}
 use Rattle.ob_sized.proofs.Coming.{ComesFrom, comes_from}
 use Rattle.ob_locality.proofs.Compiled.{comes_of, apart_of, short_is}
-use Rattle.ob_ordered.proofs.ruled_laws.Builds.{names_laid}
+use Rattle.ob_promised.proofs.ruled_laws.Builds.{names_laid}
 use Rattle.ob_compiling.specs.Compiling.{Compiled}
 use Rattle.ob_ages.specs.Builds.{Text, Build, IsValid}
 use Rattle.ob_promised.specs.joint_laws.Named.{MethodsDiffer, ProceduresAreNoTypes, AreNamedApart}

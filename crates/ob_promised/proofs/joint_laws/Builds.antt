@@ -36,9 +36,9 @@ use Rattle.ob_compiling.specs.Compiling.{Compiled}
 use Rattle.ob_ages.specs.Builds.{Text, Build, IsValid, IsSpelled, shows_of, tree_of, name_of}
 use Rattle.ob_ages.specs.Laws.{AreAsWanted}
 use Rattle.ob_joining.specs.Builds.{program_of}
-use Rattle.ob_ordered.proofs.ruled_laws.Builds.{names_laid}
-use Rattle.ob_ordered.proofs.Shown.{Showing, builds_show}
-use Rattle.ob_upheld.specs.seen_laws.Seen.{ModuleSeen}
+use Rattle.ob_promised.proofs.ruled_laws.Builds.{names_laid}
+use Rattle.ob_promised.proofs.Shown.{Showing, builds_show}
+use Rattle.ob_promised.specs.seen_laws.Seen.{ModuleSeen}
 use Rattle.ob_promised.specs.joint_laws.Named.{MethodsDiffer, AreNamedApart}
 use Rattle.ob_promised.proofs.joint_laws.Shown.{FieldsDiffer}
 use Rattle.ob_promised.proofs.joint_laws.Walk.{read_are_same}

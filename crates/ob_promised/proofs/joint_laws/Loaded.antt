@@ -16,10 +16,10 @@ use Rattle.ob_ages.specs.Laws.{AreTogether, IsBehind, BuildsAreWritten}
 use Rattle.ob_ages.proofs.Members.{In, to_in}
 use Rattle.ob_joining.specs.Builds.{program_of}
 use Rattle.ob_joining.proofs.Settings.{loaded_front}
-use Rattle.ob_ordered.specs.ruled_laws.Ruled.{BuildsAreRuled}
-use Rattle.ob_ordered.proofs.Loaded.{Before, have_no_out, valid_of, uses, before_more, none}
+use Rattle.ob_promised.specs.ruled_laws.Ruled.{BuildsAreRuled}
+use Rattle.ob_promised.proofs.Loaded.{Before, have_no_out, valid_of, uses, before_more, none}
 use Rattle.ob_promised.specs.joint_laws.Named.{AreNamedApart}
-use Rattle.ob_upheld.proofs.seen_laws.Builds.{modules_see}
+use Rattle.ob_promised.proofs.seen_laws.Builds.{modules_see}
 use Rattle.ob_promised.specs.joint_laws.Joint.{LoadedAreSame}
 use Rattle.ob_promised.proofs.joint_laws.Shown.{FieldsDiffer}
 use Rattle.ob_promised.proofs.joint_laws.Apart.{named_apart}

@@ -21,7 +21,7 @@ use Rattle.ob_local.specs.Agreeing.{Map, as_shape}
 use Rattle.ob_forms.specs.Said.{IsOneOf, IsFreshName, HaveNames}
 use Rattle.ob_forms.proofs.Modules.{of_all, other_name}
 use Rattle.ob_declares.proofs.Shown.{one_filtered, one_ordered}
-use Rattle.ob_upheld.specs.seen_laws.Seen.{HasField, HasMethod}
+use Rattle.ob_promised.specs.seen_laws.Seen.{HasField, HasMethod}
 use Rattle.ob_promised.specs.joint_laws.Named.{MethodsDiffer}
 use Rattle.ob_promised.proofs.joint_laws.Shown.{FieldsDiffer, Told, same, plain, shown}
 

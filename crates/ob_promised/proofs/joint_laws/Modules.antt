@@ -29,7 +29,7 @@ use Rattle.ob_outward.proofs.Heads.{IsHeaded}
 use Rattle.ob_outward.proofs.Blocks as outward
 use Rattle.ob_redefined.specs.Laws.{IsOwned}
 use Rattle.ob_blocks.proofs.Bound.{IsJudged}
-use Rattle.ob_matched.specs.Matched.{HeadingsAre}
+use Rattle.ob_there.specs.Matched.{HeadingsAre}
 use Rattle.ob_bound.specs.Bound.{methods_of}
 use Rattle.ob_bound.proofs.Typings.{IsRaw, AreRaw}
 use Rattle.ob_bound.proofs.Binding.{one_filtered}

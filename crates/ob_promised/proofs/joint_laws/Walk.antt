@@ -29,7 +29,7 @@ use Rattle.ob_local.specs.Laws.{over, view, IsLaid}
 use Rattle.ob_local.specs.Read.{CalleeRead, RoomRead, DesigRead, ExprRead, ActualsRead, ResultRead, AssignedRead, MadeRead, StmtRead, StmtsRead, BranchesRead, CasesRead, ElseRead, PassedRead, ParameterRead, BindingRead, ProcedureRead, TypeRead, ModuleRead}
 use Rattle.ob_local.proofs.Laid.{laid_read}
 use Rattle.ob_linking.specs.Same.{PassedSame, ParameterSame, CalleeSame, DesigSame, ExprSame, ActualsSame, ResultSame, AssignedSame, MadeSame, StmtSame, StmtsSame, BranchesSame, CasesSame, ElseSame, BindingSame, ProcedureSame, BaseSame, DescSame, ModuleSame, IsSameSize}
-use Rattle.ob_upheld.specs.seen_laws.Seen.{CalleeSeen, DesigSeen, ExprSeen, ActualsSeen, ResultSeen, StmtSeen, StmtsSeen, BranchesSeen, CasesSeen, ElseSeen, BindingSeen, ProcedureSeen, ModuleSeen}
+use Rattle.ob_promised.specs.seen_laws.Seen.{CalleeSeen, DesigSeen, ExprSeen, ActualsSeen, ResultSeen, StmtSeen, StmtsSeen, BranchesSeen, CasesSeen, ElseSeen, BindingSeen, ProcedureSeen, ModuleSeen}
 use Rattle.ob_promised.specs.joint_laws.Agreement.{AgreeAs, ReadAreSame}
 
 module _ (a b : Map) (Shapes Layouts : QName → Type 0) (agree : AgreeAs a b Shapes Layouts) where

@@ -27,8 +27,8 @@ use Rattle.ob_bodies.proofs.Lists.{one_all, all_one, all_of}
 use Rattle.ob_bodies.proofs.Receivers.{received_as, IsBoundAmong, bound_in_order}
 use Rattle.ob_bodies.proofs.Modules.{unbroken_is}
 use Rattle.ob_outward.proofs.Blocks as outward
-use Rattle.ob_matched.specs.Procedures.{IsBoundBy}
-use Rattle.ob_matched.proofs.Procedures.{procedures_match}
+use Rattle.ob_there.specs.Procedures.{IsBoundBy}
+use Rattle.ob_there.proofs.Procedures.{procedures_match}
 use Rattle.ob_bound.proofs.Typings.{MakeRaw}
 use Rattle.ob_bound.proofs.Heads.{GoodHead}
 use Rattle.ob_bound.proofs.Blocks.{reversed_good}

@@ -19,12 +19,12 @@ use Rattle.ob_ages.proofs.Gone.{all_valid}
 use Rattle.ob_ages.proofs.Members.{In}
 use Rattle.ob_ages.proofs.Stood.{of_is}
 use Rattle.ob_joining.specs.Builds.{program_of, AreLoaded}
-use Rattle.ob_families.specs.Premises.{TypesDiffer, LoadedAreSound}
-use Rattle.ob_ordered.specs.Loaded.{LoadedAreWhole}
-use Rattle.ob_bindings.specs.Like.{AreLike}
+use Rattle.ob_stand.specs.Premises.{TypesDiffer, LoadedAreSound}
+use Rattle.ob_promised.specs.Loaded.{LoadedAreWhole}
+use Rattle.ob_stand.specs.Like.{AreLike}
 use Rattle.ob_promised.proofs.inherited_laws.Checked.{checked_at}
 use Rattle.ob_promised.proofs.inherited_laws.Loaded.{IsSome, tree_in, all_shown, in_front, in_middle}
-use Rattle.ob_ordered.specs.pointed_laws.Pointed.{LoadedShowBases}
+use Rattle.ob_promised.specs.pointed_laws.Pointed.{LoadedShowBases}
 use Rattle.ob_promised.proofs.belonging_laws.Loaded.{shows_name}
 use Rattle.ob_promised.specs.likeness_laws.Checked.{HasText}
 use Rattle.ob_promised.specs.likeness_laws.Loaded.{LoadedLike}

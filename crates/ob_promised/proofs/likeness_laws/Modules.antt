@@ -35,8 +35,8 @@ use Rattle.ob_declares.specs.Views.{FieldsDiffer}
 use Rattle.ob_declares.proofs.Views.{one_each, ruled_formed}
 use Rattle.ob_outward.specs.Families.{view, IsFamily}
 use Rattle.ob_outward.proofs.Families.{families_there}
-use Rattle.ob_bindings.specs.Like.{IsLike}
-use Rattle.ob_bindings.proofs.Named.{bindings_are_named}
+use Rattle.ob_stand.specs.Like.{IsLike}
+use Rattle.ob_stand.proofs.Named.{bindings_are_named}
 use Rattle.ob_there.specs.Methods.{IsNamedSo}
 use Rattle.ob_there.proofs.Methods.{parameters_are, bound_same, called, declared_one, declared_in}
 use Rattle.ob_promised.proofs.belonging_laws.Methods.{viewed_named}

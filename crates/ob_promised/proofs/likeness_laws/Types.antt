@@ -22,7 +22,7 @@ use Rattle.ob_bodies.proofs.Lists.{all_of}
 use Rattle.ob_outward.proofs.Binding.{desc_in}
 use Rattle.ob_outward.proofs.Blocks as outward
 use Rattle.ob_outward.proofs.Families as families
-use Rattle.ob_matched.proofs.Early.{early_self, records_back}
+use Rattle.ob_there.proofs.Early.{early_self, records_back}
 use Rattle.ob_bound.proofs.Modules.{M, whole, hs, heads, B, level}
 use Rattle.ob_there.proofs.Introduced.{found_one, one_found}
 

@@ -10,9 +10,9 @@ use Rattle.ob_distinct.specs.Distinct.{AreDistinct}
 use Rattle.ob_ages.specs.Builds.{entry_of}
 use Rattle.ob_ages.proofs.Apart.{entry_named}
 use Rattle.ob_differ.proofs.Compiled.{compiled_types_differ}
-use Rattle.ob_upheld.proofs.grounds_laws.Builds.{builds_are_grounded}
-use Rattle.ob_ordered.specs.ruled_laws.Ruled.{BuildsDiffer, BuildsAreGrounded, BuildsAreRuled}
-use Rattle.ob_ordered.proofs.ruled_laws.Builds.{builds_keep_rules}
+use Rattle.ob_promised.proofs.grounds_laws.Builds.{builds_are_grounded}
+use Rattle.ob_promised.specs.ruled_laws.Ruled.{BuildsDiffer, BuildsAreGrounded, BuildsAreRuled}
+use Rattle.ob_promised.proofs.ruled_laws.Builds.{builds_keep_rules}
 
 fresh : (x : List ℕ) (ts : List TypedType) → AllByRecursion (λ y. bytes_eq x y ≡ false) (map (λ t. t.name) ts) → AllByRecursion (λ t. t.name ≢ x) ts
 fresh x [] h = tt

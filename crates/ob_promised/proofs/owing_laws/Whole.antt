@@ -4,11 +4,11 @@ use Rattle.ob_stand.proofs.Whole.{builds_stand}
 use Rattle.ob_sized.proofs.Different.{modules_differ}
 use Rattle.ob_entered.proofs.Whole.{names_are_shown, words_are_counted, commands_are_there, loaded_enter}
 use Rattle.ob_locality.proofs.Following.{locality_holds}
-use Rattle.ob_ordered.proofs.Loaded.{loaded_forms_stay, loaded_values_stay}
-use Rattle.ob_ordered.proofs.Owing.{loaded_variables, loaded_describe}
-use Rattle.ob_ordered.proofs.whole_laws.Whole.{loaded_whole}
-use Rattle.ob_ordered.proofs.whole_laws.Passing.{loaded_passed}
-use Rattle.ob_ordered.proofs.laying_laws.Loaded.{loaded_laid}
+use Rattle.ob_promised.proofs.Loaded.{loaded_forms_stay, loaded_values_stay}
+use Rattle.ob_promised.proofs.Owing.{loaded_variables, loaded_describe}
+use Rattle.ob_promised.proofs.whole_laws.Whole.{loaded_whole}
+use Rattle.ob_promised.proofs.whole_laws.Passing.{loaded_passed}
+use Rattle.ob_promised.proofs.laying_laws.Loaded.{loaded_laid}
 use Rattle.ob_promised.proofs.belonging_laws.Loaded.{bound_there}
 use Rattle.ob_promised.specs.owing_laws.Left.{LeftGives, LeftStands}
 use Rattle.ob_promised.proofs.owing_laws.Builds.{builds_ruled}

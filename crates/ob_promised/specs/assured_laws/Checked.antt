@@ -8,12 +8,12 @@ use Rattle.ob_tables.specs.Image.{AllBodiesChecked}
 use Rattle.ob_valued.specs.Valued.{values}
 use Rattle.ob_judged.specs.Judged.{AreJudgedModules}
 use Rattle.ob_introduced.specs.Steady.{AreSteadyModules}
-use Rattle.ob_accepted.specs.Accepted.{AreBuilt}
+use Rattle.ob_introduced.specs.Accepted.{AreBuilt}
 use Rattle.ob_kept.specs.Kept.{AreLeft}
 use Rattle.ob_ages.specs.Builds.{Build}
 use Rattle.ob_joining.specs.Builds.{program_of, AreLoaded, IsOf}
-use Rattle.ob_families.specs.Premises.{builds_of, LoadedAreSound}
-use Rattle.ob_ordered.specs.Loaded.{LoadedAreWhole}
+use Rattle.ob_stand.specs.Premises.{builds_of, LoadedAreSound}
+use Rattle.ob_promised.specs.Loaded.{LoadedAreWhole}
 
 -- What is left: the modules are judged ones, and the maps of types around their bodies are steady; redefinitions are alike; variables can
 -- be built and differ in name; descriptions say what types are, and procedures keep the limits.

@@ -4,7 +4,7 @@ use Rattle.ob_judged.specs.Judged.{AreJudgedModules}
 use Rattle.ob_ages.specs.Builds.{Build}
 use Rattle.ob_ages.specs.Laws.{Locality, BuildsAreWritten}
 use Rattle.ob_joining.specs.Builds.{program_of, AreLoaded}
-use Rattle.ob_ordered.specs.pointed_laws.Pointed.{LoadedShowBases}
+use Rattle.ob_promised.specs.pointed_laws.Pointed.{LoadedShowBases}
 
 -- Each module of builds that are loaded together is judged over the interfaces of those before it, whatever interfaces it was compiled
 -- against.

@@ -7,15 +7,15 @@ use Rattle.ob_forms.specs.Said.{IsSound}
 use Rattle.ob_forms.specs.Whole.{IsWhole}
 use Rattle.ob_standing.specs.Fits.{IsNamed}
 use Rattle.ob_typed.specs.Redefined.{AreRedefined}
-use Rattle.ob_accepted.specs.Accepted.{AreBuilt}
+use Rattle.ob_introduced.specs.Accepted.{AreBuilt}
 use Rattle.ob_ages.specs.Builds.{Build}
 use Rattle.ob_ages.specs.Laws.{Locality, BuildsAreWritten}
 use Rattle.ob_joining.specs.Builds.{program_of, AreLoaded}
-use Rattle.ob_ordered.specs.ruled_laws.Ruled.{BuildsAreRuled}
-use Rattle.ob_ordered.specs.Loaded.{LoadedAreWhole}
-use Rattle.ob_families.specs.Premises.{TypesDiffer, LoadedAreSound}
-use Rattle.ob_bindings.specs.Families.{HasBindings}
-use Rattle.ob_bindings.specs.Like.{AreLike}
+use Rattle.ob_promised.specs.ruled_laws.Ruled.{BuildsAreRuled}
+use Rattle.ob_promised.specs.Loaded.{LoadedAreWhole}
+use Rattle.ob_stand.specs.Premises.{TypesDiffer, LoadedAreSound}
+use Rattle.ob_stand.specs.Families.{HasBindings}
+use Rattle.ob_stand.specs.Like.{AreLike}
 use Rattle.ob_promised.specs.inherited_laws.Laws.{LoadedAreLike}
 
 -- A module's procedures have names; they and its body have variables of different names that can be built, and results that are no arrays

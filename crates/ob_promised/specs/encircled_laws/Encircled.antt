@@ -6,9 +6,9 @@ use Rattle.ob_introduced.specs.Steady.{AreSteadyModules}
 use Rattle.ob_ages.specs.Builds.{Build}
 use Rattle.ob_ages.specs.Laws.{Locality, BuildsAreWritten}
 use Rattle.ob_joining.specs.Builds.{program_of, AreLoaded}
-use Rattle.ob_families.specs.Premises.{LoadedAreSound}
-use Rattle.ob_ordered.specs.ruled_laws.Ruled.{BuildsAreRuled}
-use Rattle.ob_ordered.specs.Loaded.{LoadedAreWhole}
+use Rattle.ob_stand.specs.Premises.{LoadedAreSound}
+use Rattle.ob_promised.specs.ruled_laws.Ruled.{BuildsAreRuled}
+use Rattle.ob_promised.specs.Loaded.{LoadedAreWhole}
 
 -- modules that are judged where the maps of types are steady
 pub record AreEncircled (program : Program) : Type 0 where

@@ -11,10 +11,10 @@ use Rattle.ob_valued.specs.Valued.{values}
 use Rattle.ob_ages.specs.Builds.{Build}
 use Rattle.ob_ages.specs.Laws.{Locality, BuildsAreWritten}
 use Rattle.ob_joining.specs.Builds.{program_of, AreLoaded, IsOf}
-use Rattle.ob_ordered.specs.Loaded.{LoadedAreWhole, LoadedAreLaid}
-use Rattle.ob_families.specs.Premises.{builds_of, TypesDiffer, LoadedAreSound, LoadedDescribe, LoadedAreSame}
-use Rattle.ob_bindings.specs.Families.{HasBindings}
-use Rattle.ob_bindings.specs.Like.{AreLike}
+use Rattle.ob_promised.specs.Loaded.{LoadedAreWhole, LoadedAreLaid}
+use Rattle.ob_stand.specs.Premises.{builds_of, TypesDiffer, LoadedAreSound, LoadedDescribe, LoadedAreSame}
+use Rattle.ob_stand.specs.Families.{HasBindings}
+use Rattle.ob_stand.specs.Like.{AreLike}
 
 -- What is bound in each module is bound to a record of the module, one of whose bases introduces it, by what the modules before it show;
 -- whatever interfaces the module was compiled against.

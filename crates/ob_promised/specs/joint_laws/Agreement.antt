@@ -9,7 +9,7 @@ use Rattle.ob_env.specs.Faces.{Face}
 use Rattle.ob_local.specs.Agreeing.{Map, On, IsNear}
 use Rattle.ob_local.specs.Laws.{Text, over, view, IsLaid, IsTied}
 use Rattle.ob_linking.specs.Same.{IsSame, IsSameSize, IsSameField, IsSameFamily, ModuleSame}
-use Rattle.ob_upheld.specs.seen_laws.Seen.{FieldSeen, FamilySeen, ModuleSeen}
+use Rattle.ob_promised.specs.seen_laws.Seen.{FieldSeen, FamilySeen, ModuleSeen}
 
 -- Two maps agree: of names whose shapes are read, on what types they are and on the members that the first has of them; of names whose
 -- layouts are read, on the words.

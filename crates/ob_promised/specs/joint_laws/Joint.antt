@@ -5,7 +5,7 @@ use Rattle.ob_layout.specs.LaidOut.{viewed}
 use Rattle.ob_env.specs.Faces.{described}
 use Rattle.ob_forms.specs.Said.{IsSound}
 use Rattle.ob_linking.specs.Same.{ModuleSame}
-use Rattle.ob_ordered.specs.ruled_laws.Ruled.{BuildsAreRuled}
+use Rattle.ob_promised.specs.ruled_laws.Ruled.{BuildsAreRuled}
 use Rattle.ob_compiling.specs.Compiling.{Compiled}
 use Rattle.ob_ages.specs.Builds.{Text, Build, IsValid, of, tree_of}
 use Rattle.ob_ages.specs.Laws.{BuildsAreWritten}

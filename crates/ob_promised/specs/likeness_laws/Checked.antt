@@ -18,7 +18,7 @@ use Rattle.ob_said.specs.Procedures.{ShowBases, all_true, is_named_plainly}
 use Rattle.ob_forms.specs.Said.{IsOneOf, IsSound}
 use Rattle.ob_forms.specs.Whole.{IsWhole}
 use Rattle.ob_declares.specs.Ages.{AreShown}
-use Rattle.ob_bindings.specs.Like.{AreLike}
+use Rattle.ob_stand.specs.Like.{AreLike}
 
 -- A module of a program is the checked module of a text with its records laid out. It was checked over interfaces that show the program's
 -- modules, and the bases of the pointers that they show; its types differ in name, and its text is as a grammar reads it.

@@ -14,7 +14,7 @@ use Rattle.ob_linking.specs.Same.{ModuleSame}
 use Rattle.ob_compiling.specs.Compiling.{Compiled, texts, exceeds}
 use Rattle.ob_ages.specs.Builds.{Text, Build, tree_of}
 use Rattle.ob_joining.specs.Builds.{program_of, AreLoaded}
-use Rattle.ob_families.specs.Premises.{LoadedAreSame}
+use Rattle.ob_stand.specs.Premises.{LoadedAreSame}
 
 module _ (types : QName → Option Desc) (md : Module) where
   -- Of a procedure: the slots of its parameters with the words of its locals, those of FOR and CASE among them; and the operands that stand

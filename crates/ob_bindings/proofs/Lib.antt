@@ -1,4 +1,0 @@
-pub mod Introduced
-pub mod Once
-pub mod Named
-pub mod Like

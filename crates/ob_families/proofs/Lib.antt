@@ -1,4 +1,0 @@
-pub mod Settled
-pub mod Declared
-pub mod Fit
-pub mod Numbered

@@ -1,6 +1,0 @@
-pub mod Limits
-pub mod Law
-pub mod Strings
-pub mod Chosen
-pub mod Entering
-pub mod Shown

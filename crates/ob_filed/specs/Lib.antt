@@ -1,4 +1,0 @@
-pub mod Filed
-pub mod Strings
-pub mod Entered
-pub mod Shown

@@ -1,4 +1,0 @@
-pub mod Early
-pub mod Matching
-pub mod Judged
-pub mod Procedures
