@@ -1,6 +1,6 @@
 //! The listing of an object file: its tables, and the code of each procedure.
 
-use ob_instr::{Instr, Opcode, Param, Position, Procedure};
+use ob_instr::{Instr, Param, Position, Procedure, operands_of};
 use ob_obj::{Base, Export, Link, ObjFile, RecordType};
 use ob_tree::QName;
 use ob_types::Aspect;
@@ -18,52 +18,6 @@ fn aspect(of: Aspect) -> &'static str {
     match of {
         Aspect::Shape => "shape",
         Aspect::Layout => "layout",
-    }
-}
-
-// How many operands an operation names.
-fn operands(op: Opcode) -> usize {
-    match op {
-        Opcode::CopyRec
-        | Opcode::Index
-        | Opcode::Trap
-        | Opcode::CallP
-        | Opcode::CallR
-        | Opcode::CallS => 2,
-        Opcode::Int
-        | Opcode::Local
-        | Opcode::Global
-        | Opcode::ExtVar
-        | Opcode::Copy
-        | Opcode::Offset
-        | Opcode::IndexO
-        | Opcode::Tag
-        | Opcode::IsP
-        | Opcode::IsR
-        | Opcode::GuardAt
-        | Opcode::GuardR
-        | Opcode::Add
-        | Opcode::Sub
-        | Opcode::Mul
-        | Opcode::Neg
-        | Opcode::Abs
-        | Opcode::Range
-        | Opcode::Inc
-        | Opcode::Dec
-        | Opcode::StrRel
-        | Opcode::Jump
-        | Opcode::JumpF
-        | Opcode::Assert
-        | Opcode::NewR
-        | Opcode::NewA
-        | Opcode::NewO
-        | Opcode::Proc
-        | Opcode::ProcX
-        | Opcode::Call
-        | Opcode::CallX
-        | Opcode::CallV
-        | Opcode::Out => 1,
-        _ => 0,
     }
 }
 
@@ -169,7 +123,7 @@ impl Listing {
     fn put_instr(&mut self, at: u32, instr: Instr) -> anyhow::Result<()> {
         let alloc = self.alloc;
         let Instr { op, a, b } = instr;
-        match operands(op) {
+        match operands_of(op) {
             0 => self.put(&format!(in alloc; "{at} {op:?}")?),
             1 => self.put(&format!(in alloc; "{at} {op:?} {a}")?),
             _ => self.put(&format!(in alloc; "{at} {op:?} {a} {b}")?),

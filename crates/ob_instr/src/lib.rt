@@ -6,5 +6,5 @@ mod opcode;
 mod procedure;
 
 pub use instr::{Instr, put_instr, take_instr};
-pub use opcode::Opcode;
+pub use opcode::{Opcode, operands_of};
 pub use procedure::{MOST_WORDS, Param, Position, Procedure};

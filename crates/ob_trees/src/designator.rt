@@ -1,8 +1,8 @@
 ghost use Rattle.std.specs.Prelude.{◌≡◌, [], ◌∷◌, ◌++◌, IfOk, OnOk, OnErr};
 ghost use Rattle.ob_types.specs.declared.typed.Designator.TheVariants as d;
 
+use crate::destructors::{destroy_designator, destroy_designators};
 use crate::expr::ExprTree;
-use crate::parting::{part_designator, part_designators};
 use ob_tree::{Boxed, List, Name, Pos, QName};
 use ob_types::{Designator, Guarded, TypeRef, Variable};
 use std::alloc::{AllocError, Global};
@@ -15,7 +15,7 @@ pub struct DesignatorTree {
 impl Drop for DesignatorTree {
     fn drop(self) {
         let DesignatorTree { inner } = self;
-        part_designator(inner);
+        destroy_designator(inner);
     }
 }
 
@@ -123,7 +123,7 @@ pub struct DesignatorTrees {
 impl Drop for DesignatorTrees {
     fn drop(self) {
         let DesignatorTrees { inner } = self;
-        part_designators(inner);
+        destroy_designators(inner);
     }
 }
 

@@ -3,7 +3,7 @@ ghost use Rattle.ob_types.specs.declared.typed.TypedExpr.TheVariants as e;
 ghost use Rattle.ob_types.specs.declared.typed.Actual.{roll-Actual};
 
 use crate::designator::DesignatorTree;
-use crate::parting::{part_actuals, part_expr};
+use crate::destructors::{destroy_actuals, destroy_expr};
 use ob_tree::{Boxed, List, Pos, QName};
 use ob_types::{
     Actual, Binary, Callee, Comparison, Connective, Passing, Signature, TypeRef, TypedExpr, Unary,
@@ -19,7 +19,7 @@ pub struct ExprTree {
 impl Drop for ExprTree {
     fn drop(self) {
         let ExprTree { inner } = self;
-        part_expr(inner);
+        destroy_expr(inner);
     }
 }
 
@@ -202,7 +202,7 @@ pub struct ActualTrees {
 impl Drop for ActualTrees {
     fn drop(self) {
         let ActualTrees { inner } = self;
-        part_actuals(inner);
+        destroy_actuals(inner);
     }
 }
 

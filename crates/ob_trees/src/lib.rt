@@ -5,9 +5,9 @@
 
 mod copies;
 mod designator;
+mod destructors;
 mod expr;
 mod module;
-mod parting;
 mod stmt;
 
 pub use copies::{

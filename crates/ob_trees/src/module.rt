@@ -1,7 +1,7 @@
 ghost use Rattle.std.specs.Prelude.{◌≡◌, [], ◌∷◌, ◌++◌, OnOk, OnErr};
 
 use crate::designator::DesignatorTrees;
-use crate::parting::{part_module, part_procedures};
+use crate::destructors::{destroy_module, destroy_procedures};
 use crate::stmt::StmtTrees;
 use ob_tree::{List, Mark, Name, ObjName, Pos, QName};
 use ob_types::{
@@ -18,7 +18,7 @@ pub struct ProcedureTrees {
 impl Drop for ProcedureTrees {
     fn drop(self) {
         let ProcedureTrees { inner } = self;
-        part_procedures(inner);
+        destroy_procedures(inner);
     }
 }
 
@@ -82,7 +82,7 @@ pub struct ModuleTree {
 impl Drop for ModuleTree {
     fn drop(self) {
         let ModuleTree { inner } = self;
-        part_module(inner);
+        destroy_module(inner);
     }
 }
 

@@ -5,8 +5,8 @@ ghost use Rattle.ob_types.specs.declared.typed.TypedBranch.{roll-TypedBranch};
 ghost use Rattle.ob_types.specs.declared.typed.TypedCase.{roll-TypedCase};
 
 use crate::designator::DesignatorTree;
+use crate::destructors::{destroy_branches, destroy_cases, destroy_stmt, destroy_stmts};
 use crate::expr::ExprTree;
-use crate::parting::{part_branches, part_cases, part_stmt, part_stmts};
 use ob_tree::{List, Pos};
 use ob_types::{
     Assigned, Label, Made, TypeRef, TypedBranch, TypedCase, TypedExpr, TypedStmt, Update, Variable,
@@ -22,7 +22,7 @@ pub struct StmtTree {
 impl Drop for StmtTree {
     fn drop(self) {
         let StmtTree { inner } = self;
-        part_stmt(inner);
+        destroy_stmt(inner);
     }
 }
 
@@ -34,7 +34,7 @@ pub struct StmtTrees {
 impl Drop for StmtTrees {
     fn drop(self) {
         let StmtTrees { inner } = self;
-        part_stmts(inner);
+        destroy_stmts(inner);
     }
 }
 
@@ -46,7 +46,7 @@ pub struct BranchTrees {
 impl Drop for BranchTrees {
     fn drop(self) {
         let BranchTrees { inner } = self;
-        part_branches(inner);
+        destroy_branches(inner);
     }
 }
 
@@ -58,7 +58,7 @@ pub struct CaseTrees {
 impl Drop for CaseTrees {
     fn drop(self) {
         let CaseTrees { inner } = self;
-        part_cases(inner);
+        destroy_cases(inner);
     }
 }
 

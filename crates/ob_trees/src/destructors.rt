@@ -8,15 +8,15 @@ use ob_types::{
 };
 
 /// Lets a designator go.
-#[cycle(part)]
-pub fn part_designator(designator: Designator) {
+#[cycle(destroy)]
+pub fn destroy_designator(designator: Designator) {
     let mut rest = designator;
     loop {
         match rest {
             Designator::Variable { .. } => return,
             Designator::Field { inner, .. } => rest = inner.into_inner(),
             Designator::Index { inner, index, .. } => {
-                part_expr(index.into_inner());
+                destroy_expr(index.into_inner());
                 rest = inner.into_inner();
             }
             Designator::Deref { inner, .. } => rest = inner.into_inner(),
@@ -26,94 +26,94 @@ pub fn part_designator(designator: Designator) {
 }
 
 /// Lets designators go.
-pub fn part_designators(designators: List<Designator>) {
+pub fn destroy_designators(designators: List<Designator>) {
     for designator in designators.into_items() {
-        part_designator(designator);
+        destroy_designator(designator);
     }
 }
 
 /// Lets an expression go.
-#[cycle(part)]
-pub fn part_expr(expr: TypedExpr) {
+#[cycle(destroy)]
+pub fn destroy_expr(expr: TypedExpr) {
     let mut rest = expr;
     loop {
         match rest {
             TypedExpr::Constant(_) => return,
-            TypedExpr::Designator(designator) => return part_designator(designator),
+            TypedExpr::Designator(designator) => return destroy_designator(designator),
             TypedExpr::Procedure { .. } => return,
             TypedExpr::Unary { operand, .. } => rest = operand.into_inner(),
             TypedExpr::Binary { left, right, .. } => {
-                part_expr(right.into_inner());
+                destroy_expr(right.into_inner());
                 rest = left.into_inner();
             }
             TypedExpr::Logical { left, right, .. } => {
-                part_expr(right.into_inner());
+                destroy_expr(right.into_inner());
                 rest = left.into_inner();
             }
             TypedExpr::CompareTexts { left, right, .. } => {
-                part_expr(right.into_inner());
+                destroy_expr(right.into_inner());
                 rest = left.into_inner();
             }
             TypedExpr::IsPointer { operand, .. } => rest = operand.into_inner(),
-            TypedExpr::IsRecord { inner, .. } => return part_designator(inner),
-            TypedExpr::Length(designator) => return part_designator(designator),
-            TypedExpr::Call { actuals, .. } => return part_actuals(actuals),
+            TypedExpr::IsRecord { inner, .. } => return destroy_designator(inner),
+            TypedExpr::Length(designator) => return destroy_designator(designator),
+            TypedExpr::Call { actuals, .. } => return destroy_actuals(actuals),
             TypedExpr::CallVariable { inner, actuals, .. } => {
-                part_designator(inner);
-                return part_actuals(actuals);
+                destroy_designator(inner);
+                return destroy_actuals(actuals);
             }
         }
     }
 }
 
 /// Lets actual parameters go.
-#[cycle(part)]
-pub fn part_actuals(actuals: List<Actual>) {
+#[cycle(destroy)]
+pub fn destroy_actuals(actuals: List<Actual>) {
     for actual in actuals.into_items() {
-        part_actual(actual);
+        destroy_actual(actual);
     }
 }
 
-#[cycle(part)]
-fn part_actual(actual: Actual) {
+#[cycle(destroy)]
+fn destroy_actual(actual: Actual) {
     let Actual { value, .. } = actual;
-    part_expr(value)
+    destroy_expr(value)
 }
 
 /// Lets a statement go.
-#[cycle(part_stmt)]
-pub fn part_stmt(stmt: TypedStmt) {
+#[cycle(destroy_stmt)]
+pub fn destroy_stmt(stmt: TypedStmt) {
     match stmt {
         TypedStmt::Assign { target, value, .. } => {
-            part_designator(target);
-            part_expr(value)
+            destroy_designator(target);
+            destroy_expr(value)
         }
-        TypedStmt::Call(call) => part_expr(call),
+        TypedStmt::Call(call) => destroy_expr(call),
         TypedStmt::Update {
             target,
             operand,
             ..
         } => {
-            part_designator(target);
-            part_expr(operand)
+            destroy_designator(target);
+            destroy_expr(operand)
         }
         TypedStmt::Copy { source, target, .. } => {
-            part_expr(source);
-            part_designator(target)
+            destroy_expr(source);
+            destroy_designator(target)
         }
-        TypedStmt::New { target, .. } => part_designator(target),
+        TypedStmt::New { target, .. } => destroy_designator(target),
         TypedStmt::NewOpenArray { target, length, .. } => {
-            part_designator(target);
-            part_expr(length)
+            destroy_designator(target);
+            destroy_expr(length)
         }
-        TypedStmt::Assert { condition, .. } => part_expr(condition),
+        TypedStmt::Assert { condition, .. } => destroy_expr(condition),
         TypedStmt::Halt { .. } | TypedStmt::Exit => {}
         TypedStmt::If {
             branches,
             otherwise,
         } => {
-            part_branches(branches);
-            part_stmts(otherwise)
+            destroy_branches(branches);
+            destroy_stmts(otherwise)
         }
         TypedStmt::Case {
             value,
@@ -121,16 +121,16 @@ pub fn part_stmt(stmt: TypedStmt) {
             otherwise,
             ..
         } => {
-            part_expr(value);
-            part_cases(cases);
+            destroy_expr(value);
+            destroy_cases(cases);
             match otherwise {
                 None => {}
-                Some(stmts) => part_stmts(stmts),
+                Some(stmts) => destroy_stmts(stmts),
             }
         }
         TypedStmt::While { test, body, .. } | TypedStmt::Repeat { body, test, .. } => {
-            part_expr(test);
-            part_stmts(body)
+            destroy_expr(test);
+            destroy_stmts(body)
         }
         TypedStmt::For {
             start,
@@ -138,84 +138,84 @@ pub fn part_stmt(stmt: TypedStmt) {
             body,
             ..
         } => {
-            part_expr(start);
-            part_expr(end);
-            part_stmts(body)
+            destroy_expr(start);
+            destroy_expr(end);
+            destroy_stmts(body)
         }
-        TypedStmt::Loop { body, .. } => part_stmts(body),
+        TypedStmt::Loop { body, .. } => destroy_stmts(body),
         TypedStmt::Return(value) => match value {
             None => {}
-            Some(value) => part_expr(value),
+            Some(value) => destroy_expr(value),
         },
         TypedStmt::With {
             branches,
             otherwise,
             ..
         } => {
-            part_branches(branches);
+            destroy_branches(branches);
             match otherwise {
                 None => {}
-                Some(stmts) => part_stmts(stmts),
+                Some(stmts) => destroy_stmts(stmts),
             }
         }
     }
 }
 
 /// Lets statements go.
-#[cycle(part_stmt)]
-pub fn part_stmts(stmts: List<TypedStmt>) {
+#[cycle(destroy_stmt)]
+pub fn destroy_stmts(stmts: List<TypedStmt>) {
     for stmt in stmts.into_items() {
-        part_stmt(stmt);
+        destroy_stmt(stmt);
     }
 }
 
-#[cycle(part_stmt)]
-fn part_branch(branch: TypedBranch) {
+#[cycle(destroy_stmt)]
+fn destroy_branch(branch: TypedBranch) {
     let TypedBranch { test, body } = branch;
-    part_expr(test);
-    part_stmts(body)
+    destroy_expr(test);
+    destroy_stmts(body)
 }
 
 /// Lets branches go.
-#[cycle(part_stmt)]
-pub fn part_branches(branches: List<TypedBranch>) {
+#[cycle(destroy_stmt)]
+pub fn destroy_branches(branches: List<TypedBranch>) {
     for branch in branches.into_items() {
-        part_branch(branch);
+        destroy_branch(branch);
     }
 }
 
-#[cycle(part_stmt)]
-fn part_case(case: TypedCase) {
+#[cycle(destroy_stmt)]
+fn destroy_case(case: TypedCase) {
     let TypedCase { labels: _, body } = case;
-    part_stmts(body)
+    destroy_stmts(body)
 }
 
 /// Lets the alternatives of a CASE go.
-#[cycle(part_stmt)]
-pub fn part_cases(cases: List<TypedCase>) {
+#[cycle(destroy_stmt)]
+pub fn destroy_cases(cases: List<TypedCase>) {
     for case in cases.into_items() {
-        part_case(case);
+        destroy_case(case);
     }
 }
 
 /// Lets procedures go.
-pub fn part_procedures(procedures: List<TypedProcedure>) {
+pub fn destroy_procedures(procedures: List<TypedProcedure>) {
     for procedure in procedures.into_items() {
         let TypedProcedure { body, .. } = procedure;
-        part_stmts(body);
+        destroy_stmts(body);
     }
 }
 
 /// Lets a module go.
-pub fn part_module(module: TypedModule) {
+pub fn destroy_module(module: TypedModule) {
     let TypedModule {
         procedures,
         body,
         mentioned,
         ..
     } = module;
-    part_procedures(procedures);
-    part_stmts(body);
+    destroy_procedures(procedures);
+    destroy_stmts(body);
     let Mentioned { lengths, .. } = mentioned;
-    part_designators(lengths)
+    destroy_designators(lengths)
 }
