@@ -181,6 +181,7 @@ fn visit_selectors<S: Surroundings>(
 }
 
 #[cycle(walk)]
+#[inline(never)]
 fn visit_selector<S: Surroundings>(
     alloc: Global,
     here: &S,
@@ -204,6 +205,7 @@ fn visit_selector<S: Surroundings>(
 
 /// Judges the values in round brackets, of which nothing more is asked. A type's name is none.
 #[cycle(walk)]
+#[inline(never)]
 pub fn visit_arguments<S: Surroundings>(
     alloc: Global,
     here: &S,

@@ -22,6 +22,7 @@ use std::alloc::{AllocError, Global};
 /// Each argument, by what is asked of the first, of the second, and of those behind. None where one
 /// of them breaks a rule.
 #[cycle(walk)]
+#[inline(never)]
 pub fn check_parameters<S: Surroundings>(
     alloc: Global,
     here: &S,
@@ -48,6 +49,7 @@ pub fn check_parameters<S: Surroundings>(
 
 /// A call of MAX, or else of MIN, whose parameter is a type's name.
 #[cycle(walk)]
+#[inline(never)]
 pub fn check_extreme<S: Surroundings>(
     alloc: Global,
     here: &S,
@@ -81,6 +83,7 @@ pub fn check_extreme<S: Surroundings>(
 // The same where there is not one parameter alone, which breaks rule 28: what the first comes to is
 // there already, and those behind it are judged too, where it is sound.
 #[cycle(walk)]
+#[inline(never)]
 fn check_further<S: Surroundings>(
     alloc: Global,
     here: &S,
@@ -103,6 +106,7 @@ fn check_further<S: Surroundings>(
 }
 
 #[cycle(walk)]
+#[inline(never)]
 fn check_type_parameter<S: Surroundings>(
     alloc: Global,
     here: &S,

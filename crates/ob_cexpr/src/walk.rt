@@ -83,6 +83,7 @@ fn check_value<S: Surroundings>(
 
 // A designator as a value, whatever stands behind its name.
 #[cycle(walk)]
+#[inline(never)]
 fn check_selected<S: Surroundings>(
     alloc: Global,
     here: &S,
@@ -98,6 +99,7 @@ fn check_selected<S: Surroundings>(
 
 // A value in round brackets.
 #[cycle(walk)]
+#[inline(never)]
 fn check_bracketed<S: Surroundings>(
     alloc: Global,
     here: &S,
@@ -113,6 +115,7 @@ fn check_bracketed<S: Surroundings>(
 
 // `~` before a value.
 #[cycle(walk)]
+#[inline(never)]
 fn check_opposite<S: Surroundings>(
     alloc: Global,
     here: &S,
@@ -129,6 +132,7 @@ fn check_opposite<S: Surroundings>(
 
 // A sign before a value.
 #[cycle(walk)]
+#[inline(never)]
 fn check_signed<S: Surroundings>(
     alloc: Global,
     here: &S,
@@ -194,6 +198,7 @@ fn check_relation<S: Surroundings>(
 }
 
 #[cycle(walk)]
+#[inline(never)]
 fn check_test<S: Surroundings>(
     alloc: Global,
     here: &S,
@@ -248,6 +253,7 @@ fn check_elements<S: Surroundings>(
 }
 
 #[cycle(walk)]
+#[inline(never)]
 fn check_element<S: Surroundings>(
     alloc: Global,
     here: &S,
@@ -263,6 +269,7 @@ fn check_element<S: Surroundings>(
 }
 
 #[cycle(walk)]
+#[inline(never)]
 fn check_high<S: Surroundings>(
     alloc: Global,
     here: &S,
