@@ -1,5 +1,4 @@
 //! Runs small codes of a text on the machine, and prints how each ends and what it writes.
-#![tactic(auto)]
 
 mod object;
 mod runs;
@@ -7,8 +6,9 @@ mod runs;
 use runs::{Times, row};
 use std::fs;
 
-fn main(rt: HostRuntime) -> anyhow::Result<()> {
-    let text = fs::read_to_string(&rt, "codes.txt")?;
+/// Prints each code of the text with its end and what it writes.
+pub fn print_all(rt: &HostRuntime) -> anyhow::Result<()> {
+    let text = fs::read_to_string(rt, "codes.txt")?;
     let mut turns = 0;
     let mut times = Times::Once;
     for line in text.lines() {

@@ -1,6 +1,5 @@
 //! Descriptions, symbol files and object files that stand in a text: each is read and written again, and what that comes to
 //! is printed.
-#![tactic(auto)]
 
 mod again;
 
@@ -8,8 +7,9 @@ use again::Answer;
 use std::alloc::Global;
 use std::fs;
 
-fn main(rt: HostRuntime) -> anyhow::Result<()> {
-    let text = fs::read_to_string(&rt, "files.txt")?;
+/// Prints what each file and description of the text comes to.
+pub fn print_all(rt: &HostRuntime) -> anyhow::Result<()> {
+    let text = fs::read_to_string(rt, "files.txt")?;
     let mut printed = String::new(rt.alloc());
     for line in text.lines() {
         let mut parts = Vec::new(rt.alloc());

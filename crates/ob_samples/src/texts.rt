@@ -1,6 +1,5 @@
 //! Texts, each of which is scanned and parsed: what it is found to be is printed, or its tokens, or where the nodes of its
 //! tree stand.
-#![tactic(auto)]
 
 mod nodes;
 mod places;
@@ -11,12 +10,13 @@ mod verdict;
 use std::alloc::Global;
 use std::fs;
 
-fn main(rt: HostRuntime) -> anyhow::Result<()> {
-    do_lines(&rt, "modules.txt")?;
-    do_lines(&rt, "faults.txt")?;
-    do_lines(&rt, "levels.txt")?;
-    do_lines(&rt, "tokens.txt")?;
-    do_lines(&rt, "places.txt")
+/// Prints each line of the texts with what it comes to.
+pub fn print_all(rt: &HostRuntime) -> anyhow::Result<()> {
+    do_lines(rt, "modules.txt")?;
+    do_lines(rt, "faults.txt")?;
+    do_lines(rt, "levels.txt")?;
+    do_lines(rt, "tokens.txt")?;
+    do_lines(rt, "places.txt")
 }
 
 // Answers each line of a text.

@@ -3,7 +3,7 @@
 ghost use Rattle.std.specs.Prelude.{◌≡◌};
 ghost use Rattle.ob_machine.specs.Machine.{IsEntry};
 
-use crate::object::object_file;
+use crate::codes::object::object_file;
 use ob_codes::{machine_of, stands_alone};
 use ob_io::MemSink;
 use ob_machine::{Machine, Outcome};

@@ -1,6 +1,6 @@
 //! Where the nodes of a tree stand.
 
-use crate::nodes::{place_of, place_of_statement, places_of_module};
+use crate::texts::nodes::{place_of, place_of_statement, places_of_module};
 use ob_text::parse_text;
 use ob_tree::{Module, Pos, Stmt};
 use std::alloc::Global;
