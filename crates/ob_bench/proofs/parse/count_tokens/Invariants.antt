@@ -1,5 +1,5 @@
 use Rattle.std.proofs.Common.{◌+◌, ◌≤◌, length}
-use Rattle.bench_parse.proofs.count_tokens.Given as goal
+use Rattle.ob_bench.proofs.parse.count_tokens.Given as goal
 
 abbrev pub invariant-more : goal.invariant-more
 invariant-more l = l.count + length l.scanner.text ≤ length l.text

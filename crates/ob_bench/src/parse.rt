@@ -3,7 +3,6 @@
 //! With no words: sources of 16 KiB, doubled up to 1 MiB, once each. With the words `make`, `scan`
 //! or `parse`, a size in bytes and a number of turns: a source of that size, and so many turns of
 //! that work alone, so that it can be timed from outside.
-#![tactic(auto)]
 
 ghost use Rattle.std.specs.Prelude.{◌+◌, ◌<◌, ◌^◌, length};
 
@@ -11,8 +10,6 @@ use ob_scan::{ScanFault, Scanner};
 use ob_text::parse_text;
 use ob_tree::Symbol;
 use std::alloc::{AllocError, Global};
-use std::process::ExitCode;
-use std::{env, io};
 
 /// One of the sources' procedures.
 const PROCEDURE: &str = "PROCEDURE Step*(VAR a: ARRAY OF LONGINT; n: LONGINT): LONGINT;
@@ -109,51 +106,44 @@ fn turns_of(alloc: Global, work: Work, text: &str, turns: u32) -> Option<usize> 
     Some(count)
 }
 
-fn main(rt: HostRuntime) -> io::Result<ExitCode> {
+// What is found of sources of growing sizes.
+fn print_small(rt: &HostRuntime) -> anyhow::Result<()> {
     let alloc = rt.alloc();
-    let mut words = Vec::new(alloc);
-    for word in env::args(&rt)?.skip(1) {
-        if words.push(word).is_err() {
-            return Ok(ExitCode::from(5));
-        }
+    for size in [16_384, 32_768, 65_536, 131_072, 262_144, 524_288, LARGEST] {
+        let text = source(alloc, size)?;
+        let bytes = text.len();
+        let Some(tokens) = turns_of(alloc, Work::Scan, &text, 1) else {
+            anyhow::bail!("no tokens");
+        };
+        let Some(declarations) = turns_of(alloc, Work::Parse, &text, 1) else {
+            anyhow::bail!("no module");
+        };
+        println!(rt; "{bytes} bytes, {tokens} tokens, {declarations} declarations")?;
     }
-    match words.as_slice() {
-        [] => {
-            for size in [16_384, 32_768, 65_536, 131_072, 262_144, 524_288, LARGEST] {
-                let Ok(text) = source(alloc, size) else {
-                    return Ok(ExitCode::from(5));
-                };
-                let bytes = text.len();
-                let Some(tokens) = turns_of(alloc, Work::Scan, &text, 1) else {
-                    return Ok(ExitCode::from(1));
-                };
-                let Some(declarations) = turns_of(alloc, Work::Parse, &text, 1) else {
-                    return Ok(ExitCode::from(1));
-                };
-                println!(rt; "{bytes} bytes, {tokens} tokens, {declarations} declarations")?;
-            }
-            Ok(ExitCode::from(0))
-        }
+    Ok(())
+}
+
+/// Does what the words say, and prints counts.
+pub fn print(rt: &HostRuntime, words: &[String]) -> anyhow::Result<()> {
+    match words {
+        [] => print_small(rt),
         [work, size, turns] => {
             let work = match work.as_str() {
                 "make" => Work::Make,
                 "scan" => Work::Scan,
                 "parse" => Work::Parse,
-                _ => return Ok(ExitCode::from(2)),
+                _ => anyhow::bail!("the word is make, scan or parse"),
             };
-            let (Ok(size), Ok(turns)) = (size.parse::<usize>(), turns.parse::<u32>()) else {
-                return Ok(ExitCode::from(2));
-            };
-            let Ok(text) = source(alloc, size) else {
-                return Ok(ExitCode::from(5));
-            };
+            let size: usize = size.parse()?;
+            let turns: u32 = turns.parse()?;
+            let text = source(rt.alloc(), size)?;
             let bytes = text.len();
-            let Some(count) = turns_of(alloc, work, &text, turns) else {
-                return Ok(ExitCode::from(1));
+            let Some(count) = turns_of(rt.alloc(), work, &text, turns) else {
+                anyhow::bail!("no module");
             };
             println!(rt; "{bytes} {count}")?;
-            Ok(ExitCode::from(0))
+            Ok(())
         }
-        _ => Ok(ExitCode::from(2)),
+        _ => anyhow::bail!("three words are wanted: a work, a size and a number of turns"),
     }
 }
