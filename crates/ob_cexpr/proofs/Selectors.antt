@@ -1,5 +1,5 @@
 -- Selectors behind what comes before them, as they are noted.
-use Rattle.std.proofs.Common.{◌≡◌, refl, sym, ap, ◌∙◌, ℕ, zero, suc, ◌+◌, ◌<◌, ◌≤◌, Bool, true, false, List, [], ◌∷◌, Option, Some, None, map, drop, length, get_or, eqb, arith}
+use Rattle.std.proofs.Common.{◌≡◌, refl, sym, ap, ◌∙◌, ℕ, zero, suc, ◌+◌, ◌<◌, ◌≤◌, Bool, true, false, List, [], ◌∷◌, Option, Some, None, map, drop, length, get_or, eqb, arith, subst, Result, IfOk, OnOk}
 use Rattle.std.proofs.lemmas.List.{length-drop}
 use Rattle.std.proofs.lemmas.Bool.Decides.{nat_tests}
 use Rattle.ob_tree.specs.declared.pos.Pos.{Pos}
@@ -94,6 +94,15 @@ index_step_node map at i m x r ex er = er ∙ ap (λ o. (step_index map at (plai
 pub index_step_noted : (map : Map) (at : Pos) (i : Judged Valued) (m : Meant) (x : Option Valued) (k l end : Notebook) → x ≡ i.node → l ≡ book_after k i.notes → end ≡ book_after l (step_index map at (plain x) m).notes → end ≡ book_after k (step_index map at i m).notes
 index_step_noted map at i m x k l end ex el ee =
     ee ∙ ap (λ o. book_after l (step_index map at (plain o) m).notes) ex ∙ ap (λ b. book_after b (step_index map at (plain i.node) m).notes) el ∙ sym (index_noted map at i m k)
+
+-- an index is that selector
+pub index_made : {E : Type 0} (u : Around) (w : Where) (start at : Pos) (i : Phrase) (m : Meant) (b : Behind) (last : Bool) (r : Result (Option Meant) E)
+    → b ≡ Index at i → IfOk r (λ o. o ≡ (step_index (map_of u) at (i.value u) m).node) → IfOk r (λ o. o ≡ (step u w start m b last).node)
+index_made u w start at i m b last r e h = subst (λ z. IfOk r (λ o. o ≡ (step u w start m z last).node)) (sym e) h
+
+pub index_said : {T E : Type 0} (u : Around) (w : Where) (start at : Pos) (i : Phrase) (m : Meant) (b : Behind) (last : Bool) (r : Result T E) (k n : Notebook)
+    → b ≡ Index at i → OnOk r (n ≡ book_after k (step_index (map_of u) at (i.value u) m).notes) → OnOk r (n ≡ book_after k (step u w start m b last).notes)
+index_said u w start at i m b last r k n e h = subst (λ z. OnOk r (n ≡ book_after k (step u w start m z last).notes)) (sym e) h
 
 -- THE VALUES IN SELECTORS
 

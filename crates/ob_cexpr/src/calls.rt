@@ -4,12 +4,13 @@ ghost use Rattle.std.specs.Prelude.{◌≡◌, IfOk, OnOk, map};
 ghost use Rattle.ob_rules.specs.Books.{book_after};
 ghost use Rattle.ob_rules.specs.Designators as designators;
 ghost use Rattle.ob_rules.specs.Expressions as spec;
+ghost use Rattle.ob_cround.specs.Rounds.{call_left};
 
 use crate::actuals::check_actuals;
 use crate::designators::visit_arguments;
 use crate::predeclared::{check_extreme, check_parameters};
 use ob_cpre::{asked_first, asked_second, call_fit};
-use ob_cround::{Opened, called, open_round, params};
+use ob_cround::{Callable, Opened, called, open_round, params};
 use ob_rules::{Meant, Notebook, Surroundings, Where};
 use ob_tree::{Expr, Pos};
 use std::alloc::{AllocError, Global};
@@ -39,10 +40,7 @@ pub fn check_round<S: Surroundings>(
             book.breaks(22, at);
             Ok(None)
         }
-        Opened::Call(callable) => {
-            let row = check_actuals(alloc, here, book, params(&callable), arguments)?;
-            called(alloc, book, place, start, callable, arguments.len(), row)
-        }
+        Opened::Call(callable) => check_call(alloc, here, book, place, start, callable, arguments),
         Opened::Extreme(max) => check_extreme(alloc, here, book, place, start, max, arguments),
         Opened::Predeclared(procedure) => {
             let first = asked_first(procedure);
@@ -51,4 +49,23 @@ pub fn check_round<S: Surroundings>(
             call_fit(alloc, here, book, place, procedure, start, row)
         }
     }
+}
+
+// A call of what is no predeclared procedure.
+#[cycle(walk)]
+#[inline(never)]
+fn check_call<S: Surroundings>(
+    alloc: Global,
+    here: &S,
+    book: &mut Notebook,
+    place: Where,
+    start: Pos,
+    callable: Callable,
+    arguments: &[Expr],
+) -> Result<Option<Meant>, AllocError>
+    ensures made { IfOk result (λ r. r ≡ (designators.as_call (call_left (S.around here.now) place start (map spec.phrase_of arguments.now) callable)).node) }
+    ensures noted { OnOk result (book.new ≡ book_after book.old (designators.as_call (call_left (S.around here.now) place start (map spec.phrase_of arguments.now) callable)).notes) }
+{
+    let row = check_actuals(alloc, here, book, params(&callable), arguments)?;
+    called(alloc, book, place, start, callable, arguments.len(), row)
 }

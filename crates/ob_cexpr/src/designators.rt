@@ -5,6 +5,7 @@ ghost use Rattle.std.specs.Prelude.{◌≡◌, IfOk, OnOk, map};
 ghost use Rattle.ob_rules.specs.Books.{book_after};
 ghost use Rattle.ob_rules.specs.Designators as designators;
 ghost use Rattle.ob_rules.specs.Expressions as spec;
+ghost use Rattle.ob_rules.specs.Names.{map_of};
 ghost use Rattle.ob_cexpr.specs.Plain.{behind_front, step_if, visited_one};
 
 use crate::calls::check_round;
@@ -144,10 +145,7 @@ fn check_step<S: Surroundings>(
         Selector::Field { pos, ident } => {
             select_step(alloc, here, book, start, *pos, ident, last, meant)
         }
-        Selector::Index { pos, index } => {
-            let i = check_expr(alloc, here, book, index)?;
-            index_step(alloc, here, book, *pos, i, meant)
-        }
+        Selector::Index { pos, index } => check_index(alloc, here, book, *pos, index, meant),
         Selector::Deref(pos) => up_step(alloc, here, book, *pos, meant),
         Selector::Call { pos, arguments } => {
             check_round(
@@ -162,6 +160,23 @@ fn check_step<S: Surroundings>(
             )
         }
     }
+}
+
+#[cycle(walk)]
+#[inline(never)]
+fn check_index<S: Surroundings>(
+    alloc: Global,
+    here: &S,
+    book: &mut Notebook,
+    at: Pos,
+    index: &Expr,
+    meant: Meant,
+) -> Result<Option<Meant>, AllocError>
+    ensures made { IfOk result (λ r. r ≡ (designators.step_index (map_of (S.around here.now)) at ((spec.phrase_of index.now).value (S.around here.now)) meant).node) }
+    ensures noted { OnOk result (book.new ≡ book_after book.old (designators.step_index (map_of (S.around here.now)) at ((spec.phrase_of index.now).value (S.around here.now)) meant).notes) }
+{
+    let i = check_expr(alloc, here, book, index)?;
+    index_step(alloc, here, book, at, i, meant)
 }
 
 #[cycle(walk)]

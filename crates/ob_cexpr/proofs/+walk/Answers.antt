@@ -22,7 +22,7 @@ use Rattle.ob_cexpr.proofs.Further.{further_node, further_noted, too_many_node, 
 use Rattle.ob_cexpr.proofs.Rounds.{actuals_step, actuals_end_noted, parameters_step, parameters_end_noted, extreme_node, extreme_noted, call_noted, left_noted}
 use Rattle.ob_cexpr.proofs.Rows.{on_ok_from}
 use Rattle.ob_cexpr.proofs.Sets.{set_node, set_noted, elements_step, elements_end, elements_end_noted, element_noted, as_set_node, as_set_noted}
-use Rattle.ob_cexpr.proofs.Selectors.{selectors_end, selectors_end_noted, meant_node, meant_noted, index_step_node, index_step_noted, visit_step, argument_step, selector_step, not_taken, last_by}
+use Rattle.ob_cexpr.proofs.Selectors.{selectors_end, selectors_end_noted, meant_node, meant_noted, index_step_node, index_step_noted, index_made, index_said, visit_step, argument_step, selector_step, not_taken, last_by}
 use Rattle.ob_cexpr.proofs.Chains.{map_from, map_over, made_as, noted_as, then_made, then_noted, then_chain, then_chain_noted, relation_noted, chain_step, tails_from, tailed_as, tails_over}
 use Rattle.ob_cexpr.proofs.ExprViews.{named_is, behind_field, behind_index, behind_up, value_str, value_designator, value_nil, value_paren, value_not, value_signed, value_chain, value_relate}
 use Rattle.ob_cexpr.proofs.+walk.Goals as goal
@@ -226,14 +226,6 @@ walk::check_expr-returns-in-Str-clause-noted g t c =
     let whole : (spec.phrase_of c.args.e.now).value u ≡ sound (constant (text_value c.in-Str.text)) = ap (λ y. (spec.phrase_of y).value u) c.in-Str.is ∙ value_str c.in-Str.pos c.in-Str.text u in
     on_ok_from c.string.result (sym (after_none c.args.book.now) ∙ ap (λ j. book_after c.args.book.now j.notes) (sym whole))
 
-pub designators::check_step-returns-in_ok-i-in-Index-clause-noted : goal.designators::check_step-returns-in_ok-i-in-Index-clause-noted
-designators::check_step-returns-in_ok-i-in-Index-clause-noted g t c =
-    let u = g.S.Surroundings.around c.args.here.now in
-    let i = c.in-Index.index in
-    let whole : spec.behind_of c.args.selector.now ≡ Index c.in-Index.pos (spec.phrase_of i) = ap spec.behind_of c.in-Index.is ∙ behind_index c.in-Index.pos i in
-    on_ok_weaker c.index_step.result (λ h. index_step_noted (map_of u) c.in-Index.pos ((spec.phrase_of i).value u) c.args.meant c.in_ok-i-in-Index.i c.args.book.now c.check_expr.new.book c.index_step.new.book c.in_ok-i-in-Index.ensures.made c.in_ok-i-in-Index.ensures.noted h
-    ∙ ap (λ b. book_after c.args.book.now (designators.step u c.args.place c.args.start c.args.meant b c.args.last).notes) (sym whole)) c.index_step.ensures.noted
-
 pub designators::visit_selector-returns-in-Field : goal.designators::visit_selector-returns-in-Field
 designators::visit_selector-returns-in-Field g t c =
     let u = g.S.Surroundings.around c.args.here.now in
@@ -310,13 +302,6 @@ pub actuals::check_actuals-returns-clause-noted : goal.actuals::check_actuals-re
 actuals::check_actuals-returns-clause-noted g t c =
     actuals_end_noted (g.S.Surroundings.around c.args.here.now) c.args.params.now c.args.arguments.now c.arguments.number c.arguments.argument-index c.arguments.book _ c.arguments-test.false c.arguments.invariant.1
 
-pub calls::check_round-returns-in_ok-row-in-Call-clause-noted : goal.calls::check_round-returns-in_ok-row-in-Call-clause-noted
-calls::check_round-returns-in_ok-row-in-Call-clause-noted g t c =
-    let u = g.S.Surroundings.around c.args.here.now in
-    let ps = map spec.phrase_of c.args.arguments.now in
-    on_ok_weaker c.called.result (λ h. left_noted u c.args.place c.args.start c.args.at ps (designators.step_round u c.args.place c.args.start c.args.at ps c.args.meant) c.in_ok-round.round (opens.Call c.in-Call.callable) c.args.book.now c.open_round.new.book c.called.new.book (c.in_ok-round.ensures c.args.place) c.in-Call.is
-    (call_noted u c.args.place c.args.start c.in-Call.callable c.params.result.now c.args.arguments.now (length c.args.arguments.now) _ c.open_round.new.book c.check_actuals.new.book c.called.new.book c.params.ensures refl c.in_ok-row-in-Call.ensures.made c.in_ok-row-in-Call.ensures.noted h)) c.called.ensures.noted
-
 pub predeclared::check_parameters-arguments-preserved : goal.predeclared::check_parameters-arguments-preserved
 predeclared::check_parameters-arguments-preserved g t c =
     parameters_step (g.S.Surroundings.around c.args.here.now) c.arguments.asked c.arguments.next c.args.arguments.now c.arguments.argument-index c.argument-item.result c.in_ok-judged.judged c.start_of.result c.in_ok-x.x _ _ c.arguments.book c.check_argument.new.book c.parameter.new.book _ _
@@ -325,14 +310,6 @@ predeclared::check_parameters-arguments-preserved g t c =
 pub predeclared::check_parameters-returns-clause-noted : goal.predeclared::check_parameters-returns-clause-noted
 predeclared::check_parameters-returns-clause-noted g t c =
     parameters_end_noted (g.S.Surroundings.around c.args.here.now) c.arguments.asked c.arguments.next c.args.arguments.now c.arguments.argument-index c.arguments.book _ c.arguments-test.false c.arguments.invariant.1
-
-pub designators::check_step-returns-in_ok-i-in-Index-clause-made : goal.designators::check_step-returns-in_ok-i-in-Index-clause-made
-designators::check_step-returns-in_ok-i-in-Index-clause-made g t c =
-    let u = g.S.Surroundings.around c.args.here.now in
-    let i = c.in-Index.index in
-    let whole : spec.behind_of c.args.selector.now ≡ Index c.in-Index.pos (spec.phrase_of i) = ap spec.behind_of c.in-Index.is ∙ behind_index c.in-Index.pos i in
-    IfOk-weaker c.index_step.result _ _ (λ r h. index_step_node (map_of u) c.in-Index.pos ((spec.phrase_of i).value u) c.args.meant c.in_ok-i-in-Index.i r c.in_ok-i-in-Index.ensures.made h
-    ∙ ap (λ b. (designators.step u c.args.place c.args.start c.args.meant b c.args.last).node) (sym whole)) c.index_step.ensures.made
 
 pub predeclared::check_extreme-returns-in_ok-t-in-len1-clause-made : goal.predeclared::check_extreme-returns-in_ok-t-in-len1-clause-made
 predeclared::check_extreme-returns-in_ok-t-in-len1-clause-made g t c =
@@ -370,3 +347,30 @@ predeclared::check_further-returns-in_ok-row-in-Some-clause-made g t c =
 pub predeclared::check_further-returns-in_ok-row-in-Some-clause-noted : goal.predeclared::check_further-returns-in_ok-row-in-Some-clause-noted
 predeclared::check_further-returns-in_ok-row-in-Some-clause-noted g t c =
     further_noted (g.S.Surroundings.around c.args.here.now) c.args.place c.args.at (map spec.phrase_of c.args.behind.now) c.args.first.now _ _ c.args.book.now c.check_parameters.new.book c.further.new.book c.in-Some.is c.in_ok-row-in-Some.ensures.made c.in_ok-row-in-Some.ensures.noted c.further.ensures.noted
+
+pub designators::check_step-returns-in-Index-clause-made : goal.designators::check_step-returns-in-Index-clause-made
+designators::check_step-returns-in-Index-clause-made g t c =
+    let u = g.S.Surroundings.around c.args.here.now in
+    let i = c.in-Index.index in
+    index_made u c.args.place c.args.start c.in-Index.pos (spec.phrase_of i) c.args.meant (spec.behind_of c.args.selector.now) c.args.last c.check_index.result (ap spec.behind_of c.in-Index.is ∙ behind_index c.in-Index.pos i) c.check_index.ensures.made
+
+pub designators::check_step-returns-in-Index-clause-noted : goal.designators::check_step-returns-in-Index-clause-noted
+designators::check_step-returns-in-Index-clause-noted g t c =
+    let u = g.S.Surroundings.around c.args.here.now in
+    let i = c.in-Index.index in
+    index_said u c.args.place c.args.start c.in-Index.pos (spec.phrase_of i) c.args.meant (spec.behind_of c.args.selector.now) c.args.last c.check_index.result c.args.book.now c.check_index.new.book (ap spec.behind_of c.in-Index.is ∙ behind_index c.in-Index.pos i) c.check_index.ensures.noted
+
+pub designators::check_index-returns-clause-made : goal.designators::check_index-returns-clause-made
+designators::check_index-returns-clause-made g t c =
+    let u = g.S.Surroundings.around c.args.here.now in
+    IfOk-weaker c.index_step.result _ _ (λ r h. index_step_node (map_of u) c.args.at ((spec.phrase_of c.args.index.now).value u) c.args.meant c.in_ok-i.i r c.in_ok-i.ensures.made h) c.index_step.ensures.made
+
+pub designators::check_index-returns-clause-noted : goal.designators::check_index-returns-clause-noted
+designators::check_index-returns-clause-noted g t c =
+    let u = g.S.Surroundings.around c.args.here.now in
+    on_ok_weaker c.index_step.result (λ h. index_step_noted (map_of u) c.args.at ((spec.phrase_of c.args.index.now).value u) c.args.meant c.in_ok-i.i c.args.book.now c.check_expr.new.book c.index_step.new.book c.in_ok-i.ensures.made c.in_ok-i.ensures.noted h) c.index_step.ensures.noted
+
+pub calls::check_call-returns-clause-noted : goal.calls::check_call-returns-clause-noted
+calls::check_call-returns-clause-noted g t c =
+    let u = g.S.Surroundings.around c.args.here.now in
+    on_ok_weaker c.called.result (λ h. call_noted u c.args.place c.args.start c.args.callable c.params.result.now c.args.arguments.now (length c.args.arguments.now) _ c.args.book.now c.check_actuals.new.book c.called.new.book c.params.ensures refl c.in_ok-row.ensures.made c.in_ok-row.ensures.noted h) c.called.ensures.noted
