@@ -1,3 +1,6 @@
+//! The codes that are timed, as texts of instructions with the word `size` where the size stands, and what each needs of
+//! a module: words, heap, procedures and record types.
+
 use ob_codes::{Procedure, RecordType};
 use ob_instr::Param;
 use std::alloc::{AllocError, Global};

@@ -1,3 +1,5 @@
+//! The bytes of a large symbol file: constants, records with bound procedures, and uses.
+
 use std::alloc::Global;
 
 // The text behind its length.
