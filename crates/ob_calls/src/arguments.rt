@@ -4,7 +4,7 @@ ghost use Rattle.ob_instr.specs.Rows.{copy_words};
 ghost use Rattle.ob_calls.specs.Copies.{array_size, copy_size};
 
 use ob_instr::Param;
-use ob_store::Words;
+use ob_mem::Memory;
 
 /// The words behind so many.
 pub fn behind(words: &[i32], count: usize) -> &[i32]
@@ -15,7 +15,7 @@ pub fn behind(words: &[i32], count: usize) -> &[i32]
 }
 
 // How many words the copy of an array of so many elements has, where they are there.
-fn array_words(words: &Words, from: i32, len: i32, size: u32) -> Option<u64>
+fn array_words(words: &Memory, from: i32, len: i32, size: u32) -> Option<u64>
     ensures { result ≡ array_size (length words.now.words) from len size }
 {
     if len < 0 {
@@ -30,7 +30,7 @@ fn array_words(words: &Words, from: i32, len: i32, size: u32) -> Option<u64>
 
 /// How many words the copy of a parameter's argument has, the first of the arguments. `None` where its
 /// words are not among the arguments, its length is below 0, or its words are not there.
-pub fn copy_of(words: &Words, param: Param, args: &[i32]) -> Option<u64>
+pub fn copy_of(words: &Memory, param: Param, args: &[i32]) -> Option<u64>
     ensures size { result ≡ copy_size (length words.now.words) param args.now }
     ensures there { IfSome result (λ n. slots_of param ≤ length args.now) }
     ensures few { IfSome result (λ n. n ≤ 5505024) }
@@ -52,7 +52,7 @@ pub fn copy_of(words: &Words, param: Param, args: &[i32]) -> Option<u64>
 
 /// How many words the copies of the arguments take. `None` where the arguments' words differ from the
 /// kinds, a length is below 0, or the words of an argument are not there. Takes no memory.
-pub fn count_copies(words: &Words, params: &[Param], args: &[i32]) -> Option<u64>
+pub fn count_copies(words: &Memory, params: &[Param], args: &[i32]) -> Option<u64>
     requires { length args.now ≤ 256 }
     ensures count { result ≡ copy_words (length words.now.words) params.now args.now }
     ensures few { IfSome result (λ n. n ≤ 1409286144) }

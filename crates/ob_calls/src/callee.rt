@@ -5,7 +5,7 @@ ghost use Rattle.ob_calls.specs.Callees.{callee_effect, IsWithin};
 
 use ob_image::{Image, Module};
 use ob_instr::Instr;
-use ob_store::Words;
+use ob_mem::Memory;
 use ob_tree::ProcRef;
 
 /// What the instruction of a call names.

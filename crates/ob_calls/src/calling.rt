@@ -9,7 +9,7 @@ use crate::calls::{Calls, Place};
 use crate::entering::enter_words;
 use ob_image::Image;
 use ob_instr::Procedure;
-use ob_store::Words;
+use ob_mem::Memory;
 use ob_tree::ProcRef;
 use ob_values::State;
 
@@ -108,7 +108,7 @@ pub fn call(
 }
 
 fn enter_call(
-    words: &mut Words,
+    words: &mut Memory,
     operands: &[i32],
     from: usize,
     first: u32,

@@ -5,10 +5,10 @@ ghost use Rattle.ob_calls.specs.Copies.{copy_size, with_one};
 
 use crate::arguments::{behind, copy_of};
 use ob_instr::{Param, Procedure};
-use ob_store::Words;
+use ob_mem::Memory;
 
 // Copies so many words to an address, which is then put into a slot.
-fn put_copy(words: &mut Words, slot: u32, next: u32, from: i32, count: u32)
+fn put_copy(words: &mut Memory, slot: u32, next: u32, from: i32, count: u32)
     requires some { 0 < slot }
     requires slot { slot ≤ 1310720 }
     requires next { next ≤ 1310721 }
@@ -22,7 +22,7 @@ fn put_copy(words: &mut Words, slot: u32, next: u32, from: i32, count: u32)
 }
 
 // Makes the copy of a parameter's argument, where it has one of so many words.
-fn make_copy(words: &mut Words, param: Param, args: &[i32], slot: u32, next: u32, count: u32)
+fn make_copy(words: &mut Memory, param: Param, args: &[i32], slot: u32, next: u32, count: u32)
     requires some { 0 < slot }
     requires slot { slot ≤ 1310720 }
     requires next { next ≤ 1310721 }
@@ -38,7 +38,14 @@ fn make_copy(words: &mut Words, param: Param, args: &[i32], slot: u32, next: u32
 }
 
 // Makes the copies of the arguments, one behind the other, and puts their addresses into the slots.
-fn make_copies(words: &mut Words, params: &[Param], args: &[i32], slot: u32, next: u32, copies: u32)
+fn make_copies(
+    words: &mut Memory,
+    params: &[Param],
+    args: &[i32],
+    slot: u32,
+    next: u32,
+    copies: u32,
+)
     requires some { 0 < slot }
     requires slots { slot + slots params.now ≤ 1310721 }
     requires copies { copy_words (length words.old.words) params.now args.now ≡ Some copies }
@@ -67,7 +74,7 @@ fn make_copies(words: &mut Words, params: &[Param], args: &[i32], slot: u32, nex
 
 /// Puts the arguments of a call into its slots, clears its locals behind them, and makes the copies of
 /// the arguments behind these. The call has its first word at `first`.
-pub fn enter_words(words: &mut Words, first: u32, q: &Procedure, args: &[i32], copies: u32)
+pub fn enter_words(words: &mut Memory, first: u32, q: &Procedure, args: &[i32], copies: u32)
     requires some { 0 < first }
     requires slots { slots q.now.params ≡ length args.now }
     requires copies { copy_words (length words.old.words) q.now.params args.now ≡ Some copies }

@@ -15,7 +15,7 @@ use crate::returns::{return_with, return_without};
 use crate::rows::call_it;
 use ob_image::{Image, Module};
 use ob_instr::{Instr, Opcode};
-use ob_store::Words;
+use ob_mem::Memory;
 use ob_values::State;
 
 // What the instruction of a call names.
@@ -23,7 +23,7 @@ fn callee_of(
     image: &Image,
     unit: &Module,
     number: u32,
-    words: &Words,
+    words: &Memory,
     operands: &[i32],
     instr: Instr,
 ) -> Callee

@@ -8,7 +8,7 @@ ghost use Rattle.ob_calls.specs.Starts.{start_of};
 use crate::callee::Callee;
 use ob_image::{Image, Module, Types};
 use ob_instr::Instr;
-use ob_store::Words;
+use ob_mem::Memory;
 use ob_tree::ProcRef;
 
 // How many operands stand below the last ones, so many and some more, where they are there.
@@ -96,7 +96,7 @@ fn tag_method(image: &Image, tag: i32, number: i32) -> Option<ProcRef>
 }
 
 // The same for the type of a pointer's object.
-fn pointer_method(image: &Image, words: &Words, pointer: i32, number: i32) -> Option<ProcRef>
+fn pointer_method(image: &Image, words: &Memory, pointer: i32, number: i32) -> Option<ProcRef>
     ensures { (w : World) → w.words ≡ words.now.words → (k : ProcRef → Effect) → pointer_method image.now w pointer number k ≡ on_found result k }
 {
     let tag = words.load(i64::from(pointer) - 1)?;
@@ -104,7 +104,7 @@ fn pointer_method(image: &Image, words: &Words, pointer: i32, number: i32) -> Op
 }
 
 /// What a call of a procedure bound to a pointer's object names.
-pub fn of_pointer(image: &Image, words: &Words, instr: Instr, operands: &[i32]) -> Callee
+pub fn of_pointer(image: &Image, words: &Memory, instr: Instr, operands: &[i32]) -> Callee
     ensures effect { (w : World) → w.words ≡ words.now.words → on_count instr.b (λ n. on_args (suc n) (reverse operands.now) (λ args rest. on_receiver args (λ x. if is_zero x then Traps 2 (pos 0) w else pointer_method image.now w x instr.a (λ r. calls image.now r args rest w)))) ≡ callee_effect image.now operands.now result w }
     ensures within { IsWithin operands.now result }
 {

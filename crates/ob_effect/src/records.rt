@@ -6,11 +6,11 @@ ghost use Rattle.ob_values.specs.Effects.{Does, Keeps};
 
 use crate::memory::copy_words;
 use crate::types::item_of;
-use ob_store::Words;
+use ob_mem::Memory;
 use ob_values::{State, Step, take_three};
 
 // Whether so many words can be copied.
-fn can_copy(words: &Words, to: i32, from: i32, count: u32) -> bool
+fn can_copy(words: &Memory, to: i32, from: i32, count: u32) -> bool
     ensures { result ≡ is_some (copied words.now.words to from count) }
 {
     words.is_there(i64::from(to), count as usize) && words.is_there(i64::from(from), count as usize)

@@ -4,7 +4,7 @@ ghost use Rattle.ob_values.specs.Effects.{Does, Keeps};
 ghost use Rattle.ob_effect.specs.Texts.{TextIs, TextIsFrom, IsOrder, text};
 
 use crate::jumps::below;
-use ob_store::Words;
+use ob_mem::Memory;
 use ob_values::{State, Step, push, take_four};
 use std::cmp::Ordering;
 
@@ -21,7 +21,7 @@ pub enum Ending {
 
 /// The word behind so many others, where there is one.
 #[tactic(auto, using(crate::proofs::Endings::word_after))]
-pub fn word_behind(words: &Words, count: u64) -> Option<i32>
+pub fn word_behind(words: &Memory, count: u64) -> Option<i32>
     requires { count < 2 ^ 62 }
     ensures { slice_get words.now.words count ≡ result }
 {
@@ -30,7 +30,7 @@ pub fn word_behind(words: &Words, count: u64) -> Option<i32>
 
 // The ending of the text behind so many words.
 #[tactic(auto, using(crate::proofs::Endings::seen))]
-fn ending_from(words: &Words, start: u32, len: u32) -> Ending
+fn ending_from(words: &Memory, start: u32, len: u32) -> Ending
     ensures { TextIsFrom words.now.words start len result }
 {
     let mut count: u32 = 0;
@@ -47,7 +47,7 @@ fn ending_from(words: &Words, start: u32, len: u32) -> Ending
 }
 
 /// The ending of the text of a character array at an address, with its length.
-pub fn text_ending(words: &Words, at: i32, len: i32) -> Ending
+pub fn text_ending(words: &Memory, at: i32, len: i32) -> Ending
     ensures { TextIs words.now.words at len result }
 {
     if len <= 0 {
@@ -61,7 +61,7 @@ pub fn text_ending(words: &Words, at: i32, len: i32) -> Ending
 
 // The order of two texts.
 #[tactic(auto, using(crate::proofs::Endings::ordered))]
-fn order(words: &Words, a: u32, k: u32, b: u32, m: u32) -> Ordering
+fn order(words: &Memory, a: u32, k: u32, b: u32, m: u32) -> Ordering
     requires a { a + k ≤ length words.now.words }
     requires b { b + m ≤ length words.now.words }
     ensures { IsOrder (text words.now.words a k) (text words.now.words b m) result }

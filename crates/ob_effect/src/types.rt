@@ -6,7 +6,7 @@ ghost use Rattle.ob_values.specs.Effects.{Does, Keeps};
 ghost use Rattle.ob_effect.specs.Bases.{AreBelow};
 
 use crate::jumps::below;
-use ob_store::Words;
+use ob_mem::Memory;
 use ob_tdesc::{Descriptors, Steps};
 use ob_tree::ProcRef;
 use ob_values::{State, Step, push, push_word, take};
@@ -82,7 +82,7 @@ fn tag_passes(descriptors: &Descriptors, count: u32, tag: i32, t: u32) -> Option
 fn pointer_passes(
     descriptors: &Descriptors,
     count: u32,
-    words: &Words,
+    words: &Memory,
     pointer: i32,
     t: u32,
 ) -> Option<bool>

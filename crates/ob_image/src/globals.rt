@@ -5,14 +5,14 @@ ghost use Rattle.ob_obj.specs.Grammar.{words_of};
 ghost use Rattle.ob_obj.specs.Images.{global_words, string_words};
 ghost use Rattle.ob_image.specs.Globals.{AreWithin, words_from};
 
+use ob_mem::Memory;
 use ob_obj::{ObjFile, StringConst};
-use ob_store::Words;
 
 /// The last address of the globals, and one more.
 pub const GLOBALS_END: u32 = 262_145;
 
 // Sets so many words from an address on to 0.
-fn clear(words: &mut Words, at: u32, count: u32)
+fn clear(words: &mut Memory, at: u32, count: u32)
     requires some { 0 < at }
     requires room { at + count ≤ GLOBALS_END }
     ensures after { words.new ≡ record words.old { words = with_words words.old.words (pos at) (replicate count (pos 0)) } }
@@ -22,7 +22,7 @@ fn clear(words: &mut Words, at: u32, count: u32)
     let _ = words.clear(at as i64, count);
 }
 
-fn put_word(words: &mut Words, at: u32, word: u8)
+fn put_word(words: &mut Memory, at: u32, word: u8)
     requires some { 0 < at }
     requires room { at < GLOBALS_END }
     ensures after { words.new ≡ record words.old { words = with_words words.old.words (pos at) (pos word ∷ []) } }
@@ -32,7 +32,7 @@ fn put_word(words: &mut Words, at: u32, word: u8)
     let _ = words.store(at as i64, word as i32);
 }
 
-fn put_text(words: &mut Words, at: u32, text: &[u8])
+fn put_text(words: &mut Memory, at: u32, text: &[u8])
     requires some { 0 < at }
     requires room { at + length text.now ≤ GLOBALS_END }
     ensures after { words.new ≡ record words.old { words = with_words words.old.words (pos at) (map pos text.now) } }
@@ -49,7 +49,7 @@ fn put_text(words: &mut Words, at: u32, text: &[u8])
 }
 
 // Puts the characters of a string at an address, and zeros behind them.
-fn put_string(words: &mut Words, at: u32, string: &StringConst)
+fn put_string(words: &mut Memory, at: u32, string: &StringConst)
     requires some { 0 < at }
     requires long { length string.now.text ≤ string.now.words }
     requires room { at + string.now.words ≤ GLOBALS_END }
@@ -62,7 +62,7 @@ fn put_string(words: &mut Words, at: u32, string: &StringConst)
     clear(words, at + len, string.words - len);
 }
 
-fn put_strings(words: &mut Words, at: u32, strings: &[StringConst])
+fn put_strings(words: &mut Memory, at: u32, strings: &[StringConst])
     requires some { 0 < at }
     requires long { AllByRecursion (λ s. length s.text ≤ s.words) strings.now }
     requires room { at + words_of strings.now ≤ GLOBALS_END }
@@ -78,7 +78,7 @@ fn put_strings(words: &mut Words, at: u32, strings: &[StringConst])
 }
 
 // Puts the globals of a file at an address: its variables, all 0, and its strings.
-fn put_file(words: &mut Words, at: u32, file: &ObjFile)
+fn put_file(words: &mut Memory, at: u32, file: &ObjFile)
     requires some { 0 < at }
     requires long { AllByRecursion (λ s. length s.text ≤ s.words) file.now.globals.strings }
     requires room { at + global_words file.now ≤ GLOBALS_END }
@@ -112,7 +112,7 @@ pub fn count_globals(file: &ObjFile) -> u32
 }
 
 /// Puts the globals of files one behind the other, from an address on.
-pub fn put_files(words: &mut Words, first: u32, files: &[ObjFile])
+pub fn put_files(words: &mut Memory, first: u32, files: &[ObjFile])
     requires some { 0 < first }
     requires room { AreWithin first files.now }
     ensures { words.new ≡ record words.old { words = words_from first files.now words.old.words } }

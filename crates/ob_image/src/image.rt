@@ -13,8 +13,8 @@ use crate::places::{
     variable_places,
 };
 use crate::types::Types;
+use ob_mem::Memory;
 use ob_obj::{ObjFile, RecordType};
-use ob_store::Words;
 use ob_tree::List;
 use std::alloc::{AllocError, Global};
 use std::marker::Model;
@@ -177,7 +177,7 @@ impl Image {
 
     /// Enters files behind the modules that are there, in order, and puts their globals into the words.
     /// An `Err` is a want of memory; then nothing is changed.
-    pub fn enter(&mut self, words: &mut Words, files: &[ObjFile]) -> Result<(), AllocError>
+    pub fn enter(&mut self, words: &mut Memory, files: &[ObjFile]) -> Result<(), AllocError>
         requires { AreEnterable self.old files.now }
         ensures image { OnOk result (self.new ≡ image_of self.old files.now) }
         ensures words { OnOk result (words.new ≡ record words.old { words = words_with self.old files.now words.old.words }) }

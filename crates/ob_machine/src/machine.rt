@@ -8,8 +8,8 @@ use crate::running::{begin, entry_procedure, run_calls};
 use ob_calls::{Calls, Place};
 use ob_image::Image;
 use ob_io::Sink;
+use ob_mem::Memory;
 use ob_obj::ObjFile;
-use ob_store::Words;
 use ob_tree::{List, ProcRef};
 use ob_values::State;
 use std::alloc::{AllocError, Global};
@@ -50,7 +50,7 @@ impl Machine {
         requires limit { heap ≤ 4194304 }
         ensures { IfOk result (λ m. m ≡ made heap) }
     {
-        let words = Words::new(alloc, heap)?;
+        let words = Memory::new(alloc, heap)?;
         let waiting = Calls::new(alloc)?;
         let operands = Vec::with_capacity(alloc, 257)?;
         Ok(Machine {

@@ -5,7 +5,7 @@ ghost use Rattle.ob_instr.specs.Rows.{columns, padded, low_byte, low_bytes};
 use itoa::Buffer;
 use ob_effect::word_behind;
 use ob_io::{Failed, Sink, write_all};
-use ob_store::Words;
+use ob_mem::Memory;
 
 // Writes so many blanks.
 fn put_blanks<S: Sink>(out: &mut S, count: u32) -> Result<(), Failed>
@@ -61,7 +61,7 @@ pub fn put_char<S: Sink>(out: &mut S, word: i32) -> Result<(), Failed>
 /// Writes the low eight bits of `count` words that stand behind `start` others, as far as there are so
 /// many.
 #[tactic(auto, using(crate::proofs::Chars::chars))]
-pub fn put_text<S: Sink>(out: &mut S, words: &Words, start: u32, count: u32) -> Result<(), Failed>
+pub fn put_text<S: Sink>(out: &mut S, words: &Memory, start: u32, count: u32) -> Result<(), Failed>
     ensures told { S.tells out.new ≡ S.tells out.old }
     ensures bytes { S.tells out.old ≡ true → WritesAll (S.taken out.old) (S.taken out.new) result (low_bytes (take count (drop start words.now.words))) }
     ensures cause { HasCause (S.faults out.old) (S.faults out.new) result }

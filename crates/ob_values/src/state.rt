@@ -1,10 +1,10 @@
-use ob_store::Words;
+use ob_mem::Memory;
 
 /// What the instructions change.
 #[derive(Drop)]
 pub struct State {
     /// The words of all areas, and the heap's next free word.
-    pub words: Words,
+    pub words: Memory,
     /// The address of the stack's next free word.
     pub stack: u32,
     /// The operands of the call that runs, the last one last.
