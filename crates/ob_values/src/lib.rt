@@ -7,7 +7,9 @@ mod sets;
 mod state;
 mod values;
 
-pub use numbers::{Comparison, Fit, difference, fitted, power, sum, word_of};
+pub use numbers::{
+    Comparison, Fit, difference, element_at, fitted, is_within, power, sum, word_of,
+};
 pub use operands::{put, take, take_four, take_three, take_two};
 pub use sets::{
     bit, bits, complement, contains, differ, element, meet, minus, union, with_element,
