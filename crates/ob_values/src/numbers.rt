@@ -87,6 +87,7 @@ fn fit_four(number: i64) -> Fit
 }
 
 /// The number in the integer type of so many bytes, of which there are three: of 1, 2 and 4.
+#[inline(always)]
 pub fn fitted(bytes: i32, number: i64) -> Fit
     ensures { (k : ℤ → Effect) → (e : Effect) → on_width bytes (λ n. if in_width n number then k number else e) ≡ on_fit result k e }
 {
