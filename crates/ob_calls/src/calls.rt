@@ -113,6 +113,7 @@ impl Calls {
     }
 
     /// One call more waits, with these operands, which are then none. Takes no memory.
+    #[inline(always)]
     pub fn push(&mut self, place: Place, operands: &mut Vec<i32>)
         requires room { length self.old < 4095 }
         requires few { vec_len operands.old ≤ 256 }
@@ -131,6 +132,7 @@ impl Calls {
 
     /// Takes the newest call that waits, with its operands. `None` where none waits, and then nothing is
     /// changed. Takes no memory.
+    #[inline(always)]
     pub fn pop(&mut self, operands: &mut Vec<i32>) -> Option<Place>
         requires empty { operands.old.items ≡ [] }
         requires room { 256 ≤ vec_capacity operands.old }
