@@ -1,6 +1,6 @@
 -- The calls that wait, when one is added or taken.
-use Rattle.std.proofs.Common.{◌≡◌, ℕ, suc, ◌+◌, ◌*◌, ◌<◌, ◌≤◌, List, [], ◌∷◌, ◌++◌, length, take, drop, Result, IsOk, is_ok, refl, sym, ap, ◌∙◌, arith}
-use Rattle.std.specs.Prelude.{ℤ, reverse, if◌then◌else◌}
+use Rattle.std.proofs.Common.{◌≡◌, ℕ, suc, ◌+◌, ◌*◌, ◌<◌, ◌≤◌, List, [], ◌∷◌, ◌++◌, length, take, drop, refl, sym, ap, ◌∙◌, arith}
+use Rattle.std.specs.Prelude.{ℤ, reverse}
 use Rattle.std.proofs.lemmas.List.{length-append, length-drop, length-reverse, reverse-append, take_at, drop_at}
 use Rattle.ob_instr.specs.Image.{Act}
 use Rattle.ob_calls.specs.declared.calls.Calls.TheInside.{Inside}
@@ -62,6 +62,3 @@ operands_few d kept =
 
 pub calls_waiting : (d : Inside) (acts : List Act) → acts_of (reverse d.waiting.items) (reverse d.operands.items) ≡ acts → length acts ≡ length d.waiting.items
 calls_waiting d acts e = sym (ap length e) ∙ length_acts (reverse d.waiting.items) (reverse d.operands.items) ∙ length-reverse d.waiting.items
-
-pub ok_is : {T E A : Type 0} (r : Result T E) (a b : A) → IsOk r → (if is_ok r then a else b) ≡ a
-ok_is r a b h = rw h refl

@@ -1,5 +1,5 @@
 -- What a call comes to.
-use Rattle.std.proofs.Common.{◌≡◌, ℕ, suc, ◌+◌, true, false, List, [], ◌∷◌, length, Some, refl, ◌∙◌}
+use Rattle.std.proofs.Common.{◌≡◌, ℕ, suc, ◌+◌, true, false, List, [], ◌∷◌, length, Some, None, refl, ◌∙◌}
 use Rattle.std.specs.Prelude.{ℤ, nat_le, nat_lt, ◌&&◌}
 use Rattle.ob_tree.specs.declared.proc_ref.ProcRef.{ProcRef}
 use Rattle.ob_instr.specs.declared.procedure.Procedure.{Procedure}
@@ -31,3 +31,6 @@ has_its_room img here new acts acts_new s s_new r q args ops n t er ep ec et eb 
     let v : World = record (world_of s out) { turns = t } in
     let test = room_is img (slots q.params + q.locals + n) acts v er ∙ eb in
     call_enters img u here.unit here.procedure here.first acts here.next (world_of s out) r q args ops n t ep ec et ∙ rw (test, en, ea, eo, ew, es, ett) refl
+
+pub has_no_copies : (img : Image) (here : Place) (acts : List Act) (s : State) (r : ProcRef) (q : Procedure) (args ops : List ℤ) → procedure_of img r ≡ Some q → copy_words (length s.words.words) q.params args ≡ None → Comes img (calls img r args ops) here here acts acts s s called.Unable
+has_no_copies img here acts s r q args ops ep ec = λ u out. rw (ep, ec) refl

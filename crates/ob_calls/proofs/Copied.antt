@@ -1,6 +1,6 @@
 -- The copies of a call, parameter by parameter.
-use Rattle.std.proofs.Common.{◌≡◌, ℕ, zero, suc, ◌+◌, ◌*◌, ◌-◌, ◌<◌, ◌≤◌, Bool, true, false, List, [], ◌∷◌, ◌++◌, length, take, drop, replicate, get_or, Option, Some, None, refl, sym, ap, ◌∙◌, arith}
-use Rattle.std.specs.Prelude.{ℤ, pos, negsuc, ◌&&◌, if◌then◌else◌, unwrap_or}
+use Rattle.std.proofs.Common.{◌≡◌, ℕ, zero, suc, ◌+◌, ◌*◌, ◌-◌, ◌<◌, ◌≤◌, Bool, true, false, List, [], ◌∷◌, ◌++◌, length, take, drop, replicate, get_or, Option, Some, None, refl, sym, ap, ◌∙◌, true≢false, arith}
+use Rattle.std.specs.Prelude.{ℤ, pos, negsuc, not, ◌&&◌, if◌then◌else◌, unwrap_or}
 use Rattle.std.proofs.Math.Seq.{take-length}
 use Rattle.std.proofs.lemmas.List.{length-take-le, length-drop}
 use Rattle.std.proofs.lemmas.Bool.Decides.{nat_tests}
@@ -10,8 +10,8 @@ use Rattle.ob_instr.specs.declared.procedure.Param.TheVariants as param
 use Rattle.ob_instr.specs.declared.procedure.Procedure.{Procedure}
 use Rattle.ob_instr.specs.Parts.{slots, slots_of}
 use Rattle.ob_instr.specs.Rows.{more_words, copy_words, or_same, with_copy, with_copies, entered}
-use Rattle.ob_image.specs.WordLaws.{length_spliced, length_with, put_both, there, stored_as, cleared_as}
-use Rattle.ob_calls.specs.Copies.{copy_size, added, with_one}
+use Rattle.ob_image.specs.WordLaws.{with_none, length_spliced, length_with, put_both, stored_as, cleared_as}
+use Rattle.ob_calls.specs.Copies.{copy_size, added, with_one, has_copies}
 
 none_more : (o : Option ℕ) → o ≡ added (Some 0) o
 none_more None = refl
@@ -116,6 +116,97 @@ copies_step len count n place free m m1 t (q ∷ kinds) d rest le size e one h =
     ∙ ap (λ l. record m { words = l }) (sym (copies_parted len m.words q kinds rest place free count (sym size)))
     ∙ h
 
+-- ONE OR TWO ARGUMENTS
+
+one_is : (xs : List ℤ) (d : ℤ) → length xs ≡ 1 → xs ≡ get_or xs 0 d ∷ []
+one_is [] d e = absurd (omega arith)
+one_is (x ∷ []) d e = refl
+one_is (x ∷ y ∷ xs) d e = absurd (omega arith)
+
+two_are : (xs : List ℤ) (d : ℤ) → length xs ≡ 2 → xs ≡ get_or xs 0 d ∷ get_or xs 1 d ∷ []
+two_are [] d e = absurd (omega arith)
+two_are (x ∷ []) d e = absurd (omega arith)
+two_are (x ∷ y ∷ []) d e = refl
+two_are (x ∷ y ∷ z ∷ xs) d e = absurd (omega arith)
+
+stored_one : (m m1 : Held) (at : ℕ) (z v x : ℤ) → m1 ≡ record m { words = unwrap_or (stored m.words z v) m.words } → z ≡ pos at → v ≡ x → 0 < at → at ≤ length m.words → m1 ≡ record m { words = with_words m.words (pos at) (x ∷ []) }
+stored_one m m1 at z v x one ez ev some le = one ∙ ap (λ k. record m { words = unwrap_or (stored m.words k v) m.words }) ez ∙ ap (λ k. record m { words = unwrap_or (stored m.words (pos at) k) m.words }) ev ∙ ap (λ l. record m { words = l }) (stored_as m.words at x some le)
+
+pub one_put : (m m1 : Held) (args : List ℤ) (first : ℕ) (z v d : ℤ) → m1 ≡ record m { words = unwrap_or (stored m.words z v) m.words } → z ≡ pos first → v ≡ get_or args 0 d → length args ≡ 1 → 0 < first → first ≤ length m.words → m1 ≡ record m { words = with_words m.words (pos first) args }
+one_put m m1 args first z v d one ez ev n some le = stored_one m m1 first z v (get_or args 0 d) one ez ev some le ∙ ap (λ l. record m { words = with_words m.words (pos first) l }) (sym (one_is args d n))
+
+pub two_put : (m m1 m2 : Held) (args : List ℤ) (first : ℕ) (z1 v1 z2 v2 d : ℤ) → m1 ≡ record m { words = unwrap_or (stored m.words z1 v1) m.words } → m2 ≡ record m1 { words = unwrap_or (stored m1.words z2 v2) m1.words } → z1 ≡ pos first → v1 ≡ get_or args 0 d → z2 ≡ pos (first + 1) → v2 ≡ get_or args 1 d → length args ≡ 2 → 0 < first → first + 2 ≤ length m.words + 1 → m2 ≡ record m { words = with_words m.words (pos first) args }
+two_put m m1 m2 args first z1 v1 z2 v2 d one two e1 f1 e2 f2 n some le =
+    let x = get_or args 0 d in
+    let y = get_or args 1 d in
+    let w1 = stored_one m m1 first z1 v1 x one e1 f1 some (omega arith) in
+    let l1 : length m1.words ≡ length m.words = ap (λ (h : Held). length h.words) w1 ∙ length_with m.words (x ∷ []) first (omega arith) in
+    let w2 = stored_one m1 m2 (first + 1) z2 v2 y two e2 f2 (omega arith) (omega arith) in
+    put_both m m1 m2 first (first + 1) (x ∷ []) (y ∷ []) w1 w2 some (omega arith) (omega arith) ∙ ap (λ l. record m { words = with_words m.words (pos first) l }) (sym (two_are args d n))
+
+-- WITHOUT COPIES
+
+pub is_plain : (a b : Bool) → a ≡ b → not a ≡ true → b ≡ false
+is_plain true b e h = absurd (true≢false (sym h))
+is_plain false b e h = sym e
+
+pub plain_words : (len : ℕ) (params : List Param) (args : List ℤ) → has_copies params ≡ false → slots params ≡ length args → copy_words len params args ≡ Some 0
+plain_words len [] [] h e = refl
+plain_words len [] (x ∷ args) h e = absurd (omega arith)
+plain_words len (param.Scalar ∷ params) [] h e = absurd (omega arith)
+plain_words len (param.Scalar ∷ params) (x ∷ args) h e = plain_words len params args h (omega arith)
+plain_words len (param.Var ∷ params) [] h e = absurd (omega arith)
+plain_words len (param.Var ∷ params) (x ∷ args) h e = plain_words len params args h (omega arith)
+plain_words len (param.VarRecord ∷ params) [] h e = absurd (omega arith)
+plain_words len (param.VarRecord ∷ params) (x ∷ []) h e = absurd (omega arith)
+plain_words len (param.VarRecord ∷ params) (x ∷ g ∷ args) h e = plain_words len params args h (omega arith)
+plain_words len (param.VarArray ∷ params) [] h e = absurd (omega arith)
+plain_words len (param.VarArray ∷ params) (x ∷ []) h e = absurd (omega arith)
+plain_words len (param.VarArray ∷ params) (x ∷ l ∷ args) h e = plain_words len params args h (omega arith)
+plain_words len (param.Value n ∷ params) args h e = absurd (true≢false h)
+plain_words len (param.ValueArray n ∷ params) args h e = absurd (true≢false h)
+
+pub plain_same : (words : List ℤ) (params : List Param) (args : List ℤ) (slot next : ℕ) → has_copies params ≡ false → with_copies words params args slot next ≡ words
+plain_same words [] args slot next h = refl
+plain_same words (param.Scalar ∷ params) [] slot next h = refl
+plain_same words (param.Scalar ∷ params) (x ∷ args) slot next h = plain_same words params args (slot + 1) next h
+plain_same words (param.Var ∷ params) [] slot next h = refl
+plain_same words (param.Var ∷ params) (x ∷ args) slot next h = plain_same words params args (slot + 1) next h
+plain_same words (param.VarRecord ∷ params) [] slot next h = refl
+plain_same words (param.VarRecord ∷ params) (x ∷ []) slot next h = refl
+plain_same words (param.VarRecord ∷ params) (x ∷ g ∷ args) slot next h = plain_same words params args (slot + 2) next h
+plain_same words (param.VarArray ∷ params) [] slot next h = refl
+plain_same words (param.VarArray ∷ params) (x ∷ []) slot next h = refl
+plain_same words (param.VarArray ∷ params) (x ∷ l ∷ args) slot next h = plain_same words params args (slot + 2) next h
+plain_same words (param.Value n ∷ params) args slot next h = absurd (true≢false h)
+plain_same words (param.ValueArray n ∷ params) args slot next h = absurd (true≢false h)
+
+-- WORDS THAT DIFFER FROM THE KINDS
+
+more_none : (n : ℕ) (b : Bool) → more_words n b None ≡ None
+more_none n true = refl
+more_none n false = refl
+
+pub words_missing : (len : ℕ) (params : List Param) (args : List ℤ) → (slots params ≡ length args → ⊥) → copy_words len params args ≡ None
+words_missing len [] [] n = absurd (n refl)
+words_missing len [] (x ∷ args) n = refl
+words_missing len (param.Scalar ∷ params) [] n = refl
+words_missing len (param.Scalar ∷ params) (x ∷ args) n = words_missing len params args (λ e. n (omega arith))
+words_missing len (param.Var ∷ params) [] n = refl
+words_missing len (param.Var ∷ params) (x ∷ args) n = words_missing len params args (λ e. n (omega arith))
+words_missing len (param.VarRecord ∷ params) [] n = refl
+words_missing len (param.VarRecord ∷ params) (x ∷ []) n = refl
+words_missing len (param.VarRecord ∷ params) (x ∷ g ∷ args) n = words_missing len params args (λ e. n (omega arith))
+words_missing len (param.VarArray ∷ params) [] n = refl
+words_missing len (param.VarArray ∷ params) (x ∷ []) n = refl
+words_missing len (param.VarArray ∷ params) (x ∷ l ∷ args) n = words_missing len params args (λ e. n (omega arith))
+words_missing len (param.Value k ∷ params) [] n = refl
+words_missing len (param.Value k ∷ params) (x ∷ args) n = ap (more_words k (are_there len x k)) (words_missing len params args (λ e. n (omega arith))) ∙ more_none k (are_there len x k)
+words_missing len (param.ValueArray k ∷ params) [] n = refl
+words_missing len (param.ValueArray k ∷ params) (x ∷ []) n = refl
+words_missing len (param.ValueArray k ∷ params) (x ∷ pos l ∷ args) n = ap (more_words (l * k) (are_there len x (l * k))) (words_missing len params args (λ e. n (omega arith))) ∙ more_none (l * k) (are_there len x (l * k))
+words_missing len (param.ValueArray k ∷ params) (x ∷ negsuc l ∷ args) n = refl
+
 -- A COPY AND ITS ADDRESS
 
 or_same_is : (w : List ℤ) (o : Option (List ℤ)) → unwrap_or o w ≡ or_same w o
@@ -156,12 +247,20 @@ copy_put m m1 m2 slot next n x zn zx zs zv one en ex two es ev some le =
 
 -- A CALL BEGINS
 
-pub begun : (m m1 m2 m3 : Held) (q : Procedure) (args : List ℤ) (first at : ℕ) (z1 z2 : ℤ) (params : List Param) → m1 ≡ record m { words = (if are_there (length m.words) z1 (length args) then with_words m.words z1 args else m.words) } → z1 ≡ pos first → m2 ≡ record m1 { words = unwrap_or (cleared m1.words z2 q.locals) m1.words } → z2 ≡ pos (first + length args) → params ≡ q.params → m3 ≡ record m2 { words = with_copies m2.words params args first at } → slots q.params ≡ length args → at ≡ first + length args + q.locals → 0 < first → first + (length args + q.locals) ≤ length m.words + 1 → m3 ≡ record m { words = entered m.words first q args }
-begun m m1 m2 m3 q args first at z1 z2 params one e1 two e2 ep three es ea some le =
-    let t : are_there (length m.words) (pos first) (length args) ≡ true = there (length m.words) first (length args) some (omega arith) in
-    let w1 : m1 ≡ record m { words = with_words m.words (pos first) args } = one ∙ ap (λ z. record m { words = (if are_there (length m.words) z (length args) then with_words m.words z args else m.words) }) e1 ∙ ap (λ b. record m { words = (if b then with_words m.words (pos first) args else m.words) }) t in
-    let l1 : length m1.words ≡ length m.words = ap (λ (h : Held). length h.words) w1 ∙ length_with m.words args first (omega arith) in
-    let w2 : m2 ≡ record m1 { words = with_words m1.words (pos (first + length args)) (replicate q.locals (pos 0)) } = two ∙ ap (λ z. record m1 { words = unwrap_or (cleared m1.words z q.locals) m1.words }) e2 ∙ ap (λ l. record m1 { words = l }) (cleared_as m1.words (first + length args) q.locals (omega arith) (omega arith)) in
-    let both : m2 ≡ record m { words = with_words m.words (pos first) (args ++ replicate q.locals (pos 0)) } = put_both m m1 m2 first (first + length args) args (replicate q.locals (pos 0)) w1 w2 some (omega arith) refl in
+pub cleared_some : (m m1 : Held) (at n : ℕ) (z : ℤ) → m1 ≡ record m { words = unwrap_or (cleared m.words z n) m.words } → z ≡ pos at → 0 < at → at + n ≤ length m.words + 1 → m1 ≡ record m { words = with_words m.words (pos at) (replicate n (pos 0)) }
+cleared_some m m1 at n z one ez some le = one ∙ ap (λ k. record m { words = unwrap_or (cleared m.words k n) m.words }) ez ∙ ap (λ l. record m { words = l }) (cleared_as m.words at n some le)
+
+pub cleared_none : (m : Held) (at n : ℕ) → n ≡ 0 → m ≡ record m { words = with_words m.words (pos at) (replicate n (pos 0)) }
+cleared_none m at n e = ap (λ l. record m { words = l }) (sym (with_none m.words at)) ∙ ap (λ k. record m { words = with_words m.words (pos at) (replicate k (pos 0)) }) (sym e)
+
+pub begun : (m m1 m2 m3 : Held) (q : Procedure) (args : List ℤ) (first at : ℕ) (params : List Param) → m1 ≡ record m { words = with_words m.words (pos first) args } → m2 ≡ record m1 { words = with_words m1.words (pos (first + length args)) (replicate q.locals (pos 0)) } → params ≡ q.params → m3 ≡ record m2 { words = with_copies m2.words params args first at } → slots q.params ≡ length args → at ≡ first + length args + q.locals → 0 < first → first + (length args + q.locals) ≤ length m.words + 1 → m3 ≡ record m { words = entered m.words first q args }
+begun m m1 m2 m3 q args first at params one two ep three es ea some le =
+    let both : m2 ≡ record m { words = with_words m.words (pos first) (args ++ replicate q.locals (pos 0)) } = put_both m m1 m2 first (first + length args) args (replicate q.locals (pos 0)) one two some (omega arith) refl in
     let end : at ≡ first + (slots q.params + q.locals) = omega arith in
     three ∙ ap (λ (h : Held). record h { words = with_copies h.words params args first at }) both ∙ ap (λ ps. record m { words = with_copies (with_words m.words (pos first) (args ++ replicate q.locals (pos 0))) ps args first at }) ep ∙ ap (λ n. record m { words = with_copies (with_words m.words (pos first) (args ++ replicate q.locals (pos 0))) q.params args first n }) end
+
+pub begun_plain : (m m1 m2 : Held) (q : Procedure) (args : List ℤ) (first : ℕ) → has_copies q.params ≡ false → m1 ≡ record m { words = with_words m.words (pos first) args } → m2 ≡ record m1 { words = with_words m1.words (pos (first + length args)) (replicate q.locals (pos 0)) } → 0 < first → first + (length args + q.locals) ≤ length m.words + 1 → m2 ≡ record m { words = entered m.words first q args }
+begun_plain m m1 m2 q args first h one two some le =
+    let both : m2 ≡ record m { words = with_words m.words (pos first) (args ++ replicate q.locals (pos 0)) } = put_both m m1 m2 first (first + length args) args (replicate q.locals (pos 0)) one two some (omega arith) refl in
+    let same = plain_same (with_words m.words (pos first) (args ++ replicate q.locals (pos 0))) q.params args first (first + (slots q.params + q.locals)) h in
+    both ∙ ap (λ l. record m { words = l }) (sym same)

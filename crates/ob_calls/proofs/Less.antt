@@ -1,5 +1,5 @@
 -- What a call or a return keeps: the turns and the waiting calls become less, and the modules are there.
-use Rattle.std.proofs.Common.{◌≡◌, ℕ, zero, suc, ◌+◌, ◌<◌, Bool, true, false, List, [], ◌∷◌, length, Option, Some, None, refl, sym, ap, ◌∙◌, subst, true≢false, ◌⊎◌, inl, inr, arith}
+use Rattle.std.proofs.Common.{◌≡◌, ℕ, zero, suc, ◌+◌, ◌<◌, Bool, true, false, List, [], ◌∷◌, length, Option, Some, None, refl, sym, ap, subst, true≢false, ◌⊎◌, inl, inr, arith}
 use Rattle.std.specs.Prelude.{ℤ, pos, negsuc, if◌then◌else◌, nat_le, slice_get}
 use Rattle.std.specs.List.{AllByRecursion}
 use Rattle.std.proofs.lemmas.Option.{slice_get_within, none-some}
@@ -9,7 +9,7 @@ use Rattle.ob_instr.specs.declared.opcode.Opcode.TheVariants as op
 use Rattle.ob_instr.specs.declared.procedure.Procedure.{Procedure}
 use Rattle.ob_instr.specs.Parts.{slots}
 use Rattle.ob_instr.specs.Image.{ModuleImage, Image, World, Act, Point, Go, Over}
-use Rattle.ob_instr.specs.Rows.{Effect, Next, Goto, Enter, Leave, Traps, Spends, Unable, on_found, on_count, on_args, on_one, on_receiver, on_tag, on_turn, turn_or, item, below, is_zero, copy_words, calls, calls_with, procedures_of, procedure_of, proc_of_value, method_at, tag_method, pointer_method}
+use Rattle.ob_instr.specs.Rows.{Effect, Next, Goto, Enter, Leave, Traps, Spends, Unable, on_found, on_count, on_args, on_one, on_receiver, on_tag, turn_or, item, below, is_zero, copy_words, calls, calls_with, procedures_of, procedure_of, proc_of_value, method_at, tag_method, pointer_method}
 use Rattle.ob_instr.specs.Table.{row, come_to, has_room, left}
 use Rattle.ob_mem.specs.Words.{word_at}
 use Rattle.ob_effect.specs.Places.{is_call}

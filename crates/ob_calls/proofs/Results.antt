@@ -1,17 +1,17 @@
 -- What a return with a result comes to.
 use Rattle.std.proofs.Common.{◌≡◌, ℕ, List, [], ◌∷◌, Bool, Option, Some, None, refl, ap, ◌∙◌, sym}
-use Rattle.std.specs.Prelude.{ℤ, reverse, option_map, unwrap_or, if◌then◌else◌}
+use Rattle.std.specs.Prelude.{ℤ, option_map, unwrap_or, if◌then◌else◌}
 use Rattle.std.proofs.lemmas.Option.{none-some}
 use Rattle.ob_instr.specs.declared.procedure.Procedure.{Procedure}
-use Rattle.ob_instr.specs.Image.{ModuleImage, Image, Act, World, Point, Go, Over}
+use Rattle.ob_instr.specs.Image.{Image, Act, World, Point, Go, Over}
 use Rattle.ob_instr.specs.Rows.{Effect, Leave, on_found, on_one}
-use Rattle.ob_instr.specs.Table.{come_to, left}
+use Rattle.ob_instr.specs.Table.{left}
 use Rattle.ob_values.specs.declared.state.State.{State}
 use Rattle.ob_values.specs.Effects.{ops_of, world_of}
 use Rattle.ob_calls.specs.declared.calls.Place.{Place}
 use Rattle.ob_calls.specs.declared.calling.Called.{Called}
 use Rattle.ob_calls.specs.declared.calling.Called.TheVariants as called
-use Rattle.ob_calls.specs.Reached.{Comes, reached}
+use Rattle.ob_calls.specs.Reached.{Comes}
 
 -- with one operand more
 abbrev over : ℤ → Point → Point

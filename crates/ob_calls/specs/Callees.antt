@@ -19,12 +19,11 @@ abbrev pub IsWithin : List ℤ → Callee → Type 0
 IsWithin operands (callee.At r from below) = (from ≤ length operands) × (below ≤ from)
 IsWithin operands _ = Unit {0}
 
--- a call, and no return
-abbrev pub is_procedure_call : Opcode → Bool
-is_procedure_call op.Call = true
-is_procedure_call op.CallX = true
-is_procedure_call op.CallV = true
-is_procedure_call op.CallP = true
-is_procedure_call op.CallR = true
-is_procedure_call op.CallS = true
-is_procedure_call o = false
+-- a call, but none of an own procedure
+abbrev pub is_other_call : Opcode → Bool
+is_other_call op.CallX = true
+is_other_call op.CallV = true
+is_other_call op.CallP = true
+is_other_call op.CallR = true
+is_other_call op.CallS = true
+is_other_call o = false

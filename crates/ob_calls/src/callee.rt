@@ -1,11 +1,11 @@
-ghost use Rattle.std.specs.Prelude.{◌≡◌, ◌+◌, ◌≤◌, ◌<◌, suc, length, pos, if◌then◌else◌, reverse, slice_get, vec_len, option_map};
+ghost use Rattle.std.specs.Prelude.{◌≡◌, ◌+◌, ◌≤◌, ◌<◌, length, reverse, slice_get, Some};
 ghost use Rattle.ob_instr.specs.Image.{Image as Modules, World};
-ghost use Rattle.ob_instr.specs.Rows.{Traps, Unable, on_found, on_count, on_args, on_one, on_receiver, on_tag, item, below, is_zero, calls, calls_with, proc_of_value, method_at, tag_method, pointer_method};
+ghost use Rattle.ob_instr.specs.Parts.{slots, most_words};
+ghost use Rattle.ob_instr.specs.Rows.{on_found, item, below, calls_with};
 ghost use Rattle.ob_calls.specs.Callees.{callee_effect, IsWithin};
 
-use ob_image::{Image, Module};
-use ob_instr::Instr;
-use ob_mem::Memory;
+use ob_image::Module;
+use ob_instr::{Instr, Procedure};
 use ob_tree::ProcRef;
 
 /// What the instruction of a call names.
@@ -25,29 +25,28 @@ pub enum Callee {
     Unable,
 }
 
-// The procedure of a number in a module.
-fn own_procedure(unit: &Module, number: u32, instr: Instr) -> Option<ProcRef>
-    ensures { result ≡ option_map (λ q. record { «module» = number; proc = q }) (below (length unit.now.procedures) instr.a) }
+/// The number of an own procedure of a module, where there is one.
+#[inline(always)]
+pub fn own_number(unit: &Module, number: i32) -> Option<u32>
+    ensures { result ≡ below (length unit.now.procedures) number }
 {
-    let count = unit.procedures.len();
-    if instr.a < 0 || instr.a as usize >= count {
+    if number < 0 || number as usize >= unit.procedures.len() {
         return None;
     }
-    Some(ProcRef {
-        module: number,
-        proc: instr.a as u32,
-    })
+    Some(number as u32)
 }
 
-/// What a call of an own procedure names.
-pub fn own(unit: &Module, number: u32, instr: Instr, operands: &[i32]) -> Callee
-    ensures effect { (img : Modules) (w : World) → on_found (below (length unit.now.procedures) instr.a) (λ q. calls_with img (record { «module» = number; proc = q }) (reverse operands.now) w) ≡ callee_effect img operands.now result w }
-    ensures within { IsWithin operands.now result }
+/// A procedure of a module.
+#[inline(always)]
+pub fn procedure_at(unit: &Module, number: u32) -> &Procedure
+    requires { number < length unit.now.procedures }
+    ensures at { slice_get unit.now.procedures number ≡ Some result.now }
+    ensures words { slots result.now.params + result.now.locals ≤ most_words }
 {
-    match own_procedure(unit, number, instr) {
-        Some(r) => Callee::With(r),
-        None => Callee::Unable,
-    }
+    let Some(procedure) = unit.procedures.get(number as usize) else {
+        unreachable!();
+    };
+    procedure
 }
 
 fn linked_procedure(unit: &Module, instr: Instr) -> Option<ProcRef>

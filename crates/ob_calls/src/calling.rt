@@ -2,9 +2,10 @@ ghost use Rattle.std.specs.Prelude.{◌≡◌, ◌+◌, ◌≤◌, ◌<◌, ◌^
 ghost use Rattle.std.specs.Option.{option_copied};
 ghost use Rattle.ob_instr.specs.Parts.{slots, most_words};
 ghost use Rattle.ob_instr.specs.Rows.{copy_words, calls, procedure_of, entered};
+ghost use Rattle.ob_calls.specs.Copies.{has_copies};
 ghost use Rattle.ob_calls.specs.Reached.{Comes};
 
-use crate::arguments::{behind, count_copies};
+use crate::arguments::{Shape, behind, copies_of};
 use crate::calls::{Calls, Place};
 use crate::entering::enter_words;
 use ob_image::Image;
@@ -38,6 +39,7 @@ pub fn procedure_of(image: &Image, r: ProcRef) -> Option<&Procedure>
 }
 
 // Whether a call of so many words has room, where so many calls wait.
+#[inline(always)]
 fn has_room(stack: u32, need: u64, waiting: u32) -> bool
     requires { need < 2 ^ 62 }
     ensures { result ≡ (nat_le (stack + need) 1310721 && nat_lt (suc waiting) 4096) }
@@ -45,17 +47,24 @@ fn has_room(stack: u32, need: u64, waiting: u32) -> bool
     u64::from(stack) + need <= 1_310_721 && waiting < 4095
 }
 
-// A call of a procedure with the operands from one on, while those below another one wait.
+/// Calls a procedure with the operands from one on, as many as it has slots, while those below another
+/// one wait.
+#[inline(always)]
 pub fn call(
     image: &Image,
     here: &mut Place,
     waiting: &mut Calls,
     state: &mut State,
     r: ProcRef,
+    q: &Procedure,
+    shape: Shape,
     from: usize,
     below: usize,
 ) -> Called
-    requires from { from ≤ vec_len state.old.operands }
+    requires found { procedure_of image.now r ≡ Some q.now }
+    requires words { slots q.now.params + q.now.locals ≤ most_words }
+    requires shape { shape.copies ≡ has_copies q.now.params }
+    requires from { from + slots q.now.params ≡ vec_len state.old.operands }
     requires below { below ≤ from }
     requires few { vec_len state.old.operands ≤ 256 }
     requires first { 0 < here.old.first }
@@ -68,11 +77,8 @@ pub fn call(
     ensures stack { 0 < state.new.stack }
 {
     let _ = image.count();
-    let Some(q) = procedure_of(image, r) else {
-        return Called::Unable;
-    };
     let args = behind(&state.operands, from);
-    let Some(copies) = count_copies(&state.words, q.params.as_slice(), args) else {
+    let Some(copies) = copies_of(&state.words, q, shape, args) else {
         return Called::Unable;
     };
     if state.turns == 0 {
@@ -89,6 +95,7 @@ pub fn call(
         from,
         state.stack,
         q,
+        shape,
         copies as u32,
     );
     state.operands.truncate(below);
@@ -107,20 +114,23 @@ pub fn call(
     Called::Goes
 }
 
+#[inline(always)]
 fn enter_call(
     words: &mut Memory,
     operands: &[i32],
     from: usize,
     first: u32,
     q: &Procedure,
+    shape: Shape,
     copies: u32,
 )
     requires from { from ≤ length operands.now }
     requires some { 0 < first }
     requires slots { slots q.now.params ≡ length (drop from operands.now) }
+    requires shape { shape.copies ≡ has_copies q.now.params }
     requires copies { copy_words (length words.old.words) q.now.params (drop from operands.now) ≡ Some copies }
     requires room { first + (slots q.now.params + q.now.locals + copies) ≤ 1310721 }
     ensures { words.new ≡ record words.old { words = entered words.old.words first q.now (drop from operands.now) } }
 {
-    enter_words(words, first, q, behind(operands, from), copies);
+    enter_words(words, first, q, shape, behind(operands, from), copies);
 }

@@ -1,4 +1,4 @@
-ghost use Rattle.std.specs.Prelude.{◌≡◌, ◌≤◌, ◌<◌, [], ◌∷◌, length, vec_len, vec_capacity, IfOk, IfSome, IfNone};
+ghost use Rattle.std.specs.Prelude.{◌≡◌, ◌+◌, ◌-◌, ◌≤◌, ◌<◌, [], ◌∷◌, ◌++◌, length, take, drop, vec_len, vec_capacity, IfOk, IfSome, IfNone};
 ghost use Rattle.ob_calls.specs.Waiting.{waiting_at};
 
 use crate::arguments::behind;
@@ -46,6 +46,46 @@ impl Model for Calls {
     ghost invariant = { λ c. IsKept c };
 }
 
+// Moves all operands behind others, where there is room for them.
+#[inline(always)]
+fn move_all(from: &mut Vec<i32>, to: &mut Vec<i32>)
+    requires { vec_len to.old + vec_len from.old ≤ vec_capacity to.old }
+    ensures items { to.new.items ≡ to.old.items ++ from.old.items }
+    ensures none { from.new.items ≡ [] }
+    ensures capacity { vec_capacity from.new ≡ vec_capacity from.old }
+    ensures room { vec_capacity to.old ≤ vec_capacity to.new }
+{
+    match from.len() {
+        0 => {}
+        1 => to.push_reserved(from.take_last()),
+        _ => {
+            let _ = to.append(from);
+        }
+    }
+}
+
+// Moves the last operands, so many, to where none are and room for them is.
+#[inline(always)]
+fn move_last(from: &mut Vec<i32>, count: usize, to: &mut Vec<i32>)
+    requires there { count ≤ vec_len from.old }
+    requires empty { to.old.items ≡ [] }
+    requires room { count ≤ vec_capacity to.old }
+    ensures items { to.new.items ≡ drop (vec_len from.old - count) from.old.items }
+    ensures rest { from.new.items ≡ take (vec_len from.old - count) from.old.items }
+    ensures capacity { vec_capacity from.new ≡ vec_capacity from.old }
+    ensures room { vec_capacity to.old ≤ vec_capacity to.new }
+{
+    match count {
+        0 => {}
+        1 => to.push_reserved(from.take_last()),
+        _ => {
+            let start = from.len() - count;
+            let _ = to.extend_from_slice(behind(from, start));
+            from.truncate(start);
+        }
+    }
+}
+
 impl Calls {
     /// No calls, and memory for 4,096, each with 256 operands.
     pub fn new(alloc: Global) -> Result<Calls, AllocError>
@@ -73,6 +113,7 @@ impl Calls {
     }
 
     /// One call more waits, with these operands, which are then none. Takes no memory.
+    #[inline(always)]
     pub fn push(&mut self, place: Place, operands: &mut Vec<i32>)
         requires room { length self.old < 4095 }
         requires few { vec_len operands.old ≤ 256 }
@@ -82,8 +123,8 @@ impl Calls {
         ensures capacity { vec_capacity operands.new ≡ vec_capacity operands.old }
     {
         let count = operands.len() as u32;
-        let _ = self.operands.append(operands);
-        let _ = self.waiting.push(Waiting {
+        move_all(operands, &mut self.operands);
+        self.waiting.push_reserved(Waiting {
             place,
             operands: count,
         });
@@ -91,6 +132,7 @@ impl Calls {
 
     /// Takes the newest call that waits, with its operands. `None` where none waits, and then nothing is
     /// changed. Takes no memory.
+    #[inline(always)]
     pub fn pop(&mut self, operands: &mut Vec<i32>) -> Option<Place>
         requires empty { operands.old.items ≡ [] }
         requires room { 256 ≤ vec_capacity operands.old }
@@ -103,10 +145,7 @@ impl Calls {
         let Some(waiting) = self.waiting.pop() else {
             return None;
         };
-        let start = self.operands.len() - waiting.operands as usize;
-        let kept = behind(&self.operands, start);
-        let _ = operands.extend_from_slice(kept);
-        self.operands.truncate(start);
+        move_last(&mut self.operands, waiting.operands as usize, operands);
         Some(waiting.place)
     }
 }

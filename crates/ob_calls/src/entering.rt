@@ -1,9 +1,10 @@
-ghost use Rattle.std.specs.Prelude.{◌≡◌, ◌+◌, ◌≤◌, ◌<◌, length, Some};
+ghost use Rattle.std.specs.Prelude.{◌≡◌, ◌+◌, ◌≤◌, ◌<◌, length, replicate, pos, Some};
+ghost use Rattle.ob_mem.specs.Words.{with_words};
 ghost use Rattle.ob_instr.specs.Parts.{slots};
 ghost use Rattle.ob_instr.specs.Rows.{copy_words, with_copy, with_copies, entered};
-ghost use Rattle.ob_calls.specs.Copies.{copy_size, with_one};
+ghost use Rattle.ob_calls.specs.Copies.{copy_size, with_one, has_copies};
 
-use crate::arguments::{behind, copy_of};
+use crate::arguments::{Shape, behind, copy_of};
 use ob_instr::{Param, Procedure};
 use ob_mem::Memory;
 
@@ -72,19 +73,67 @@ fn make_copies(
     }
 }
 
+// Puts the arguments of a call into its slots.
+#[inline(always)]
+fn put_arguments(words: &mut Memory, first: u32, args: &[i32])
+    requires some { 0 < first }
+    requires room { first + length args.now ≤ 1310721 }
+    ensures { words.new ≡ record words.old { words = with_words words.old.words (pos first) args.now } }
+{
+    let _ = words.len();
+    match args {
+        [] => {}
+        [word] => {
+            let _ = words.store(i64::from(first), *word);
+        }
+        [word, next] => {
+            let _ = words.store(i64::from(first), *word);
+            let _ = words.store(i64::from(first + 1), *next);
+        }
+        _ => {
+            let _ = words.put(i64::from(first), args);
+        }
+    }
+}
+
+// Sets the locals of a call to 0.
+#[inline(always)]
+fn clear_locals(words: &mut Memory, at: u32, count: u32)
+    requires some { 0 < at }
+    requires room { at + count ≤ 1310721 }
+    ensures { words.new ≡ record words.old { words = with_words words.old.words (pos at) (replicate count (pos 0)) } }
+{
+    let _ = words.len();
+    if count > 0 {
+        let _ = words.clear(i64::from(at), count);
+    }
+}
+
 /// Puts the arguments of a call into its slots, clears its locals behind them, and makes the copies of
 /// the arguments behind these. The call has its first word at `first`.
-pub fn enter_words(words: &mut Memory, first: u32, q: &Procedure, args: &[i32], copies: u32)
+#[inline(always)]
+pub fn enter_words(
+    words: &mut Memory,
+    first: u32,
+    q: &Procedure,
+    shape: Shape,
+    args: &[i32],
+    copies: u32,
+)
     requires some { 0 < first }
     requires slots { slots q.now.params ≡ length args.now }
+    requires shape { shape.copies ≡ has_copies q.now.params }
     requires copies { copy_words (length words.old.words) q.now.params args.now ≡ Some copies }
     requires room { first + (slots q.now.params + q.now.locals + copies) ≤ 1310721 }
     ensures { words.new ≡ record words.old { words = entered words.old.words first q.now args.now } }
 {
     let _ = words.len();
-    let _ = words.put(i64::from(first), args);
+    put_arguments(words, first, args);
     let locals = first + args.len() as u32;
-    let _ = words.clear(i64::from(locals), q.locals);
+    clear_locals(words, locals, q.locals);
+    if !shape.copies {
+        return;
+    }
     make_copies(
         words,
         q.params.as_slice(),

@@ -11,6 +11,7 @@ use ob_image::Module;
 use ob_values::{State, put};
 
 // A call ends without a result, and its words are free again.
+#[inline(always)]
 fn leave(here: &mut Place, waiting: &mut Calls, state: &mut State) -> Called
     requires room { 257 ≤ vec_capacity state.old.operands }
     requires first { 0 < here.old.first }
@@ -35,6 +36,7 @@ fn leave(here: &mut Place, waiting: &mut Calls, state: &mut State) -> Called
 
 // A call ends with a result, its last operand, and its words are free again. The result then stands on
 // the operands of the call that waited.
+#[inline(always)]
 fn leave_with(here: &mut Place, waiting: &mut Calls, state: &mut State, given: i32) -> Called
     requires room { 257 ≤ vec_capacity state.old.operands }
     requires first { 0 < here.old.first }
@@ -55,6 +57,7 @@ fn leave_with(here: &mut Place, waiting: &mut Calls, state: &mut State, given: i
 }
 
 // Whether a procedure of a module gives a result.
+#[inline(always)]
 fn has_result(unit: &Module, procedure: u32) -> Option<bool>
     ensures { result ≡ option_map (λ q. q.has_result) (slice_get unit.now.procedures procedure) }
 {
@@ -62,6 +65,7 @@ fn has_result(unit: &Module, procedure: u32) -> Option<bool>
     Some(q.has_result)
 }
 
+#[inline(always)]
 fn last(operands: &[i32]) -> Option<i32>
     ensures { (k : ℤ → Effect) → on_one (reverse operands.now) (λ v rest. k v) ≡ on_found result k }
 {
@@ -73,6 +77,7 @@ fn last(operands: &[i32]) -> Option<i32>
 }
 
 /// A return without a result.
+#[inline(always)]
 pub fn return_without(
     unit: &Module,
     here: &mut Place,
@@ -99,6 +104,7 @@ pub fn return_without(
 }
 
 /// A return with a result.
+#[inline(always)]
 pub fn return_with(
     unit: &Module,
     here: &mut Place,

@@ -1,33 +1,87 @@
-ghost use Rattle.std.specs.Prelude.{◌≡◌, ◌≤◌, ◌<◌, vec_len, vec_capacity};
-ghost use Rattle.ob_instr.specs.Parts.{slots};
-ghost use Rattle.ob_instr.specs.Rows.{calls_with};
+ghost use Rattle.std.specs.Prelude.{◌≡◌, ◌+◌, ◌≤◌, ◌<◌, length, take, drop, reverse, vec_len, vec_capacity, slice_get, Some};
+ghost use Rattle.ob_instr.specs.Parts.{slots, most_words};
+ghost use Rattle.ob_instr.specs.Rows.{on_found, below, calls, calls_with, procedure_of};
 ghost use Rattle.ob_values.specs.Effects.{ops_of};
 ghost use Rattle.ob_calls.specs.Callees.{callee_effect, IsWithin};
 ghost use Rattle.ob_calls.specs.Reached.{Comes};
 
-use crate::callee::Callee;
+use crate::arguments::shape_of;
+use crate::callee::{Callee, own_number, procedure_at};
 use crate::calling::{Called, call, procedure_of};
 use crate::calls::{Calls, Place};
-use ob_image::Image;
-use ob_instr::Param;
+use ob_image::{Image, Module};
+use ob_instr::Procedure;
 use ob_tree::ProcRef;
 use ob_values::State;
 
-fn count_slots(params: &[Param]) -> u32
-    requires { slots params.now ≤ 1048576 }
-    ensures { result ≡ slots params.now }
+// A call of a procedure with as many operands as it has slots.
+#[inline(always)]
+fn call_with(
+    image: &Image,
+    here: &mut Place,
+    waiting: &mut Calls,
+    state: &mut State,
+    r: ProcRef,
+    q: &Procedure,
+) -> Called
+    requires found { procedure_of image.now r ≡ Some q.now }
+    requires words { slots q.now.params + q.now.locals ≤ most_words }
+    requires few { vec_len state.old.operands ≤ 256 }
+    requires first { 0 < here.old.first }
+    requires next { here.old.next < 262144 }
+    requires stack { 0 < state.old.stack }
+    ensures comes { Comes image.now (calls_with image.now r (ops_of state.old)) here.old here.new waiting.old waiting.new state.old state.new result }
+    ensures few { vec_len state.new.operands ≤ 256 }
+    ensures capacity { vec_capacity state.new.operands ≡ vec_capacity state.old.operands }
+    ensures first { 0 < here.new.first }
+    ensures stack { 0 < state.new.stack }
 {
-    let mut count = 0;
-    let mut rest = params;
-    while let [param, more @ ..] = rest {
-        count += param.slots();
-        rest = more;
+    let shape = shape_of(q.params.as_slice());
+    let slots = shape.slots as usize;
+    let len = state.operands.len();
+    if slots > len {
+        return Called::Unable;
     }
-    count
+    let from = len - slots;
+    call(image, here, waiting, state, r, q, shape, from, from)
 }
 
-// A call of a procedure with as many operands as it has slots.
-fn call_with(
+// A call of a procedure with the operands from one on, while those below another one wait.
+#[inline(always)]
+fn call_from(
+    image: &Image,
+    here: &mut Place,
+    waiting: &mut Calls,
+    state: &mut State,
+    r: ProcRef,
+    from: usize,
+    below: usize,
+) -> Called
+    requires from { from ≤ vec_len state.old.operands }
+    requires below { below ≤ from }
+    requires few { vec_len state.old.operands ≤ 256 }
+    requires first { 0 < here.old.first }
+    requires next { here.old.next < 262144 }
+    requires stack { 0 < state.old.stack }
+    ensures comes { Comes image.now (calls image.now r (drop from state.old.operands.items) (reverse (take below state.old.operands.items))) here.old here.new waiting.old waiting.new state.old state.new result }
+    ensures few { vec_len state.new.operands ≤ 256 }
+    ensures capacity { vec_capacity state.new.operands ≡ vec_capacity state.old.operands }
+    ensures first { 0 < here.new.first }
+    ensures stack { 0 < state.new.stack }
+{
+    let Some(q) = procedure_of(image, r) else {
+        return Called::Unable;
+    };
+    let shape = shape_of(q.params.as_slice());
+    if from + shape.slots as usize != state.operands.len() {
+        return Called::Unable;
+    }
+    call(image, here, waiting, state, r, q, shape, from, below)
+}
+
+// A call of a procedure of a number with as many operands as it has slots.
+#[inline(always)]
+fn call_named(
     image: &Image,
     here: &mut Place,
     waiting: &mut Calls,
@@ -47,12 +101,38 @@ fn call_with(
     let Some(q) = procedure_of(image, r) else {
         return Called::Unable;
     };
-    let slots = count_slots(q.params.as_slice()) as usize;
-    let len = state.operands.len();
-    if slots > len {
+    call_with(image, here, waiting, state, r, q)
+}
+
+/// Calls an own procedure of the module that the machine is in.
+#[inline(always)]
+pub fn call_own(
+    image: &Image,
+    unit: &Module,
+    here: &mut Place,
+    waiting: &mut Calls,
+    state: &mut State,
+    number: i32,
+) -> Called
+    requires unit { slice_get image.now.modules here.old.unit ≡ Some unit.now }
+    requires few { vec_len state.old.operands ≤ 256 }
+    requires first { 0 < here.old.first }
+    requires next { here.old.next < 262144 }
+    requires stack { 0 < state.old.stack }
+    ensures comes { Comes image.now (λ w. on_found (below (length unit.now.procedures) number) (λ n. calls_with image.now (record { «module» = here.old.unit; proc = n }) (ops_of state.old) w)) here.old here.new waiting.old waiting.new state.old state.new result }
+    ensures few { vec_len state.new.operands ≤ 256 }
+    ensures capacity { vec_capacity state.new.operands ≡ vec_capacity state.old.operands }
+    ensures first { 0 < here.new.first }
+    ensures stack { 0 < state.new.stack }
+{
+    let Some(proc) = own_number(unit, number) else {
         return Called::Unable;
-    }
-    call(image, here, waiting, state, r, len - slots, len - slots)
+    };
+    let r = ProcRef {
+        module: here.unit,
+        proc,
+    };
+    call_with(image, here, waiting, state, r, procedure_at(unit, proc))
 }
 
 /// Calls what the instruction of a call names.
@@ -75,12 +155,12 @@ pub fn call_it(
     ensures stack { 0 < state.new.stack }
 {
     match callee {
-        Callee::With(r) => call_with(image, here, waiting, state, r),
+        Callee::With(r) => call_named(image, here, waiting, state, r),
         Callee::At {
             procedure,
             from,
             below,
-        } => call(image, here, waiting, state, procedure, from, below),
+        } => call_from(image, here, waiting, state, procedure, from, below),
         Callee::Nil => Called::Traps(2),
         Callee::Unable => Called::Unable,
     }

@@ -1,12 +1,10 @@
 -- What a call, a leg and a run by legs do.
-use Rattle.std.proofs.Common.{◌≡◌, ℕ, zero, suc, ◌+◌, ◌-◌, ◌*◌, ◌<◌, ◌≤◌, ◌⊎◌, List, [], ◌∷◌, ◌++◌, length, ℤ, pos, Option, Some, None, Bool, true, false, inl, inr, refl, sym, ap, subst, ◌∙◌, ⊎_elim, arith, append_assoc, vec_len}
-use Rattle.std.specs.Prelude.{slice_get, nat_le, if◌then◌else◌, reverse, vec_capacity}
-use Rattle.std.specs.List.{AllByRecursion}
+use Rattle.std.proofs.Common.{◌≡◌, ℕ, zero, suc, ◌+◌, ◌-◌, ◌<◌, ◌≤◌, ◌⊎◌, List, [], ◌++◌, length, ℤ, pos, Option, Some, None, Bool, true, false, inl, inr, refl, sym, ap, subst, ◌∙◌, ⊎_elim, arith, append_assoc, vec_len}
+use Rattle.std.specs.Prelude.{slice_get, nat_le, if◌then◌else◌, vec_capacity}
 use Rattle.std.proofs.lemmas.Bool.{cases_lt}
 use Rattle.std.proofs.lemmas.Bool.Decides.{nat_tests}
 use Rattle.std.proofs.lemmas.List.{append-nil, length-reverse}
 use Rattle.std.proofs.lemmas.Option.{slice_get_past}
-use Rattle.ob_io.specs.Io.{AddsFront, Rose}
 use Rattle.ob_io.specs.Fronts.{front_later}
 use Rattle.ob_instr.specs.declared.instr.Instr.{Instr}
 use Rattle.ob_instr.specs.Image as image
@@ -17,9 +15,8 @@ use Rattle.ob_image.specs.Room.{room}
 use Rattle.ob_values.specs.declared.state.State.{State}
 use Rattle.ob_values.specs.Effects.{ops_of, world_of}
 use Rattle.ob_effect.specs.declared.acting.Place as effect_place
-use Rattle.ob_run.specs.declared.pause.Pause.{Pause}
 use Rattle.ob_run.specs.declared.pause.Pause.TheVariants as pause
-use Rattle.ob_run.specs.Turns.{IsHere, Begins, Comes, TurnDoes, TurnHasCause, Spends, point_of}
+use Rattle.ob_run.specs.Turns.{IsHere, Begins, Comes, TurnDoes, Spends, point_of}
 use Rattle.ob_calls.specs.declared.calls.Place.{Place}
 use Rattle.ob_calls.specs.declared.calling.Called.{Called}
 use Rattle.ob_calls.specs.declared.calling.Called.TheVariants as called

@@ -1,29 +1,27 @@
 -- A run from a procedure's first instruction.
-use Rattle.std.proofs.Common.{◌≡◌, ℕ, suc, ◌+◌, ◌<◌, ◌≤◌, List, [], ◌∷◌, ◌++◌, length, replicate, pos, Some, None, Bool, true, false, refl, sym, ap, ◌∙◌, subst, arith, ⊎_elim}
-use Rattle.std.specs.Prelude.{ℤ, slice_get, reverse, unwrap_or, vec_len, vec_capacity}
-use Rattle.std.proofs.lemmas.Bool.{cases_lt}
-use Rattle.std.proofs.lemmas.Option.{slice_get_past}
+use Rattle.std.proofs.Common.{◌≡◌, ℕ, suc, ◌+◌, ◌≤◌, List, [], ◌++◌, length, replicate, pos, Some, Bool, true, sym, ap, ◌∙◌, subst, arith}
+use Rattle.std.specs.Prelude.{ℤ, reverse, unwrap_or}
 use Rattle.ob_io.specs.Io.{AddsFront}
 use Rattle.ob_io.specs.Fronts.{front_more}
 use Rattle.ob_tree.specs.declared.proc_ref.ProcRef.{ProcRef}
 use Rattle.ob_mem.specs.Words.{Held, cleared, with_words}
 use Rattle.ob_instr.specs.declared.procedure.Procedure.{Procedure}
 use Rattle.ob_instr.specs.declared.procedure.Param.{Param}
-use Rattle.ob_instr.specs.Image.{Image, ModuleImage, Act, End, World, Point, Go}
+use Rattle.ob_instr.specs.Image.{Image, Act, Go}
 use Rattle.ob_instr.specs.Parts.{slots}
-use Rattle.ob_instr.specs.Rows.{entered, with_copies, procedure_of, procedures_of}
-use Rattle.ob_instr.specs.Table.{begins, begun, start, run, Ends}
+use Rattle.ob_instr.specs.Rows.{entered, with_copies, procedure_of}
+use Rattle.ob_instr.specs.Table.{begins, begun, start, run}
 use Rattle.ob_image.specs.Room.{room}
 use Rattle.ob_image.specs.WordLaws.{cleared_as}
 use Rattle.ob_values.specs.declared.state.State.{State}
-use Rattle.ob_values.specs.Effects.{ops_of, world_of}
+use Rattle.ob_values.specs.Effects.{world_of}
 use Rattle.ob_calls.specs.declared.calls.Place.{Place}
 use Rattle.ob_calls.specs.Reached.{at_place}
 use Rattle.ob_machine.specs.declared.outcome.Outcome.{Outcome}
 use Rattle.ob_machine.specs.declared.outcome.Outcome.TheVariants as outcome
 use Rattle.ob_machine.specs.Machine as machine
 use Rattle.ob_machine.specs.Machine.{IsEntry, Came, Runs}
-use Rattle.ob_machine.specs.Legs.{EndsAt, LegDoes, IsBegun, CanRun}
+use Rattle.ob_machine.specs.Legs.{EndsAt, LegDoes, IsBegun}
 
 -- what a machine with this image and state holds
 abbrev pub held : Image → State → machine.Held

@@ -107,6 +107,7 @@ fn read_place<'a>(
 }
 
 // The call or the return at a place. None says that the machine goes on.
+#[inline(always)]
 #[tactic(auto, using(crate::proofs::Legs::calls))]
 fn call_at(
     image: &Image,
@@ -145,8 +146,50 @@ fn call_at(
 
 // The instructions of a call up to the next call or return, and this one. None says that the machine goes
 // on.
+#[inline(always)]
 #[tactic(auto, using(crate::proofs::Legs::legs))]
 fn leg<S: Sink>(
+    image: &Image,
+    unit: &Module,
+    place: &ob_effect::Place<'_>,
+    here: &mut Place,
+    calls: &mut Calls,
+    state: &mut State,
+    out: &mut S,
+) -> Option<Outcome>
+    requires at { slice_get image.now.modules here.old.unit ≡ Some unit.now }
+    requires room { image.now.room ≡ room }
+    requires short { length unit.now.code ≤ 262144 }
+    requires here { IsHere place.now unit.now.code image.now unit.now }
+    requires unit { place.now.«module» ≡ here.old.unit }
+    requires frame { place.now.frame ≡ here.old.first }
+    requires count { place.now.count ≡ length place.now.descriptors.now.list }
+    requires few { place.now.count < 2 ^ 31 }
+    requires bases { AreBelow place.now.descriptors.now.list }
+    requires can { CanRun (length image.now.modules) here.old calls.old state.old }
+    ensures does { LegDoes (S.tells out.old) (S.taken out.old) (S.taken out.new) image.now here.old here.new calls.old calls.new state.old state.new result }
+    ensures less { result ≡ None → left_of state.new calls.new < left_of state.old calls.old }
+    ensures can { result ≡ None → CanRun (length image.now.modules) here.new calls.new state.new }
+    ensures room { 257 ≤ vec_capacity state.new.operands }
+    ensures told { S.tells out.new ≡ S.tells out.old }
+    ensures cause { LegHasCause (S.faults out.old) (S.faults out.new) result }
+{
+    let mut pc = here.next;
+    let pause = go(place, unit.code.as_slice(), &mut pc, state, out);
+    here.next = pc;
+    match pause {
+        Pause::Calls(instr) => call_at(image, unit, here, calls, state, instr),
+        Pause::Traps { kind, number } => Some(trap(unit, pc, kind, number)),
+        Pause::Spent => Some(turns_spent(unit, pc)),
+        Pause::Illegal => Some(illegal(unit, pc)),
+        Pause::SinkFault => Some(Outcome::SinkFault),
+    }
+}
+
+// The instructions of calls in one module, one or more of them. None says that the machine goes on in
+// another module.
+#[tactic(auto, using(crate::proofs::Legs::run_on_by, crate::proofs::Legs::run_start))]
+fn run_in_module<S: Sink>(
     image: &Image,
     here: &mut Place,
     calls: &mut Calls,
@@ -161,17 +204,17 @@ fn leg<S: Sink>(
     ensures told { S.tells out.new ≡ S.tells out.old }
     ensures cause { LegHasCause (S.faults out.old) (S.faults out.new) result }
 {
-    let unit = module_at(image, here.unit);
-    let place = read_place(image, unit, here.unit, here.first);
-    let mut pc = here.next;
-    let pause = go(&place, unit.code.as_slice(), &mut pc, state, out);
-    here.next = pc;
-    match pause {
-        Pause::Calls(instr) => call_at(image, unit, here, calls, state, instr),
-        Pause::Traps { kind, number } => Some(trap(unit, pc, kind, number)),
-        Pause::Spent => Some(turns_spent(unit, pc)),
-        Pause::Illegal => Some(illegal(unit, pc)),
-        Pause::SinkFault => Some(Outcome::SinkFault),
+    let number = here.unit;
+    let unit = module_at(image, number);
+    let mut place = read_place(image, unit, number, here.first);
+    'legs: loop {
+        if let Some(outcome) = leg(image, unit, &place, here, calls, state, out) {
+            return Some(outcome);
+        }
+        if here.unit != number {
+            return None;
+        }
+        place.frame = here.first;
     }
 }
 
@@ -190,8 +233,8 @@ pub fn run_calls<S: Sink>(
     ensures told { S.tells out.new ≡ S.tells out.old }
     ensures cause { LegHasCause (S.faults out.old) (S.faults out.new) (Some result) }
 {
-    'legs: loop {
-        if let Some(outcome) = leg(image, here, calls, state, out) {
+    'modules: loop {
+        if let Some(outcome) = run_in_module(image, here, calls, state, out) {
             return outcome;
         }
     }

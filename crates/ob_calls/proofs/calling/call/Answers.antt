@@ -1,7 +1,8 @@
 use Rattle.std.proofs.Common.{◌≡◌, ◌+◌, ◌-◌, true, false, suc, ◌∷◌, length, take, drop, Some, refl, ap, sym, ◌∙◌, arith}
+use Rattle.std.proofs.lemmas.List.{length-drop}
 use Rattle.std.specs.Prelude.{reverse, nat_le, nat_lt, ◌&&◌}
 use Rattle.ob_instr.specs.Parts.{slots}
-use Rattle.ob_instr.specs.Rows.{copy_words, procedure_of, entered}
+use Rattle.ob_instr.specs.Rows.{copy_words, entered}
 use Rattle.ob_values.specs.declared.state.State.{State}
 use Rattle.ob_calls.specs.declared.calls.Place.{Place}
 use Rattle.ob_calls.proofs.Comings.{has_no_room, has_its_room}
@@ -10,28 +11,26 @@ use Rattle.ob_calls.proofs.calling.call.Goals as goal
 pub returns-then-not-has_room-clause-comes : goal.returns-then-not-has_room-clause-comes
 returns-then-not-has_room-clause-comes c =
     let s = c.args.state.now in
-    let q = c.in-Some.q.now in
+    let q = c.args.q.now in
     let args = drop c.args.from s.operands.items in
-    let n = c.in-Some-count_copies.copies in
+    let n = c.in-Some.copies in
     let et : s.turns ≡ suc (s.turns - 1) = omega (arith, c.if-state-eq0.false) in
-    let ep : procedure_of c.args.image.now c.args.r ≡ Some q = sym c.in-Some.ensures.found in
     let ea : c.behind-args.result.now ≡ args = c.behind-args.ensures ∙ ap (drop c.args.from) c.deref.ensures.value in
-    let ec : copy_words (length s.words.words) q.params args ≡ Some n = ap (copy_words (length s.words.words) q.params) (sym ea) ∙ ap (λ ps. copy_words (length s.words.words) ps c.behind-args.result.now) (sym c.as_slice.ensures) ∙ sym c.in-Some-count_copies.ensures.count in
-    let need : length c.behind-args.result.now + c.from.result + n ≡ slots q.params + q.locals + n = omega (arith, c.from.ensures, ap slots c.as_slice.ensures, c.in-Some-count_copies.ensures.slots) in
+    let ec : copy_words (length s.words.words) q.params args ≡ Some n = ap (copy_words (length s.words.words) q.params) (sym ea) ∙ sym c.in-Some.ensures.count in
+    let need : length c.behind-args.result.now + c.from.result + n ≡ slots q.params + q.locals + n = omega (arith, c.from.ensures, c.requires.from, ap length ea, length-drop c.args.from s.operands.items, s.operands.ok.0) in
     let eb : (nat_le (s.stack + (slots q.params + q.locals + n)) 1310721 && nat_lt (suc (length c.args.waiting.now)) 4096) ≡ false = ap (λ k. nat_le (s.stack + k) 1310721 && nat_lt (suc (length c.args.waiting.now)) 4096) (sym need) ∙ ap (λ k. nat_le (s.stack + (length c.behind-args.result.now + c.from.result + n)) 1310721 && nat_lt (suc k) 4096) (sym c.len.ensures.len) ∙ sym c.has_room.ensures ∙ c.if-not-has_room.true in
-    has_no_room c.args.image.now c.args.here.now c.args.waiting.now s _ c.args.r q args (reverse (take c.args.below s.operands.items)) n (s.turns - 1) c.count.ensures.room ep ec et eb refl
+    has_no_room c.args.image.now c.args.here.now c.args.waiting.now s _ c.args.r q args (reverse (take c.args.below s.operands.items)) n (s.turns - 1) c.count.ensures.room c.requires.found ec et eb refl
 
 pub returns-clause-comes : goal.returns-clause-comes
 returns-clause-comes c =
     let s = c.args.state.now in
-    let q = c.in-Some.q.now in
+    let q = c.args.q.now in
     let args = drop c.args.from s.operands.items in
-    let n = c.in-Some-count_copies.copies in
+    let n = c.in-Some.copies in
     let et : s.turns ≡ suc (s.turns - 1) = omega (arith, c.if-state-eq0.false) in
-    let ep : procedure_of c.args.image.now c.args.r ≡ Some q = sym c.in-Some.ensures.found in
     let ea : c.behind-args.result.now ≡ args = c.behind-args.ensures ∙ ap (drop c.args.from) c.deref.ensures.value in
-    let ec : copy_words (length s.words.words) q.params args ≡ Some n = ap (copy_words (length s.words.words) q.params) (sym ea) ∙ ap (λ ps. copy_words (length s.words.words) ps c.behind-args.result.now) (sym c.as_slice.ensures) ∙ sym c.in-Some-count_copies.ensures.count in
-    let need : length c.behind-args.result.now + c.from.result + n ≡ slots q.params + q.locals + n = omega (arith, c.from.ensures, ap slots c.as_slice.ensures, c.in-Some-count_copies.ensures.slots) in
+    let ec : copy_words (length s.words.words) q.params args ≡ Some n = ap (copy_words (length s.words.words) q.params) (sym ea) ∙ sym c.in-Some.ensures.count in
+    let need : length c.behind-args.result.now + c.from.result + n ≡ slots q.params + q.locals + n = omega (arith, c.from.ensures, c.requires.from, ap length ea, length-drop c.args.from s.operands.items, s.operands.ok.0) in
     let here = c.args.here.now in
     let ops = reverse (take c.args.below s.operands.items) in
     let eb : (nat_le (s.stack + (slots q.params + q.locals + n)) 1310721 && nat_lt (suc (length c.args.waiting.now)) 4096) ≡ true = ap (λ k. nat_le (s.stack + k) 1310721 && nat_lt (suc (length c.args.waiting.now)) 4096) (sym need) ∙ ap (λ k. nat_le (s.stack + (length c.behind-args.result.now + c.from.result + n)) 1310721 && nat_lt (suc k) 4096) (sym c.len.ensures.len) ∙ sym c.has_room.ensures ∙ c.if-not-has_room.false in
@@ -41,4 +40,4 @@ returns-clause-comes c =
     let stack : s.stack + (length c.behind-args.result.now + c.from.result + n) ≡ s.stack + (slots q.params + q.locals + n) = omega arith in
     let after : State = record { words = c.enter_call.new.words; stack = s.stack + (length c.behind-args.result.now + c.from.result + n); operands = c.push.new.operands; turns = s.turns - 1 } in
     let place : Place = record { unit = c.args.r.module; procedure = c.args.r.proc; first = s.stack; next = q.entry } in
-    has_its_room c.args.image.now here place c.args.waiting.now c.push.new.self s after c.args.r q args ops n (s.turns - 1) c.count.ensures.room ep ec et eb refl waits c.push.ensures.operands words stack refl
+    has_its_room c.args.image.now here place c.args.waiting.now c.push.new.self s after c.args.r q args ops n (s.turns - 1) c.count.ensures.room c.requires.found ec et eb refl waits c.push.ensures.operands words stack refl

@@ -1,7 +1,3 @@
-use Rattle.std.proofs.Common.{subst}
-use Rattle.ob_calls.specs.Reached.{Comes}
-use Rattle.ob_instr.specs.Table.{row}
-use Rattle.ob_values.specs.Effects.{ops_of}
 use Rattle.ob_calls.proofs.Less.{less}
 use Rattle.ob_calls.proofs.instruction.call_or_return.Goals as goal
 

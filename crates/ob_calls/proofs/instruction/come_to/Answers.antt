@@ -1,4 +1,4 @@
-use Rattle.std.proofs.Common.{sym, ap, ◌∙◌}
+use Rattle.std.proofs.Common.{ap, ◌∙◌}
 use Rattle.ob_instr.specs.Table.{come_to, row}
 use Rattle.ob_values.specs.Effects.{ops_of, world_of}
 use Rattle.ob_calls.proofs.instruction.come_to.Goals as goal

@@ -1,4 +1,4 @@
-use Rattle.std.proofs.Common.{◌≡◌, Some, false, [], slice_get, ap, ◌∙◌, subst}
+use Rattle.std.proofs.Common.{◌≡◌, Some, false, [], slice_get, ap, ◌∙◌}
 use Rattle.std.specs.Prelude.{option_map}
 use Rattle.ob_instr.specs.Rows.{Leave, Unable}
 use Rattle.ob_instr.specs.Table.{come_to}

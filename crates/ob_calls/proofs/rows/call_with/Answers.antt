@@ -1,6 +1,5 @@
-use Rattle.std.proofs.Common.{◌≡◌, ◌+◌, ◌-◌, length, Some, ap, sym, ◌∙◌, arith}
+use Rattle.std.proofs.Common.{◌≡◌, ◌+◌, ◌-◌, length, ap, ◌∙◌, arith}
 use Rattle.ob_instr.specs.Parts.{slots}
-use Rattle.ob_instr.specs.Rows.{procedure_of}
 use Rattle.ob_instr.specs.Table.{come_to}
 use Rattle.ob_values.specs.Effects.{world_of}
 use Rattle.ob_calls.proofs.Operands.{with_is}
@@ -10,9 +9,8 @@ pub returns-clause-comes : goal.returns-clause-comes
 returns-clause-comes c =
     let s = c.args.state.now in
     let here = c.args.here.now in
-    let q = c.in-Some.q.now in
-    let n = c.count_slots-slots.result in
-    let ep : procedure_of c.args.image.now c.args.r ≡ Some q = sym c.in-Some.ensures.found in
-    let en : n ≡ slots q.params = c.count_slots-slots.ensures ∙ ap slots c.as_slice.ensures in
+    let q = c.args.q.now in
+    let n = c.shape_of-shape.result.slots in
+    let en : n ≡ slots q.params = c.shape_of-shape.ensures.slots ∙ ap slots c.as_slice.ensures in
     let e : c.len-len.result - n + n ≡ length s.operands.items = omega (arith, c.len-len.ensures, s.operands.ok.0) in
-    λ u out. ap (come_to c.args.image.now u here.unit here.procedure here.first c.args.waiting.now here.next (world_of s out)) (with_is c.args.image.now c.args.r q s.operands.items n (c.len-len.result - n) (world_of s out) ep en e) ∙ c.call.ensures.comes u out
+    λ u out. ap (come_to c.args.image.now u here.unit here.procedure here.first c.args.waiting.now here.next (world_of s out)) (with_is c.args.image.now c.args.r q s.operands.items n (c.len-len.result - n) (world_of s out) c.requires.found en e) ∙ c.call.ensures.comes u out

@@ -1,4 +1,4 @@
-use Rattle.std.proofs.Common.{◌≡◌, ◌+◌, ◌≤◌, length, refl, arith}
+use Rattle.std.proofs.Common.{◌+◌, ◌≤◌, length, refl, arith}
 use Rattle.ob_machine.proofs.Runs.{begins_so, stack_so}
 use Rattle.ob_machine.proofs.running.begin.Goals as goal
 

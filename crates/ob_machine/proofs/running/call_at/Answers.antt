@@ -1,4 +1,4 @@
-use Rattle.std.proofs.Common.{◌≡◌, ◌<◌, ◌≤◌, length, Some, ap, sym, subst, arith}
+use Rattle.std.proofs.Common.{◌<◌, ◌≤◌, length, Some, sym, subst, arith}
 use Rattle.ob_machine.specs.Legs.{CallDoes}
 use Rattle.ob_machine.proofs.Legs.{goes_on, has_many, traps, is_spent, is_unable}
 use Rattle.ob_machine.proofs.running.call_at.Goals as goal
