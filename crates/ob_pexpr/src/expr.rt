@@ -6,7 +6,7 @@ ghost use Rattle.ob_tree.specs.declared.symbol.Symbol.TheVariants as s;
 ghost use Rattle.ob_grammar.specs.Phrase.{AnExpr, Negated, many, nest};
 ghost use Rattle.ob_grammar.specs.Expressions as spec;
 ghost use Rattle.ob_grammar.specs.Grammar.{reads, read};
-ghost use Rattle.ob_pexpr.specs.Contract.{Reads};
+ghost use Rattle.ob_pexpr.specs.Contract.{Adds, Reads};
 
 use crate::cursor::Cursor;
 use crate::fault::ParseFault;
@@ -47,22 +47,23 @@ fn further_indexes(
     Ok(found)
 }
 
+/// Indexes in one pair of brackets, behind the selectors that were found before.
 #[cycle(expr)]
 fn index(
     alloc: Global,
     tokens: &mut Cursor<'_>,
     levels: usize,
-) -> Result<List<Selector>, ParseFault>
-    ensures { Reads (reads levels spec.index tokens.old) result tokens.new }
+    found: &mut List<Selector>,
+) -> Result<(), ParseFault>
+    ensures { Adds (reads levels spec.index tokens.old) found.old result found.new tokens.new }
 {
     let pos = tokens.expect(Symbol::LeftSquare)?;
     let index = nested_expr(alloc, tokens, levels)?;
     let further = further_indexes(alloc, tokens, levels)?;
     tokens.expect(Symbol::RightSquare)?;
-    let mut found = List::new(alloc);
     found.push(Selector::Index { pos, index })?;
     found.append(further)?;
-    Ok(found)
+    Ok(())
 }
 
 #[cycle(expr)]
@@ -93,9 +94,15 @@ pub fn exprs(
     Ok(found)
 }
 
+/// A call's brackets, behind the selectors that were found before.
 #[cycle(expr)]
-fn call(alloc: Global, tokens: &mut Cursor<'_>, levels: usize) -> Result<List<Selector>, ParseFault>
-    ensures { Reads (reads levels spec.call tokens.old) result tokens.new }
+fn call(
+    alloc: Global,
+    tokens: &mut Cursor<'_>,
+    levels: usize,
+    found: &mut List<Selector>,
+) -> Result<(), ParseFault>
+    ensures { Adds (reads levels spec.call tokens.old) found.old result found.new tokens.new }
 {
     let pos = tokens.expect(Symbol::LeftRound)?;
     let arguments = if tokens.sees_expr() {
@@ -104,27 +111,28 @@ fn call(alloc: Global, tokens: &mut Cursor<'_>, levels: usize) -> Result<List<Se
         List::new(alloc)
     };
     tokens.expect(Symbol::RightRound)?;
-    let mut found = List::new(alloc);
     found.push(Selector::Call { pos, arguments })?;
-    Ok(found)
+    Ok(())
 }
 
+/// One selector, behind those that were found before.
 #[cycle(expr)]
 fn selector(
     alloc: Global,
     tokens: &mut Cursor<'_>,
     levels: usize,
-) -> Result<List<Selector>, ParseFault>
-    ensures { Reads (reads levels spec.selector tokens.old) result tokens.new }
+    found: &mut List<Selector>,
+) -> Result<(), ParseFault>
+    ensures { Adds (reads levels spec.selector tokens.old) found.old result found.new tokens.new }
 {
     if tokens.sees(Symbol::Dot) {
-        field(alloc, tokens)
+        field(tokens, found)
     } else if tokens.sees(Symbol::LeftSquare) {
-        index(alloc, tokens, levels)
+        index(alloc, tokens, levels, found)
     } else if tokens.sees(Symbol::Caret) {
-        deref(alloc, tokens)
+        deref(tokens, found)
     } else {
-        call(alloc, tokens, levels)
+        call(alloc, tokens, levels, found)
     }
 }
 
@@ -138,8 +146,7 @@ fn selectors(
 {
     let mut found = List::new(alloc);
     'more: while tokens.sees_selector() {
-        let x = selector(alloc, tokens, levels)?;
-        found.append(x)?;
+        selector(alloc, tokens, levels, &mut found)?;
     }
     Ok(found)
 }
