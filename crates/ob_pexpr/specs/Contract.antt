@@ -28,6 +28,11 @@ abbrev pub Adds : {A : Type 0} → Read (List A) → List A → Result (Unit {0}
 Adds {A} r old (Ok u) new rest = (xs : List A) × (r ≡ Found xs rest) × (new ≡ old ++ xs)
 Adds r old (Err e) new rest = FailsAs e r
 
+-- the same of one that was read
+abbrev pub Puts : {A : Type 0} → Read A → List A → Result (Unit {0}) ParseFault → List A → Tokens → Type 0
+Puts {A} r old (Ok u) new rest = (x : A) × (r ≡ Found x rest) × (new ≡ old ++ x ∷ [])
+Puts r old (Err e) new rest = FailsAs e r
+
 -- the same symbol with the same text at the same place
 abbrev pub Alike : Token → Token → Type 0
 Alike t u = (t.symbol ≡ u.symbol) × (t.text.now ≡ u.text.now) × (t.pos ≡ u.pos)

@@ -18,6 +18,7 @@ use std::alloc::Global;
 
 // ---- selectors
 
+#[inline(always)]
 #[cycle(expr)]
 fn further_index(
     alloc: Global,
@@ -48,6 +49,7 @@ fn further_indexes(
 }
 
 /// Indexes in one pair of brackets, behind the selectors that were found before.
+#[inline(never)]
 #[cycle(expr)]
 fn index(
     alloc: Global,
@@ -66,6 +68,7 @@ fn index(
     Ok(())
 }
 
+#[inline(always)]
 #[cycle(expr)]
 fn next_expr(alloc: Global, tokens: &mut Cursor<'_>, levels: usize) -> Result<Expr, ParseFault>
     ensures { Reads (reads levels (spec.next_of s.Comma (nest AnExpr)) tokens.old) result tokens.new }
@@ -76,6 +79,7 @@ fn next_expr(alloc: Global, tokens: &mut Cursor<'_>, levels: usize) -> Result<Ex
 }
 
 /// Expressions with commas between; at least one.
+#[inline(never)]
 #[cycle(expr)]
 pub fn exprs(
     alloc: Global,
@@ -95,6 +99,7 @@ pub fn exprs(
 }
 
 /// A call's brackets, behind the selectors that were found before.
+#[inline(never)]
 #[cycle(expr)]
 fn call(
     alloc: Global,
@@ -136,6 +141,7 @@ fn selector(
     }
 }
 
+#[inline(always)]
 #[cycle(expr)]
 fn selectors(
     alloc: Global,
@@ -168,6 +174,7 @@ pub fn designator(
 
 // ---- factors
 
+#[inline(always)]
 #[cycle(expr)]
 fn element(alloc: Global, tokens: &mut Cursor<'_>, levels: usize) -> Result<Element, ParseFault>
     ensures { Reads (reads levels spec.element tokens.old) result tokens.new }
@@ -185,6 +192,7 @@ fn element(alloc: Global, tokens: &mut Cursor<'_>, levels: usize) -> Result<Elem
     }
 }
 
+#[inline(always)]
 #[cycle(expr)]
 fn next_element(
     alloc: Global,
@@ -217,6 +225,7 @@ pub fn elements(
     Ok(found)
 }
 
+#[inline(never)]
 #[cycle(expr)]
 fn set(alloc: Global, tokens: &mut Cursor<'_>, levels: usize) -> Result<Expr, ParseFault>
     ensures { Reads (reads levels spec.set tokens.old) result tokens.new }
@@ -231,6 +240,7 @@ fn set(alloc: Global, tokens: &mut Cursor<'_>, levels: usize) -> Result<Expr, Pa
     Ok(Expr::Set { pos, elements })
 }
 
+#[inline(never)]
 #[cycle(expr)]
 fn paren(alloc: Global, tokens: &mut Cursor<'_>, levels: usize) -> Result<Expr, ParseFault>
     ensures { Reads (reads levels spec.paren tokens.old) result tokens.new }
@@ -242,6 +252,7 @@ fn paren(alloc: Global, tokens: &mut Cursor<'_>, levels: usize) -> Result<Expr, 
     Ok(Expr::Paren { pos, inner })
 }
 
+#[inline(always)]
 #[cycle(expr)]
 fn negation(alloc: Global, tokens: &mut Cursor<'_>, levels: usize) -> Result<Expr, ParseFault>
     ensures { Reads (reads levels spec.negated tokens.old) result tokens.new }
@@ -253,6 +264,7 @@ fn negation(alloc: Global, tokens: &mut Cursor<'_>, levels: usize) -> Result<Exp
 }
 
 // `~` and what it negates take a level.
+#[inline(never)]
 #[cycle(expr)]
 fn negated(alloc: Global, tokens: &mut Cursor<'_>, levels: usize) -> Result<Expr, ParseFault>
     ensures { Reads (read levels Negated tokens.old) result tokens.new }
@@ -263,6 +275,7 @@ fn negated(alloc: Global, tokens: &mut Cursor<'_>, levels: usize) -> Result<Expr
     negation(alloc, tokens, levels - 1)
 }
 
+#[inline(never)]
 #[cycle(expr)]
 fn factor(alloc: Global, tokens: &mut Cursor<'_>, levels: usize) -> Result<Expr, ParseFault>
     ensures { Reads (reads levels spec.factor tokens.old) result tokens.new }
@@ -289,6 +302,7 @@ fn factor(alloc: Global, tokens: &mut Cursor<'_>, levels: usize) -> Result<Expr,
 
 // ---- chains
 
+#[inline(always)]
 #[cycle(expr)]
 fn mul_tail(alloc: Global, tokens: &mut Cursor<'_>, levels: usize) -> Result<Tail, ParseFault>
     ensures { Reads (reads levels spec.mul_tail tokens.old) result tokens.new }
@@ -302,6 +316,7 @@ fn mul_tail(alloc: Global, tokens: &mut Cursor<'_>, levels: usize) -> Result<Tai
     })
 }
 
+#[inline(never)]
 #[cycle(expr)]
 fn mul_tails(
     alloc: Global,
@@ -318,16 +333,22 @@ fn mul_tails(
     Ok(found)
 }
 
+#[inline(always)]
 #[cycle(expr)]
 fn term(alloc: Global, tokens: &mut Cursor<'_>, levels: usize) -> Result<Expr, ParseFault>
     ensures { Reads (reads levels spec.term tokens.old) result tokens.new }
 {
     let first = factor(alloc, tokens, levels)?;
-    let tails = mul_tails(alloc, tokens, levels)?;
-    let whole = chain(alloc, first, tails)?;
-    Ok(whole)
+    if tokens.sees_mul_op() {
+        let tails = mul_tails(alloc, tokens, levels)?;
+        let whole = chain(alloc, first, tails)?;
+        Ok(whole)
+    } else {
+        Ok(first)
+    }
 }
 
+#[inline(always)]
 #[cycle(expr)]
 fn signed(alloc: Global, tokens: &mut Cursor<'_>, levels: usize) -> Result<Expr, ParseFault>
     ensures { Reads (reads levels spec.signed tokens.old) result tokens.new }
@@ -346,6 +367,7 @@ fn signed(alloc: Global, tokens: &mut Cursor<'_>, levels: usize) -> Result<Expr,
     }
 }
 
+#[inline(always)]
 #[cycle(expr)]
 fn add_tail(alloc: Global, tokens: &mut Cursor<'_>, levels: usize) -> Result<Tail, ParseFault>
     ensures { Reads (reads levels spec.add_tail tokens.old) result tokens.new }
@@ -359,6 +381,7 @@ fn add_tail(alloc: Global, tokens: &mut Cursor<'_>, levels: usize) -> Result<Tai
     })
 }
 
+#[inline(never)]
 #[cycle(expr)]
 fn add_tails(
     alloc: Global,
@@ -375,16 +398,22 @@ fn add_tails(
     Ok(found)
 }
 
+#[inline(never)]
 #[cycle(expr)]
 fn simple(alloc: Global, tokens: &mut Cursor<'_>, levels: usize) -> Result<Expr, ParseFault>
     ensures { Reads (reads levels spec.simple tokens.old) result tokens.new }
 {
     let first = signed(alloc, tokens, levels)?;
-    let tails = add_tails(alloc, tokens, levels)?;
-    let whole = chain(alloc, first, tails)?;
-    Ok(whole)
+    if tokens.sees_add_op() {
+        let tails = add_tails(alloc, tokens, levels)?;
+        let whole = chain(alloc, first, tails)?;
+        Ok(whole)
+    } else {
+        Ok(first)
+    }
 }
 
+#[inline(always)]
 #[cycle(expr)]
 fn expr(alloc: Global, tokens: &mut Cursor<'_>, levels: usize) -> Result<Expr, ParseFault>
     ensures { Reads (reads levels spec.expr tokens.old) result tokens.new }
