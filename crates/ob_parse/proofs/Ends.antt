@@ -44,11 +44,15 @@ last_end [] t (u ∷ us) e h = absurd (h.0 e)
 last_end (y ∷ []) t r e h = last_end [] t r e h.1
 last_end (y ∷ z ∷ zs) t r e h = last_end (z ∷ zs) t r e h.1
 
-none_left : (ts : Tokens) (m : Module) (r : Tokens) → EndsOnce ts → reads limit «module» ts ≡ Found m r → r ≡ []
-none_left ts m r once q =
+-- a module that is read has the end before the tokens that are left
+pub ends_before : (ts : Tokens) (m : Module) (r : Tokens) → reads limit «module» ts ≡ Found m r → (x : Tokens) × (t : Token) × (ts ≡ x ++ t ∷ r) × (t.symbol ≡ s.End)
+ends_before ts m r q =
     let v = (good_phrase limit «module» module_fine).sound ts m r q in
     let e = (module_ends (spells limit)).all m v.0 v.2 in
-    last_end e.0 e.1 r e.3 (subst EndsOnce (v.1 ∙ ap (λ w. w ++ r) e.2 ∙ append_assoc e.0 (e.1 ∷ []) r) once)
+    (e.0, e.1, v.1 ∙ ap (λ w. w ++ r) e.2 ∙ append_assoc e.0 (e.1 ∷ []) r, e.3)
+
+none_left : (ts : Tokens) (m : Module) (r : Tokens) → EndsOnce ts → reads limit «module» ts ≡ Found m r → r ≡ []
+none_left ts m r once q = let e = ends_before ts m r q in last_end e.0 e.1 r e.3 (subst EndsOnce e.2 once)
 
 pub says : (ts : Tokens) (r : Result Module ParseFault) (new : Tokens) → EndsOnce ts → Reads (reads limit «module» ts) r new → Says r ts
 says ts (Ok m) new once h = h ∙ ap (λ w. Found m w) (none_left ts m new once h)

@@ -9,4 +9,4 @@ mod procedure;
 mod start;
 mod type_node;
 
-pub use modules::{parse, parse_from};
+pub use modules::{parse, parse_from, read_module};

@@ -41,6 +41,14 @@ fn whole(alloc: Global, tokens: &mut Cursor<'_>, levels: usize) -> Result<Module
     })
 }
 
+/// The module that a front of the tokens that are left spells; its last token is the end of a
+/// text. The faults are those of `parse`; where no token is left, the place is 0:0.
+pub fn read_module(alloc: Global, tokens: &mut Cursor<'_>) -> Result<Module, ParseFault>
+    ensures { Reads (reads limit «module» tokens.old) result tokens.new }
+{
+    whole(alloc, tokens, nest_limit())
+}
+
 /// The module that the tokens that are left spell, and then the end. The faults are those of
 /// `parse`.
 pub fn parse_from(alloc: Global, tokens: &mut Cursor<'_>) -> Result<Module, ParseFault>
@@ -50,7 +58,7 @@ pub fn parse_from(alloc: Global, tokens: &mut Cursor<'_>) -> Result<Module, Pars
     // Behind a module no token is left.
     ensures behind { IfOk result (λ m. tokens.new ≡ []) }
 {
-    whole(alloc, tokens, nest_limit())
+    read_module(alloc, tokens)
 }
 
 /// The module that the tokens spell, of which the last is the end of a text and no other is, and

@@ -1,13 +1,13 @@
 -- What is repeated takes a token each time, and how it starts.
-use Rattle.std.proofs.Common.{◌≡◌, refl, ℕ, Bool, true, false, ◌||◌, [], ◌∷◌}
+use Rattle.std.proofs.Common.{◌≡◌, refl, ◌∙◌, ℕ, Bool, true, false, ◌||◌, [], ◌∷◌}
 use Rattle.ob_tree.specs.declared.symbol.Symbol.TheVariants as s
-use Rattle.ob_grammar.specs.Phrase.{Tokens, same, AnExpr, nest}
-use Rattle.ob_grammar.specs.Reading.{starts}
+use Rattle.ob_grammar.specs.Phrase.{Tokens, same, AnExpr, many, nest}
+use Rattle.ob_grammar.specs.Reading.{Found, starts}
 use Rattle.ob_grammar.specs.Expressions.{next_of, ident, ident_def, further_index, mul_op, mul_tail, add_op, add_tail, selector, element}
 use Rattle.ob_grammar.specs.Grammar.{reads, begins}
 use Rattle.ob_grammar.proofs.Fine.{every}
 use Rattle.ob_grammar.proofs.Local.{Takes}
-use Rattle.ob_grammar.proofs.Loops.{takes}
+use Rattle.ob_grammar.proofs.Loops.{takes, many_ends}
 
 pub takes_further : (d : ℕ) → Takes (begins further_index) (reads d further_index)
 unfolding every
@@ -58,3 +58,10 @@ mul_starts (t ∷ ts) = or_no _
 pub add_starts : (ts : Tokens) → starts (begins add_tail) ts ≡ starts (begins add_op) ts
 add_starts [] = refl
 add_starts (t ∷ ts) = or_no _
+
+-- where no operator stands, there are no tails
+pub no_mul : (d : ℕ) (ts : Tokens) → starts (begins mul_op) ts ≡ false → reads d (many mul_tail) ts ≡ Found [] ts
+no_mul d ts e = many_ends (begins mul_tail) (reads d mul_tail) (takes_mul d) ts (mul_starts ts ∙ e)
+
+pub no_add : (d : ℕ) (ts : Tokens) → starts (begins add_op) ts ≡ false → reads d (many add_tail) ts ≡ Found [] ts
+no_add d ts e = many_ends (begins add_tail) (reads d add_tail) (takes_add d) ts (add_starts ts ∙ e)

@@ -1,5 +1,5 @@
 -- What a function that parses ensures: it gives what the grammar's reading gives, unless memory runs out.
-use Rattle.std.specs.Prelude.{◌≡◌, [], ◌∷◌, Result, Ok, Err}
+use Rattle.std.specs.Prelude.{◌≡◌, List, [], ◌∷◌, ◌++◌, Result, Ok, Err}
 use Rattle.ob_tree.specs.declared.symbol.Symbol.{Symbol}
 use Rattle.ob_tree.specs.declared.token.Token.{Token}
 use Rattle.ob_tree.specs.declared.pos.Pos.{Pos}
@@ -22,6 +22,16 @@ FailsAs (fault.TooDeep pos) r = (ts : Tokens) × (r ≡ Fails Deep ts) × IsAt t
 abbrev pub Reads : {A : Type 0} → Read A → Result A ParseFault → Tokens → Type 0
 Reads r (Ok x) new = r ≡ Found x new
 Reads r (Err e) new = FailsAs e r
+
+-- what was read stands behind what was there before
+abbrev pub Adds : {A : Type 0} → Read (List A) → List A → Result (Unit {0}) ParseFault → List A → Tokens → Type 0
+Adds {A} r old (Ok u) new rest = (xs : List A) × (r ≡ Found xs rest) × (new ≡ old ++ xs)
+Adds r old (Err e) new rest = FailsAs e r
+
+-- the same of one that was read
+abbrev pub Puts : {A : Type 0} → Read A → List A → Result (Unit {0}) ParseFault → List A → Tokens → Type 0
+Puts {A} r old (Ok u) new rest = (x : A) × (r ≡ Found x rest) × (new ≡ old ++ x ∷ [])
+Puts r old (Err e) new rest = FailsAs e r
 
 -- the same symbol with the same text at the same place
 abbrev pub Alike : Token → Token → Type 0

@@ -10,6 +10,7 @@ use ob_scan::Scanner;
 use ob_tree::{Symbol, Token};
 
 /// The token that comes next in the text; none where a fault comes.
+#[inline(always)]
 pub fn scanned<'a>(scanner: &mut Scanner<'a>) -> Option<Token<'a>>
     ensures { left result (source.Scanned scanner.new) ≡ tokens_of scanner.old }
 {
@@ -20,6 +21,7 @@ pub fn scanned<'a>(scanner: &mut Scanner<'a>) -> Option<Token<'a>>
 }
 
 /// The token behind one of this symbol: none is left behind the end of a text.
+#[inline(always)]
 pub fn next_behind<'a>(source: &mut Source<'a>, symbol: Symbol) -> Option<Token<'a>>
     ensures { left result source.new ≡ behind symbol source.old }
 {
@@ -39,4 +41,12 @@ pub fn next_behind<'a>(source: &mut Source<'a>, symbol: Symbol) -> Option<Token<
             }
         }
     }
+}
+
+/// Puts the token behind one of this symbol in its place.
+#[inline(never)]
+pub fn go_on<'a>(next: &mut Option<Token<'a>>, source: &mut Source<'a>, symbol: Symbol)
+    ensures { left next.new source.new ≡ behind symbol source.old }
+{
+    *next = next_behind(source, symbol);
 }

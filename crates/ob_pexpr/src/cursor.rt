@@ -9,7 +9,7 @@ ghost use Rattle.ob_scan.specs.Scanning.{start_of};
 ghost use Rattle.ob_pexpr.specs.Left.{NamesFit, name_fits, tokens_of};
 ghost use Rattle.ob_pexpr.specs.Contract.{IsAt, IsFault, FailsAs, Gives, Reads, Takes};
 
-use crate::behind::{next_behind, scanned};
+use crate::behind::{go_on, scanned};
 use crate::fault::ParseFault;
 use crate::source::Source;
 use ob_scan::Scanner;
@@ -70,6 +70,7 @@ impl<'a> Cursor<'a> {
     }
 
     /// Whether the next token is this symbol.
+    #[inline(always)]
     pub fn sees(&self, symbol: Symbol) -> bool
         ensures { result ≡ starts (λ x. same x symbol) self.now }
     {
@@ -106,6 +107,7 @@ impl<'a> Cursor<'a> {
 
 impl<'a> Cursor<'a> {
     /// Takes the next token where it is this symbol; else Syntax at it.
+    #[inline(always)]
     pub fn token(&mut self, symbol: Symbol) -> Result<Token<'a>, ParseFault>
         ensures value { Gives (take_word symbol self.old) result self.new }
 
@@ -116,7 +118,7 @@ impl<'a> Cursor<'a> {
             None => Err(self.wrong()),
             Some(t) => {
                 if t.symbol == symbol {
-                    self.next = next_behind(&mut self.source, t.symbol);
+                    go_on(&mut self.next, &mut self.source, t.symbol);
                     Ok(t)
                 } else {
                     Err(ParseFault::Syntax { pos: t.pos })
@@ -126,6 +128,7 @@ impl<'a> Cursor<'a> {
     }
 
     /// Takes the next token where it is this symbol, and gives its place; else Syntax at it.
+    #[inline(never)]
     pub fn expect(&mut self, symbol: Symbol) -> Result<Pos, ParseFault>
         ensures { Takes symbol self.old result self.new }
     {
@@ -134,6 +137,7 @@ impl<'a> Cursor<'a> {
     }
 
     /// Takes an identifier; else Syntax at the next token.
+    #[inline(never)]
     pub fn ident(&mut self) -> Result<Ident, ParseFault>
         ensures { Reads (reads 0 spec.ident self.old) result self.new }
     {

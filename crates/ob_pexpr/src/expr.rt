@@ -6,7 +6,7 @@ ghost use Rattle.ob_tree.specs.declared.symbol.Symbol.TheVariants as s;
 ghost use Rattle.ob_grammar.specs.Phrase.{AnExpr, Negated, many, nest};
 ghost use Rattle.ob_grammar.specs.Expressions as spec;
 ghost use Rattle.ob_grammar.specs.Grammar.{reads, read};
-ghost use Rattle.ob_pexpr.specs.Contract.{Reads};
+ghost use Rattle.ob_pexpr.specs.Contract.{Adds, Reads};
 
 use crate::cursor::Cursor;
 use crate::fault::ParseFault;
@@ -18,6 +18,7 @@ use std::alloc::Global;
 
 // ---- selectors
 
+#[inline(always)]
 #[cycle(expr)]
 fn further_index(
     alloc: Global,
@@ -47,24 +48,27 @@ fn further_indexes(
     Ok(found)
 }
 
+/// Indexes in one pair of brackets, behind the selectors that were found before.
+#[inline(never)]
 #[cycle(expr)]
 fn index(
     alloc: Global,
     tokens: &mut Cursor<'_>,
     levels: usize,
-) -> Result<List<Selector>, ParseFault>
-    ensures { Reads (reads levels spec.index tokens.old) result tokens.new }
+    found: &mut List<Selector>,
+) -> Result<(), ParseFault>
+    ensures { Adds (reads levels spec.index tokens.old) found.old result found.new tokens.new }
 {
     let pos = tokens.expect(Symbol::LeftSquare)?;
     let index = nested_expr(alloc, tokens, levels)?;
     let further = further_indexes(alloc, tokens, levels)?;
     tokens.expect(Symbol::RightSquare)?;
-    let mut found = List::new(alloc);
     found.push(Selector::Index { pos, index })?;
     found.append(further)?;
-    Ok(found)
+    Ok(())
 }
 
+#[inline(always)]
 #[cycle(expr)]
 fn next_expr(alloc: Global, tokens: &mut Cursor<'_>, levels: usize) -> Result<Expr, ParseFault>
     ensures { Reads (reads levels (spec.next_of s.Comma (nest AnExpr)) tokens.old) result tokens.new }
@@ -75,6 +79,7 @@ fn next_expr(alloc: Global, tokens: &mut Cursor<'_>, levels: usize) -> Result<Ex
 }
 
 /// Expressions with commas between; at least one.
+#[inline(never)]
 #[cycle(expr)]
 pub fn exprs(
     alloc: Global,
@@ -93,9 +98,16 @@ pub fn exprs(
     Ok(found)
 }
 
+/// A call's brackets, behind the selectors that were found before.
+#[inline(never)]
 #[cycle(expr)]
-fn call(alloc: Global, tokens: &mut Cursor<'_>, levels: usize) -> Result<List<Selector>, ParseFault>
-    ensures { Reads (reads levels spec.call tokens.old) result tokens.new }
+fn call(
+    alloc: Global,
+    tokens: &mut Cursor<'_>,
+    levels: usize,
+    found: &mut List<Selector>,
+) -> Result<(), ParseFault>
+    ensures { Adds (reads levels spec.call tokens.old) found.old result found.new tokens.new }
 {
     let pos = tokens.expect(Symbol::LeftRound)?;
     let arguments = if tokens.sees_expr() {
@@ -104,30 +116,32 @@ fn call(alloc: Global, tokens: &mut Cursor<'_>, levels: usize) -> Result<List<Se
         List::new(alloc)
     };
     tokens.expect(Symbol::RightRound)?;
-    let mut found = List::new(alloc);
     found.push(Selector::Call { pos, arguments })?;
-    Ok(found)
+    Ok(())
 }
 
+/// One selector, behind those that were found before.
 #[cycle(expr)]
 fn selector(
     alloc: Global,
     tokens: &mut Cursor<'_>,
     levels: usize,
-) -> Result<List<Selector>, ParseFault>
-    ensures { Reads (reads levels spec.selector tokens.old) result tokens.new }
+    found: &mut List<Selector>,
+) -> Result<(), ParseFault>
+    ensures { Adds (reads levels spec.selector tokens.old) found.old result found.new tokens.new }
 {
     if tokens.sees(Symbol::Dot) {
-        field(alloc, tokens)
+        field(tokens, found)
     } else if tokens.sees(Symbol::LeftSquare) {
-        index(alloc, tokens, levels)
+        index(alloc, tokens, levels, found)
     } else if tokens.sees(Symbol::Caret) {
-        deref(alloc, tokens)
+        deref(tokens, found)
     } else {
-        call(alloc, tokens, levels)
+        call(alloc, tokens, levels, found)
     }
 }
 
+#[inline(always)]
 #[cycle(expr)]
 fn selectors(
     alloc: Global,
@@ -138,8 +152,7 @@ fn selectors(
 {
     let mut found = List::new(alloc);
     'more: while tokens.sees_selector() {
-        let x = selector(alloc, tokens, levels)?;
-        found.append(x)?;
+        selector(alloc, tokens, levels, &mut found)?;
     }
     Ok(found)
 }
@@ -161,6 +174,7 @@ pub fn designator(
 
 // ---- factors
 
+#[inline(always)]
 #[cycle(expr)]
 fn element(alloc: Global, tokens: &mut Cursor<'_>, levels: usize) -> Result<Element, ParseFault>
     ensures { Reads (reads levels spec.element tokens.old) result tokens.new }
@@ -178,6 +192,7 @@ fn element(alloc: Global, tokens: &mut Cursor<'_>, levels: usize) -> Result<Elem
     }
 }
 
+#[inline(always)]
 #[cycle(expr)]
 fn next_element(
     alloc: Global,
@@ -210,6 +225,7 @@ pub fn elements(
     Ok(found)
 }
 
+#[inline(never)]
 #[cycle(expr)]
 fn set(alloc: Global, tokens: &mut Cursor<'_>, levels: usize) -> Result<Expr, ParseFault>
     ensures { Reads (reads levels spec.set tokens.old) result tokens.new }
@@ -224,6 +240,7 @@ fn set(alloc: Global, tokens: &mut Cursor<'_>, levels: usize) -> Result<Expr, Pa
     Ok(Expr::Set { pos, elements })
 }
 
+#[inline(never)]
 #[cycle(expr)]
 fn paren(alloc: Global, tokens: &mut Cursor<'_>, levels: usize) -> Result<Expr, ParseFault>
     ensures { Reads (reads levels spec.paren tokens.old) result tokens.new }
@@ -235,6 +252,7 @@ fn paren(alloc: Global, tokens: &mut Cursor<'_>, levels: usize) -> Result<Expr, 
     Ok(Expr::Paren { pos, inner })
 }
 
+#[inline(always)]
 #[cycle(expr)]
 fn negation(alloc: Global, tokens: &mut Cursor<'_>, levels: usize) -> Result<Expr, ParseFault>
     ensures { Reads (reads levels spec.negated tokens.old) result tokens.new }
@@ -246,6 +264,7 @@ fn negation(alloc: Global, tokens: &mut Cursor<'_>, levels: usize) -> Result<Exp
 }
 
 // `~` and what it negates take a level.
+#[inline(never)]
 #[cycle(expr)]
 fn negated(alloc: Global, tokens: &mut Cursor<'_>, levels: usize) -> Result<Expr, ParseFault>
     ensures { Reads (read levels Negated tokens.old) result tokens.new }
@@ -256,6 +275,7 @@ fn negated(alloc: Global, tokens: &mut Cursor<'_>, levels: usize) -> Result<Expr
     negation(alloc, tokens, levels - 1)
 }
 
+#[inline(never)]
 #[cycle(expr)]
 fn factor(alloc: Global, tokens: &mut Cursor<'_>, levels: usize) -> Result<Expr, ParseFault>
     ensures { Reads (reads levels spec.factor tokens.old) result tokens.new }
@@ -282,6 +302,7 @@ fn factor(alloc: Global, tokens: &mut Cursor<'_>, levels: usize) -> Result<Expr,
 
 // ---- chains
 
+#[inline(always)]
 #[cycle(expr)]
 fn mul_tail(alloc: Global, tokens: &mut Cursor<'_>, levels: usize) -> Result<Tail, ParseFault>
     ensures { Reads (reads levels spec.mul_tail tokens.old) result tokens.new }
@@ -295,6 +316,7 @@ fn mul_tail(alloc: Global, tokens: &mut Cursor<'_>, levels: usize) -> Result<Tai
     })
 }
 
+#[inline(never)]
 #[cycle(expr)]
 fn mul_tails(
     alloc: Global,
@@ -311,16 +333,22 @@ fn mul_tails(
     Ok(found)
 }
 
+#[inline(always)]
 #[cycle(expr)]
 fn term(alloc: Global, tokens: &mut Cursor<'_>, levels: usize) -> Result<Expr, ParseFault>
     ensures { Reads (reads levels spec.term tokens.old) result tokens.new }
 {
     let first = factor(alloc, tokens, levels)?;
-    let tails = mul_tails(alloc, tokens, levels)?;
-    let whole = chain(alloc, first, tails)?;
-    Ok(whole)
+    if tokens.sees_mul_op() {
+        let tails = mul_tails(alloc, tokens, levels)?;
+        let whole = chain(alloc, first, tails)?;
+        Ok(whole)
+    } else {
+        Ok(first)
+    }
 }
 
+#[inline(always)]
 #[cycle(expr)]
 fn signed(alloc: Global, tokens: &mut Cursor<'_>, levels: usize) -> Result<Expr, ParseFault>
     ensures { Reads (reads levels spec.signed tokens.old) result tokens.new }
@@ -339,6 +367,7 @@ fn signed(alloc: Global, tokens: &mut Cursor<'_>, levels: usize) -> Result<Expr,
     }
 }
 
+#[inline(always)]
 #[cycle(expr)]
 fn add_tail(alloc: Global, tokens: &mut Cursor<'_>, levels: usize) -> Result<Tail, ParseFault>
     ensures { Reads (reads levels spec.add_tail tokens.old) result tokens.new }
@@ -352,6 +381,7 @@ fn add_tail(alloc: Global, tokens: &mut Cursor<'_>, levels: usize) -> Result<Tai
     })
 }
 
+#[inline(never)]
 #[cycle(expr)]
 fn add_tails(
     alloc: Global,
@@ -368,16 +398,22 @@ fn add_tails(
     Ok(found)
 }
 
+#[inline(never)]
 #[cycle(expr)]
 fn simple(alloc: Global, tokens: &mut Cursor<'_>, levels: usize) -> Result<Expr, ParseFault>
     ensures { Reads (reads levels spec.simple tokens.old) result tokens.new }
 {
     let first = signed(alloc, tokens, levels)?;
-    let tails = add_tails(alloc, tokens, levels)?;
-    let whole = chain(alloc, first, tails)?;
-    Ok(whole)
+    if tokens.sees_add_op() {
+        let tails = add_tails(alloc, tokens, levels)?;
+        let whole = chain(alloc, first, tails)?;
+        Ok(whole)
+    } else {
+        Ok(first)
+    }
 }
 
+#[inline(always)]
 #[cycle(expr)]
 fn expr(alloc: Global, tokens: &mut Cursor<'_>, levels: usize) -> Result<Expr, ParseFault>
     ensures { Reads (reads levels spec.expr tokens.old) result tokens.new }

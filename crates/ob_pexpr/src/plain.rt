@@ -4,7 +4,7 @@ ghost use Rattle.std.specs.Prelude.{◌≡◌, IfOk};
 ghost use Rattle.ob_tree.specs.declared.symbol.Symbol.TheVariants as s;
 ghost use Rattle.ob_grammar.specs.Expressions as spec;
 ghost use Rattle.ob_grammar.specs.Grammar.{reads};
-ghost use Rattle.ob_pexpr.specs.Contract.{Reads};
+ghost use Rattle.ob_pexpr.specs.Contract.{Adds, Reads};
 
 use crate::cursor::Cursor;
 use crate::fault::ParseFault;
@@ -58,23 +58,23 @@ pub fn nil(tokens: &mut Cursor<'_>) -> Result<Expr, ParseFault>
     Ok(Expr::Nil(pos))
 }
 
-pub fn field(alloc: Global, tokens: &mut Cursor<'_>) -> Result<List<Selector>, ParseFault>
-    ensures { Reads (reads 0 spec.field tokens.old) result tokens.new }
+/// A field, behind the selectors that were found before.
+pub fn field(tokens: &mut Cursor<'_>, found: &mut List<Selector>) -> Result<(), ParseFault>
+    ensures { Adds (reads 0 spec.field tokens.old) found.old result found.new tokens.new }
 {
     let pos = tokens.expect(Symbol::Dot)?;
     let ident = tokens.ident()?;
-    let mut found = List::new(alloc);
     found.push(Selector::Field { pos, ident })?;
-    Ok(found)
+    Ok(())
 }
 
-pub fn deref(alloc: Global, tokens: &mut Cursor<'_>) -> Result<List<Selector>, ParseFault>
-    ensures { Reads (reads 0 spec.deref tokens.old) result tokens.new }
+/// `^`, behind the selectors that were found before.
+pub fn deref(tokens: &mut Cursor<'_>, found: &mut List<Selector>) -> Result<(), ParseFault>
+    ensures { Adds (reads 0 spec.deref tokens.old) found.old result found.new tokens.new }
 {
     let pos = tokens.expect(Symbol::Caret)?;
-    let mut found = List::new(alloc);
     found.push(Selector::Deref(pos))?;
-    Ok(found)
+    Ok(())
 }
 
 pub fn operator_of(symbol: Symbol) -> Operator

@@ -3,51 +3,65 @@
 ghost use Rattle.std.specs.Prelude.{◌≡◌};
 ghost use Rattle.ob_grammar.specs.Statements as spec;
 ghost use Rattle.ob_grammar.specs.Grammar.{reads};
-ghost use Rattle.ob_pexpr.specs.Contract.{Reads};
+ghost use Rattle.ob_pexpr.specs.Contract.{Puts, Reads};
 
 use ob_pexpr::{Cursor, ParseFault, designator, nested_expr, qualident};
-use ob_tree::{Expr, Guard, Stmt, Symbol};
+use ob_tree::{Expr, Guard, List, Stmt, Symbol};
 use std::alloc::Global;
 
-/// An assignment, or a designator alone, which is a call.
-pub fn plain(alloc: Global, tokens: &mut Cursor<'_>, levels: usize) -> Result<Stmt, ParseFault>
-    ensures { Reads (reads levels spec.plain tokens.old) result tokens.new }
+/// An assignment, or a designator alone, which is a call, behind the statements found before.
+#[inline(never)]
+pub fn plain(
+    alloc: Global,
+    tokens: &mut Cursor<'_>,
+    levels: usize,
+    found: &mut List<Stmt>,
+) -> Result<(), ParseFault>
+    ensures { Puts (reads levels spec.plain tokens.old) found.old result found.new tokens.new }
 {
     let target = designator(alloc, tokens, levels)?;
     if tokens.sees(Symbol::Becomes) {
         let pos = tokens.expect(Symbol::Becomes)?;
         let value = nested_expr(alloc, tokens, levels)?;
-        Ok(Stmt::Assign { target, pos, value })
+        found.push(Stmt::Assign { target, pos, value })?;
+        Ok(())
     } else {
-        Ok(Stmt::Call(target))
+        found.push(Stmt::Call(target))?;
+        Ok(())
     }
 }
 
-/// `EXIT`
-pub fn exit_statement(tokens: &mut Cursor<'_>) -> Result<Stmt, ParseFault>
-    ensures { Reads (reads 0 spec.exit_statement tokens.old) result tokens.new }
+/// `EXIT`, behind the statements found before.
+#[inline(never)]
+pub fn exit_statement(tokens: &mut Cursor<'_>, found: &mut List<Stmt>) -> Result<(), ParseFault>
+    ensures { Puts (reads 0 spec.exit_statement tokens.old) found.old result found.new tokens.new }
 {
     let pos = tokens.expect(Symbol::KwExit)?;
-    Ok(Stmt::Exit(pos))
+    found.push(Stmt::Exit(pos))?;
+    Ok(())
 }
 
-/// `RETURN`, and the value that may stand behind it.
+/// `RETURN` and the value that may stand behind it, behind the statements found before.
+#[inline(never)]
 pub fn return_statement(
     alloc: Global,
     tokens: &mut Cursor<'_>,
     levels: usize,
-) -> Result<Stmt, ParseFault>
-    ensures { Reads (reads levels spec.return_statement tokens.old) result tokens.new }
+    found: &mut List<Stmt>,
+) -> Result<(), ParseFault>
+    ensures { Puts (reads levels spec.return_statement tokens.old) found.old result found.new tokens.new }
 {
     let pos = tokens.expect(Symbol::KwReturn)?;
     if tokens.sees_expr() {
         let value = nested_expr(alloc, tokens, levels)?;
-        Ok(Stmt::Return {
+        found.push(Stmt::Return {
             pos,
             value: Some(value),
-        })
+        })?;
+        Ok(())
     } else {
-        Ok(Stmt::Return { pos, value: None })
+        found.push(Stmt::Return { pos, value: None })?;
+        Ok(())
     }
 }
 

@@ -7,7 +7,7 @@ ghost use Rattle.ob_grammar.specs.Phrase.{Statements, many};
 ghost use Rattle.ob_grammar.specs.Expressions.{next_of, separated};
 ghost use Rattle.ob_grammar.specs.Statements as spec;
 ghost use Rattle.ob_grammar.specs.Grammar.{read, reads};
-ghost use Rattle.ob_pexpr.specs.Contract.{Reads};
+ghost use Rattle.ob_pexpr.specs.Contract.{Puts, Reads};
 
 use crate::plain::{exit_statement, guard, plain, return_statement, step};
 use crate::start::{no_statements, sees_statement};
@@ -31,6 +31,7 @@ pub fn nested_statements(
 }
 
 /// Statements with `;` between.
+#[inline(always)]
 #[cycle(statements)]
 fn statements(
     alloc: Global,
@@ -40,58 +41,75 @@ fn statements(
     ensures { Reads (reads levels spec.statements tokens.old) result tokens.new }
 {
     let mut found = List::new(alloc);
-    found.push(statement(alloc, tokens, levels)?)?;
+    statement(alloc, tokens, levels, &mut found)?;
     'more: while tokens.sees(Symbol::Semicolon) {
-        found.push(next_statement(alloc, tokens, levels)?)?;
+        next_statement(alloc, tokens, levels, &mut found)?;
     }
     Ok(found)
 }
 
+#[inline(always)]
 #[cycle(statements)]
-fn next_statement(alloc: Global, tokens: &mut Cursor<'_>, levels: usize) -> Result<Stmt, ParseFault>
-    ensures { Reads (reads levels (next_of s.Semicolon spec.statement) tokens.old) result tokens.new }
+fn next_statement(
+    alloc: Global,
+    tokens: &mut Cursor<'_>,
+    levels: usize,
+    found: &mut List<Stmt>,
+) -> Result<(), ParseFault>
+    ensures { Puts (reads levels (next_of s.Semicolon spec.statement) tokens.old) found.old result found.new tokens.new }
 {
     tokens.expect(Symbol::Semicolon)?;
-    let next = statement(alloc, tokens, levels)?;
-    Ok(next)
+    statement(alloc, tokens, levels, found)
 }
 
 /// A statement, which may be empty.
+#[inline(always)]
 #[cycle(statements)]
-fn statement(alloc: Global, tokens: &mut Cursor<'_>, levels: usize) -> Result<Stmt, ParseFault>
-    ensures { Reads (reads levels spec.statement tokens.old) result tokens.new }
+fn statement(
+    alloc: Global,
+    tokens: &mut Cursor<'_>,
+    levels: usize,
+    found: &mut List<Stmt>,
+) -> Result<(), ParseFault>
+    ensures { Puts (reads levels spec.statement tokens.old) found.old result found.new tokens.new }
 {
     if sees_statement(tokens) {
-        some_statement(alloc, tokens, levels)
+        some_statement(alloc, tokens, levels, found)
     } else {
-        Ok(Stmt::Empty)
+        found.push(Stmt::Empty)?;
+        Ok(())
     }
 }
 
 #[cycle(statements)]
-fn some_statement(alloc: Global, tokens: &mut Cursor<'_>, levels: usize) -> Result<Stmt, ParseFault>
-    ensures { Reads (reads levels spec.some_statement tokens.old) result tokens.new }
+fn some_statement(
+    alloc: Global,
+    tokens: &mut Cursor<'_>,
+    levels: usize,
+    found: &mut List<Stmt>,
+) -> Result<(), ParseFault>
+    ensures { Puts (reads levels spec.some_statement tokens.old) found.old result found.new tokens.new }
 {
     if tokens.sees(Symbol::Ident) {
-        plain(alloc, tokens, levels)
+        plain(alloc, tokens, levels, found)
     } else if tokens.sees(Symbol::KwIf) {
-        choice(alloc, tokens, levels)
+        choice(alloc, tokens, levels, found)
     } else if tokens.sees(Symbol::KwCase) {
-        case_statement(alloc, tokens, levels)
+        case_statement(alloc, tokens, levels, found)
     } else if tokens.sees(Symbol::KwWhile) {
-        while_loop(alloc, tokens, levels)
+        while_loop(alloc, tokens, levels, found)
     } else if tokens.sees(Symbol::KwRepeat) {
-        repeat_loop(alloc, tokens, levels)
+        repeat_loop(alloc, tokens, levels, found)
     } else if tokens.sees(Symbol::KwFor) {
-        for_loop(alloc, tokens, levels)
+        for_loop(alloc, tokens, levels, found)
     } else if tokens.sees(Symbol::KwLoop) {
-        endless_loop(alloc, tokens, levels)
+        endless_loop(alloc, tokens, levels, found)
     } else if tokens.sees(Symbol::KwExit) {
-        exit_statement(tokens)
+        exit_statement(tokens, found)
     } else if tokens.sees(Symbol::KwReturn) {
-        return_statement(alloc, tokens, levels)
+        return_statement(alloc, tokens, levels, found)
     } else {
-        with_statement(alloc, tokens, levels)
+        with_statement(alloc, tokens, levels, found)
     }
 }
 
@@ -151,9 +169,15 @@ fn further_branches(
 }
 
 /// `IF`
+#[inline(never)]
 #[cycle(statements)]
-fn choice(alloc: Global, tokens: &mut Cursor<'_>, levels: usize) -> Result<Stmt, ParseFault>
-    ensures { Reads (reads levels spec.choice tokens.old) result tokens.new }
+fn choice(
+    alloc: Global,
+    tokens: &mut Cursor<'_>,
+    levels: usize,
+    found: &mut List<Stmt>,
+) -> Result<(), ParseFault>
+    ensures { Puts (reads levels spec.choice tokens.old) found.old result found.new tokens.new }
 {
     let pos = tokens.expect(Symbol::KwIf)?;
     let first = branch(alloc, tokens, levels)?;
@@ -163,11 +187,12 @@ fn choice(alloc: Global, tokens: &mut Cursor<'_>, levels: usize) -> Result<Stmt,
     let mut branches = List::new(alloc);
     branches.push(first)?;
     branches.append(further)?;
-    Ok(Stmt::If {
+    found.push(Stmt::If {
         pos,
         branches,
         otherwise,
-    })
+    })?;
+    Ok(())
 }
 
 /// A case, which may be empty.
@@ -212,9 +237,15 @@ fn cases(alloc: Global, tokens: &mut Cursor<'_>, levels: usize) -> Result<List<C
 }
 
 /// `CASE`
+#[inline(never)]
 #[cycle(statements)]
-fn case_statement(alloc: Global, tokens: &mut Cursor<'_>, levels: usize) -> Result<Stmt, ParseFault>
-    ensures { Reads (reads levels spec.case_statement tokens.old) result tokens.new }
+fn case_statement(
+    alloc: Global,
+    tokens: &mut Cursor<'_>,
+    levels: usize,
+    found: &mut List<Stmt>,
+) -> Result<(), ParseFault>
+    ensures { Puts (reads levels spec.case_statement tokens.old) found.old result found.new tokens.new }
 {
     let pos = tokens.expect(Symbol::KwCase)?;
     let value = nested_expr(alloc, tokens, levels)?;
@@ -222,43 +253,64 @@ fn case_statement(alloc: Global, tokens: &mut Cursor<'_>, levels: usize) -> Resu
     let cases = cases(alloc, tokens, levels)?;
     let otherwise = otherwise(alloc, tokens, levels)?;
     tokens.expect(Symbol::KwEnd)?;
-    Ok(Stmt::Case {
+    found.push(Stmt::Case {
         pos,
         value,
         cases,
         otherwise,
-    })
+    })?;
+    Ok(())
 }
 
 /// `WHILE`
+#[inline(never)]
 #[cycle(statements)]
-fn while_loop(alloc: Global, tokens: &mut Cursor<'_>, levels: usize) -> Result<Stmt, ParseFault>
-    ensures { Reads (reads levels spec.while_loop tokens.old) result tokens.new }
+fn while_loop(
+    alloc: Global,
+    tokens: &mut Cursor<'_>,
+    levels: usize,
+    found: &mut List<Stmt>,
+) -> Result<(), ParseFault>
+    ensures { Puts (reads levels spec.while_loop tokens.old) found.old result found.new tokens.new }
 {
     let pos = tokens.expect(Symbol::KwWhile)?;
     let test = nested_expr(alloc, tokens, levels)?;
     tokens.expect(Symbol::KwDo)?;
     let body = nested_statements(alloc, tokens, levels)?;
     tokens.expect(Symbol::KwEnd)?;
-    Ok(Stmt::While { pos, test, body })
+    found.push(Stmt::While { pos, test, body })?;
+    Ok(())
 }
 
 /// `REPEAT`
+#[inline(never)]
 #[cycle(statements)]
-fn repeat_loop(alloc: Global, tokens: &mut Cursor<'_>, levels: usize) -> Result<Stmt, ParseFault>
-    ensures { Reads (reads levels spec.repeat_loop tokens.old) result tokens.new }
+fn repeat_loop(
+    alloc: Global,
+    tokens: &mut Cursor<'_>,
+    levels: usize,
+    found: &mut List<Stmt>,
+) -> Result<(), ParseFault>
+    ensures { Puts (reads levels spec.repeat_loop tokens.old) found.old result found.new tokens.new }
 {
     let pos = tokens.expect(Symbol::KwRepeat)?;
     let body = nested_statements(alloc, tokens, levels)?;
     tokens.expect(Symbol::KwUntil)?;
     let test = nested_expr(alloc, tokens, levels)?;
-    Ok(Stmt::Repeat { pos, body, test })
+    found.push(Stmt::Repeat { pos, body, test })?;
+    Ok(())
 }
 
 /// `FOR`
+#[inline(never)]
 #[cycle(statements)]
-fn for_loop(alloc: Global, tokens: &mut Cursor<'_>, levels: usize) -> Result<Stmt, ParseFault>
-    ensures { Reads (reads levels spec.for_loop tokens.old) result tokens.new }
+fn for_loop(
+    alloc: Global,
+    tokens: &mut Cursor<'_>,
+    levels: usize,
+    found: &mut List<Stmt>,
+) -> Result<(), ParseFault>
+    ensures { Puts (reads levels spec.for_loop tokens.old) found.old result found.new tokens.new }
 {
     let pos = tokens.expect(Symbol::KwFor)?;
     let variable = tokens.ident()?;
@@ -270,25 +322,33 @@ fn for_loop(alloc: Global, tokens: &mut Cursor<'_>, levels: usize) -> Result<Stm
     tokens.expect(Symbol::KwDo)?;
     let body = nested_statements(alloc, tokens, levels)?;
     tokens.expect(Symbol::KwEnd)?;
-    Ok(Stmt::For {
+    found.push(Stmt::For {
         pos,
         variable,
         start,
         end,
         step,
         body,
-    })
+    })?;
+    Ok(())
 }
 
 /// `LOOP`
+#[inline(never)]
 #[cycle(statements)]
-fn endless_loop(alloc: Global, tokens: &mut Cursor<'_>, levels: usize) -> Result<Stmt, ParseFault>
-    ensures { Reads (reads levels spec.endless_loop tokens.old) result tokens.new }
+fn endless_loop(
+    alloc: Global,
+    tokens: &mut Cursor<'_>,
+    levels: usize,
+    found: &mut List<Stmt>,
+) -> Result<(), ParseFault>
+    ensures { Puts (reads levels spec.endless_loop tokens.old) found.old result found.new tokens.new }
 {
     let pos = tokens.expect(Symbol::KwLoop)?;
     let body = nested_statements(alloc, tokens, levels)?;
     tokens.expect(Symbol::KwEnd)?;
-    Ok(Stmt::Loop { pos, body })
+    found.push(Stmt::Loop { pos, body })?;
+    Ok(())
 }
 
 /// A guard, `DO` and its statements.
@@ -338,17 +398,24 @@ fn guarded_branches(
 }
 
 /// `WITH`
+#[inline(never)]
 #[cycle(statements)]
-fn with_statement(alloc: Global, tokens: &mut Cursor<'_>, levels: usize) -> Result<Stmt, ParseFault>
-    ensures { Reads (reads levels spec.with_statement tokens.old) result tokens.new }
+fn with_statement(
+    alloc: Global,
+    tokens: &mut Cursor<'_>,
+    levels: usize,
+    found: &mut List<Stmt>,
+) -> Result<(), ParseFault>
+    ensures { Puts (reads levels spec.with_statement tokens.old) found.old result found.new tokens.new }
 {
     let pos = tokens.expect(Symbol::KwWith)?;
     let branches = guarded_branches(alloc, tokens, levels)?;
     let otherwise = otherwise(alloc, tokens, levels)?;
     tokens.expect(Symbol::KwEnd)?;
-    Ok(Stmt::With {
+    found.push(Stmt::With {
         pos,
         branches,
         otherwise,
-    })
+    })?;
+    Ok(())
 }

@@ -2,4 +2,3 @@ pub mod Gaps
 pub mod Longest
 pub mod Beginnings
 pub mod Leads
-pub mod Reserved

@@ -1,5 +1,5 @@
 -- The test of a kind of bytes.
-use Rattle.std.specs.Prelude.{ℕ, Bool, false, nat_le, [], ◌∷◌, Option, None}
+use Rattle.std.specs.Prelude.{ℕ, Bool, [], ◌∷◌, Option, None}
 use Rattle.ob_tree.specs.declared.symbol.Symbol.{Symbol}
 use Rattle.ob_scan.specs.declared.symbols.Kind.{Kind}
 use Rattle.ob_scan.specs.declared.symbols.Kind.TheVariants as kind
@@ -16,8 +16,3 @@ abbrev pub two_of : Bytes → Option Symbol
 two_of [] = None
 two_of (a ∷ []) = None
 two_of (a ∷ b ∷ bs) = mark_of_two a b
-
--- the first byte is none before a
-abbrev pub begins_small : Bytes → Bool
-begins_small [] = false
-begins_small (b ∷ bs) = nat_le 97 b

@@ -43,6 +43,7 @@ impl<'a> Scanner<'a> {
     /// The next token, which borrows the text, or the first fault. After the end of the text it
     /// is the end again, and after a fault that fault again. It takes no memory, and its fault is
     /// never Memory.
+    #[inline(always)]
     pub fn next(&mut self) -> Result<Token<'a>, ScanFault>
         ensures step { Steps (step self.old) self.old result self.new }
 

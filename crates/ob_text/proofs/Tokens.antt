@@ -1,5 +1,5 @@
--- The tokens of a text end once.
-use Rattle.std.proofs.Common.{◌≡◌, refl, sym, ap, subst, ◌∙◌, suc, ◌<◌, Bool, true, false, [], ◌∷◌, ◌++◌, length, Result, Ok, Err, arith}
+-- The tokens of a text, and what parsing them says.
+use Rattle.std.proofs.Common.{◌≡◌, refl, sym, ap, subst, ◌∙◌, ℕ, zero, suc, ◌<◌, Bool, true, false, cond, [], ◌∷◌, ◌++◌, length, Result, Ok, Err, arith}
 use Rattle.ob_tree.specs.declared.symbol.Symbol.TheVariants as s
 use Rattle.std.specs.Result.{IsErrAnd}
 use denote.Enum.Bare.{sameb, same_true, true_same}
@@ -8,31 +8,55 @@ use Rattle.ob_tree.specs.declared.token.Token.{Token}
 use Rattle.ob_tree.specs.declared.pos.Pos.{Pos}
 use Rattle.ob_tree.specs.declared.decl.Module.{Module}
 use Rattle.ob_scan.specs.declared.fault.ScanFault.{ScanFault}
-use Rattle.ob_scan.specs.Scanning.{Input, lexeme_of, Gives, step, Leads, Scans}
+use Rattle.ob_scan.specs.Scanning.{Input, Lexeme, lexeme_of, Step, Gives, Faults, step, Leads, Scans}
 use Rattle.ob_grammar.specs.Phrase.{Tokens, same}
 use Rattle.ob_grammar.specs.Reading.{Fault, Read, Found, Fails}
 use Rattle.ob_grammar.specs.Declarations.{«module»}
 use Rattle.ob_grammar.specs.Grammar.{reads}
+use Rattle.ob_grammar.proofs.Basics.{false_not_true}
 use Rattle.ob_pexpr.specs.Contract.{IsAt}
-use Rattle.ob_pexpr.specs.Left.{token_of, tokens_in, tokens_of}
-use Rattle.ob_pexpr.proofs.Texts.{scans_these, step_whole, same_bound}
+use Rattle.ob_pexpr.specs.Left.{token_of, listed, tokens_in, tokens_of}
+use Rattle.ob_pexpr.proofs.Texts.{step_whole, same_bound}
 use Rattle.ob_pexpr.specs.declared.fault.ParseFault.{ParseFault}
 use Rattle.ob_pexpr.specs.declared.fault.ParseFault.TheVariants as parsing
-use Rattle.ob_parse.specs.Parsed.{EndsOnce, Says, limit}
+use Rattle.ob_parse.specs.Parsed.{Says, limit}
+use Rattle.ob_parse.proofs.Ends.{ends_before}
 use Rattle.ob_text.specs.Answers.{Parses, HasTokens}
 use Rattle.ob_text.proofs.Bare.{bares, seen, module_read}
 
-front_ends : (i : Input) (front : Tokens) (t : Token) (j : Input) → Leads i front j → t.symbol ≡ s.End → EndsOnce (front ++ t ∷ [])
-front_ends i [] t j h e = e
-front_ends i (u ∷ []) t j h e = (h.2, e)
-front_ends i (u ∷ v ∷ vs) t j h e = (h.2, front_ends h.0 (v ∷ vs) t j h.3 e)
+-- ---- where the end is among them
 
-scanned_end_once : (i : Input) (ts : Tokens) → Scans i (Ok ts) → EndsOnce ts
-scanned_end_once i ts h = subst EndsOnce (sym h.4) (front_ends i h.0 h.1 h.2 h.5 h.7)
+token_is : (t u : Token) (ts us : Tokens) → (t ∷ ts) ≡ (u ∷ us) → t ≡ u
+token_is t u ts us e = cc
 
--- where scanning has no fault
-pub ends_once : (i : Input) (ts : Tokens) → Scans i (Ok ts) → EndsOnce (tokens_of i)
-ends_once i ts h = scanned_end_once i (tokens_of i) (scans_these i ts h)
+tokens_are : (t u : Token) (ts us : Tokens) → (t ∷ ts) ≡ (u ∷ us) → ts ≡ us
+tokens_are t u ts us e = cc
+
+-- scanning has no fault, and the end is the last
+abbrev EndsSo : Input → Tokens → Tokens → Type 0
+EndsSo i r ts = (r ≡ []) × Scans i (Ok ts)
+
+end_scanned : (k : ℕ) (i : Input) (x : Tokens) (t : Token) (r : Tokens) → tokens_in k i ≡ x ++ t ∷ r → t.symbol ≡ s.End → EndsSo i r (tokens_in k i)
+end_scanned zero i [] t r e h = let none : ⊥ = cc in absurd none
+end_scanned zero i (u ∷ us) t r e h = let none : ⊥ = cc in absurd none
+end_scanned (suc k) i x t r e h = by_step (step i) refl x e (λ j us g. end_scanned k j us t r g h)
+  where
+    by_end : (l : Lexeme) (j : Input) (b : Bool) → same l.symbol s.End ≡ b → step i ≡ Gives l j → (x : Tokens) → (token_of l ∷ cond b [] (tokens_in k j)) ≡ x ++ t ∷ r
+        → ((us : Tokens) → tokens_in k j ≡ us ++ t ∷ r → EndsSo j r (tokens_in k j)) → EndsSo i r (token_of l ∷ cond b [] (tokens_in k j))
+    by_end l j true q a [] g rest = (sym (tokens_are _ _ _ _ g), ([], token_of l, i, j, refl, refl, a, same_true the_type tt l.symbol s.End q))
+    by_end l j true q a (u ∷ []) g rest = let none : ⊥ = cc in absurd none
+    by_end l j true q a (u ∷ v ∷ vs) g rest = let none : ⊥ = cc in absurd none
+    by_end l j false q a [] g rest = absurd (false_not_true _ q (true_same the_type l.symbol s.End (ap (λ w. w.symbol) (token_is _ _ _ _ g) ∙ h)))
+    by_end l j false q a (u ∷ us) g rest =
+        let o = rest us (tokens_are _ _ _ _ g) in
+        let w = o.1 in
+        (o.0, (token_of l ∷ w.0, w.1, w.2, w.3, ap (λ z. token_of l ∷ z) w.4, (j, a, (λ m. false_not_true _ q (true_same the_type l.symbol s.End m)), w.5), w.6, w.7))
+
+    by_step : (u : Step) → step i ≡ u → (x : Tokens) → listed u (λ j. tokens_in k j) ≡ x ++ t ∷ r
+        → ((j : Input) (us : Tokens) → tokens_in k j ≡ us ++ t ∷ r → EndsSo j r (tokens_in k j)) → EndsSo i r (listed u (λ j. tokens_in k j))
+    by_step (Faults f) q [] g rest = let none : ⊥ = cc in absurd none
+    by_step (Faults f) q (u ∷ us) g rest = let none : ⊥ = cc in absurd none
+    by_step (Gives l j) q x g rest = by_end l j (same l.symbol s.End) refl q x g (rest j)
 
 pub is_end : (t : Token) → sameb the_type t.symbol s.End ≡ true → t.symbol ≡ s.End
 is_end t h = same_true the_type tt t.symbol s.End h
@@ -103,3 +127,10 @@ pub parses : (i : Input) (ts : Tokens) (r : Result Module ParseFault) (us : Toke
 parses i ts r us h e q =
     let P : Tokens → Type 0 = λ w. Says r w in
     (ts, h, λ ws g. says_bare ws r (subst P (e ∙ scanned_bare i ws g) q))
+
+-- a text whose front is read as a module is scanned with no fault, and is read whole
+pub parses_whole : (i : Input) (m : Module) (us : Tokens) (new : Tokens) → us ≡ tokens_of i → reads limit «module» us ≡ Found m new → Parses i (Ok m)
+parses_whole i m us new e q =
+    let b = ends_before us m new q in
+    let o = end_scanned (suc (length i.text)) i b.0 b.1 new (sym e ∙ b.2) b.3 in
+    parses i (tokens_of i) (Ok m) us o.1 e (q ∙ ap (λ w. Found m w) o.0)

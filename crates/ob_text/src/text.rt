@@ -1,11 +1,12 @@
-//! A text is scanned to its end first, and then parsed.
+//! A text is parsed as it is scanned. Where that fails it is scanned to its end, since a fault of
+//! scanning comes before one of parsing.
 
 ghost use Rattle.std.specs.Prelude.{◌+◌, ◌<◌, ◌^◌, length};
 ghost use Rattle.ob_scan.specs.Scanning.{start_of};
 ghost use Rattle.ob_text.specs.Answers.{Answers, HasTokens};
 
 use crate::fault::TextFault;
-use ob_parse::parse_from;
+use ob_parse::read_module;
 use ob_pexpr::{Cursor, ParseFault};
 use ob_scan::{ScanFault, Scanner};
 use ob_tree::{Module, Symbol};
@@ -34,16 +35,14 @@ pub fn parse_text(alloc: Global, text: &[u8]) -> Result<Module, TextFault>
     requires { length text.now + 1 < 2 ^ 32 }
     ensures { Answers (start_of text.now) result }
 {
-    match scan_through(text) {
-        Err(ScanFault::Memory) => Err(TextFault::Memory),
-        Err(fault) => Err(TextFault::Scan(fault)),
-        Ok(()) => {
-            let mut tokens = Cursor::of_text(text);
-            match parse_from(alloc, &mut tokens) {
-                Ok(tree) => Ok(tree),
-                Err(ParseFault::Memory) => Err(TextFault::Memory),
-                Err(fault) => Err(TextFault::Parse(fault)),
-            }
-        }
+    let mut tokens = Cursor::of_text(text);
+    match read_module(alloc, &mut tokens) {
+        Ok(tree) => Ok(tree),
+        Err(ParseFault::Memory) => Err(TextFault::Memory),
+        Err(at_token) => match scan_through(text) {
+            Ok(()) => Err(TextFault::Parse(at_token)),
+            Err(ScanFault::Memory) => Err(TextFault::Memory),
+            Err(fault) => Err(TextFault::Scan(fault)),
+        },
     }
 }

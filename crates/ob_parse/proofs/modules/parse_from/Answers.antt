@@ -2,7 +2,7 @@ use Rattle.ob_parse.proofs.Ends.{says, leaves_none}
 use Rattle.ob_parse.proofs.modules.parse_from.Goals as goal
 
 pub returns-clause-answer : goal.returns-clause-answer
-returns-clause-answer c = says c.args.tokens.now c.whole.result c.whole.new.tokens c.requires (rw (← c.nest_limit.ensures) c.whole.ensures)
+returns-clause-answer c = says c.args.tokens.now c.read_module.result c.read_module.new.tokens c.requires c.read_module.ensures
 
 pub returns-clause-behind : goal.returns-clause-behind
-returns-clause-behind c = leaves_none c.args.tokens.now c.whole.result c.whole.new.tokens c.requires (rw (← c.nest_limit.ensures) c.whole.ensures)
+returns-clause-behind c = leaves_none c.args.tokens.now c.read_module.result c.read_module.new.tokens c.requires c.read_module.ensures

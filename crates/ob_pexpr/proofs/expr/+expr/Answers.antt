@@ -48,12 +48,12 @@ elements-more-preserved t c = rw c.in_ok-push-2.ensures.ok
     c.more.invariant (next_starts s.Comma spec.element c.more.tokens ∙ sym c.sees.ensures ∙ c.more-test.true) c.in_ok-x.ensures)
 
 pub selectors-more-smaller : goal.selectors-more-smaller
-selectors-more-smaller t c = (takes_selector c.args.levels).falls c.more.tokens _ c.selector.new.tokens (sym c.sees_selector.ensures ∙ c.more-test.true) c.in_ok-x.ensures
+selectors-more-smaller t c = (takes_selector c.args.levels).falls c.more.tokens _ c.selector.new.tokens (sym c.sees_selector.ensures ∙ c.more-test.true) c.in_ok-selector.ensures.1
 
 pub selectors-more-preserved : goal.selectors-more-preserved
-selectors-more-preserved t c = rw c.in_ok-append.ensures.ok
+selectors-more-preserved t c = rw c.in_ok-selector.ensures.2
     (join_turn c.args.levels spec.selector (takes_selector c.args.levels) (reads c.args.levels (many spec.selector) c.args.tokens.now) c.more.found c.more.tokens _ c.selector.new.tokens
-    c.more.invariant (sym c.sees_selector.ensures ∙ c.more-test.true) c.in_ok-x.ensures)
+    c.more.invariant (sym c.sees_selector.ensures ∙ c.more-test.true) c.in_ok-selector.ensures.1)
 
 pub nested_expr-returns : goal.nested_expr-returns
 nested_expr-returns t c = let some : 1 ≤ c.args.levels = omega arith in rw (deeper c.args.levels AnExpr c.args.tokens.now some) c.expr.ensures

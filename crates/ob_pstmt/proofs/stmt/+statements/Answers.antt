@@ -12,12 +12,12 @@ pub nested_statements-returns : goal.nested_statements-returns
 nested_statements-returns t c = let some : 1 ≤ c.args.levels = omega arith in rw (deeper c.args.levels Statements c.args.tokens.now some) c.statements.ensures
 
 pub statements-more-smaller : goal.statements-more-smaller
-statements-more-smaller t c = (takes_statement c.args.levels).falls c.more.tokens _ c.next_statement.new.tokens (next_starts s.Semicolon spec.statement c.more.tokens ∙ sym c.sees.ensures ∙ c.more-test.true) c.in_ok-next_statement.ensures
+statements-more-smaller t c = (takes_statement c.args.levels).falls c.more.tokens _ c.next_statement.new.tokens (next_starts s.Semicolon spec.statement c.more.tokens ∙ sym c.sees.ensures ∙ c.more-test.true) c.in_ok-next_statement.ensures.1
 
 pub statements-more-preserved : goal.statements-more-preserved
-statements-more-preserved t c = rw c.in_ok-push-2.ensures.ok
+statements-more-preserved t c = rw c.in_ok-next_statement.ensures.2
     (on_turn c.args.levels (next_of s.Semicolon spec.statement) (takes_statement c.args.levels) (reads c.args.levels (separated s.Semicolon spec.statement) c.args.tokens.now) c.more.found c.more.tokens _ c.next_statement.new.tokens
-    c.more.invariant (next_starts s.Semicolon spec.statement c.more.tokens ∙ sym c.sees.ensures ∙ c.more-test.true) c.in_ok-next_statement.ensures)
+    c.more.invariant (next_starts s.Semicolon spec.statement c.more.tokens ∙ sym c.sees.ensures ∙ c.more-test.true) c.in_ok-next_statement.ensures.1)
 
 pub statements-returns-in_err-next_statement : goal.statements-returns-in_err-next_statement
 statements-returns-in_err-next_statement t c =
