@@ -33,24 +33,28 @@ fn callee_of(image: &Image, unit: &Module, words: &Memory, operands: &[i32], ins
     }
 }
 
+#[inline(never)]
 fn call_by(
     image: &Image,
     unit: &Module,
     here: &mut Place,
     calls: &mut Calls,
     state: &mut State,
-    instr: Instr,
+    op: Opcode,
+    a: i32,
+    b: i32,
 ) -> Called
     requires next { here.old.next < 262144 }
     requires first { 0 < here.old.first }
     requires stack { 0 < state.old.stack }
     requires few { vec_len state.old.operands ≤ 256 }
-    ensures comes { is_other_call instr.op ≡ true → Comes image.now (row image.now unit.now here.old.unit here.old.procedure here.old.first here.old.next instr.op instr.a instr.b (ops_of state.old)) here.old here.new calls.old calls.new state.old state.new result }
+    ensures comes { is_other_call op ≡ true → Comes image.now (row image.now unit.now here.old.unit here.old.procedure here.old.first here.old.next op a b (ops_of state.old)) here.old here.new calls.old calls.new state.old state.new result }
     ensures few { vec_len state.new.operands ≤ 256 }
     ensures capacity { vec_capacity state.new.operands ≡ vec_capacity state.old.operands }
     ensures first { 0 < here.new.first }
     ensures stack { 0 < state.new.stack }
 {
+    let instr = Instr { op, a, b };
     let callee = callee_of(image, unit, &state.words, &state.operands, instr);
     call_it(image, here, calls, state, callee)
 }
@@ -81,13 +85,13 @@ fn come_to(
         Opcode::Call => call_own(image, unit, here, calls, state, instr.a),
         Opcode::Ret => return_without(unit, here, calls, state),
         Opcode::RetV => return_with(unit, here, calls, state),
-        _ => call_by(image, unit, here, calls, state, instr),
+        op => call_by(image, unit, here, calls, state, op, instr.a, instr.b),
     }
 }
 
 /// Does a call or a return, by its row of the table. A call that begins spends a turn, and a return
 /// ends one of the calls that wait. After a return up to 257 operands stand. Takes no memory.
-#[inline(never)]
+#[inline(always)]
 pub fn call_or_return(
     image: &Image,
     unit: &Module,

@@ -12,6 +12,7 @@ use ob_mem::Memory;
 use ob_tree::ProcRef;
 
 // How many operands stand below the last ones, so many and some more, where they are there.
+#[inline(always)]
 fn start_of(len: usize, count: i32, more: usize) -> Option<usize>
     requires { more ≤ 2 }
     ensures start { result ≡ start_of len count more }
@@ -28,6 +29,7 @@ fn start_of(len: usize, count: i32, more: usize) -> Option<usize>
 }
 
 /// The operand at an index, the lowest at 0.
+#[inline(always)]
 pub fn operand(operands: &[i32], at: usize) -> i32
     requires { at < length operands.now }
     ensures { slice_get operands.now at ≡ Some result }
@@ -36,6 +38,7 @@ pub fn operand(operands: &[i32], at: usize) -> i32
 }
 
 // The procedure of a value that is not 0.
+#[inline(always)]
 fn procedure_of_value(value: i32) -> Option<ProcRef>
     ensures { result ≡ proc_of_value value }
 {
@@ -76,6 +79,7 @@ pub fn of_value(instr: Instr, operands: &[i32]) -> Callee
 }
 
 // The procedure of a number of a type.
+#[inline(always)]
 fn method_at(types: &Types, t: u32, number: i32) -> Option<ProcRef>
     ensures { result ≡ method_at (slice_get types.now t) number }
 {
@@ -86,6 +90,7 @@ fn method_at(types: &Types, t: u32, number: i32) -> Option<ProcRef>
 }
 
 // The same for the type of a tag.
+#[inline(always)]
 fn tag_method(image: &Image, tag: i32, number: i32) -> Option<ProcRef>
     ensures { result ≡ tag_method image.now tag number }
 {
@@ -96,6 +101,7 @@ fn tag_method(image: &Image, tag: i32, number: i32) -> Option<ProcRef>
 }
 
 // The same for the type of a pointer's object.
+#[inline(always)]
 fn pointer_method(image: &Image, words: &Memory, pointer: i32, number: i32) -> Option<ProcRef>
     ensures { (w : World) → w.words ≡ words.now.words → (k : ProcRef → Effect) → pointer_method image.now w pointer number k ≡ on_found result k }
 {
@@ -104,6 +110,7 @@ fn pointer_method(image: &Image, words: &Memory, pointer: i32, number: i32) -> O
 }
 
 /// What a call of a procedure bound to a pointer's object names.
+#[inline(always)]
 pub fn of_pointer(image: &Image, words: &Memory, instr: Instr, operands: &[i32]) -> Callee
     ensures effect { (w : World) → w.words ≡ words.now.words → on_count instr.b (λ n. on_args (suc n) (reverse operands.now) (λ args rest. on_receiver args (λ x. if is_zero x then Traps 2 (pos 0) w else pointer_method image.now w x instr.a (λ r. calls image.now r args rest w)))) ≡ callee_effect image.now operands.now result w }
     ensures within { IsWithin operands.now result }
@@ -126,6 +133,7 @@ pub fn of_pointer(image: &Image, words: &Memory, instr: Instr, operands: &[i32])
 }
 
 /// What a call of a procedure bound to a record names.
+#[inline(always)]
 pub fn of_record(image: &Image, instr: Instr, operands: &[i32]) -> Callee
     ensures effect { (w : World) → on_count instr.b (λ n. on_args (suc (suc n)) (reverse operands.now) (λ args rest. on_tag args (λ g. on_found (tag_method image.now g instr.a) (λ r. calls image.now r args rest w)))) ≡ callee_effect image.now operands.now result w }
     ensures within { IsWithin operands.now result }

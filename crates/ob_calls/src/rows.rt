@@ -105,7 +105,7 @@ fn call_named(
 }
 
 /// Calls an own procedure of the module that the machine is in.
-#[inline(always)]
+#[inline(never)]
 pub fn call_own(
     image: &Image,
     unit: &Module,

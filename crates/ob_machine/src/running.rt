@@ -151,6 +151,7 @@ fn call_at(
 fn leg<S: Sink>(
     image: &Image,
     unit: &Module,
+    code: &[Instr],
     place: &ob_effect::Place<'_>,
     here: &mut Place,
     calls: &mut Calls,
@@ -160,6 +161,7 @@ fn leg<S: Sink>(
     requires at { slice_get image.now.modules here.old.unit ≡ Some unit.now }
     requires room { image.now.room ≡ room }
     requires short { length unit.now.code ≤ 262144 }
+    requires code { code.now ≡ unit.now.code }
     requires here { IsHere place.now unit.now.code image.now unit.now }
     requires unit { place.now.«module» ≡ here.old.unit }
     requires frame { place.now.frame ≡ here.old.first }
@@ -175,7 +177,7 @@ fn leg<S: Sink>(
     ensures cause { LegHasCause (S.faults out.old) (S.faults out.new) result }
 {
     let mut pc = here.next;
-    let pause = go(place, unit.code.as_slice(), &mut pc, state, out);
+    let pause = go(place, code, &mut pc, state, out);
     here.next = pc;
     match pause {
         Pause::Calls(instr) => call_at(image, unit, here, calls, state, instr),
@@ -206,9 +208,10 @@ fn run_in_module<S: Sink>(
 {
     let number = here.unit;
     let unit = module_at(image, number);
+    let code = unit.code.as_slice();
     let mut place = read_place(image, unit, number, here.first);
     'legs: loop {
-        if let Some(outcome) = leg(image, unit, &place, here, calls, state, out) {
+        if let Some(outcome) = leg(image, unit, code, &place, here, calls, state, out) {
             return Some(outcome);
         }
         if here.unit != number {

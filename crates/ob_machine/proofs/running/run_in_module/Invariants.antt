@@ -7,6 +7,7 @@ use Rattle.ob_machine.proofs.running.run_in_module.Given as goal
 abbrev pub invariant-legs : goal.invariant-legs
 invariant-legs g l = record {
   same : l.here.unit ≡ l.number;
+  code : l.code ≡ l.unit.code;
   here : IsHere l.place l.unit.code l.image l.unit;
   unit : l.place.«module» ≡ l.number;
   frame : l.place.frame ≡ l.here.first;
