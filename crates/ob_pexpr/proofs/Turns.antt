@@ -1,13 +1,15 @@
 -- What is repeated takes a token each time, and how it starts.
 use Rattle.std.proofs.Common.{◌≡◌, refl, ◌∙◌, ℕ, Bool, true, false, ◌||◌, [], ◌∷◌}
 use Rattle.ob_tree.specs.declared.symbol.Symbol.TheVariants as s
-use Rattle.ob_grammar.specs.Phrase.{Tokens, same, AnExpr, many, nest}
+use Rattle.ob_tree.specs.declared.expr.Expr.{Expr}
+use Rattle.ob_grammar.specs.Phrase.{Tokens, same, AnExpr, both, many, nest}
 use Rattle.ob_grammar.specs.Reading.{Found, starts}
-use Rattle.ob_grammar.specs.Expressions.{next_of, ident, ident_def, further_index, mul_op, mul_tail, add_op, add_tail, selector, element}
+use Rattle.ob_grammar.specs.Expressions.{next_of, ident, ident_def, further_index, mul_op, mul_tail, add_op, add_tail, relation, simple, expr, selector, element}
 use Rattle.ob_grammar.specs.Grammar.{reads, begins}
 use Rattle.ob_grammar.proofs.Fine.{every}
 use Rattle.ob_grammar.proofs.Local.{Takes}
 use Rattle.ob_grammar.proofs.Loops.{takes, many_ends}
+use Rattle.ob_pexpr.specs.Chains.{related}
 
 pub takes_further : (d : ℕ) → Takes (begins further_index) (reads d further_index)
 unfolding every
@@ -65,3 +67,11 @@ no_mul d ts e = many_ends (begins mul_tail) (reads d mul_tail) (takes_mul d) ts 
 
 pub no_add : (d : ℕ) (ts : Tokens) → starts (begins add_op) ts ≡ false → reads d (many add_tail) ts ≡ Found [] ts
 no_add d ts e = many_ends (begins add_tail) (reads d add_tail) (takes_add d) ts (add_starts ts ∙ e)
+
+relation_starts : (ts : Tokens) → starts (begins (both relation simple)) ts ≡ starts (begins relation) ts
+relation_starts [] = refl
+relation_starts (t ∷ ts) = or_no _
+
+-- behind a left operand stands a relation
+pub relates_on : (d : ℕ) (ts mid : Tokens) (a : Expr) → reads d simple ts ≡ Found a mid → starts (begins relation) mid ≡ true → reads d expr ts ≡ related a (reads d (both relation simple) mid)
+relates_on d ts mid a e s = let t = relation_starts mid ∙ s in rw (e, t) refl

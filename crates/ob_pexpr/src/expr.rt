@@ -3,10 +3,11 @@
 
 ghost use Rattle.std.specs.Prelude.{◌≡◌};
 ghost use Rattle.ob_tree.specs.declared.symbol.Symbol.TheVariants as s;
-ghost use Rattle.ob_grammar.specs.Phrase.{AnExpr, Negated, many, nest};
+ghost use Rattle.ob_grammar.specs.Phrase.{AnExpr, Negated, both, many, nest};
 ghost use Rattle.ob_grammar.specs.Expressions as spec;
 ghost use Rattle.ob_grammar.specs.Grammar.{reads, read};
 ghost use Rattle.ob_pexpr.specs.Contract.{Adds, Reads};
+ghost use Rattle.ob_pexpr.specs.Chains.{chained, related, with_sign};
 
 use crate::cursor::Cursor;
 use crate::fault::ParseFault;
@@ -121,6 +122,7 @@ fn call(
 }
 
 /// One selector, behind those that were found before.
+#[inline(always)]
 #[cycle(expr)]
 fn selector(
     alloc: Global,
@@ -141,7 +143,7 @@ fn selector(
     }
 }
 
-#[inline(always)]
+#[inline(never)]
 #[cycle(expr)]
 fn selectors(
     alloc: Global,
@@ -159,6 +161,7 @@ fn selectors(
 
 /// A name and its selectors, where so many levels are left; else the fault at the token at
 /// fault.
+#[inline(always)]
 #[cycle(expr)]
 pub fn designator(
     alloc: Global,
@@ -168,8 +171,15 @@ pub fn designator(
     ensures { Reads (reads levels spec.designator tokens.old) result tokens.new }
 {
     let ident = tokens.ident()?;
-    let selectors = selectors(alloc, tokens, levels)?;
-    Ok(Designator { ident, selectors })
+    if tokens.sees_selector() {
+        let selectors = selectors(alloc, tokens, levels)?;
+        Ok(Designator { ident, selectors })
+    } else {
+        Ok(Designator {
+            ident,
+            selectors: List::new(alloc),
+        })
+    }
 }
 
 // ---- factors
@@ -333,6 +343,22 @@ fn mul_tails(
     Ok(found)
 }
 
+/// A first factor, and the operators and factors behind it.
+#[inline(never)]
+#[cycle(expr)]
+fn product(
+    alloc: Global,
+    tokens: &mut Cursor<'_>,
+    levels: usize,
+    first: Expr,
+) -> Result<Expr, ParseFault>
+    ensures { Reads (chained first (reads levels (many spec.mul_tail) tokens.old)) result tokens.new }
+{
+    let tails = mul_tails(alloc, tokens, levels)?;
+    let whole = chain(alloc, first, tails)?;
+    Ok(whole)
+}
+
 #[inline(always)]
 #[cycle(expr)]
 fn term(alloc: Global, tokens: &mut Cursor<'_>, levels: usize) -> Result<Expr, ParseFault>
@@ -340,12 +366,25 @@ fn term(alloc: Global, tokens: &mut Cursor<'_>, levels: usize) -> Result<Expr, P
 {
     let first = factor(alloc, tokens, levels)?;
     if tokens.sees_mul_op() {
-        let tails = mul_tails(alloc, tokens, levels)?;
-        let whole = chain(alloc, first, tails)?;
-        Ok(whole)
+        product(alloc, tokens, levels, first)
     } else {
         Ok(first)
     }
+}
+
+#[inline(never)]
+#[cycle(expr)]
+fn with_sign(alloc: Global, tokens: &mut Cursor<'_>, levels: usize) -> Result<Expr, ParseFault>
+    ensures { Reads (reads levels with_sign tokens.old) result tokens.new }
+{
+    let by = tokens.sign()?;
+    let operand = term(alloc, tokens, levels)?;
+    let operand = Boxed::new(alloc, operand)?;
+    Ok(Expr::Signed {
+        sign: sign_of(by.symbol),
+        pos: by.pos,
+        operand,
+    })
 }
 
 #[inline(always)]
@@ -354,14 +393,7 @@ fn signed(alloc: Global, tokens: &mut Cursor<'_>, levels: usize) -> Result<Expr,
     ensures { Reads (reads levels spec.signed tokens.old) result tokens.new }
 {
     if tokens.sees_sign() {
-        let by = tokens.sign()?;
-        let operand = term(alloc, tokens, levels)?;
-        let operand = Boxed::new(alloc, operand)?;
-        Ok(Expr::Signed {
-            sign: sign_of(by.symbol),
-            pos: by.pos,
-            operand,
-        })
+        with_sign(alloc, tokens, levels)
     } else {
         term(alloc, tokens, levels)
     }
@@ -398,19 +430,56 @@ fn add_tails(
     Ok(found)
 }
 
+/// A first term, and the operators and terms behind it.
 #[inline(never)]
+#[cycle(expr)]
+fn sum(
+    alloc: Global,
+    tokens: &mut Cursor<'_>,
+    levels: usize,
+    first: Expr,
+) -> Result<Expr, ParseFault>
+    ensures { Reads (chained first (reads levels (many spec.add_tail) tokens.old)) result tokens.new }
+{
+    let tails = add_tails(alloc, tokens, levels)?;
+    let whole = chain(alloc, first, tails)?;
+    Ok(whole)
+}
+
+#[inline(always)]
 #[cycle(expr)]
 fn simple(alloc: Global, tokens: &mut Cursor<'_>, levels: usize) -> Result<Expr, ParseFault>
     ensures { Reads (reads levels spec.simple tokens.old) result tokens.new }
 {
     let first = signed(alloc, tokens, levels)?;
     if tokens.sees_add_op() {
-        let tails = add_tails(alloc, tokens, levels)?;
-        let whole = chain(alloc, first, tails)?;
-        Ok(whole)
+        sum(alloc, tokens, levels, first)
     } else {
         Ok(first)
     }
+}
+
+/// A left operand, and the relation and the right operand behind it.
+#[inline(never)]
+#[cycle(expr)]
+fn relate(
+    alloc: Global,
+    tokens: &mut Cursor<'_>,
+    levels: usize,
+    left: Expr,
+) -> Result<Expr, ParseFault>
+    ensures { Reads (related left (reads levels (both spec.relation spec.simple) tokens.old)) result tokens.new }
+{
+    let by = tokens.relation()?;
+    let right = simple(alloc, tokens, levels)?;
+    let left = Boxed::new(alloc, left)?;
+    let right = Boxed::new(alloc, right)?;
+    Ok(Expr::Relate {
+        left,
+        relation: relation_of(by.symbol),
+        pos: by.pos,
+        right,
+    })
 }
 
 #[inline(always)]
@@ -420,22 +489,14 @@ fn expr(alloc: Global, tokens: &mut Cursor<'_>, levels: usize) -> Result<Expr, P
 {
     let left = simple(alloc, tokens, levels)?;
     if tokens.sees_relation() {
-        let by = tokens.relation()?;
-        let right = simple(alloc, tokens, levels)?;
-        let left = Boxed::new(alloc, left)?;
-        let right = Boxed::new(alloc, right)?;
-        Ok(Expr::Relate {
-            left,
-            relation: relation_of(by.symbol),
-            pos: by.pos,
-            right,
-        })
+        relate(alloc, tokens, levels, left)
     } else {
         Ok(left)
     }
 }
 
 /// An expression, which takes one of the levels that are left.
+#[inline(never)]
 #[cycle(expr)]
 pub fn nested_expr(
     alloc: Global,

@@ -11,6 +11,7 @@ use crate::fault::ParseFault;
 use ob_tree::{Boxed, Expr, List, Operator, Relation, Selector, Sign, Symbol, Tail};
 use std::alloc::{AllocError, Global};
 
+#[inline(never)]
 pub fn int(alloc: Global, tokens: &mut Cursor<'_>) -> Result<Expr, ParseFault>
     ensures { Reads (reads 0 spec.int tokens.old) result tokens.new }
 {
@@ -19,6 +20,7 @@ pub fn int(alloc: Global, tokens: &mut Cursor<'_>) -> Result<Expr, ParseFault>
     Ok(Expr::Int { pos: t.pos, text })
 }
 
+#[inline(never)]
 pub fn char(alloc: Global, tokens: &mut Cursor<'_>) -> Result<Expr, ParseFault>
     ensures { Reads (reads 0 spec.char tokens.old) result tokens.new }
 {
@@ -43,6 +45,7 @@ fn between_marks(text: &[u8]) -> &[u8]
     }
 }
 
+#[inline(never)]
 pub fn string(alloc: Global, tokens: &mut Cursor<'_>) -> Result<Expr, ParseFault>
     ensures { Reads (reads 0 spec.string tokens.old) result tokens.new }
 {
@@ -51,6 +54,7 @@ pub fn string(alloc: Global, tokens: &mut Cursor<'_>) -> Result<Expr, ParseFault
     Ok(Expr::Str { pos: t.pos, text })
 }
 
+#[inline(never)]
 pub fn nil(tokens: &mut Cursor<'_>) -> Result<Expr, ParseFault>
     ensures { Reads (reads 0 spec.nil tokens.old) result tokens.new }
 {
@@ -59,6 +63,7 @@ pub fn nil(tokens: &mut Cursor<'_>) -> Result<Expr, ParseFault>
 }
 
 /// A field, behind the selectors that were found before.
+#[inline(never)]
 pub fn field(tokens: &mut Cursor<'_>, found: &mut List<Selector>) -> Result<(), ParseFault>
     ensures { Adds (reads 0 spec.field tokens.old) found.old result found.new tokens.new }
 {
@@ -69,6 +74,7 @@ pub fn field(tokens: &mut Cursor<'_>, found: &mut List<Selector>) -> Result<(), 
 }
 
 /// `^`, behind the selectors that were found before.
+#[inline(never)]
 pub fn deref(tokens: &mut Cursor<'_>, found: &mut List<Selector>) -> Result<(), ParseFault>
     ensures { Adds (reads 0 spec.deref tokens.old) found.old result found.new tokens.new }
 {

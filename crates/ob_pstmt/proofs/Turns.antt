@@ -2,7 +2,7 @@
 use Rattle.std.proofs.Common.{◌≡◌, refl, ap, ◌∙◌, sym, subst, ℕ, true, List, Result, Ok, Err}
 use Rattle.std.specs.Result.{IsErrAnd}
 use Rattle.ob_tree.specs.declared.symbol.Symbol.TheVariants as s
-use Rattle.ob_grammar.specs.Phrase.{Tokens, Phrase, many}
+use Rattle.ob_grammar.specs.Phrase.{Tokens, Phrase}
 use Rattle.ob_grammar.specs.Reading.{Read, Wrong, Deep, starts}
 use Rattle.ob_grammar.specs.Expressions.{next_of}
 use Rattle.ob_grammar.specs.Statements as spec

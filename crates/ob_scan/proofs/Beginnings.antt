@@ -10,7 +10,7 @@ use Rattle.ob_scan.specs.declared.fault.ScanFault.TheVariants as fault
 use Rattle.ob_scan.specs.Vocabulary.{Bytes, is_digit, is_letter, is_letter_or_digit, is_hex_digit, is_quote, is_plain, word_symbol, symbol_of, mark_of_one, mark_of_two}
 use Rattle.std.proofs.lemmas.List.{drop_more}
 use Rattle.std.proofs.lemmas.List.Sums.{prefix_len-drop_all}
-use Rattle.ob_scan.specs.Kinds.{two_of}
+use Rattle.ob_scan.specs.Kinds.{symbol_first, two_of}
 use Rattle.ob_scan.specs.Scanning.{longest, or_shorter, symbol_at, is_too_long, is_real, is_dot_alone, known}
 use Rattle.ob_scan.proofs.Longest.{letter_no_digit, digit_no_letter, quote_apart, word_longest, hex_longest, char_longest, int_longest, string_longest, string_unfinished, two_longest, one_longest, last_longest, none_of_two, none_of_one}
 
@@ -190,8 +190,8 @@ symbol_within p text x e = by_long (is_too_long text) (is_real text) e
     by_long false true h = err_not (fault.Real p) x h
     by_long false false h = let l : length text ≤ length text = omega arith in within_one (length text) text x l (known_some p (longest (length text) text) x h)
 
-pub ok_within : (p : Pos) (text : Bytes) (r : Answer) → r ≡ symbol_at p text → IfOk r (λ x. (0 < x.1) × (x.1 ≤ length text))
-ok_within p text (Ok x) e = symbol_within p text x (sym e)
+pub ok_within : (p : Pos) (text : Bytes) (r : Result (ℕ × Symbol) ScanFault) → symbol_first r ≡ symbol_at p text → IfOk r (λ x. (0 < x.0) × (x.0 ≤ length text))
+ok_within p text (Ok x) e = symbol_within p text (x.1, x.0) (sym e)
 ok_within p text (Err f) e = tt
 
 -- ---- runs

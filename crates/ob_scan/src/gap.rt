@@ -141,11 +141,25 @@ fn turn(text: &[u8], p: GapPosition) -> Option<GapPosition>
     }
 }
 
+// Whether a symbol begins at the first byte, by that byte alone; `(` may begin a comment.
+#[inline(always)]
+fn symbol_stands(text: &[u8]) -> bool
+    ensures { result ≡ gaps.symbol_stands text.now }
+{
+    match text {
+        [] => false,
+        [first, ..] => !is_blank(*first) && !(*first == b'(')
+    }
+}
+
 // How many bytes of blanks and comments there are, and where one stands behind them.
 pub fn skip(text: &[u8], pos: Pos) -> Result<(usize, Pos), ScanFault>
     requires { HasRoom pos text.now }
     ensures { Skips (spec.behind zero pos pos text.now) text.now result }
 {
+    if symbol_stands(text) {
+        return Ok((0, pos));
+    }
     let mut p = GapPosition {
         at: 0,
         depth: 0,

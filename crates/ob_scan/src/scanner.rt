@@ -61,7 +61,7 @@ impl<'a> Scanner<'a> {
                 pos,
             });
         }
-        let (symbol, n) = symbol_at(text, pos)?;
+        let (n, symbol) = symbol_at(text, pos)?;
         self.rest = &text[n..];
         self.pos = Pos {
             line: pos.line,

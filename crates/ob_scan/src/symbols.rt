@@ -5,7 +5,7 @@ ghost use Rattle.std.specs.List.{prefix_len};
 ghost use Rattle.ob_scan.specs.Vocabulary as spec;
 ghost use Rattle.ob_scan.specs.Scanning as scanning;
 ghost use Rattle.ob_scan.specs.Kinds as kinds;
-ghost use Rattle.ob_scan.specs.Kinds.{test_of};
+ghost use Rattle.ob_scan.specs.Kinds.{symbol_first, test_of};
 
 use crate::bytes::{
     is_digit, is_hex_digit, is_letter, is_letter_or_digit, is_plain, is_quote, mark_of_one,
@@ -73,24 +73,24 @@ fn is_dot_alone(text: &[u8]) -> bool
 }
 
 // What begins with a letter.
-fn word_at(text: &[u8], pos: Pos) -> Result<(Symbol, usize), ScanFault>
+fn word_at(text: &[u8], pos: Pos) -> Result<(usize, Symbol), ScanFault>
     requires some { 0 < length text.now }
     requires letter { spec.is_letter (slice_index text.now 0) ≡ true }
-    ensures { result ≡ scanning.symbol_at pos text.now }
+    ensures { symbol_first result ≡ scanning.symbol_at pos text.now }
 {
     let n = run(Kind::LetterOrDigit, text);
     if 64 < n {
         Err(ScanFault::Limit { pos })
     } else {
-        Ok((word_symbol(&text[..n]), n))
+        Ok((n, word_symbol(&text[..n])))
     }
 }
 
 // What begins with a digit.
-fn number_at(text: &[u8], pos: Pos) -> Result<(Symbol, usize), ScanFault>
+fn number_at(text: &[u8], pos: Pos) -> Result<(usize, Symbol), ScanFault>
     requires some { 0 < length text.now }
     requires digit { spec.is_digit (slice_index text.now 0) ≡ true }
-    ensures { result ≡ scanning.symbol_at pos text.now }
+    ensures { symbol_first result ≡ scanning.symbol_at pos text.now }
 {
     let digits = run(Kind::Digit, text);
     if is_dot_alone(&text[digits..]) {
@@ -100,37 +100,37 @@ fn number_at(text: &[u8], pos: Pos) -> Result<(Symbol, usize), ScanFault>
 }
 
 // An integer or a character; so many decimal digits are at its front.
-fn whole_at(text: &[u8], pos: Pos, digits: usize) -> Result<(Symbol, usize), ScanFault>
+fn whole_at(text: &[u8], pos: Pos, digits: usize) -> Result<(usize, Symbol), ScanFault>
     requires some { 0 < length text.now }
     requires digit { spec.is_digit (slice_index text.now 0) ≡ true }
     requires count { digits ≡ prefix_len spec.is_digit text.now }
     requires dot { scanning.is_dot_alone (drop digits text.now) ≡ false }
-    ensures { result ≡ scanning.symbol_at pos text.now }
+    ensures { symbol_first result ≡ scanning.symbol_at pos text.now }
 {
     let n = behind_first(Kind::HexDigit, text);
     if n == text.len() {
-        Ok((Symbol::Int, digits))
+        Ok((digits, Symbol::Int))
     } else if text[n] == b'H' {
-        Ok((Symbol::Int, n + 1))
+        Ok((n + 1, Symbol::Int))
     } else if text[n] == b'X' {
-        Ok((Symbol::Char, n + 1))
+        Ok((n + 1, Symbol::Char))
     } else {
-        Ok((Symbol::Int, digits))
+        Ok((digits, Symbol::Int))
     }
 }
 
 // What begins with the mark of a string.
-fn string_at(text: &[u8], pos: Pos) -> Result<(Symbol, usize), ScanFault>
+fn string_at(text: &[u8], pos: Pos) -> Result<(usize, Symbol), ScanFault>
     requires some { 0 < length text.now }
     requires quote { spec.is_quote (slice_index text.now 0) ≡ true }
-    ensures { result ≡ scanning.symbol_at pos text.now }
+    ensures { symbol_first result ≡ scanning.symbol_at pos text.now }
 {
     let quote = text[0];
     let n = behind_first(Kind::Plain(quote), text);
     if n == text.len() {
         Err(ScanFault::Symbol { pos })
     } else if text[n] == quote {
-        Ok((Symbol::Str, n + 1))
+        Ok((n + 1, Symbol::Str))
     } else {
         Err(ScanFault::Symbol { pos })
     }
@@ -147,27 +147,27 @@ fn two_at(text: &[u8]) -> Option<Symbol>
 }
 
 // What begins with anything else.
-fn mark_at(text: &[u8], pos: Pos) -> Result<(Symbol, usize), ScanFault>
+fn mark_at(text: &[u8], pos: Pos) -> Result<(usize, Symbol), ScanFault>
     requires some { 0 < length text.now }
     requires letter { spec.is_letter (slice_index text.now 0) ≡ false }
     requires digit { spec.is_digit (slice_index text.now 0) ≡ false }
     requires quote { spec.is_quote (slice_index text.now 0) ≡ false }
-    ensures { result ≡ scanning.symbol_at pos text.now }
+    ensures { symbol_first result ≡ scanning.symbol_at pos text.now }
 {
     match two_at(text) {
-        Some(symbol) => Ok((symbol, 2)),
+        Some(symbol) => Ok((2, symbol)),
         None => match mark_of_one(text[0]) {
-            Some(symbol) => Ok((symbol, 1)),
+            Some(symbol) => Ok((1, symbol)),
             None => Err(ScanFault::Symbol { pos }),
         },
     }
 }
 
-// The symbol that begins here, and how many bytes it has.
-pub fn symbol_at(text: &[u8], pos: Pos) -> Result<(Symbol, usize), ScanFault>
+// How many bytes the symbol that begins here has, and the symbol.
+pub fn symbol_at(text: &[u8], pos: Pos) -> Result<(usize, Symbol), ScanFault>
     requires { 0 < length text.now }
-    ensures value { result ≡ scanning.symbol_at pos text.now }
-    ensures within { IfOk result (λ x. (0 < x.1) × (x.1 ≤ length text.now)) }
+    ensures value { symbol_first result ≡ scanning.symbol_at pos text.now }
+    ensures within { IfOk result (λ x. (0 < x.0) × (x.0 ≤ length text.now)) }
 {
     let b = text[0];
     if is_letter(b) {

@@ -4,7 +4,7 @@ use Rattle.ob_grammar.specs.Phrase.{AnExpr, Negated, many, nest}
 use Rattle.ob_grammar.specs.Expressions as spec
 use Rattle.ob_grammar.specs.Grammar.{reads}
 use Rattle.ob_grammar.proofs.Loops.{on_turn, join_turn, deeper, next_starts}
-use Rattle.ob_pexpr.proofs.Turns.{takes_further, takes_mul, takes_add, takes_selector, takes_expr, takes_element, further_starts, mul_starts, add_starts}
+use Rattle.ob_pexpr.proofs.Turns.{relates_on, takes_further, takes_mul, takes_add, takes_selector, takes_expr, takes_element, further_starts, mul_starts, add_starts}
 use Rattle.ob_pexpr.proofs.expr.+expr.Goals as goal
 
 pub further_indexes-more-smaller : goal.further_indexes-more-smaller
@@ -60,3 +60,7 @@ nested_expr-returns t c = let some : 1 ≤ c.args.levels = omega arith in rw (de
 
 pub negated-returns : goal.negated-returns
 negated-returns t c = let some : 1 ≤ c.args.levels = omega arith in rw (deeper c.args.levels Negated c.args.tokens.now some) c.negation.ensures
+
+pub expr-returns-then-sees_relation : goal.expr-returns-then-sees_relation
+expr-returns-then-sees_relation t c =
+    rw (relates_on c.args.levels c.args.tokens.now c.simple.new.tokens _ c.in_ok-left.ensures (sym c.sees_relation.ensures ∙ c.if-sees_relation.true)) c.relate.ensures

@@ -67,22 +67,34 @@ abbrev pub decreases-mul_tails : goal.decreases-mul_tails
 decreases-mul_tails l = 32 * l.levels + 9
 
 abbrev pub decreases-term : goal.decreases-term
-decreases-term l = 32 * l.levels + 10
+decreases-term l = 32 * l.levels + 11
 
 abbrev pub decreases-signed : goal.decreases-signed
-decreases-signed l = 32 * l.levels + 11
+decreases-signed l = 32 * l.levels + 13
 
 abbrev pub decreases-add_tail : goal.decreases-add_tail
-decreases-add_tail l = 32 * l.levels + 11
+decreases-add_tail l = 32 * l.levels + 12
 
 abbrev pub decreases-add_tails : goal.decreases-add_tails
-decreases-add_tails l = 32 * l.levels + 12
+decreases-add_tails l = 32 * l.levels + 13
 
 abbrev pub decreases-simple : goal.decreases-simple
-decreases-simple l = 32 * l.levels + 13
+decreases-simple l = 32 * l.levels + 15
+
+abbrev pub decreases-product : goal.decreases-product
+decreases-product l = 32 * l.levels + 10
+
+abbrev pub decreases-with_sign : goal.decreases-with_sign
+decreases-with_sign l = 32 * l.levels + 12
+
+abbrev pub decreases-sum : goal.decreases-sum
+decreases-sum l = 32 * l.levels + 14
+
+abbrev pub decreases-relate : goal.decreases-relate
+decreases-relate l = 32 * l.levels + 16
 
 abbrev pub decreases-expr : goal.decreases-expr
-decreases-expr l = 32 * l.levels + 14
+decreases-expr l = 32 * l.levels + 17
 
 abbrev pub invariant-further_indexes-more : goal.invariant-further_indexes-more
 invariant-further_indexes-more l = GoesOn (reads l.levels (many spec.further_index) l.fn.tokens) l.levels spec.further_index l.found l.tokens

@@ -1,4 +1,4 @@
-use Rattle.std.proofs.Common.{◌≡◌, ◌∙◌, ◌≤◌, sym, arith}
+use Rattle.std.proofs.Common.{◌∙◌, ◌≤◌, sym, arith}
 use Rattle.ob_tree.specs.declared.symbol.Symbol.TheVariants as s
 use Rattle.ob_grammar.specs.Phrase.{Statements, many}
 use Rattle.ob_grammar.specs.Expressions.{next_of, separated}
