@@ -12,7 +12,7 @@ use ob_cexpr::{check_constant, check_expr};
 use ob_cname::types;
 use ob_cparts::{for_bound, step_value};
 use ob_rules::{Notebook, Place, Surroundings};
-use ob_tree::{Expr, Pos};
+use ob_tree::{Boxed, Expr, Pos};
 use ob_trees::ExprTree;
 use std::alloc::{AllocError, Global};
 
@@ -23,12 +23,12 @@ pub fn check_bound<S: Surroundings>(
     book: &mut Notebook,
     at: Pos,
     place: Option<&Place>,
-    x: &Expr,
+    x: &Boxed<Expr>,
 ) -> Result<Option<ExprTree>, AllocError>
     ensures made { IfOk result (λ r. expr_in r ≡ (spec.bound_if (names.map_of (S.around here.now)) at (option_copied place.entry) ((exprs.phrase_of x.now).value (S.around here.now))).node) }
     ensures noted { OnOk result (book.new ≡ book_after book.old (spec.bound_if (names.map_of (S.around here.now)) at (option_copied place.entry) ((exprs.phrase_of x.now).value (S.around here.now))).notes) }
 {
-    let value = check_expr(alloc, here, book, x)?;
+    let value = check_expr(alloc, here, book, x.get())?;
     match place {
         None => Ok(None),
         Some(place) => match value {
@@ -60,13 +60,13 @@ pub fn check_step_if<S: Surroundings>(
     here: &S,
     book: &mut Notebook,
     at: Pos,
-    x: &Option<Expr>,
+    x: &Option<Boxed<Expr>>,
 ) -> Result<Option<i32>, AllocError>
     ensures made { IfOk result (λ r. r ≡ (spec.for_step (S.around here.now) at (spec.phrase_if x.now)).node) }
     ensures noted { OnOk result (book.new ≡ book_after book.old (spec.for_step (S.around here.now) at (spec.phrase_if x.now)).notes) }
 {
     match x {
         None => Ok(Some(1)),
-        Some(x) => check_step(alloc, here, book, at, x),
+        Some(x) => check_step(alloc, here, book, at, x.get()),
     }
 }

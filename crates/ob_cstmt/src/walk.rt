@@ -21,7 +21,7 @@ use ob_cparts::{
     variable_meant, while_made, with_branch, with_case, with_stmts,
 };
 use ob_rules::{Notebook, Selects, Surroundings};
-use ob_tree::{Branch, Case, Expr, GuardedBranch, Ident, List, Pos, Stmt};
+use ob_tree::{Boxed, Branch, Case, Expr, GuardedBranch, Ident, List, Pos, Stmt};
 use ob_trees::{BranchTrees, CaseTrees, StmtTrees};
 use ob_types::{TypeRef, Variable};
 use std::alloc::{AllocError, Global};
@@ -171,9 +171,9 @@ fn check_for<S: Surroundings>(
     body: &[Stmt],
     at: Pos,
     variable: &Ident,
-    start: &Expr,
-    end: &Expr,
-    step: &Option<Expr>,
+    start: &Boxed<Expr>,
+    end: &Boxed<Expr>,
+    step: &Option<Boxed<Expr>>,
 ) -> Result<Option<StmtTrees>, AllocError>
     ensures made { IfOk result (λ r. stmts_in r ≡ (spec.for (S.around here.old) at variable.now (exprs.phrase_of start.now) (exprs.phrase_of end.now) (spec.phrase_if step.now) (map spec.judging body.now)).node) }
     ensures noted { OnOk result (book.new ≡ book_after book.old (spec.for (S.around here.old) at variable.now (exprs.phrase_of start.now) (exprs.phrase_of end.now) (spec.phrase_if step.now) (map spec.judging body.now)).notes) }

@@ -6,7 +6,7 @@ ghost use Rattle.ob_grammar.specs.Grammar.{reads};
 ghost use Rattle.ob_pexpr.specs.Contract.{Puts, Reads};
 
 use ob_pexpr::{Cursor, ParseFault, designator, nested_expr, qualident};
-use ob_tree::{Expr, Guard, List, Stmt, Symbol};
+use ob_tree::{Boxed, Expr, Guard, List, Stmt, Symbol};
 use std::alloc::Global;
 
 /// An assignment, or a designator alone, which is a call, behind the statements found before.
@@ -70,12 +70,12 @@ pub fn step(
     alloc: Global,
     tokens: &mut Cursor<'_>,
     levels: usize,
-) -> Result<Option<Expr>, ParseFault>
+) -> Result<Option<Boxed<Expr>>, ParseFault>
     ensures { Reads (reads levels spec.step tokens.old) result tokens.new }
 {
     if tokens.sees(Symbol::KwBy) {
         tokens.expect(Symbol::KwBy)?;
-        let step = nested_expr(alloc, tokens, levels)?;
+        let step = Boxed::new(alloc, nested_expr(alloc, tokens, levels)?)?;
         Ok(Some(step))
     } else {
         Ok(None)

@@ -12,7 +12,7 @@ ghost use Rattle.ob_pexpr.specs.Contract.{Puts, Reads};
 use crate::plain::{exit_statement, guard, plain, return_statement, step};
 use crate::start::{no_statements, sees_statement};
 use ob_pexpr::{Cursor, ParseFault, elements, nested_expr};
-use ob_tree::{Branch, Case, GuardedBranch, List, Stmt, Symbol};
+use ob_tree::{Boxed, Branch, Case, GuardedBranch, List, Stmt, Symbol};
 use std::alloc::Global;
 
 /// A sequence of statements, which is one level.
@@ -315,9 +315,9 @@ fn for_loop(
     let pos = tokens.expect(Symbol::KwFor)?;
     let variable = tokens.ident()?;
     tokens.expect(Symbol::Becomes)?;
-    let start = nested_expr(alloc, tokens, levels)?;
+    let start = Boxed::new(alloc, nested_expr(alloc, tokens, levels)?)?;
     tokens.expect(Symbol::KwTo)?;
-    let end = nested_expr(alloc, tokens, levels)?;
+    let end = Boxed::new(alloc, nested_expr(alloc, tokens, levels)?)?;
     let step = step(alloc, tokens, levels)?;
     tokens.expect(Symbol::KwDo)?;
     let body = nested_statements(alloc, tokens, levels)?;

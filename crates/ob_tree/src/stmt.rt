@@ -1,5 +1,6 @@
 //! Statements.
 
+use crate::boxed::Boxed;
 use crate::expr::{Designator, Element, Expr};
 use crate::ident::{Ident, Qualident};
 use crate::list::List;
@@ -42,9 +43,9 @@ pub enum Stmt {
     For {
         pos: Pos,
         variable: Ident,
-        start: Expr,
-        end: Expr,
-        step: Option<Expr>,
+        start: Boxed<Expr>,
+        end: Boxed<Expr>,
+        step: Option<Boxed<Expr>>,
         body: List<Stmt>,
     },
     Loop {

@@ -233,10 +233,10 @@ fn put_loop(places: &mut Vec<Pos>, statement: &Stmt) -> Result<(), AllocError> {
         } => {
             places.push(*pos)?;
             places.push(variable.pos)?;
-            places.push(place_of(start))?;
-            places.push(place_of(end))?;
+            places.push(place_of(start.get()))?;
+            places.push(place_of(end.get()))?;
             if let Some(step) = step {
-                places.push(place_of(step))?;
+                places.push(place_of(step.get()))?;
             }
             put_body(places, body.as_slice())
         }
