@@ -13,6 +13,7 @@ use crate::places::{
     variable_places,
 };
 use crate::types::Types;
+use ob_groups::Code;
 use ob_mem::Memory;
 use ob_obj::{ObjFile, RecordType};
 use ob_tree::List;
@@ -88,7 +89,7 @@ impl Image {
         let globals = &file.globals;
         let body = &file.body;
         let first = self.next;
-        let code = List::from_slice(alloc, body.code.as_slice())?;
+        let code = Code::new(alloc, body.code.as_slice())?;
         let positions = List::from_slice(alloc, body.positions.as_slice())?;
         let procedures = copy_procedures(alloc, body.procedures.as_slice())?;
         let variables = variable_places(alloc, first, globals.variables.as_slice())?;

@@ -1,4 +1,5 @@
-use ob_instr::{Instr, Position, Procedure};
+use ob_groups::Code;
+use ob_instr::{Position, Procedure};
 use ob_tree::{List, Name, ProcRef};
 use std::marker::Model;
 
@@ -6,7 +7,7 @@ use std::marker::Model;
 #[derive(Drop)]
 pub struct Module {
     pub name: Name,
-    pub code: List<Instr>,
+    pub code: Code,
     pub positions: List<Position>,
     pub procedures: List<Procedure>,
     /// The address of its first word of globals.

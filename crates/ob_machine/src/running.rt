@@ -10,6 +10,7 @@ ghost use Rattle.ob_machine.specs.Legs.{LegDoes, LegHasCause, CallDoes, CanRun, 
 
 use crate::Outcome;
 use ob_calls::{Called, Calls, Place, call_or_return};
+use ob_groups::Code;
 use ob_image::{Image, Module};
 use ob_instr::{Instr, Position, Procedure};
 use ob_io::Sink;
@@ -151,7 +152,7 @@ fn call_at(
 fn leg<S: Sink>(
     image: &Image,
     unit: &Module,
-    code: &[Instr],
+    code: &Code,
     place: &ob_effect::Place<'_>,
     here: &mut Place,
     calls: &mut Calls,
@@ -208,7 +209,7 @@ fn run_in_module<S: Sink>(
 {
     let number = here.unit;
     let unit = module_at(image, number);
-    let code = unit.code.as_slice();
+    let code = &unit.code;
     let mut place = read_place(image, unit, number, here.first);
     'legs: loop {
         if let Some(outcome) = leg(image, unit, code, &place, here, calls, state, out) {

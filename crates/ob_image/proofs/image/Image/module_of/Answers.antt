@@ -38,3 +38,8 @@ invariant_of-result c =
       variables = rw e5 (variables_rise c.self.inside.next f c.requires.can.fits);
       commands = rw e6 (commands_rise f c.requires.can.fits);
     }
+
+pub new-requires : goal.new-requires
+new-requires c =
+    let f = c.args.file.now in
+    rw c.as_slice.ensures (sound f c.requires.can.fits).few_instructions
