@@ -83,6 +83,7 @@ impl<'a> Scanner<'a> {
 /// - Real, where decimal digits stand before a dot that no second dot follows.
 /// - Limit, where an identifier of more than 64 characters begins.
 /// - Memory, where there was none.
+#[tactic(auto, using(crate::proofs::Leads::scans_all, crate::proofs::Leads::scans_fault))]
 pub fn scan<'a>(alloc: Global, text: &'a [u8]) -> Result<List<Token<'a>>, ScanFault>
     requires { length text.now + 1 < 2 ^ 32 }
     ensures { Scans (start_of text.now) result }
