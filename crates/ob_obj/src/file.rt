@@ -18,7 +18,6 @@ use std::alloc::{AllocError, Global};
 use thiserror::Error;
 
 /// Which module the file is of, and what it shows and uses.
-#[derive(Drop)]
 pub struct Head {
     pub module: Name,
     /// At most 64, distinct, in the order of the source; `Out` is left out.
@@ -29,8 +28,18 @@ pub struct Head {
     pub uses: List<Use>,
 }
 
+impl Drop for Head {
+    fn drop(self) {
+        let Head {
+            module: _,
+            imports: _,
+            exports: _,
+            uses: _,
+        } = self;
+    }
+}
+
 /// What of the globals area the module has: together at most 262,144 words.
-#[derive(Drop)]
 pub struct Globals {
     /// The words of its variables.
     pub variable_words: u32,
@@ -40,16 +49,34 @@ pub struct Globals {
     pub variables: List<Variable>,
 }
 
+impl Drop for Globals {
+    fn drop(self) {
+        let Globals {
+            variable_words: _,
+            strings: _,
+            variables: _,
+        } = self;
+    }
+}
+
 /// What of other modules the code names.
-#[derive(Drop)]
 pub struct Links {
     pub variables: List<Link>,
     pub procedures: List<Link>,
     pub types: List<QName>,
 }
 
+impl Drop for Links {
+    fn drop(self) {
+        let Links {
+            variables: _,
+            procedures: _,
+            types: _,
+        } = self;
+    }
+}
+
 /// The module's types and code.
-#[derive(Drop)]
 pub struct Body {
     /// Its record types, a base before those that extend it. Their names differ.
     pub types: List<RecordType>,
@@ -62,13 +89,35 @@ pub struct Body {
     pub positions: List<Position>,
 }
 
+impl Drop for Body {
+    fn drop(self) {
+        let Body {
+            types: _,
+            procedures: _,
+            commands: _,
+            code: _,
+            positions: _,
+        } = self;
+    }
+}
+
 /// An object file.
-#[derive(Drop)]
 pub struct ObjFile {
     pub head: Head,
     pub globals: Globals,
     pub links: Links,
     pub body: Body,
+}
+
+impl Drop for ObjFile {
+    fn drop(self) {
+        let ObjFile {
+            head: _,
+            globals: _,
+            links: _,
+            body: _,
+        } = self;
+    }
 }
 
 /// Why bytes could not be read as an object file.
