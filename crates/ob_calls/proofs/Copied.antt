@@ -1,6 +1,6 @@
 -- The copies of a call, parameter by parameter.
 use Rattle.std.proofs.Common.{◌≡◌, ℕ, zero, suc, ◌+◌, ◌*◌, ◌-◌, ◌<◌, ◌≤◌, Bool, true, false, List, [], ◌∷◌, ◌++◌, length, take, drop, replicate, get_or, Option, Some, None, refl, sym, ap, ◌∙◌, true≢false, arith}
-use Rattle.std.specs.Prelude.{ℤ, pos, negsuc, not, ◌&&◌, if◌then◌else◌, unwrap_or}
+use Rattle.std.specs.Prelude.{ℤ, pos, negsuc, ◌&&◌, if◌then◌else◌, unwrap_or}
 use Rattle.std.proofs.Math.Seq.{take-length}
 use Rattle.std.proofs.lemmas.List.{length-take-le, length-drop}
 use Rattle.std.proofs.lemmas.Bool.Decides.{nat_tests}
@@ -11,7 +11,8 @@ use Rattle.ob_instr.specs.declared.procedure.Procedure.{Procedure}
 use Rattle.ob_instr.specs.Parts.{slots, slots_of}
 use Rattle.ob_instr.specs.Rows.{more_words, copy_words, or_same, with_copy, with_copies, entered}
 use Rattle.ob_image.specs.WordLaws.{with_none, length_spliced, length_with, put_both, stored_as, cleared_as}
-use Rattle.ob_calls.specs.Copies.{copy_size, added, with_one, has_copies}
+use Rattle.ob_image.specs.Copies.{has_copies}
+use Rattle.ob_calls.specs.Copies.{copy_size, added, with_one}
 
 none_more : (o : Option ℕ) → o ≡ added (Some 0) o
 none_more None = refl
@@ -145,10 +146,6 @@ two_put m m1 m2 args first z1 v1 z2 v2 d one two e1 f1 e2 f2 n some le =
     put_both m m1 m2 first (first + 1) (x ∷ []) (y ∷ []) w1 w2 some (omega arith) (omega arith) ∙ ap (λ l. record m { words = with_words m.words (pos first) l }) (sym (two_are args d n))
 
 -- WITHOUT COPIES
-
-pub is_plain : (a b : Bool) → a ≡ b → not a ≡ true → b ≡ false
-is_plain true b e h = absurd (true≢false (sym h))
-is_plain false b e h = sym e
 
 pub plain_words : (len : ℕ) (params : List Param) (args : List ℤ) → has_copies params ≡ false → slots params ≡ length args → copy_words len params args ≡ Some 0
 plain_words len [] [] h e = refl

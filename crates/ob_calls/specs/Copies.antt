@@ -1,5 +1,5 @@
 -- The copies that a call makes, parameter by parameter.
-use Rattle.std.specs.Prelude.{ℕ, ◌+◌, ◌*◌, Bool, true, false, ◌||◌, List, [], ◌∷◌, ℤ, pos, negsuc, Option, Some, None, if◌then◌else◌}
+use Rattle.std.specs.Prelude.{ℕ, ◌+◌, ◌*◌, List, ◌∷◌, ℤ, pos, negsuc, Option, Some, None, if◌then◌else◌}
 use Rattle.ob_mem.specs.Words.{are_there}
 use Rattle.ob_instr.specs.declared.procedure.Param.{Param}
 use Rattle.ob_instr.specs.declared.procedure.Param.TheVariants as param
@@ -34,16 +34,3 @@ abbrev pub with_one : List ℤ → Param → List ℤ → ℕ → ℕ → List �
 with_one words (param.Value n) (x ∷ args) slot next = with_copy words slot next x n
 with_one words (param.ValueArray n) (x ∷ l ∷ args) slot next = with_array words slot next x l n
 with_one words _ _ slot next = words
-
--- a parameter whose argument is copied
-abbrev pub is_copied : Param → Bool
-is_copied param.Scalar = false
-is_copied param.Var = false
-is_copied param.VarRecord = false
-is_copied param.VarArray = false
-is_copied (param.Value n) = true
-is_copied (param.ValueArray n) = true
-
-abbrev pub has_copies : List Param → Bool
-has_copies [] = false
-has_copies (q ∷ params) = is_copied q || has_copies params

@@ -1,19 +1,11 @@
 ghost use Rattle.std.specs.Prelude.{◌≡◌, ◌+◌, ◌≤◌, length, drop, IfSome};
 ghost use Rattle.ob_instr.specs.Parts.{slots, slots_of};
 ghost use Rattle.ob_instr.specs.Rows.{copy_words};
-ghost use Rattle.ob_calls.specs.Copies.{array_size, copy_size, is_copied, has_copies};
+ghost use Rattle.ob_calls.specs.Copies.{array_size, copy_size};
 
-use ob_instr::{Param, Procedure};
+use ob_image::Callable;
+use ob_instr::Param;
 use ob_mem::Memory;
-
-/// What a call makes of its arguments.
-#[derive(Clone, Copy, PartialEq, Eq, Drop)]
-pub struct Shape {
-    /// How many words they have.
-    pub slots: u32,
-    /// Whether one of them is copied.
-    pub copies: bool,
-}
 
 /// The words behind so many.
 pub fn behind(words: &[i32], count: usize) -> &[i32]
@@ -84,47 +76,17 @@ pub fn count_copies(words: &Memory, params: &[Param], args: &[i32]) -> Option<u6
     Some(total)
 }
 
-// Whether a call copies a parameter's argument.
-#[inline(always)]
-fn is_copied(param: Param) -> bool
-    ensures { result ≡ is_copied param }
-{
-    match param {
-        Param::Scalar | Param::Var | Param::VarRecord | Param::VarArray => false,
-        Param::Value(_) | Param::ValueArray(_) => true,
-    }
-}
-
-/// What a call makes of the arguments of these parameters.
-#[inline(always)]
-pub fn shape_of(params: &[Param]) -> Shape
-    requires { slots params.now ≤ 1048576 }
-    ensures slots { result.slots ≡ slots params.now }
-    ensures copies { result.copies ≡ has_copies params.now }
-{
-    let mut slots = 0;
-    let mut copies = false;
-    let mut rest = params;
-    while let [param, more @ ..] = rest {
-        slots += param.slots();
-        copies = copies || is_copied(*param);
-        rest = more;
-    }
-    Shape { slots, copies }
-}
-
 /// How many words the copies of a call's arguments take, of which there are as many words as slots.
 /// `None` where a length is below 0, or the words of an argument are not there. Takes no memory.
 #[inline(always)]
-pub fn copies_of(words: &Memory, q: &Procedure, shape: Shape, args: &[i32]) -> Option<u64>
+pub fn copies_of(words: &Memory, q: &Callable, args: &[i32]) -> Option<u64>
     requires few { length args.now ≤ 256 }
     requires slots { slots q.now.params ≡ length args.now }
-    requires copies { shape.copies ≡ has_copies q.now.params }
     ensures count { result ≡ copy_words (length words.now.words) q.now.params args.now }
     ensures few { IfSome result (λ n. n ≤ 1409286144) }
 {
-    if !shape.copies {
+    if !q.copies() {
         return Some(0);
     }
-    count_copies(words, q.params.as_slice(), args)
+    count_copies(words, q.params(), args)
 }

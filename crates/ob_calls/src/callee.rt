@@ -4,8 +4,8 @@ ghost use Rattle.ob_instr.specs.Parts.{slots, most_words};
 ghost use Rattle.ob_instr.specs.Rows.{on_found, item, below, calls_with};
 ghost use Rattle.ob_calls.specs.Callees.{callee_effect, IsWithin};
 
-use ob_image::Module;
-use ob_instr::{Instr, Procedure};
+use ob_image::{Callable, Module};
+use ob_instr::Instr;
 use ob_tree::ProcRef;
 
 /// What the instruction of a call names.
@@ -38,7 +38,7 @@ pub fn own_number(unit: &Module, number: i32) -> Option<u32>
 
 /// A procedure of a module.
 #[inline(always)]
-pub fn procedure_at(unit: &Module, number: u32) -> &Procedure
+pub fn procedure_at(unit: &Module, number: u32) -> &Callable
     requires { number < length unit.now.procedures }
     ensures at { slice_get unit.now.procedures number ≡ Some result.now }
     ensures words { slots result.now.params + result.now.locals ≤ most_words }

@@ -2,14 +2,12 @@ ghost use Rattle.std.specs.Prelude.{◌≡◌, ◌+◌, ◌≤◌, ◌<◌, ◌^
 ghost use Rattle.std.specs.Option.{option_copied};
 ghost use Rattle.ob_instr.specs.Parts.{slots, most_words};
 ghost use Rattle.ob_instr.specs.Rows.{copy_words, calls, procedure_of, entered};
-ghost use Rattle.ob_calls.specs.Copies.{has_copies};
 ghost use Rattle.ob_calls.specs.Reached.{Comes};
 
-use crate::arguments::{Shape, behind, copies_of};
+use crate::arguments::{behind, copies_of};
 use crate::calls::{Calls, Place};
 use crate::entering::enter_words;
-use ob_image::Image;
-use ob_instr::Procedure;
+use ob_image::{Callable, Image};
 use ob_mem::Memory;
 use ob_tree::ProcRef;
 use ob_values::State;
@@ -30,7 +28,7 @@ pub enum Called {
 }
 
 /// A procedure of a machine.
-pub fn procedure_of(image: &Image, r: ProcRef) -> Option<&Procedure>
+pub fn procedure_of(image: &Image, r: ProcRef) -> Option<&Callable>
     ensures found { option_copied result ≡ procedure_of image.now r }
     ensures words { IfSome result (λ q. slots q.now.params + q.now.locals ≤ most_words) }
 {
@@ -56,14 +54,12 @@ pub fn call(
     waiting: &mut Calls,
     state: &mut State,
     r: ProcRef,
-    q: &Procedure,
-    shape: Shape,
+    q: &Callable,
     from: usize,
     below: usize,
 ) -> Called
     requires found { procedure_of image.now r ≡ Some q.now }
     requires words { slots q.now.params + q.now.locals ≤ most_words }
-    requires shape { shape.copies ≡ has_copies q.now.params }
     requires from { from + slots q.now.params ≡ vec_len state.old.operands }
     requires below { below ≤ from }
     requires few { vec_len state.old.operands ≤ 256 }
@@ -78,13 +74,13 @@ pub fn call(
 {
     let _ = image.count();
     let args = behind(&state.operands, from);
-    let Some(copies) = copies_of(&state.words, q, shape, args) else {
+    let Some(copies) = copies_of(&state.words, q, args) else {
         return Called::Unable;
     };
     if state.turns == 0 {
         return Called::Spends;
     }
-    let need = args.len() as u64 + u64::from(q.locals) + copies;
+    let need = args.len() as u64 + u64::from(q.locals()) + copies;
     state.turns -= 1;
     if !has_room(state.stack, need, waiting.len()) {
         return Called::Traps(13);
@@ -95,7 +91,6 @@ pub fn call(
         from,
         state.stack,
         q,
-        shape,
         copies as u32,
     );
     state.operands.truncate(below);
@@ -109,7 +104,7 @@ pub fn call(
     here.unit = r.module;
     here.procedure = r.proc;
     here.first = state.stack;
-    here.next = q.entry;
+    here.next = q.entry();
     state.stack += need as u32;
     Called::Goes
 }
@@ -120,17 +115,15 @@ fn enter_call(
     operands: &[i32],
     from: usize,
     first: u32,
-    q: &Procedure,
-    shape: Shape,
+    q: &Callable,
     copies: u32,
 )
     requires from { from ≤ length operands.now }
     requires some { 0 < first }
     requires slots { slots q.now.params ≡ length (drop from operands.now) }
-    requires shape { shape.copies ≡ has_copies q.now.params }
     requires copies { copy_words (length words.old.words) q.now.params (drop from operands.now) ≡ Some copies }
     requires room { first + (slots q.now.params + q.now.locals + copies) ≤ 1310721 }
     ensures { words.new ≡ record words.old { words = entered words.old.words first q.now (drop from operands.now) } }
 {
-    enter_words(words, first, q, shape, behind(operands, from), copies);
+    enter_words(words, first, q, behind(operands, from), copies);
 }

@@ -2,10 +2,11 @@ ghost use Rattle.std.specs.Prelude.{◌≡◌, ◌+◌, ◌≤◌, ◌<◌, leng
 ghost use Rattle.ob_mem.specs.Words.{with_words};
 ghost use Rattle.ob_instr.specs.Parts.{slots};
 ghost use Rattle.ob_instr.specs.Rows.{copy_words, with_copy, with_copies, entered};
-ghost use Rattle.ob_calls.specs.Copies.{copy_size, with_one, has_copies};
+ghost use Rattle.ob_calls.specs.Copies.{copy_size, with_one};
 
-use crate::arguments::{Shape, behind, copy_of};
-use ob_instr::{Param, Procedure};
+use crate::arguments::{behind, copy_of};
+use ob_image::Callable;
+use ob_instr::Param;
 use ob_mem::Memory;
 
 // Copies so many words to an address, which is then put into a slot.
@@ -112,17 +113,9 @@ fn clear_locals(words: &mut Memory, at: u32, count: u32)
 /// Puts the arguments of a call into its slots, clears its locals behind them, and makes the copies of
 /// the arguments behind these. The call has its first word at `first`.
 #[inline(always)]
-pub fn enter_words(
-    words: &mut Memory,
-    first: u32,
-    q: &Procedure,
-    shape: Shape,
-    args: &[i32],
-    copies: u32,
-)
+pub fn enter_words(words: &mut Memory, first: u32, q: &Callable, args: &[i32], copies: u32)
     requires some { 0 < first }
     requires slots { slots q.now.params ≡ length args.now }
-    requires shape { shape.copies ≡ has_copies q.now.params }
     requires copies { copy_words (length words.old.words) q.now.params args.now ≡ Some copies }
     requires room { first + (slots q.now.params + q.now.locals + copies) ≤ 1310721 }
     ensures { words.new ≡ record words.old { words = entered words.old.words first q.now args.now } }
@@ -130,16 +123,9 @@ pub fn enter_words(
     let _ = words.len();
     put_arguments(words, first, args);
     let locals = first + args.len() as u32;
-    clear_locals(words, locals, q.locals);
-    if !shape.copies {
+    clear_locals(words, locals, q.locals());
+    if !q.copies() {
         return;
     }
-    make_copies(
-        words,
-        q.params.as_slice(),
-        args,
-        first,
-        locals + q.locals,
-        copies,
-    );
+    make_copies(words, q.params(), args, first, locals + q.locals(), copies);
 }

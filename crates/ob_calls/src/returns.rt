@@ -62,7 +62,7 @@ fn has_result(unit: &Module, procedure: u32) -> Option<bool>
     ensures { result ≡ option_map (λ q. q.has_result) (slice_get unit.now.procedures procedure) }
 {
     let q = unit.procedures.get(procedure as usize)?;
-    Some(q.has_result)
+    Some(q.has_result())
 }
 
 #[inline(always)]

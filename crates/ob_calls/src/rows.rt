@@ -5,12 +5,10 @@ ghost use Rattle.ob_values.specs.Effects.{ops_of};
 ghost use Rattle.ob_calls.specs.Callees.{callee_effect, IsWithin};
 ghost use Rattle.ob_calls.specs.Reached.{Comes};
 
-use crate::arguments::shape_of;
 use crate::callee::{Callee, own_number, procedure_at};
 use crate::calling::{Called, call, procedure_of};
 use crate::calls::{Calls, Place};
-use ob_image::{Image, Module};
-use ob_instr::Procedure;
+use ob_image::{Callable, Image, Module};
 use ob_tree::ProcRef;
 use ob_values::State;
 
@@ -22,7 +20,7 @@ fn call_with(
     waiting: &mut Calls,
     state: &mut State,
     r: ProcRef,
-    q: &Procedure,
+    q: &Callable,
 ) -> Called
     requires found { procedure_of image.now r ≡ Some q.now }
     requires words { slots q.now.params + q.now.locals ≤ most_words }
@@ -36,14 +34,13 @@ fn call_with(
     ensures first { 0 < here.new.first }
     ensures stack { 0 < state.new.stack }
 {
-    let shape = shape_of(q.params.as_slice());
-    let slots = shape.slots as usize;
+    let slots = q.slots() as usize;
     let len = state.operands.len();
     if slots > len {
         return Called::Unable;
     }
     let from = len - slots;
-    call(image, here, waiting, state, r, q, shape, from, from)
+    call(image, here, waiting, state, r, q, from, from)
 }
 
 // A call of a procedure with the operands from one on, while those below another one wait.
@@ -72,11 +69,10 @@ fn call_from(
     let Some(q) = procedure_of(image, r) else {
         return Called::Unable;
     };
-    let shape = shape_of(q.params.as_slice());
-    if from + shape.slots as usize != state.operands.len() {
+    if from + q.slots() as usize != state.operands.len() {
         return Called::Unable;
     }
-    call(image, here, waiting, state, r, q, shape, from, below)
+    call(image, here, waiting, state, r, q, from, below)
 }
 
 // A call of a procedure of a number with as many operands as it has slots.

@@ -1,6 +1,7 @@
 //! The modules in the machine: what object files become when they are entered.
 #![tactic(auto)]
 
+mod callable;
 mod describing;
 mod globals;
 mod image;
@@ -10,6 +11,7 @@ mod loaded;
 mod places;
 mod types;
 
+pub use callable::Callable;
 pub use image::Image;
 pub use loaded::Module;
 pub use types::Types;

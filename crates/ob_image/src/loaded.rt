@@ -1,5 +1,6 @@
+use crate::callable::Callable;
 use ob_groups::Code;
-use ob_instr::{Position, Procedure};
+use ob_instr::Position;
 use ob_tree::{List, Name, ProcRef};
 use std::marker::Model;
 
@@ -9,7 +10,7 @@ pub struct Module {
     pub name: Name,
     pub code: Code,
     pub positions: List<Position>,
-    pub procedures: List<Procedure>,
+    pub procedures: List<Callable>,
     /// The address of its first word of globals.
     pub first: u32,
     /// The exported variables, each with its address.

@@ -1,7 +1,10 @@
 ghost use Rattle.std.specs.Prelude.{◌≡◌, ◌+◌, ◌≤◌, ◌<◌, ◌^◌, length, map, IfOk};
+ghost use Rattle.std.specs.List.{AllByRecursion};
+ghost use Rattle.ob_instr.specs.Parts.{slots, most_words};
 ghost use Rattle.ob_obj.specs.Grammar.{words_of};
 ghost use Rattle.ob_obj.specs.Images.{string_places, linked_variable, linked_procedure, or_zero, or_first};
 
+use crate::callable::Callable;
 use crate::links::{linked_procedure, linked_variable};
 use crate::loaded::Module;
 use ob_instr::Procedure;
@@ -59,23 +62,24 @@ pub fn string_places(
     Ok(places)
 }
 
-/// The same procedures.
+/// The same procedures, with what calls make of their arguments.
 pub fn copy_procedures(
     alloc: Global,
     procedures: &[Procedure],
-) -> Result<List<Procedure>, AllocError>
+) -> Result<List<Callable>, AllocError>
+    requires { AllByRecursion (λ q. slots q.params + q.locals ≤ most_words) procedures.now }
     ensures { IfOk result (λ l. l ≡ procedures.now) }
 {
     let mut copies = List::new(alloc);
     let mut rest = procedures;
     while let [procedure, more @ ..] = rest {
         let params = List::from_slice(alloc, procedure.params.as_slice())?;
-        copies.push(Procedure {
+        copies.push(Callable::new(Procedure {
             entry: procedure.entry,
             params,
             locals: procedure.locals,
             has_result: procedure.has_result,
-        })?;
+        }))?;
         rest = more;
     }
     Ok(copies)

@@ -62,8 +62,10 @@ runs t b now img r q s0 s1 s2 new last turns (outcome.Trap k z n p) er at begun 
 runs t b now img r q s0 s1 s2 new last turns (outcome.TurnsSpent n p) er at begun d = came t b now img r q s0 s1 s2 turns (outcome.TurnsSpent n p) d.piece er at begun (d.leg []) d.wrote
 runs t b now img r q s0 s1 s2 new last turns (outcome.Illegal n p) er at begun d = came t b now img r q s0 s1 s2 turns (outcome.Illegal n p) d.piece er at begun (d.leg []) d.wrote
 
-pub runs_over : (t : Bool) (b now : List ℕ) (img : Image) (r : ProcRef) (q : Procedure) (s0 s1 s2 : State) (new : Place) (acts last : List Act) (turns : ℕ) (o : Outcome) → img.room ≡ room → procedure_of img r ≡ Some q → IsBegun s0 s1 q turns → acts ≡ [] → LegDoes t b now img (entry_place r q) new acts last s1 s2 (Some o) → Runs t b now (held img s0) (held img s2) r turns s2.turns o
-runs_over t b now img r q s0 s1 s2 new acts last turns o er at begun e d = runs t b now img r q s0 s1 s2 new last turns o er at begun (subst (λ a. LegDoes t b now img (entry_place r q) new a last s1 s2 (Some o)) e d)
+pub runs_over : (t : Bool) (b now : List ℕ) (img : Image) (r : ProcRef) (q : Procedure) (s0 s1 s2 : State) (new : Place) (acts last : List Act) (turns next : ℕ) (o : Outcome) → img.room ≡ room → procedure_of img r ≡ Some q → IsBegun s0 s1 q turns → acts ≡ [] → next ≡ q.entry → LegDoes t b now img (record { unit = r.module; procedure = r.proc; first = 262145; next = next }) new acts last s1 s2 (Some o) → Runs t b now (held img s0) (held img s2) r turns s2.turns o
+runs_over t b now img r q s0 s1 s2 new acts last turns next o er at begun none first d =
+    let placed = subst (λ n. LegDoes t b now img (record { unit = r.module; procedure = r.proc; first = 262145; next = n }) new acts last s1 s2 (Some o)) first d in
+    runs t b now img r q s0 s1 s2 new last turns o er at begun (subst (λ a. LegDoes t b now img (entry_place r q) new a last s1 s2 (Some o)) none placed)
 
 -- a procedure without parameters has no copies
 no_copies : (words : List ℤ) (params : List Param) (slot next : ℕ) → params ≡ [] → with_copies words params [] slot next ≡ words
@@ -74,8 +76,8 @@ entered_none words q e le =
     cleared_as words 262145 q.locals (omega arith) le
     ∙ sym (no_copies (with_words words (pos 262145) (replicate q.locals (pos 0))) q.params 262145 (262145 + (slots q.params + q.locals)) e)
 
-pub begins_so : (h new : Held) (q : Procedure) → q.params ≡ [] → 262145 + q.locals ≤ length h.words + 1 → new ≡ record h { words = unwrap_or (cleared h.words (pos 262145) q.locals) h.words } → new ≡ record h { words = entered h.words 262145 q [] }
-begins_so h new q e le is = is ∙ ap (λ l. record h { words = l }) (entered_none h.words q e le)
+pub begins_so : (h new : Held) (q : Procedure) (n : ℕ) → n ≡ q.locals → q.params ≡ [] → 262145 + q.locals ≤ length h.words + 1 → new ≡ record h { words = unwrap_or (cleared h.words (pos 262145) n) h.words } → new ≡ record h { words = entered h.words 262145 q [] }
+begins_so h new q n is_locals e le is = is ∙ ap (λ k. record h { words = unwrap_or (cleared h.words (pos 262145) k) h.words }) is_locals ∙ ap (λ l. record h { words = l }) (entered_none h.words q e le)
 
-pub stack_so : (q : Procedure) → q.params ≡ [] → 262145 + q.locals ≡ 262145 + (slots q.params + q.locals)
-stack_so q e = let none : 262145 + q.locals ≡ 262145 + (0 + q.locals) = omega arith in none ∙ ap (λ p. 262145 + (slots p + q.locals)) (sym e)
+pub stack_so : (q : Procedure) (n : ℕ) → n ≡ q.locals → q.params ≡ [] → 262145 + n ≡ 262145 + (slots q.params + q.locals)
+stack_so q n is_locals e = let none : 262145 + n ≡ 262145 + (0 + q.locals) = omega arith in none ∙ ap (λ p. 262145 + (slots p + q.locals)) (sym e)

@@ -3,10 +3,10 @@ use Rattle.std.specs.Prelude.{◌≡◌, ℕ, ◌+◌, ◌*◌, ◌<◌, ◌≤�
 use Rattle.std.specs.List.{AllByRecursion}
 use Rattle.ob_io.specs.Io.{AddsFront, Rose}
 use Rattle.ob_instr.specs.declared.procedure.Procedure.{Procedure}
-use Rattle.ob_instr.specs.Image.{Image, World, Act, End, Point, Over}
+use Rattle.ob_instr.specs.Image.{Image, ModuleImage, World, Act, End, Point, Over}
 use Rattle.ob_instr.specs.Parts.{slots}
 use Rattle.ob_instr.specs.Rows.{entered}
-use Rattle.ob_instr.specs.Table.{run}
+use Rattle.ob_instr.specs.Table.{run, position_at}
 use Rattle.ob_values.specs.declared.state.State.{State}
 use Rattle.ob_values.specs.Effects.{world_of}
 use Rattle.ob_run.specs.Turns.{Begins, Comes}
@@ -14,7 +14,17 @@ use Rattle.ob_calls.specs.declared.calls.Place.{Place}
 use Rattle.ob_calls.specs.Reached.{at_place}
 use Rattle.ob_machine.specs.declared.outcome.Outcome.{Outcome}
 use Rattle.ob_machine.specs.declared.outcome.Outcome.TheVariants as outcome
+use Rattle.ob_machine.specs.declared.running.Ending.{Ending}
+use Rattle.ob_machine.specs.declared.running.Ending.TheVariants as ending
 use Rattle.ob_machine.specs.Machine.{outcome_of}
+
+-- the outcome that an end in a module is
+abbrev pub outcome_in : ModuleImage → Ending → Outcome
+outcome_in u ending.Done = outcome.Done
+outcome_in u (ending.Trap kind number at) = outcome.Trap kind number u.name (position_at u.positions at)
+outcome_in u (ending.TurnsSpent at) = outcome.TurnsSpent u.name (position_at u.positions at)
+outcome_in u (ending.Illegal at) = outcome.Illegal u.name at
+outcome_in u ending.SinkFault = outcome.SinkFault
 
 -- from a point the run comes to an end, in a world, and the outcome tells it
 pub record EndsAt (img : Image) (from : Point) (last : World) (result : Outcome) : Type 0 where

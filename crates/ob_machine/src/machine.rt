@@ -107,7 +107,7 @@ impl Machine {
             unit: entry.module,
             procedure: entry.proc,
             first: 262_145,
-            next: procedure.entry,
+            next: procedure.entry(),
         };
         let outcome = run_calls(
             &self.image,

@@ -1,4 +1,4 @@
-ghost use Rattle.std.specs.Prelude.{◌≡◌, ◌≤◌, ◌<◌, ◌^◌, [], length, vec_len, vec_capacity, slice_get, true, None, Some};
+ghost use Rattle.std.specs.Prelude.{◌≡◌, ◌≤◌, ◌<◌, ◌^◌, [], length, vec_len, vec_capacity, slice_get, true, None, Some, option_map};
 ghost use Rattle.ob_instr.specs.Rows.{procedure_of};
 ghost use Rattle.ob_instr.specs.Table.{position_at};
 ghost use Rattle.ob_image.specs.Room.{room};
@@ -6,13 +6,13 @@ ghost use Rattle.ob_effect.specs.Bases.{AreBelow};
 ghost use Rattle.ob_effect.specs.Places.{is_call};
 ghost use Rattle.ob_run.specs.Turns.{IsHere};
 ghost use Rattle.ob_machine.specs.Machine.{IsEntry};
-ghost use Rattle.ob_machine.specs.Legs.{LegDoes, LegHasCause, CallDoes, CanRun, IsBegun, left_of};
+ghost use Rattle.ob_machine.specs.Legs.{LegDoes, LegHasCause, CallDoes, CanRun, IsBegun, left_of, outcome_in};
 
 use crate::Outcome;
 use ob_calls::{Called, Calls, Place, call_or_return};
 use ob_groups::Code;
-use ob_image::{Image, Module};
-use ob_instr::{Instr, Position, Procedure};
+use ob_image::{Callable, Image, Module};
+use ob_instr::{Instr, Position};
 use ob_io::Sink;
 use ob_run::{Pause, go};
 use ob_tree::{Pos, ProcRef};
@@ -32,32 +32,43 @@ fn position_at(positions: &[Position], pc: u32) -> Pos
     Pos { line: 0, col: 0 }
 }
 
-fn trap(unit: &Module, pc: u32, kind: u8, number: i32) -> Outcome
-    ensures { result ≡ Outcome.Trap kind number unit.now.name (position_at unit.now.positions pc) }
-{
-    Outcome::Trap {
-        kind,
-        number,
-        module: unit.name,
-        pos: position_at(unit.positions.as_slice(), pc),
-    }
+// How the instructions of a module end. Indices are of its code.
+#[derive(Clone, Copy, PartialEq, Eq, Drop)]
+enum Ending {
+    // the procedure that the run began in returned
+    Done,
+    // a trap of the instruction at an index, with its kind and the number that it tells
+    Trap { kind: u8, number: i32, at: u32 },
+    // no turn was left for the instruction at an index
+    TurnsSpent { at: u32 },
+    // the instruction at an index cannot be executed, or there is none
+    Illegal { at: u32 },
+    // the sink failed: a front of the text was written
+    SinkFault,
 }
 
-fn turns_spent(unit: &Module, pc: u32) -> Outcome
-    ensures { result ≡ Outcome.TurnsSpent unit.now.name (position_at unit.now.positions pc) }
+// The outcome that an end in a module is.
+#[inline(never)]
+fn outcome_in(unit: &Module, ending: Ending) -> Outcome
+    ensures { result ≡ outcome_in unit.now ending }
 {
-    Outcome::TurnsSpent {
-        module: unit.name,
-        pos: position_at(unit.positions.as_slice(), pc),
-    }
-}
-
-fn illegal(unit: &Module, pc: u32) -> Outcome
-    ensures { result ≡ Outcome.Illegal unit.now.name pc }
-{
-    Outcome::Illegal {
-        module: unit.name,
-        at: pc,
+    match ending {
+        Ending::Done => Outcome::Done,
+        Ending::Trap { kind, number, at } => Outcome::Trap {
+            kind,
+            number,
+            module: unit.name,
+            pos: position_at(unit.positions.as_slice(), at),
+        },
+        Ending::TurnsSpent { at } => Outcome::TurnsSpent {
+            module: unit.name,
+            pos: position_at(unit.positions.as_slice(), at),
+        },
+        Ending::Illegal { at } => Outcome::Illegal {
+            module: unit.name,
+            at,
+        },
+        Ending::SinkFault => Outcome::SinkFault,
     }
 }
 
@@ -117,31 +128,35 @@ fn call_at(
     calls: &mut Calls,
     state: &mut State,
     instr: Instr,
-) -> Option<Outcome>
+) -> Option<Ending>
     requires at { slice_get image.now.modules here.old.unit ≡ Some unit.now }
     requires room { image.now.room ≡ room }
     requires short { length unit.now.code ≤ 262144 }
     requires instr { slice_get unit.now.code here.old.next ≡ Some instr }
     requires call { is_call instr.op ≡ true }
     requires can { CanRun (length image.now.modules) here.old calls.old state.old }
-    ensures does { CallDoes image.now here.old here.new calls.old calls.new state.old state.new result }
+    ensures does { CallDoes image.now here.old here.new calls.old calls.new state.old state.new (option_map (outcome_in unit.now) result) }
     ensures less { result ≡ None → left_of state.new calls.new < left_of state.old calls.old }
     ensures can { result ≡ None → CanRun (length image.now.modules) here.new calls.new state.new }
     ensures room { 257 ≤ vec_capacity state.new.operands }
 {
-    let pc = here.next;
+    let at = here.next;
     match call_or_return(image, unit, here, calls, state, instr) {
         Called::Goes => {
             let _ = calls.len();
             if state.operands.len() > 256 {
-                return Some(illegal(unit, pc));
+                return Some(Ending::Illegal { at });
             }
             None
         }
-        Called::Done => Some(Outcome::Done),
-        Called::Traps(kind) => Some(trap(unit, pc, kind, 0)),
-        Called::Spends => Some(turns_spent(unit, pc)),
-        Called::Unable => Some(illegal(unit, pc)),
+        Called::Done => Some(Ending::Done),
+        Called::Traps(kind) => Some(Ending::Trap {
+            kind,
+            number: 0,
+            at,
+        }),
+        Called::Spends => Some(Ending::TurnsSpent { at }),
+        Called::Unable => Some(Ending::Illegal { at }),
     }
 }
 
@@ -158,7 +173,7 @@ fn leg<S: Sink>(
     calls: &mut Calls,
     state: &mut State,
     out: &mut S,
-) -> Option<Outcome>
+) -> Option<Ending>
     requires at { slice_get image.now.modules here.old.unit ≡ Some unit.now }
     requires room { image.now.room ≡ room }
     requires short { length unit.now.code ≤ 262144 }
@@ -170,22 +185,22 @@ fn leg<S: Sink>(
     requires few { place.now.count < 2 ^ 31 }
     requires bases { AreBelow place.now.descriptors.now.list }
     requires can { CanRun (length image.now.modules) here.old calls.old state.old }
-    ensures does { LegDoes (S.tells out.old) (S.taken out.old) (S.taken out.new) image.now here.old here.new calls.old calls.new state.old state.new result }
+    ensures does { LegDoes (S.tells out.old) (S.taken out.old) (S.taken out.new) image.now here.old here.new calls.old calls.new state.old state.new (option_map (outcome_in unit.now) result) }
     ensures less { result ≡ None → left_of state.new calls.new < left_of state.old calls.old }
     ensures can { result ≡ None → CanRun (length image.now.modules) here.new calls.new state.new }
     ensures room { 257 ≤ vec_capacity state.new.operands }
     ensures told { S.tells out.new ≡ S.tells out.old }
-    ensures cause { LegHasCause (S.faults out.old) (S.faults out.new) result }
+    ensures cause { LegHasCause (S.faults out.old) (S.faults out.new) (option_map (outcome_in unit.now) result) }
 {
-    let mut pc = here.next;
-    let pause = go(place, code, &mut pc, state, out);
-    here.next = pc;
+    let mut at = here.next;
+    let pause = go(place, code, &mut at, state, out);
+    here.next = at;
     match pause {
         Pause::Calls(instr) => call_at(image, unit, here, calls, state, instr),
-        Pause::Traps { kind, number } => Some(trap(unit, pc, kind, number)),
-        Pause::Spent => Some(turns_spent(unit, pc)),
-        Pause::Illegal => Some(illegal(unit, pc)),
-        Pause::SinkFault => Some(Outcome::SinkFault),
+        Pause::Traps { kind, number } => Some(Ending::Trap { kind, number, at }),
+        Pause::Spent => Some(Ending::TurnsSpent { at }),
+        Pause::Illegal => Some(Ending::Illegal { at }),
+        Pause::SinkFault => Some(Ending::SinkFault),
     }
 }
 
@@ -212,8 +227,8 @@ fn run_in_module<S: Sink>(
     let code = &unit.code;
     let mut place = read_place(image, unit, number, here.first);
     'legs: loop {
-        if let Some(outcome) = leg(image, unit, code, &place, here, calls, state, out) {
-            return Some(outcome);
+        if let Some(ending) = leg(image, unit, code, &place, here, calls, state, out) {
+            return Some(outcome_in(unit, ending));
         }
         if here.unit != number {
             return None;
@@ -245,7 +260,7 @@ pub fn run_calls<S: Sink>(
 }
 
 /// The procedure that a run begins in.
-pub fn entry_procedure(image: &Image, entry: ProcRef) -> &Procedure
+pub fn entry_procedure(image: &Image, entry: ProcRef) -> &Callable
     requires { IsEntry image.now entry }
     ensures there { procedure_of image.now entry ≡ Some result.now }
     ensures params { result.now.params ≡ [] }
@@ -266,14 +281,15 @@ pub fn entry_procedure(image: &Image, entry: ProcRef) -> &Procedure
 /// Puts the machine before the first instruction of a procedure without parameters, with these turns and no
 /// operands. Its locals are then 0.
 #[tactic(auto, using(crate::proofs::Runs::begins_so, crate::proofs::Runs::stack_so))]
-pub fn begin(state: &mut State, procedure: &Procedure, turns: u32)
+pub fn begin(state: &mut State, procedure: &Callable, turns: u32)
     requires params { procedure.now.params ≡ [] }
     requires locals { procedure.now.locals ≤ 1048576 }
     ensures { IsBegun state.old state.new procedure.now turns }
 {
     let _ = state.words.len();
-    let _ = state.words.clear(262_145, procedure.locals);
-    state.stack = 262_145 + procedure.locals;
+    let locals = procedure.locals();
+    let _ = state.words.clear(262_145, locals);
+    state.stack = 262_145 + locals;
     state.operands.clear();
     state.turns = turns;
 }

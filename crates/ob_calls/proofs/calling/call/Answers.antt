@@ -39,5 +39,5 @@ returns-clause-comes c =
     let words : c.enter_call.new.words ≡ record s.words { words = entered s.words.words s.stack q args } = c.enter_call.ensures ∙ ap (λ l. record s.words { words = entered s.words.words s.stack q (drop c.args.from l) }) c.deref-2.ensures.value in
     let stack : s.stack + (length c.behind-args.result.now + c.from.result + n) ≡ s.stack + (slots q.params + q.locals + n) = omega arith in
     let after : State = record { words = c.enter_call.new.words; stack = s.stack + (length c.behind-args.result.now + c.from.result + n); operands = c.push.new.operands; turns = s.turns - 1 } in
-    let place : Place = record { unit = c.args.r.module; procedure = c.args.r.proc; first = s.stack; next = q.entry } in
-    has_its_room c.args.image.now here place c.args.waiting.now c.push.new.self s after c.args.r q args ops n (s.turns - 1) c.count.ensures.room c.requires.found ec et eb refl waits c.push.ensures.operands words stack refl
+    let place : Place = record { unit = c.args.r.module; procedure = c.args.r.proc; first = s.stack; next = c.entry-here.result } in
+    has_its_room c.args.image.now here place c.args.waiting.now c.push.new.self s after c.args.r q args ops n (s.turns - 1) c.count.ensures.room c.requires.found ec et eb (ap (λ k. record { unit = c.args.r.module; procedure = c.args.r.proc; first = s.stack; next = k }) c.entry-here.ensures) waits c.push.ensures.operands words stack refl

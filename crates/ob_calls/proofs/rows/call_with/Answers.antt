@@ -10,7 +10,7 @@ returns-clause-comes c =
     let s = c.args.state.now in
     let here = c.args.here.now in
     let q = c.args.q.now in
-    let n = c.shape_of-shape.result.slots in
-    let en : n ≡ slots q.params = c.shape_of-shape.ensures.slots ∙ ap slots c.as_slice.ensures in
+    let n = c.slots-slots.result in
+    let en : n ≡ slots q.params = c.slots-slots.ensures in
     let e : c.len-len.result - n + n ≡ length s.operands.items = omega (arith, c.len-len.ensures, s.operands.ok.0) in
     λ u out. ap (come_to c.args.image.now u here.unit here.procedure here.first c.args.waiting.now here.next (world_of s out)) (with_is c.args.image.now c.args.r q s.operands.items n (c.len-len.result - n) (world_of s out) c.requires.found en e) ∙ c.call.ensures.comes u out

@@ -7,8 +7,8 @@ returns c =
     let q = c.args.procedure.now in
     let fits : 262145 + q.locals ≤ length c.args.state.now.words.words + 1 = omega (arith, c.len.ensures.least, c.len.ensures.len, c.requires.locals) in
     record {
-      words = begins_so c.args.state.now.words c.clear.new.self q c.requires.params fits c.clear.ensures.after;
-      stack = stack_so q c.requires.params;
+      words = begins_so c.args.state.now.words c.clear.new.self q c.locals-locals.result c.locals-locals.ensures c.requires.params fits c.clear.ensures.after;
+      stack = stack_so q c.locals-locals.result c.locals-locals.ensures c.requires.params;
       empty = c.clear-2.ensures.items;
       full = refl;
       room = c.clear-2.ensures.capacity;

@@ -1,5 +1,4 @@
-use Rattle.std.proofs.Common.{◌<◌, ◌≤◌, length, Some, sym, subst, arith}
-use Rattle.ob_machine.specs.Legs.{CallDoes}
+use Rattle.std.proofs.Common.{◌<◌, ◌≤◌, length, arith}
 use Rattle.ob_machine.proofs.Legs.{goes_on, has_many, traps, is_spent, is_unable}
 use Rattle.ob_machine.proofs.running.call_at.Goals as goal
 
@@ -7,8 +6,7 @@ pub returns-then-len-gt256-clause-does : goal.returns-then-len-gt256-clause-does
 returns-then-len-gt256-clause-does c =
     let s = c.call_or_return.new.state in
     let many : 256 < length s.operands.items = omega (arith, c.if-len-gt256.true, c.len-in-Goes.ensures, s.operands.ok.0) in
-    subst (λ o. CallDoes c.args.image.now c.args.here.now c.call_or_return.new.here c.args.calls.now c.call_or_return.new.calls c.args.state.now s (Some o)) (sym c.illegal.ensures)
-    (has_many c.args.image.now c.args.unit.now c.args.here.now c.call_or_return.new.here c.args.calls.now c.call_or_return.new.calls c.args.state.now s c.args.instr c.requires.at c.requires.room c.requires.instr c.in-Goes.ensures.comes many)
+    has_many c.args.image.now c.args.unit.now c.args.here.now c.call_or_return.new.here c.args.calls.now c.call_or_return.new.calls c.args.state.now s c.args.instr c.requires.at c.requires.room c.requires.instr c.in-Goes.ensures.comes many
 
 pub returns-else-len-gt256-clause-does : goal.returns-else-len-gt256-clause-does
 returns-else-len-gt256-clause-does c =
@@ -19,17 +17,14 @@ returns-else-len-gt256-clause-does c =
 pub returns-in-Traps-clause-does : goal.returns-in-Traps-clause-does
 returns-in-Traps-clause-does c =
     let s = c.call_or_return.new.state in
-    subst (λ o. CallDoes c.args.image.now c.args.here.now c.call_or_return.new.here c.args.calls.now c.call_or_return.new.calls c.args.state.now s (Some o)) (sym c.trap.ensures)
-    (traps c.args.image.now c.args.unit.now c.args.here.now c.call_or_return.new.here c.args.calls.now c.call_or_return.new.calls c.args.state.now s c.args.instr c.in-Traps.kind c.requires.at c.requires.room c.requires.instr c.in-Traps.ensures.comes)
+    traps c.args.image.now c.args.unit.now c.args.here.now c.call_or_return.new.here c.args.calls.now c.call_or_return.new.calls c.args.state.now s c.args.instr c.in-Traps.kind c.requires.at c.requires.room c.requires.instr c.in-Traps.ensures.comes
 
 pub returns-in-Spends-clause-does : goal.returns-in-Spends-clause-does
 returns-in-Spends-clause-does c =
     let s = c.call_or_return.new.state in
-    subst (λ o. CallDoes c.args.image.now c.args.here.now c.call_or_return.new.here c.args.calls.now c.call_or_return.new.calls c.args.state.now s (Some o)) (sym c.turns_spent.ensures)
-    (is_spent c.args.image.now c.args.unit.now c.args.here.now c.call_or_return.new.here c.args.calls.now c.call_or_return.new.calls c.args.state.now s c.args.instr c.requires.at c.requires.room c.requires.instr c.in-Spends.ensures.comes)
+    is_spent c.args.image.now c.args.unit.now c.args.here.now c.call_or_return.new.here c.args.calls.now c.call_or_return.new.calls c.args.state.now s c.args.instr c.requires.at c.requires.room c.requires.instr c.in-Spends.ensures.comes
 
 pub returns-in-Unable-clause-does : goal.returns-in-Unable-clause-does
 returns-in-Unable-clause-does c =
     let s = c.call_or_return.new.state in
-    subst (λ o. CallDoes c.args.image.now c.args.here.now c.call_or_return.new.here c.args.calls.now c.call_or_return.new.calls c.args.state.now s (Some o)) (sym c.illegal-in-Unable.ensures)
-    (is_unable c.args.image.now c.args.unit.now c.args.here.now c.call_or_return.new.here c.args.calls.now c.call_or_return.new.calls c.args.state.now s c.args.instr c.requires.at c.requires.room c.requires.instr c.in-Unable.ensures.comes)
+    is_unable c.args.image.now c.args.unit.now c.args.here.now c.call_or_return.new.here c.args.calls.now c.call_or_return.new.calls c.args.state.now s c.args.instr c.requires.at c.requires.room c.requires.instr c.in-Unable.ensures.comes

@@ -43,3 +43,8 @@ pub new-requires : goal.new-requires
 new-requires c =
     let f = c.args.file.now in
     rw c.as_slice.ensures (sound f c.requires.can.fits).few_instructions
+
+pub copy_procedures-requires : goal.copy_procedures-requires
+copy_procedures-requires c =
+    let f = c.args.file.now in
+    rw c.as_slice-3.ensures (short f c.requires.can.fits)

@@ -1,12 +1,12 @@
 use Rattle.std.proofs.Common.{◌≡◌, ◌+◌, length}
 use Rattle.std.specs.Prelude.{◌||◌}
 use Rattle.ob_instr.specs.Parts.{slots}
-use Rattle.ob_calls.specs.Copies.{has_copies}
-use Rattle.ob_calls.proofs.arguments.shape_of.Given as goal
+use Rattle.ob_image.specs.Copies.{has_copies}
+use Rattle.ob_image.proofs.callable.shape_of.Given as goal
 
 abbrev pub invariant-loop-rest : goal.invariant-loop-rest
 invariant-loop-rest l = record {
-  slots : l.slots + slots l.rest ≡ slots l.params;
+  words : l.words + slots l.rest ≡ slots l.params;
   copies : l.copies || has_copies l.rest ≡ has_copies l.params;
 }
 
