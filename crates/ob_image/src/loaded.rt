@@ -5,7 +5,6 @@ use ob_tree::{List, Name, ProcRef};
 use std::marker::Model;
 
 /// A module in the machine.
-#[derive(Drop)]
 pub struct Module {
     pub name: Name,
     pub code: Code,
@@ -25,6 +24,25 @@ pub struct Module {
     pub procedure_links: List<ProcRef>,
     /// The numbers of the descriptors of its own types, and then of those that its links name.
     pub types: List<u32>,
+}
+
+// By hand: what enters a module has one call where it lets one go, and proves no destructor of its parts.
+impl Drop for Module {
+    fn drop(self) {
+        let Module {
+            name: _,
+            code: _,
+            positions: _,
+            procedures: _,
+            first: _,
+            variables: _,
+            commands: _,
+            strings: _,
+            variable_links: _,
+            procedure_links: _,
+            types: _,
+        } = self;
+    }
 }
 
 impl Model for Module {
