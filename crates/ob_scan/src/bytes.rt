@@ -47,6 +47,7 @@ pub fn is_plain(quote: u8, b: u8) -> bool
     b <= 127 && b != 10 && b != quote
 }
 
+#[inline(always)]
 pub fn mark_of_one(b: u8) -> Option<Symbol>
     ensures { result ≡ spec.mark_of_one b }
 {
@@ -99,16 +100,21 @@ pub fn mark_of_one(b: u8) -> Option<Symbol>
     }
 }
 
+#[inline(always)]
 pub fn mark_of_two(a: u8, b: u8) -> Option<Symbol>
     ensures { result ≡ spec.mark_of_two a b }
 {
-    if a == b':' && b == b'=' {
-        Some(Symbol::Becomes)
-    } else if a == b'<' && b == b'=' {
-        Some(Symbol::LessEqual)
-    } else if a == b'>' && b == b'=' {
-        Some(Symbol::GreaterEqual)
-    } else if a == b'.' && b == b'.' {
+    if b == b'=' {
+        if a == b':' {
+            Some(Symbol::Becomes)
+        } else if a == b'<' {
+            Some(Symbol::LessEqual)
+        } else if a == b'>' {
+            Some(Symbol::GreaterEqual)
+        } else {
+            None
+        }
+    } else if b == b'.' && a == b'.' {
         Some(Symbol::DotDot)
     } else {
         None
