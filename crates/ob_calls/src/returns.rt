@@ -77,7 +77,7 @@ fn last(operands: &[i32]) -> Option<i32>
 }
 
 /// A return without a result.
-#[inline(never)]
+#[inline(always)]
 pub fn return_without(
     unit: &Module,
     here: &mut Place,
@@ -104,7 +104,7 @@ pub fn return_without(
 }
 
 /// A return with a result.
-#[inline(never)]
+#[inline(always)]
 pub fn return_with(
     unit: &Module,
     here: &mut Place,

@@ -31,6 +31,7 @@ fn columns(width: i32) -> u32
 }
 
 /// Writes a number in decimal, right in its columns.
+#[inline(never)]
 pub fn put_padded<S: Sink>(out: &mut S, number: i32, width: i32) -> Result<(), Failed>
     ensures told { S.tells out.new ≡ S.tells out.old }
     ensures bytes { S.tells out.old ≡ true → WritesAll (S.taken out.old) (S.taken out.new) result (padded number width) }
@@ -50,6 +51,7 @@ fn low_byte(word: i32) -> u8
 }
 
 /// Writes the low eight bits of a word.
+#[inline(never)]
 pub fn put_char<S: Sink>(out: &mut S, word: i32) -> Result<(), Failed>
     ensures told { S.tells out.new ≡ S.tells out.old }
     ensures bytes { S.tells out.old ≡ true → WritesAll (S.taken out.old) (S.taken out.new) result (low_byte word ∷ []) }
@@ -60,6 +62,7 @@ pub fn put_char<S: Sink>(out: &mut S, word: i32) -> Result<(), Failed>
 
 /// Writes the low eight bits of `count` words that stand behind `start` others, as far as there are so
 /// many.
+#[inline(never)]
 #[tactic(auto, using(crate::proofs::Chars::chars))]
 pub fn put_text<S: Sink>(out: &mut S, words: &Memory, start: u32, count: u32) -> Result<(), Failed>
     ensures told { S.tells out.new ≡ S.tells out.old }
