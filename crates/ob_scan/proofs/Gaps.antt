@@ -104,3 +104,14 @@ room_one text i here c l r = by_test (c == 10)
     by_test : (t : Bool) → HasRoom (cond t (record { line = here.line + 1; col = 1 }) (record { line = here.line; col = here.col + 1 })) (drop (i + 1) text)
     by_test true = let a = length-drop i text in let b = length-drop (i + 1) text in let u = r.0 in let v = r.1 in let w = r.2 in (omega (arith, a, b, u), omega (arith, a, b, w), omega (arith, a, b, w))
     by_test false = let a = length-drop i text in let b = length-drop (i + 1) text in let u = r.0 in let v = r.1 in let w = r.2 in (omega (arith, a, b, u), omega (arith, a, b, v), omega (arith, a, b, w))
+
+not_open : (a b : ℕ) → is_blank a ≡ true → opens a b ≡ false
+not_open a b f = grind arith
+
+blank_before : (start here : Pos) (a : ℕ) (rest : Bytes) → is_blank a ≡ true → behind 0 start here (a ∷ rest) ≡ behind 0 start (next_pos here a) rest
+blank_before start here a [] f = rw f refl
+blank_before start here a (b ∷ bs) f = let e = not_open a b f in rw (e, f) refl
+
+-- a blank, whatever stands behind it
+pub blank_taken : (text : Bytes) (i : ℕ) (start here : Pos) (z : ℕ) → i < length text → is_blank (get_or text i z) ≡ true → behind 0 start here (drop i text) ≡ behind 0 start (next_pos here (get_or text i z)) (drop (i + 1) text)
+blank_taken text i start here z h f = ap (behind 0 start here) (drop_more text i z h) ∙ blank_before start here (get_or text i z) (drop (i + 1) text) f

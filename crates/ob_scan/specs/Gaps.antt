@@ -1,8 +1,8 @@
 -- A position among blanks and comments.
-use Rattle.std.specs.Prelude.{◌≡◌, ◌≤◌, ◌<◌, ◌==◌, Bool, false, not, ◌&&◌, if◌then◌else◌, [], ◌∷◌, length, drop, Option, Some, None}
+use Rattle.std.specs.Prelude.{◌≡◌, ◌≤◌, ◌<◌, ◌==◌, if◌then◌else◌, length, drop, Option, Some, None}
 use Rattle.ob_tree.specs.declared.pos.Pos.{Pos}
 use Rattle.ob_scan.specs.declared.gap.GapPosition.{GapPosition}
-use Rattle.ob_scan.specs.Vocabulary.{Bytes, is_blank}
+use Rattle.ob_scan.specs.Vocabulary.{Bytes}
 use Rattle.ob_scan.specs.Scanning.{Gap, Behind, behind, HasRoom}
 
 -- what stands behind the gap from there on
@@ -17,11 +17,6 @@ pub record IsRoomy (text : Bytes) (p : GapPosition) : Type 0 where
   pub within : p.at ≤ length text
   pub room : HasRoom p.here (drop p.at text)
   pub shallow : p.depth ≤ p.at
-
--- a symbol begins here, by its first byte alone
-abbrev pub symbol_stands : Bytes → Bool
-symbol_stands [] = false
-symbol_stands (b ∷ bs) = not (is_blank b) && not (b == 40)
 
 -- a further position, or none where a symbol begins
 abbrev pub Turns : Bytes → GapPosition → Option GapPosition → Type 0

@@ -99,16 +99,21 @@ pub fn mark_of_one(b: u8) -> Option<Symbol>
     }
 }
 
+#[inline(always)]
 pub fn mark_of_two(a: u8, b: u8) -> Option<Symbol>
     ensures { result ≡ spec.mark_of_two a b }
 {
-    if a == b':' && b == b'=' {
-        Some(Symbol::Becomes)
-    } else if a == b'<' && b == b'=' {
-        Some(Symbol::LessEqual)
-    } else if a == b'>' && b == b'=' {
-        Some(Symbol::GreaterEqual)
-    } else if a == b'.' && b == b'.' {
+    if b == b'=' {
+        if a == b':' {
+            Some(Symbol::Becomes)
+        } else if a == b'<' {
+            Some(Symbol::LessEqual)
+        } else if a == b'>' {
+            Some(Symbol::GreaterEqual)
+        } else {
+            None
+        }
+    } else if b == b'.' && a == b'.' {
         Some(Symbol::DotDot)
     } else {
         None

@@ -4,7 +4,7 @@ ghost use Rattle.std.specs.Prelude.{◌≡◌, ◌+◌, ◌<◌, ◌^◌, zero, 
 ghost use Rattle.ob_scan.specs.Scanning as spec;
 ghost use Rattle.ob_scan.specs.Scanning.{HasRoom, Skips};
 ghost use Rattle.ob_scan.specs.Gaps as gaps;
-ghost use Rattle.ob_scan.specs.Gaps.{IsRoomy, Turns};
+ghost use Rattle.ob_scan.specs.Gaps.{IsRoomy, Turns, gap_of};
 
 use crate::bytes::is_blank;
 use crate::fault::ScanFault;
@@ -141,31 +141,14 @@ fn turn(text: &[u8], p: GapPosition) -> Option<GapPosition>
     }
 }
 
-// Whether a symbol begins at the first byte, by that byte alone; `(` may begin a comment.
-#[inline(always)]
-fn symbol_stands(text: &[u8]) -> bool
-    ensures { result ≡ gaps.symbol_stands text.now }
+// How many bytes of blanks and comments there are from the front on, where so many of them are passed,
+// and where one stands behind them.
+#[inline(never)]
+fn through(text: &[u8], from: GapPosition) -> Result<(usize, Pos), ScanFault>
+    requires { IsRoomy text.now from }
+    ensures { Skips (gap_of text.now from) text.now result }
 {
-    match text {
-        [] => false,
-        [first, ..] => !is_blank(*first) && !(*first == b'(')
-    }
-}
-
-// How many bytes of blanks and comments there are, and where one stands behind them.
-pub fn skip(text: &[u8], pos: Pos) -> Result<(usize, Pos), ScanFault>
-    requires { HasRoom pos text.now }
-    ensures { Skips (spec.behind zero pos pos text.now) text.now result }
-{
-    if symbol_stands(text) {
-        return Ok((0, pos));
-    }
-    let mut p = GapPosition {
-        at: 0,
-        depth: 0,
-        start: pos,
-        here: pos,
-    };
+    let mut p = from;
     'gap: while p.at < text.len() {
         match turn(text, p) {
             Some(q) => p = q,
@@ -177,4 +160,33 @@ pub fn skip(text: &[u8], pos: Pos) -> Result<(usize, Pos), ScanFault>
     } else {
         Err(ScanFault::Symbol { pos: p.start })
     }
+}
+
+// How many bytes of blanks and comments there are, and where one stands behind them. Blanks are passed
+// here, and what begins with `(` is looked at apart, since it may be a comment.
+#[inline(always)]
+pub fn skip(text: &[u8], pos: Pos) -> Result<(usize, Pos), ScanFault>
+    requires { HasRoom pos text.now }
+    ensures { Skips (spec.behind zero pos pos text.now) text.now result }
+{
+    let mut at = 0;
+    let mut here = pos;
+    'blanks: while at < text.len() {
+        let b = text[at];
+        if !is_blank(b) {
+            if b == b'(' {
+                let from = GapPosition {
+                    at,
+                    depth: 0,
+                    start: pos,
+                    here,
+                };
+                return through(text, from);
+            }
+            return Ok((at, here));
+        }
+        here = next_pos(here, b);
+        at += 1;
+    }
+    Ok((at, here))
 }

@@ -73,6 +73,7 @@ fn is_dot_alone(text: &[u8]) -> bool
 }
 
 // What begins with a letter.
+#[inline(always)]
 fn word_at(text: &[u8], pos: Pos) -> Result<(usize, Symbol), ScanFault>
     requires some { 0 < length text.now }
     requires letter { spec.is_letter (slice_index text.now 0) ≡ true }
@@ -87,6 +88,7 @@ fn word_at(text: &[u8], pos: Pos) -> Result<(usize, Symbol), ScanFault>
 }
 
 // What begins with a digit.
+#[inline(never)]
 fn number_at(text: &[u8], pos: Pos) -> Result<(usize, Symbol), ScanFault>
     requires some { 0 < length text.now }
     requires digit { spec.is_digit (slice_index text.now 0) ≡ true }
@@ -120,6 +122,7 @@ fn whole_at(text: &[u8], pos: Pos, digits: usize) -> Result<(usize, Symbol), Sca
 }
 
 // What begins with the mark of a string.
+#[inline(never)]
 fn string_at(text: &[u8], pos: Pos) -> Result<(usize, Symbol), ScanFault>
     requires some { 0 < length text.now }
     requires quote { spec.is_quote (slice_index text.now 0) ≡ true }
@@ -137,6 +140,7 @@ fn string_at(text: &[u8], pos: Pos) -> Result<(usize, Symbol), ScanFault>
 }
 
 // The mark that the first two bytes are.
+#[inline(always)]
 fn two_at(text: &[u8]) -> Option<Symbol>
     ensures { result ≡ kinds.two_of text.now }
 {
@@ -147,6 +151,7 @@ fn two_at(text: &[u8]) -> Option<Symbol>
 }
 
 // What begins with anything else.
+#[inline(always)]
 fn mark_at(text: &[u8], pos: Pos) -> Result<(usize, Symbol), ScanFault>
     requires some { 0 < length text.now }
     requires letter { spec.is_letter (slice_index text.now 0) ≡ false }
@@ -164,6 +169,7 @@ fn mark_at(text: &[u8], pos: Pos) -> Result<(usize, Symbol), ScanFault>
 }
 
 // How many bytes the symbol that begins here has, and the symbol.
+#[inline(always)]
 pub fn symbol_at(text: &[u8], pos: Pos) -> Result<(usize, Symbol), ScanFault>
     requires { 0 < length text.now }
     ensures value { symbol_first result ≡ scanning.symbol_at pos text.now }
