@@ -1,7 +1,6 @@
 -- What begins with each kind of byte.
-use Rattle.std.proofs.Common.{◌≡◌, refl, sym, ap, subst, ◌∙◌, ℕ, zero, suc, ◌+◌, ◌<◌, ◌≤◌, Bool, true, false, ◌&&◌, cond, nat_lt, [], ◌∷◌, length, take, drop, get_or, Option, Some, None, Result, Ok, Err, arith}
+use Rattle.std.proofs.Common.{◌≡◌, refl, sym, ap, subst, ◌∙◌, ℕ, zero, suc, ◌+◌, ◌-◌, ◌<◌, ◌≤◌, Bool, true, false, ◌&&◌, cond, nat_lt, [], ◌∷◌, length, take, drop, get_or, Option, Some, None, Result, Ok, Err, arith, length-drop, length-take-le}
 use Rattle.std.specs.List.{prefix_len}
-use Rattle.std.specs.Prelude.{IfOk}
 use Rattle.ob_tree.specs.declared.symbol.Symbol.{Symbol}
 use Rattle.ob_tree.specs.declared.symbol.Symbol.TheVariants as s
 use Rattle.ob_tree.specs.declared.pos.Pos.{Pos}
@@ -190,10 +189,6 @@ symbol_within p text x e = by_long (is_too_long text) (is_real text) e
     by_long false true h = err_not (fault.Real p) x h
     by_long false false h = let l : length text ≤ length text = omega arith in within_one (length text) text x l (known_some p (longest (length text) text) x h)
 
-pub ok_within : (p : Pos) (text : Bytes) (r : Result (ℕ × Symbol) ScanFault) → symbol_first r ≡ symbol_at p text → IfOk r (λ x. (0 < x.0) × (x.0 ≤ length text))
-ok_within p text (Ok x) e = symbol_within p text (x.1, x.0) (sym e)
-ok_within p text (Err f) e = tt
-
 -- ---- runs
 
 pub run_more : (f : ℕ → Bool) (text : Bytes) (n z : ℕ) → n < length text → f (get_or text n z) ≡ true → prefix_len f (drop n text) ≡ 1 + prefix_len f (drop (n + 1) text)
@@ -204,3 +199,16 @@ run_stops f text n z l e = let d = drop_more text n z l in rw (d, e) refl
 
 pub run_ends : (f : ℕ → Bool) (text : Bytes) (n : ℕ) → length text ≤ n → prefix_len f (drop n text) ≡ 0
 run_ends f text n l = prefix_len-drop_all f text n l
+
+-- what a symbol leaves of a text that stands behind a gap is shorter than all of it
+pub is_shorter : (all : Bytes) (at n : ℕ) (p : Pos) (x : Symbol) → symbol_first (Ok (n, x)) ≡ symbol_at p (take (length all - at) (drop at all))
+    → (n ≤ length (take (length all - at) (drop at all))) × (length (drop n (take (length all - at) (drop at all))) < length all)
+is_shorter all at n p x e =
+    let text = take (length all - at) (drop at all) in
+    let w = symbol_within p text (x, n) (sym e) in
+    let some = w.0 in
+    let within = w.1 in
+    let left = length-drop n text in
+    let a = length-drop at all in
+    let b = length-take-le (length all - at) (drop at all) (omega (arith, a)) in
+    (within, omega (arith, some, within, left, b))

@@ -47,6 +47,7 @@ pub fn is_plain(quote: u8, b: u8) -> bool
     b <= 127 && b != 10 && b != quote
 }
 
+#[inline(always)]
 pub fn mark_of_one(b: u8) -> Option<Symbol>
     ensures { result ≡ spec.mark_of_one b }
 {

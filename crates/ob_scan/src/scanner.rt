@@ -1,12 +1,13 @@
 //! The scanner.
 
-ghost use Rattle.std.specs.Prelude.{◌≡◌, ◌+◌, ◌<◌, ◌^◌, length, IfOk};
+ghost use Rattle.std.specs.Prelude.{◌≡◌, ◌+◌, ◌<◌, ◌≤◌, ◌^◌, length, take, drop, IfOk};
 ghost use Rattle.ob_tree.specs.declared.symbol.Symbol.TheVariants as s;
-ghost use Rattle.ob_scan.specs.Scanning.{step, start_of, Steps, Scans};
+ghost use Rattle.ob_scan.specs.Scanning.{step, start_of, lexeme_of, further, HasRoom, Steps, Scans};
 
+use crate::bytes::{is_digit, is_letter, is_quote};
 use crate::fault::ScanFault;
 use crate::gap::skip;
-use crate::symbols::symbol_at;
+use crate::symbols::{mark_at, number_at, string_at, word_at};
 use ob_tree::{List, Pos, Symbol, Token};
 use std::alloc::Global;
 use std::marker::Model;
@@ -40,6 +41,26 @@ impl<'a> Scanner<'a> {
         }
     }
 
+    // Goes past the token that so many bytes at the front of this text are.
+    #[inline(always)]
+    fn pass(&mut self, text: &'a [u8], pos: Pos, n: usize, symbol: Symbol) -> Token<'a>
+        requires within { n ≤ length text.now }
+        requires room { HasRoom pos text.now }
+        ensures token { lexeme_of result ≡ record { symbol = symbol; text = take n text.now; pos = pos } }
+        ensures behind { self.new ≡ record { text = drop n text.now; pos = further pos n } }
+    {
+        self.rest = &text[n..];
+        self.pos = Pos {
+            line: pos.line,
+            col: pos.col + n as u32,
+        };
+        Token {
+            symbol,
+            text: &text[..n],
+            pos,
+        }
+    }
+
     /// The next token, which borrows the text, or the first fault. After the end of the text it
     /// is the end again, and after a fault that fault again. It takes no memory, and its fault is
     /// never Memory.
@@ -61,17 +82,20 @@ impl<'a> Scanner<'a> {
                 pos,
             });
         }
-        let (n, symbol) = symbol_at(text, pos)?;
-        self.rest = &text[n..];
-        self.pos = Pos {
-            line: pos.line,
-            col: pos.col + n as u32,
-        };
-        Ok(Token {
-            symbol,
-            text: &text[..n],
-            pos,
-        })
+        let first = text[0];
+        if is_letter(first) {
+            let (n, symbol) = word_at(text, pos)?;
+            Ok(self.pass(text, pos, n, symbol))
+        } else if is_digit(first) {
+            let (n, symbol) = number_at(text, pos)?;
+            Ok(self.pass(text, pos, n, symbol))
+        } else if is_quote(first) {
+            let (n, symbol) = string_at(text, pos)?;
+            Ok(self.pass(text, pos, n, symbol))
+        } else {
+            let (n, symbol) = mark_at(text, pos)?;
+            Ok(self.pass(text, pos, n, symbol))
+        }
     }
 }
 

@@ -1,6 +1,6 @@
-//! One symbol.
+//! One symbol: how many bytes it has, and which it is.
 
-ghost use Rattle.std.specs.Prelude.{◌≡◌, ◌<◌, ◌≤◌, IfOk, true, false, ◌+◌, length, slice_index, drop};
+ghost use Rattle.std.specs.Prelude.{◌≡◌, ◌<◌, ◌≤◌, true, false, ◌+◌, length, slice_index, drop};
 ghost use Rattle.std.specs.List.{prefix_len};
 ghost use Rattle.ob_scan.specs.Vocabulary as spec;
 ghost use Rattle.ob_scan.specs.Scanning as scanning;
@@ -8,8 +8,7 @@ ghost use Rattle.ob_scan.specs.Kinds as kinds;
 ghost use Rattle.ob_scan.specs.Kinds.{symbol_first, test_of};
 
 use crate::bytes::{
-    is_digit, is_hex_digit, is_letter, is_letter_or_digit, is_plain, is_quote, mark_of_one,
-    mark_of_two,
+    is_digit, is_hex_digit, is_letter_or_digit, is_plain, mark_of_one, mark_of_two,
 };
 use crate::fault::ScanFault;
 use crate::words::word_symbol;
@@ -72,9 +71,9 @@ fn is_dot_alone(text: &[u8]) -> bool
     }
 }
 
-// What begins with a letter.
+/// What begins with a letter.
 #[inline(always)]
-fn word_at(text: &[u8], pos: Pos) -> Result<(usize, Symbol), ScanFault>
+pub fn word_at(text: &[u8], pos: Pos) -> Result<(usize, Symbol), ScanFault>
     requires some { 0 < length text.now }
     requires letter { spec.is_letter (slice_index text.now 0) ≡ true }
     ensures { symbol_first result ≡ scanning.symbol_at pos text.now }
@@ -87,9 +86,9 @@ fn word_at(text: &[u8], pos: Pos) -> Result<(usize, Symbol), ScanFault>
     }
 }
 
-// What begins with a digit.
+/// What begins with a digit.
 #[inline(never)]
-fn number_at(text: &[u8], pos: Pos) -> Result<(usize, Symbol), ScanFault>
+pub fn number_at(text: &[u8], pos: Pos) -> Result<(usize, Symbol), ScanFault>
     requires some { 0 < length text.now }
     requires digit { spec.is_digit (slice_index text.now 0) ≡ true }
     ensures { symbol_first result ≡ scanning.symbol_at pos text.now }
@@ -121,9 +120,9 @@ fn whole_at(text: &[u8], pos: Pos, digits: usize) -> Result<(usize, Symbol), Sca
     }
 }
 
-// What begins with the mark of a string.
+/// What begins with the mark of a string.
 #[inline(never)]
-fn string_at(text: &[u8], pos: Pos) -> Result<(usize, Symbol), ScanFault>
+pub fn string_at(text: &[u8], pos: Pos) -> Result<(usize, Symbol), ScanFault>
     requires some { 0 < length text.now }
     requires quote { spec.is_quote (slice_index text.now 0) ≡ true }
     ensures { symbol_first result ≡ scanning.symbol_at pos text.now }
@@ -150,9 +149,9 @@ fn two_at(text: &[u8]) -> Option<Symbol>
     }
 }
 
-// What begins with anything else.
+/// What begins with anything else.
 #[inline(always)]
-fn mark_at(text: &[u8], pos: Pos) -> Result<(usize, Symbol), ScanFault>
+pub fn mark_at(text: &[u8], pos: Pos) -> Result<(usize, Symbol), ScanFault>
     requires some { 0 < length text.now }
     requires letter { spec.is_letter (slice_index text.now 0) ≡ false }
     requires digit { spec.is_digit (slice_index text.now 0) ≡ false }
@@ -165,24 +164,5 @@ fn mark_at(text: &[u8], pos: Pos) -> Result<(usize, Symbol), ScanFault>
             Some(symbol) => Ok((1, symbol)),
             None => Err(ScanFault::Symbol { pos }),
         },
-    }
-}
-
-// How many bytes the symbol that begins here has, and the symbol.
-#[inline(always)]
-pub fn symbol_at(text: &[u8], pos: Pos) -> Result<(usize, Symbol), ScanFault>
-    requires { 0 < length text.now }
-    ensures value { symbol_first result ≡ scanning.symbol_at pos text.now }
-    ensures within { IfOk result (λ x. (0 < x.0) × (x.0 ≤ length text.now)) }
-{
-    let b = text[0];
-    if is_letter(b) {
-        word_at(text, pos)
-    } else if is_digit(b) {
-        number_at(text, pos)
-    } else if is_quote(b) {
-        string_at(text, pos)
-    } else {
-        mark_at(text, pos)
     }
 }
