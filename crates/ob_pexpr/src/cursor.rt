@@ -137,7 +137,7 @@ impl<'a> Cursor<'a> {
     }
 
     /// Takes an identifier; else Syntax at the next token.
-    #[inline(never)]
+    #[inline(always)]
     pub fn ident(&mut self) -> Result<Ident, ParseFault>
         ensures { Reads (reads 0 spec.ident self.old) result self.new }
     {

@@ -7,7 +7,7 @@ ghost use Rattle.ob_grammar.specs.Phrase.{AnExpr, Negated, both, many, nest};
 ghost use Rattle.ob_grammar.specs.Expressions as spec;
 ghost use Rattle.ob_grammar.specs.Grammar.{reads, read};
 ghost use Rattle.ob_pexpr.specs.Contract.{Adds, Reads};
-ghost use Rattle.ob_pexpr.specs.Chains.{chained, related, with_sign};
+ghost use Rattle.ob_pexpr.specs.Chains.{chained, related, with_sign, unnamed, expr_behind};
 
 use crate::cursor::Cursor;
 use crate::fault::ParseFault;
@@ -285,29 +285,43 @@ fn negated(alloc: Global, tokens: &mut Cursor<'_>, levels: usize) -> Result<Expr
     negation(alloc, tokens, levels - 1)
 }
 
+/// A factor that is no designator.
+#[inline(never)]
+#[cycle(expr)]
+fn unnamed(alloc: Global, tokens: &mut Cursor<'_>, levels: usize) -> Result<Expr, ParseFault>
+    ensures { Reads (reads levels unnamed tokens.old) result tokens.new }
+{
+    if tokens.sees(Symbol::Int) {
+        return int(alloc, tokens);
+    }
+    if tokens.sees(Symbol::Char) {
+        return char(alloc, tokens);
+    }
+    if tokens.sees(Symbol::Str) {
+        return string(alloc, tokens);
+    }
+    if tokens.sees(Symbol::KwNil) {
+        return nil(tokens);
+    }
+    if tokens.sees(Symbol::LeftCurly) {
+        return set(alloc, tokens, levels);
+    }
+    if tokens.sees(Symbol::LeftRound) {
+        return paren(alloc, tokens, levels);
+    }
+    negated(alloc, tokens, levels)
+}
+
 #[inline(never)]
 #[cycle(expr)]
 fn factor(alloc: Global, tokens: &mut Cursor<'_>, levels: usize) -> Result<Expr, ParseFault>
     ensures { Reads (reads levels spec.factor tokens.old) result tokens.new }
 {
-    if tokens.sees(Symbol::Ident) {
-        let named = designator(alloc, tokens, levels)?;
-        Ok(Expr::Designator(named))
-    } else if tokens.sees(Symbol::Int) {
-        int(alloc, tokens)
-    } else if tokens.sees(Symbol::Char) {
-        char(alloc, tokens)
-    } else if tokens.sees(Symbol::Str) {
-        string(alloc, tokens)
-    } else if tokens.sees(Symbol::KwNil) {
-        nil(tokens)
-    } else if tokens.sees(Symbol::LeftCurly) {
-        set(alloc, tokens, levels)
-    } else if tokens.sees(Symbol::LeftRound) {
-        paren(alloc, tokens, levels)
-    } else {
-        negated(alloc, tokens, levels)
+    if !tokens.sees(Symbol::Ident) {
+        return unnamed(alloc, tokens, levels);
     }
+    let named = designator(alloc, tokens, levels)?;
+    Ok(Expr::Designator(named))
 }
 
 // ---- chains
@@ -364,12 +378,11 @@ fn product(
 fn term(alloc: Global, tokens: &mut Cursor<'_>, levels: usize) -> Result<Expr, ParseFault>
     ensures { Reads (reads levels spec.term tokens.old) result tokens.new }
 {
-    let first = factor(alloc, tokens, levels)?;
+    let read = factor(alloc, tokens, levels);
     if tokens.sees_mul_op() {
-        product(alloc, tokens, levels, first)
-    } else {
-        Ok(first)
+        return product(alloc, tokens, levels, read?);
     }
+    read
 }
 
 #[inline(never)]
@@ -393,10 +406,9 @@ fn signed(alloc: Global, tokens: &mut Cursor<'_>, levels: usize) -> Result<Expr,
     ensures { Reads (reads levels spec.signed tokens.old) result tokens.new }
 {
     if tokens.sees_sign() {
-        with_sign(alloc, tokens, levels)
-    } else {
-        term(alloc, tokens, levels)
+        return with_sign(alloc, tokens, levels);
     }
+    term(alloc, tokens, levels)
 }
 
 #[inline(always)]
@@ -451,12 +463,11 @@ fn sum(
 fn simple(alloc: Global, tokens: &mut Cursor<'_>, levels: usize) -> Result<Expr, ParseFault>
     ensures { Reads (reads levels spec.simple tokens.old) result tokens.new }
 {
-    let first = signed(alloc, tokens, levels)?;
+    let read = signed(alloc, tokens, levels);
     if tokens.sees_add_op() {
-        sum(alloc, tokens, levels, first)
-    } else {
-        Ok(first)
+        return sum(alloc, tokens, levels, read?);
     }
+    read
 }
 
 /// A left operand, and the relation and the right operand behind it.
@@ -482,7 +493,8 @@ fn relate(
     })
 }
 
-#[inline(always)]
+/// An expression that may begin with a sign.
+#[inline(never)]
 #[cycle(expr)]
 fn expr(alloc: Global, tokens: &mut Cursor<'_>, levels: usize) -> Result<Expr, ParseFault>
     ensures { Reads (reads levels spec.expr tokens.old) result tokens.new }
@@ -495,7 +507,61 @@ fn expr(alloc: Global, tokens: &mut Cursor<'_>, levels: usize) -> Result<Expr, P
     }
 }
 
-/// An expression, which takes one of the levels that are left.
+/// A first factor, and what stands behind it in its term.
+#[inline(always)]
+#[cycle(expr)]
+fn term_behind(
+    alloc: Global,
+    tokens: &mut Cursor<'_>,
+    levels: usize,
+    first: Expr,
+) -> Result<Expr, ParseFault>
+    ensures { Reads (chained first (reads levels (many spec.mul_tail) tokens.old)) result tokens.new }
+{
+    if tokens.sees_mul_op() {
+        return product(alloc, tokens, levels, first);
+    }
+    Ok(first)
+}
+
+/// A first term, and what stands behind it before a relation.
+#[inline(always)]
+#[cycle(expr)]
+fn simple_behind(
+    alloc: Global,
+    tokens: &mut Cursor<'_>,
+    levels: usize,
+    first: Expr,
+) -> Result<Expr, ParseFault>
+    ensures { Reads (chained first (reads levels (many spec.add_tail) tokens.old)) result tokens.new }
+{
+    if tokens.sees_add_op() {
+        return sum(alloc, tokens, levels, first);
+    }
+    Ok(first)
+}
+
+/// A first factor without a sign, and what stands behind it.
+#[inline(never)]
+#[cycle(expr)]
+fn expr_behind(
+    alloc: Global,
+    tokens: &mut Cursor<'_>,
+    levels: usize,
+    first: Expr,
+) -> Result<Expr, ParseFault>
+    ensures { Reads (expr_behind levels first tokens.old) result tokens.new }
+{
+    let term = term_behind(alloc, tokens, levels, first)?;
+    let left = simple_behind(alloc, tokens, levels, term)?;
+    if tokens.sees_relation() {
+        return relate(alloc, tokens, levels, left);
+    }
+    Ok(left)
+}
+
+/// An expression, which takes one of the levels that are left. One that is a factor alone is handed on as
+/// it was read.
 #[inline(never)]
 #[cycle(expr)]
 pub fn nested_expr(
@@ -508,5 +574,12 @@ pub fn nested_expr(
     if levels == 0 {
         return Err(tokens.fault_at_expr());
     }
-    expr(alloc, tokens, levels - 1)
+    if tokens.sees_sign() {
+        return expr(alloc, tokens, levels - 1);
+    }
+    let read = factor(alloc, tokens, levels - 1);
+    if tokens.sees_mul_op() || tokens.sees_add_op() || tokens.sees_relation() {
+        return expr_behind(alloc, tokens, levels - 1, read?);
+    }
+    read
 }

@@ -5,12 +5,30 @@ ghost use Rattle.ob_scan.specs.Vocabulary as spec;
 
 use ob_tree::Symbol;
 
+// Whether the two are the same, byte by byte.
+#[inline(always)]
+fn is_text(text: &[u8], word: &[u8]) -> bool
+    ensures { result ≡ spec.is_text text.now word.now }
+{
+    if text.len() != word.len() {
+        return false;
+    }
+    let mut n = 0;
+    'same: while n < text.len() {
+        if text[n] != word[n] {
+            return false;
+        }
+        n += 1;
+    }
+    true
+}
+
 // A word that begins with `A`, by what is behind it.
 #[inline(always)]
 fn behind_a(rest: &[u8]) -> Symbol
     ensures { result ≡ spec.word_symbol (65 ∷ rest.now) }
 {
-    if rest == b"RRAY".as_slice() {
+    if is_text(rest, b"RRAY".as_slice()) {
         Symbol::KwArray
     } else {
         Symbol::Ident
@@ -22,9 +40,9 @@ fn behind_a(rest: &[u8]) -> Symbol
 fn behind_b(rest: &[u8]) -> Symbol
     ensures { result ≡ spec.word_symbol (66 ∷ rest.now) }
 {
-    if rest == b"EGIN".as_slice() {
+    if is_text(rest, b"EGIN".as_slice()) {
         Symbol::KwBegin
-    } else if rest == b"Y".as_slice() {
+    } else if is_text(rest, b"Y".as_slice()) {
         Symbol::KwBy
     } else {
         Symbol::Ident
@@ -36,9 +54,9 @@ fn behind_b(rest: &[u8]) -> Symbol
 fn behind_c(rest: &[u8]) -> Symbol
     ensures { result ≡ spec.word_symbol (67 ∷ rest.now) }
 {
-    if rest == b"ASE".as_slice() {
+    if is_text(rest, b"ASE".as_slice()) {
         Symbol::KwCase
-    } else if rest == b"ONST".as_slice() {
+    } else if is_text(rest, b"ONST".as_slice()) {
         Symbol::KwConst
     } else {
         Symbol::Ident
@@ -50,9 +68,9 @@ fn behind_c(rest: &[u8]) -> Symbol
 fn behind_d(rest: &[u8]) -> Symbol
     ensures { result ≡ spec.word_symbol (68 ∷ rest.now) }
 {
-    if rest == b"IV".as_slice() {
+    if is_text(rest, b"IV".as_slice()) {
         Symbol::KwDiv
-    } else if rest == b"O".as_slice() {
+    } else if is_text(rest, b"O".as_slice()) {
         Symbol::KwDo
     } else {
         Symbol::Ident
@@ -64,13 +82,13 @@ fn behind_d(rest: &[u8]) -> Symbol
 fn behind_e(rest: &[u8]) -> Symbol
     ensures { result ≡ spec.word_symbol (69 ∷ rest.now) }
 {
-    if rest == b"LSE".as_slice() {
+    if is_text(rest, b"LSE".as_slice()) {
         Symbol::KwElse
-    } else if rest == b"LSIF".as_slice() {
+    } else if is_text(rest, b"LSIF".as_slice()) {
         Symbol::KwElsif
-    } else if rest == b"ND".as_slice() {
+    } else if is_text(rest, b"ND".as_slice()) {
         Symbol::KwEnd
-    } else if rest == b"XIT".as_slice() {
+    } else if is_text(rest, b"XIT".as_slice()) {
         Symbol::KwExit
     } else {
         Symbol::Ident
@@ -82,7 +100,7 @@ fn behind_e(rest: &[u8]) -> Symbol
 fn behind_f(rest: &[u8]) -> Symbol
     ensures { result ≡ spec.word_symbol (70 ∷ rest.now) }
 {
-    if rest == b"OR".as_slice() {
+    if is_text(rest, b"OR".as_slice()) {
         Symbol::KwFor
     } else {
         Symbol::Ident
@@ -94,13 +112,13 @@ fn behind_f(rest: &[u8]) -> Symbol
 fn behind_i(rest: &[u8]) -> Symbol
     ensures { result ≡ spec.word_symbol (73 ∷ rest.now) }
 {
-    if rest == b"F".as_slice() {
+    if is_text(rest, b"F".as_slice()) {
         Symbol::KwIf
-    } else if rest == b"MPORT".as_slice() {
+    } else if is_text(rest, b"MPORT".as_slice()) {
         Symbol::KwImport
-    } else if rest == b"N".as_slice() {
+    } else if is_text(rest, b"N".as_slice()) {
         Symbol::KwIn
-    } else if rest == b"S".as_slice() {
+    } else if is_text(rest, b"S".as_slice()) {
         Symbol::KwIs
     } else {
         Symbol::Ident
@@ -112,7 +130,7 @@ fn behind_i(rest: &[u8]) -> Symbol
 fn behind_l(rest: &[u8]) -> Symbol
     ensures { result ≡ spec.word_symbol (76 ∷ rest.now) }
 {
-    if rest == b"OOP".as_slice() {
+    if is_text(rest, b"OOP".as_slice()) {
         Symbol::KwLoop
     } else {
         Symbol::Ident
@@ -124,9 +142,9 @@ fn behind_l(rest: &[u8]) -> Symbol
 fn behind_m(rest: &[u8]) -> Symbol
     ensures { result ≡ spec.word_symbol (77 ∷ rest.now) }
 {
-    if rest == b"OD".as_slice() {
+    if is_text(rest, b"OD".as_slice()) {
         Symbol::KwMod
-    } else if rest == b"ODULE".as_slice() {
+    } else if is_text(rest, b"ODULE".as_slice()) {
         Symbol::KwModule
     } else {
         Symbol::Ident
@@ -138,7 +156,7 @@ fn behind_m(rest: &[u8]) -> Symbol
 fn behind_n(rest: &[u8]) -> Symbol
     ensures { result ≡ spec.word_symbol (78 ∷ rest.now) }
 {
-    if rest == b"IL".as_slice() {
+    if is_text(rest, b"IL".as_slice()) {
         Symbol::KwNil
     } else {
         Symbol::Ident
@@ -150,9 +168,9 @@ fn behind_n(rest: &[u8]) -> Symbol
 fn behind_o(rest: &[u8]) -> Symbol
     ensures { result ≡ spec.word_symbol (79 ∷ rest.now) }
 {
-    if rest == b"F".as_slice() {
+    if is_text(rest, b"F".as_slice()) {
         Symbol::KwOf
-    } else if rest == b"R".as_slice() {
+    } else if is_text(rest, b"R".as_slice()) {
         Symbol::KwOr
     } else {
         Symbol::Ident
@@ -164,9 +182,9 @@ fn behind_o(rest: &[u8]) -> Symbol
 fn behind_p(rest: &[u8]) -> Symbol
     ensures { result ≡ spec.word_symbol (80 ∷ rest.now) }
 {
-    if rest == b"OINTER".as_slice() {
+    if is_text(rest, b"OINTER".as_slice()) {
         Symbol::KwPointer
-    } else if rest == b"ROCEDURE".as_slice() {
+    } else if is_text(rest, b"ROCEDURE".as_slice()) {
         Symbol::KwProcedure
     } else {
         Symbol::Ident
@@ -178,11 +196,11 @@ fn behind_p(rest: &[u8]) -> Symbol
 fn behind_r(rest: &[u8]) -> Symbol
     ensures { result ≡ spec.word_symbol (82 ∷ rest.now) }
 {
-    if rest == b"ECORD".as_slice() {
+    if is_text(rest, b"ECORD".as_slice()) {
         Symbol::KwRecord
-    } else if rest == b"EPEAT".as_slice() {
+    } else if is_text(rest, b"EPEAT".as_slice()) {
         Symbol::KwRepeat
-    } else if rest == b"ETURN".as_slice() {
+    } else if is_text(rest, b"ETURN".as_slice()) {
         Symbol::KwReturn
     } else {
         Symbol::Ident
@@ -194,11 +212,11 @@ fn behind_r(rest: &[u8]) -> Symbol
 fn behind_t(rest: &[u8]) -> Symbol
     ensures { result ≡ spec.word_symbol (84 ∷ rest.now) }
 {
-    if rest == b"HEN".as_slice() {
+    if is_text(rest, b"HEN".as_slice()) {
         Symbol::KwThen
-    } else if rest == b"O".as_slice() {
+    } else if is_text(rest, b"O".as_slice()) {
         Symbol::KwTo
-    } else if rest == b"YPE".as_slice() {
+    } else if is_text(rest, b"YPE".as_slice()) {
         Symbol::KwType
     } else {
         Symbol::Ident
@@ -210,7 +228,7 @@ fn behind_t(rest: &[u8]) -> Symbol
 fn behind_u(rest: &[u8]) -> Symbol
     ensures { result ≡ spec.word_symbol (85 ∷ rest.now) }
 {
-    if rest == b"NTIL".as_slice() {
+    if is_text(rest, b"NTIL".as_slice()) {
         Symbol::KwUntil
     } else {
         Symbol::Ident
@@ -222,7 +240,7 @@ fn behind_u(rest: &[u8]) -> Symbol
 fn behind_v(rest: &[u8]) -> Symbol
     ensures { result ≡ spec.word_symbol (86 ∷ rest.now) }
 {
-    if rest == b"AR".as_slice() {
+    if is_text(rest, b"AR".as_slice()) {
         Symbol::KwVar
     } else {
         Symbol::Ident
@@ -234,9 +252,9 @@ fn behind_v(rest: &[u8]) -> Symbol
 fn behind_w(rest: &[u8]) -> Symbol
     ensures { result ≡ spec.word_symbol (87 ∷ rest.now) }
 {
-    if rest == b"HILE".as_slice() {
+    if is_text(rest, b"HILE".as_slice()) {
         Symbol::KwWhile
-    } else if rest == b"ITH".as_slice() {
+    } else if is_text(rest, b"ITH".as_slice()) {
         Symbol::KwWith
     } else {
         Symbol::Ident

@@ -1,10 +1,11 @@
-use Rattle.std.proofs.Common.{◌∙◌, ◌≤◌, sym, arith}
+use Rattle.std.proofs.Common.{◌∙◌, ◌-◌, ◌≤◌, sym, arith}
+use Rattle.std.proofs.lemmas.Result.{err_from_is_err_and}
 use Rattle.ob_tree.specs.declared.symbol.Symbol.TheVariants as s
 use Rattle.ob_grammar.specs.Phrase.{AnExpr, Negated, many, nest}
 use Rattle.ob_grammar.specs.Expressions as spec
 use Rattle.ob_grammar.specs.Grammar.{reads}
 use Rattle.ob_grammar.proofs.Loops.{on_turn, join_turn, deeper, next_starts}
-use Rattle.ob_pexpr.proofs.Turns.{relates_on, takes_further, takes_mul, takes_add, takes_selector, takes_expr, takes_element, further_starts, mul_starts, add_starts}
+use Rattle.ob_pexpr.proofs.Turns.{relates_on, takes_further, takes_mul, takes_add, takes_selector, takes_expr, takes_element, further_starts, mul_starts, add_starts, goes_on, fails_on, alone}
 use Rattle.ob_pexpr.proofs.expr.+expr.Goals as goal
 
 pub further_indexes-more-smaller : goal.further_indexes-more-smaller
@@ -55,8 +56,27 @@ selectors-more-preserved t c = rw c.in_ok-selector.ensures.2
     (join_turn c.args.levels spec.selector (takes_selector c.args.levels) (reads c.args.levels (many spec.selector) c.args.tokens.now) c.more.found c.more.tokens _ c.selector.new.tokens
     c.more.invariant (sym c.sees_selector.ensures ∙ c.more-test.true) c.in_ok-selector.ensures.1)
 
+pub nested_expr-returns-then-sees_sign : goal.nested_expr-returns-then-sees_sign
+nested_expr-returns-then-sees_sign t c = let some : 1 ≤ c.args.levels = omega arith in rw (deeper c.args.levels AnExpr c.args.tokens.now some) c.expr.ensures
+
+pub nested_expr-returns-in_err-read : goal.nested_expr-returns-in_err-read
+nested_expr-returns-in_err-read t c =
+    let some : 1 ≤ c.args.levels = omega arith in
+    let p = err_from_is_err_and c.from_residual.result c.from_residual.ensures.1 in
+    rw (deeper c.args.levels AnExpr c.args.tokens.now some, p.1, p.2)
+      (fails_on (c.args.levels - 1) c.args.tokens.now c.in_err-read.field-0.0 c.in_err-read.ensures (sym c.sees_sign.ensures ∙ c.if-sees_sign.false))
+
+pub nested_expr-returns-then-sees_mul_op : goal.nested_expr-returns-then-sees_mul_op
+nested_expr-returns-then-sees_mul_op t c =
+    let some : 1 ≤ c.args.levels = omega arith in
+    rw (deeper c.args.levels AnExpr c.args.tokens.now some, goes_on (c.args.levels - 1) c.args.tokens.now c.factor-read.new.tokens c.in_ok-read.field-0 c.in_ok-read.ensures (sym c.sees_sign.ensures ∙ c.if-sees_sign.false)) c.expr_behind.ensures
+
 pub nested_expr-returns : goal.nested_expr-returns
-nested_expr-returns t c = let some : 1 ≤ c.args.levels = omega arith in rw (deeper c.args.levels AnExpr c.args.tokens.now some) c.expr.ensures
+nested_expr-returns t c =
+    let some : 1 ≤ c.args.levels = omega arith in
+    rw (deeper c.args.levels AnExpr c.args.tokens.now some)
+      (alone (c.args.levels - 1) c.args.tokens.now c.factor-read.result c.factor-read.new.tokens c.factor-read.ensures (sym c.sees_sign.ensures ∙ c.if-sees_sign.false)
+        (sym c.sees_mul_op.ensures ∙ c.if-sees_mul_op.false) (sym c.sees_add_op.ensures ∙ c.if-sees_add_op.false) (sym c.sees_relation.ensures ∙ c.if-sees_relation.false))
 
 pub negated-returns : goal.negated-returns
 negated-returns t c = let some : 1 ≤ c.args.levels = omega arith in rw (deeper c.args.levels Negated c.args.tokens.now some) c.negation.ensures

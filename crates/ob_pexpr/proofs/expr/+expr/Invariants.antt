@@ -96,6 +96,18 @@ decreases-relate l = 32 * l.levels + 16
 abbrev pub decreases-expr : goal.decreases-expr
 decreases-expr l = 32 * l.levels + 17
 
+abbrev pub decreases-unnamed : goal.decreases-unnamed
+decreases-unnamed l = 32 * l.levels + 6
+
+abbrev pub decreases-term_behind : goal.decreases-term_behind
+decreases-term_behind l = 32 * l.levels + 11
+
+abbrev pub decreases-simple_behind : goal.decreases-simple_behind
+decreases-simple_behind l = 32 * l.levels + 15
+
+abbrev pub decreases-expr_behind : goal.decreases-expr_behind
+decreases-expr_behind l = 32 * l.levels + 17
+
 abbrev pub invariant-further_indexes-more : goal.invariant-further_indexes-more
 invariant-further_indexes-more l = GoesOn (reads l.levels (many spec.further_index) l.fn.tokens) l.levels spec.further_index l.found l.tokens
 

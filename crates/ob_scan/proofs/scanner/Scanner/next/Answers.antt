@@ -1,4 +1,3 @@
-use Rattle.std.proofs.Common.{sym}
 use Rattle.ob_scan.proofs.Beginnings.{is_shorter}
 use Rattle.ob_scan.proofs.scanner.Scanner.next.Goals as goal
 
