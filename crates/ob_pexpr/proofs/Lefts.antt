@@ -9,7 +9,7 @@ use Rattle.ob_pexpr.specs.declared.source.Source.{Source}
 use Rattle.ob_pexpr.specs.declared.source.Source.TheVariants as source
 use Rattle.ob_pexpr.specs.declared.fault.ParseFault.TheVariants as fault
 use Rattle.ob_pexpr.specs.Left.{left, behind, token_of}
-use Rattle.ob_pexpr.specs.Contract.{Gives, FailsAs}
+use Rattle.ob_pexpr.specs.Contract.{Gives, Takes, FailsAs}
 
 pub took : (x : Symbol) (o : Option Token) (t : Token) (from : Source) (rest : Tokens) → o ≡ Some t → same t.symbol x ≡ true → rest ≡ behind t.symbol from → Gives (take_word x (left o from)) (Ok t) rest
 took x o t from rest e h b = subst (λ q. Gives (take_word x (left q from)) (Ok t) rest) (sym e) (by_source from b)
@@ -24,3 +24,10 @@ not_took x o t from e h = subst (λ q. FailsAs (fault.Syntax t.pos) (take_word x
     by_source : (from : Source) → FailsAs (fault.Syntax t.pos) (take_word x (left (Some t) from))
     by_source (source.Listed ts) = (left (Some t) (source.Listed ts), rw h refl, refl)
     by_source (source.Scanned i) = (left (Some t) (source.Scanned i), rw h refl, refl)
+
+pub takes : (x : Symbol) (o : Option Token) (t : Token) (from : Source) (rest : Tokens) → o ≡ Some t → same t.symbol x ≡ true → rest ≡ behind t.symbol from → Takes x (left o from) (Ok t.pos) rest
+takes x o t from rest e h b = subst (λ q. Takes x (left q from) (Ok t.pos) rest) (sym e) (by_source from b)
+  where
+    by_source : (from : Source) → rest ≡ behind t.symbol from → Takes x (left (Some t) from) (Ok t.pos) rest
+    by_source (source.Listed ts) b = (t, rw h (ap (λ w. Found t w) (sym b)), refl)
+    by_source (source.Scanned i) b = (token_of (lexeme_of t), rw h (ap (λ w. Found (token_of (lexeme_of t)) w) (sym b)), refl)

@@ -83,6 +83,14 @@ relates_on d ts mid a e s = let t = relation_starts mid ∙ s in rw (e, t) refl
 pub goes_on : (d : ℕ) (ts mid : Tokens) (a : Expr) → reads d factor ts ≡ Found a mid → starts (begins sign_symbol) ts ≡ false → reads d expr ts ≡ expr_behind d a mid
 goes_on d ts mid a e s = rw (s, e) refl
 
+-- a factor alone is what a relation compares
+pub compares_on : (d : ℕ) (ts mid : Tokens) (a : Expr) → reads d factor ts ≡ Found a mid → starts (begins sign_symbol) ts ≡ false
+    → starts (begins mul_op) mid ≡ false → starts (begins add_op) mid ≡ false → starts (begins relation) mid ≡ true → reads d expr ts ≡ related a (reads d (both relation simple) mid)
+compares_on d ts mid a e s m p r =
+    let x = no_mul d mid m in let y = no_add d mid p in
+    let whole : reads d simple ts ≡ Found a mid = rw (s, e, x, y) refl in
+    relates_on d ts mid a whole r
+
 -- where nothing does, the factor is the whole
 stands_alone : (d : ℕ) (a : Expr) (mid : Tokens) → starts (begins mul_op) mid ≡ false → starts (begins add_op) mid ≡ false → starts (begins relation) mid ≡ false → expr_behind d a mid ≡ Found a mid
 stands_alone d a mid m p r = let x = no_mul d mid m in let y = no_add d mid p in let z = relation_starts mid ∙ r in rw (x, y, z) refl

@@ -9,7 +9,7 @@ ghost use Rattle.ob_scan.specs.Scanning.{start_of};
 ghost use Rattle.ob_pexpr.specs.Left.{NamesFit, name_fits, tokens_of};
 ghost use Rattle.ob_pexpr.specs.Contract.{IsAt, IsFault, FailsAs, Gives, Reads, Takes};
 
-use crate::behind::{go_on, scanned};
+use crate::behind::{go_on, next_behind, scanned};
 use crate::fault::ParseFault;
 use crate::source::Source;
 use ob_scan::Scanner;
@@ -132,8 +132,17 @@ impl<'a> Cursor<'a> {
     pub fn expect(&mut self, symbol: Symbol) -> Result<Pos, ParseFault>
         ensures { Takes symbol self.old result self.new }
     {
-        let t = self.token(symbol)?;
-        Ok(t.pos)
+        match self.next {
+            None => Err(self.wrong()),
+            Some(t) => {
+                if t.symbol == symbol {
+                    self.next = next_behind(&mut self.source, t.symbol);
+                    Ok(t.pos)
+                } else {
+                    Err(ParseFault::Syntax { pos: t.pos })
+                }
+            }
+        }
     }
 
     /// Takes an identifier; else Syntax at the next token.

@@ -578,8 +578,11 @@ pub fn nested_expr(
         return expr(alloc, tokens, levels - 1);
     }
     let read = factor(alloc, tokens, levels - 1);
-    if tokens.sees_mul_op() || tokens.sees_add_op() || tokens.sees_relation() {
+    if tokens.sees_mul_op() || tokens.sees_add_op() {
         return expr_behind(alloc, tokens, levels - 1, read?);
+    }
+    if tokens.sees_relation() {
+        return relate(alloc, tokens, levels - 1, read?);
     }
     read
 }

@@ -5,7 +5,7 @@ use Rattle.ob_grammar.specs.Phrase.{AnExpr, Negated, many, nest}
 use Rattle.ob_grammar.specs.Expressions as spec
 use Rattle.ob_grammar.specs.Grammar.{reads}
 use Rattle.ob_grammar.proofs.Loops.{on_turn, join_turn, deeper, next_starts}
-use Rattle.ob_pexpr.proofs.Turns.{relates_on, takes_further, takes_mul, takes_add, takes_selector, takes_expr, takes_element, further_starts, mul_starts, add_starts, goes_on, fails_on, alone}
+use Rattle.ob_pexpr.proofs.Turns.{relates_on, takes_further, takes_mul, takes_add, takes_selector, takes_expr, takes_element, further_starts, mul_starts, add_starts, goes_on, compares_on, fails_on, alone}
 use Rattle.ob_pexpr.proofs.expr.+expr.Goals as goal
 
 pub further_indexes-more-smaller : goal.further_indexes-more-smaller
@@ -64,19 +64,35 @@ nested_expr-returns-in_err-read t c =
     let some : 1 ≤ c.args.levels = omega arith in
     let p = err_from_is_err_and c.from_residual.result c.from_residual.ensures.1 in
     rw (deeper c.args.levels AnExpr c.args.tokens.now some, p.1, p.2)
-      (fails_on (c.args.levels - 1) c.args.tokens.now c.in_err-read.field-0.0 c.in_err-read.ensures (sym c.sees_sign.ensures ∙ c.if-sees_sign.false))
+    (fails_on (c.args.levels - 1) c.args.tokens.now c.in_err-read.field-0.0 c.in_err-read.ensures (sym c.sees_sign.ensures ∙ c.if-sees_sign.false))
 
 pub nested_expr-returns-then-sees_mul_op : goal.nested_expr-returns-then-sees_mul_op
 nested_expr-returns-then-sees_mul_op t c =
     let some : 1 ≤ c.args.levels = omega arith in
     rw (deeper c.args.levels AnExpr c.args.tokens.now some, goes_on (c.args.levels - 1) c.args.tokens.now c.factor-read.new.tokens c.in_ok-read.field-0 c.in_ok-read.ensures (sym c.sees_sign.ensures ∙ c.if-sees_sign.false)) c.expr_behind.ensures
 
+pub nested_expr-returns-then-sees_relation : goal.nested_expr-returns-then-sees_relation
+nested_expr-returns-then-sees_relation t c =
+    let some : 1 ≤ c.args.levels = omega arith in
+    rw (
+      deeper c.args.levels AnExpr c.args.tokens.now some,
+      compares_on (c.args.levels - 1) c.args.tokens.now c.factor-read.new.tokens c.in_ok-read-2.field-0 c.in_ok-read-2.ensures (sym c.sees_sign.ensures ∙ c.if-sees_sign.false)
+          (sym c.sees_mul_op.ensures ∙ c.if-sees_mul_op.false) (sym c.sees_add_op.ensures ∙ c.if-sees_add_op.false) (sym c.sees_relation.ensures ∙ c.if-sees_relation.true),
+    ) c.relate.ensures
+
+pub nested_expr-returns-in_err-read-2 : goal.nested_expr-returns-in_err-read-2
+nested_expr-returns-in_err-read-2 t c =
+    let some : 1 ≤ c.args.levels = omega arith in
+    let p = err_from_is_err_and c.from_residual-in_err-read-2.result c.from_residual-in_err-read-2.ensures.1 in
+    rw (deeper c.args.levels AnExpr c.args.tokens.now some, p.1, p.2)
+    (fails_on (c.args.levels - 1) c.args.tokens.now c.in_err-read-2.field-0.0 c.in_err-read-2.ensures (sym c.sees_sign.ensures ∙ c.if-sees_sign.false))
+
 pub nested_expr-returns : goal.nested_expr-returns
 nested_expr-returns t c =
     let some : 1 ≤ c.args.levels = omega arith in
     rw (deeper c.args.levels AnExpr c.args.tokens.now some)
-      (alone (c.args.levels - 1) c.args.tokens.now c.factor-read.result c.factor-read.new.tokens c.factor-read.ensures (sym c.sees_sign.ensures ∙ c.if-sees_sign.false)
-        (sym c.sees_mul_op.ensures ∙ c.if-sees_mul_op.false) (sym c.sees_add_op.ensures ∙ c.if-sees_add_op.false) (sym c.sees_relation.ensures ∙ c.if-sees_relation.false))
+    (alone (c.args.levels - 1) c.args.tokens.now c.factor-read.result c.factor-read.new.tokens c.factor-read.ensures (sym c.sees_sign.ensures ∙ c.if-sees_sign.false)
+    (sym c.sees_mul_op.ensures ∙ c.if-sees_mul_op.false) (sym c.sees_add_op.ensures ∙ c.if-sees_add_op.false) (sym c.sees_relation.ensures ∙ c.if-sees_relation.false))
 
 pub negated-returns : goal.negated-returns
 negated-returns t c = let some : 1 ≤ c.args.levels = omega arith in rw (deeper c.args.levels Negated c.args.tokens.now some) c.negation.ensures
