@@ -285,15 +285,12 @@ fn negated(alloc: Global, tokens: &mut Cursor<'_>, levels: usize) -> Result<Expr
     negation(alloc, tokens, levels - 1)
 }
 
-/// A factor that is no designator.
+/// A factor that is no designator and no integer.
 #[inline(never)]
 #[cycle(expr)]
 fn unnamed(alloc: Global, tokens: &mut Cursor<'_>, levels: usize) -> Result<Expr, ParseFault>
     ensures { Reads (reads levels unnamed tokens.old) result tokens.new }
 {
-    if tokens.sees(Symbol::Int) {
-        return int(alloc, tokens);
-    }
     if tokens.sees(Symbol::Char) {
         return char(alloc, tokens);
     }
@@ -318,6 +315,9 @@ fn factor(alloc: Global, tokens: &mut Cursor<'_>, levels: usize) -> Result<Expr,
     ensures { Reads (reads levels spec.factor tokens.old) result tokens.new }
 {
     if !tokens.sees(Symbol::Ident) {
+        if tokens.sees(Symbol::Int) {
+            return int(alloc, tokens);
+        }
         return unnamed(alloc, tokens, levels);
     }
     let named = designator(alloc, tokens, levels)?;
