@@ -5,7 +5,7 @@ use Rattle.ob_tree.specs.declared.expr.Expr.{Expr}
 use Rattle.ob_tree.specs.declared.expr.Tail.{Tail}
 use Rattle.ob_grammar.specs.Phrase.{Phrase, Tokens, Negated, both, made, maybe, many, either, nest}
 use Rattle.ob_grammar.specs.Reading.{Read, Found, ◌>>=◌}
-use Rattle.ob_grammar.specs.Expressions.{sign_symbol, int, char, string, nil, set, paren, mul_tail, term, add_tail, relation, simple, signed_of, chain_of, related_of}
+use Rattle.ob_grammar.specs.Expressions.{sign_symbol, char, string, nil, set, paren, mul_tail, term, add_tail, relation, simple, signed_of, chain_of, related_of}
 use Rattle.ob_grammar.specs.Grammar.{reads}
 
 -- the tails behind it
@@ -20,9 +20,9 @@ related a r = r >>= (λ b rest. Found (Some b) rest) >>= (λ b rest. Found (a, b
 abbrev pub with_sign : Phrase Expr
 with_sign = made signed_of (both (made (λ t. Some t) sign_symbol) term)
 
--- a factor that is no designator
+-- a factor that is no designator and no integer
 abbrev pub unnamed : Phrase Expr
-unnamed = either int (either char (either string (either nil (either set (either paren (nest Negated))))))
+unnamed = either char (either string (either nil (either set (either paren (nest Negated)))))
 
 -- a term before which no sign stands
 abbrev pub unsigned : Read Expr → Read Expr

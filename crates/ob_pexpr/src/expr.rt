@@ -1,5 +1,8 @@
 //! Designators and expressions, a function for each rule of the grammar. `levels` is how many
 //! levels of nesting are left.
+//!
+//! Where nothing follows an operand, its `Result` is handed on whole: an expression that is taken out
+//! of it and put into another is copied twice.
 
 ghost use Rattle.std.specs.Prelude.{◌≡◌};
 ghost use Rattle.ob_tree.specs.declared.symbol.Symbol.TheVariants as s;
@@ -184,7 +187,7 @@ pub fn designator(
 
 // ---- factors
 
-#[inline(always)]
+#[inline(never)]
 #[cycle(expr)]
 fn element(alloc: Global, tokens: &mut Cursor<'_>, levels: usize) -> Result<Element, ParseFault>
     ensures { Reads (reads levels spec.element tokens.old) result tokens.new }
@@ -285,15 +288,12 @@ fn negated(alloc: Global, tokens: &mut Cursor<'_>, levels: usize) -> Result<Expr
     negation(alloc, tokens, levels - 1)
 }
 
-/// A factor that is no designator.
+/// A factor that is no designator and no integer.
 #[inline(never)]
 #[cycle(expr)]
 fn unnamed(alloc: Global, tokens: &mut Cursor<'_>, levels: usize) -> Result<Expr, ParseFault>
     ensures { Reads (reads levels unnamed tokens.old) result tokens.new }
 {
-    if tokens.sees(Symbol::Int) {
-        return int(alloc, tokens);
-    }
     if tokens.sees(Symbol::Char) {
         return char(alloc, tokens);
     }
@@ -318,6 +318,9 @@ fn factor(alloc: Global, tokens: &mut Cursor<'_>, levels: usize) -> Result<Expr,
     ensures { Reads (reads levels spec.factor tokens.old) result tokens.new }
 {
     if !tokens.sees(Symbol::Ident) {
+        if tokens.sees(Symbol::Int) {
+            return int(alloc, tokens);
+        }
         return unnamed(alloc, tokens, levels);
     }
     let named = designator(alloc, tokens, levels)?;
@@ -458,7 +461,7 @@ fn sum(
     Ok(whole)
 }
 
-#[inline(always)]
+#[inline(never)]
 #[cycle(expr)]
 fn simple(alloc: Global, tokens: &mut Cursor<'_>, levels: usize) -> Result<Expr, ParseFault>
     ensures { Reads (reads levels spec.simple tokens.old) result tokens.new }
@@ -560,8 +563,8 @@ fn expr_behind(
     Ok(left)
 }
 
-/// An expression, which takes one of the levels that are left. One that is a factor alone is handed on as
-/// it was read.
+/// An expression, which takes one of the levels that are left. A factor alone is handed on as it was
+/// read.
 #[inline(never)]
 #[cycle(expr)]
 pub fn nested_expr(

@@ -141,8 +141,8 @@ fn turn(text: &[u8], p: GapPosition) -> Option<GapPosition>
     }
 }
 
-// How many bytes of blanks and comments there are from the front on, where so many of them are passed,
-// and where one stands behind them.
+// How many bytes of blanks and comments there are, where one stands among them already, and where
+// one stands behind them.
 #[inline(never)]
 fn through(text: &[u8], from: GapPosition) -> Result<(usize, Pos), ScanFault>
     requires { IsRoomy text.now from }
@@ -162,8 +162,8 @@ fn through(text: &[u8], from: GapPosition) -> Result<(usize, Pos), ScanFault>
     }
 }
 
-// How many bytes of blanks and comments there are, and where one stands behind them. Blanks are passed
-// here, and what begins with `(` is looked at apart, since it may be a comment.
+// How many bytes of blanks and comments there are, and where one stands behind them. Blanks are
+// passed here, and what begins with `(` is looked at apart, since it may be a comment.
 #[inline(always)]
 pub fn skip(text: &[u8], pos: Pos) -> Result<(usize, Pos), ScanFault>
     requires { HasRoom pos text.now }
