@@ -18,11 +18,16 @@ pub struct Place {
     pub next: u32,
 }
 
+// A call that waits: its place, with words of 64 bits so that the processor reads each as it was written, since
+// neighbours that are written one by one and read as one wait for both writes.
 #[derive(Clone, Copy, Drop)]
 struct Waiting {
-    place: Place,
+    unit: u32,
     // how many operands it has
     operands: u32,
+    procedure: u64,
+    first: u64,
+    next: u32,
 }
 
 /// The calls that wait for another, at most 4,095, with their operands.
@@ -125,8 +130,11 @@ impl Calls {
         let count = operands.len() as u32;
         move_all(operands, &mut self.operands);
         self.waiting.push_reserved(Waiting {
-            place,
+            unit: place.unit,
             operands: count,
+            procedure: u64::from(place.procedure),
+            first: u64::from(place.first),
+            next: place.next,
         });
     }
 
@@ -146,6 +154,11 @@ impl Calls {
             return None;
         };
         move_last(&mut self.operands, waiting.operands as usize, operands);
-        Some(waiting.place)
+        Some(Place {
+            unit: waiting.unit,
+            procedure: waiting.procedure as u32,
+            first: waiting.first as u32,
+            next: waiting.next,
+        })
     }
 }
