@@ -1,5 +1,5 @@
 -- The calls that wait, when one is added or taken.
-use Rattle.std.proofs.Common.{◌≡◌, ℕ, suc, ◌+◌, ◌*◌, ◌<◌, ◌≤◌, List, [], ◌∷◌, ◌++◌, length, take, drop, refl, sym, ap, ◌∙◌, arith}
+use Rattle.std.proofs.Common.{◌≡◌, ℕ, suc, ◌+◌, ◌*◌, ◌≤◌, List, [], ◌∷◌, ◌++◌, length, take, drop, refl, sym, ap, ◌∙◌, arith}
 use Rattle.std.specs.Prelude.{ℤ, reverse}
 use Rattle.std.proofs.lemmas.List.{length-append, length-drop, length-reverse, reverse-append, take_at, drop_at}
 use Rattle.ob_instr.specs.Image.{Act}

@@ -18,14 +18,14 @@ pub struct Place {
     pub next: u32,
 }
 
-// A call that waits: its place, with words of 64 bits so that the processor reads each as it was written, since
-// neighbours that are written one by one and read as one wait for both writes.
+// A call that waits. Words that are written one by one are not read as one, which would wait for all the writes: so
+// no two stand side by side that do so at a place.
 #[derive(Clone, Copy, Drop)]
 struct Waiting {
+    procedure: u64,
     unit: u32,
     // how many operands it has
     operands: u32,
-    procedure: u64,
     first: u64,
     next: u32,
 }
@@ -130,9 +130,9 @@ impl Calls {
         let count = operands.len() as u32;
         move_all(operands, &mut self.operands);
         self.waiting.push_reserved(Waiting {
+            procedure: u64::from(place.procedure),
             unit: place.unit,
             operands: count,
-            procedure: u64::from(place.procedure),
             first: u64::from(place.first),
             next: place.next,
         });
