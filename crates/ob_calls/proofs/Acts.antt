@@ -1,12 +1,12 @@
 -- The calls that wait, when one is added or taken.
-use Rattle.std.proofs.Common.{◌≡◌, ℕ, suc, ◌+◌, ◌*◌, ◌≤◌, List, [], ◌∷◌, ◌++◌, length, take, drop, refl, sym, ap, ◌∙◌, arith}
+use Rattle.std.proofs.Common.{◌≡◌, ℕ, suc, ◌+◌, ◌*◌, ◌<◌, ◌≤◌, List, [], ◌∷◌, ◌++◌, length, take, drop, refl, sym, ap, ◌∙◌, arith}
 use Rattle.std.specs.Prelude.{ℤ, reverse}
 use Rattle.std.proofs.lemmas.List.{length-append, length-drop, length-reverse, reverse-append, take_at, drop_at}
 use Rattle.ob_instr.specs.Image.{Act}
 use Rattle.ob_calls.specs.declared.calls.Calls.TheInside.{Inside}
 use Rattle.ob_calls.specs.declared.calls.Waiting.{Waiting}
 use Rattle.ob_calls.proofs.Parts.{last_ones, first_ones}
-use Rattle.ob_calls.specs.Kept.{act_of, acts_of, AreCounted, IsPlaced, IsKept}
+use Rattle.ob_calls.specs.Kept.{act_of, acts_of, AreCounted, IsKept}
 
 pub length_acts : (ws : List Waiting) (os : List ℤ) → length (acts_of ws os) ≡ length ws
 length_acts [] os = refl
@@ -26,7 +26,7 @@ acts_pushed w ws new os e =
     let d : drop w.operands (new ++ os) ≡ os = drop_at new os w.operands (sym e) in
     rw (t, d) refl
 
-pub counted_pushed : (w : Waiting) (ws : List Waiting) (new os : List ℤ) → w.operands ≡ length new → w.operands ≤ 256 → IsPlaced w → AreCounted ws os → AreCounted (w ∷ ws) (new ++ os)
+pub counted_pushed : (w : Waiting) (ws : List Waiting) (new os : List ℤ) → w.operands ≡ length new → w.operands ≤ 256 → 0 < w.place.first → AreCounted ws os → AreCounted (w ∷ ws) (new ++ os)
 counted_pushed w ws new os e few some c =
     let d : drop w.operands (new ++ os) ≡ os = drop_at new os w.operands (sym e) in
     (omega (arith, length-append new os), few, some, rw d c)
@@ -39,13 +39,13 @@ one_more xs x = reverse-append xs (x ∷ [])
 pub pushed_acts : (w : Waiting) (ws : List Waiting) (kept new : List ℤ) → w.operands ≡ length new → acts_of (reverse (ws ++ w ∷ [])) (reverse (kept ++ new)) ≡ act_of w (reverse new) ∷ acts_of (reverse ws) (reverse kept)
 pushed_acts w ws kept new e = rw (one_more ws w, reverse-append kept new) (acts_pushed w (reverse ws) (reverse new) (reverse kept) (e ∙ sym (length-reverse new)))
 
-pub pushed_counted : (w : Waiting) (ws : List Waiting) (kept new : List ℤ) → w.operands ≡ length new → w.operands ≤ 256 → IsPlaced w → AreCounted (reverse ws) (reverse kept) → AreCounted (reverse (ws ++ w ∷ [])) (reverse (kept ++ new))
+pub pushed_counted : (w : Waiting) (ws : List Waiting) (kept new : List ℤ) → w.operands ≡ length new → w.operands ≤ 256 → 0 < w.place.first → AreCounted (reverse ws) (reverse kept) → AreCounted (reverse (ws ++ w ∷ [])) (reverse (kept ++ new))
 pushed_counted w ws kept new e few some c = rw (one_more ws w, reverse-append kept new) (counted_pushed w (reverse ws) (reverse new) (reverse kept) (e ∙ sym (length-reverse new)) few some c)
 
 pub popped_acts : (w : Waiting) (ws : List Waiting) (kept : List ℤ) (start : ℕ) → start + w.operands ≡ length kept → acts_of (reverse (ws ++ w ∷ [])) (reverse kept) ≡ act_of w (reverse (drop start kept)) ∷ acts_of (reverse ws) (reverse (take start kept))
 popped_acts w ws kept start e = rw (one_more ws w, last_ones kept w.operands start e, first_ones kept w.operands start e) refl
 
-pub popped_counted : (w : Waiting) (ws : List Waiting) (kept : List ℤ) → AreCounted (reverse (ws ++ w ∷ [])) (reverse kept) → (w.operands ≤ length kept) × (w.operands ≤ 256) × IsPlaced w × AreCounted (reverse ws) (drop w.operands (reverse kept))
+pub popped_counted : (w : Waiting) (ws : List Waiting) (kept : List ℤ) → AreCounted (reverse (ws ++ w ∷ [])) (reverse kept) → (w.operands ≤ length kept) × (w.operands ≤ 256) × (0 < w.place.first) × AreCounted (reverse ws) (drop w.operands (reverse kept))
 popped_counted w ws kept c =
     let h = rw (one_more ws w) at c in
     (omega (arith, h.0, length-reverse kept), h.1, h.2, h.3)

@@ -18,16 +18,11 @@ pub struct Place {
     pub next: u32,
 }
 
-// A call that waits. Words that are written one by one are not read as one, which would wait for all the writes: so
-// no two stand side by side that do so at a place.
 #[derive(Clone, Copy, Drop)]
 struct Waiting {
-    procedure: u64,
-    unit: u32,
+    place: Place,
     // how many operands it has
     operands: u32,
-    first: u64,
-    next: u32,
 }
 
 /// The calls that wait for another, at most 4,095, with their operands.
@@ -130,11 +125,8 @@ impl Calls {
         let count = operands.len() as u32;
         move_all(operands, &mut self.operands);
         self.waiting.push_reserved(Waiting {
-            procedure: u64::from(place.procedure),
-            unit: place.unit,
+            place,
             operands: count,
-            first: u64::from(place.first),
-            next: place.next,
         });
     }
 
@@ -154,11 +146,6 @@ impl Calls {
             return None;
         };
         move_last(&mut self.operands, waiting.operands as usize, operands);
-        Some(Place {
-            unit: waiting.unit,
-            procedure: waiting.procedure as u32,
-            first: waiting.first as u32,
-            next: waiting.next,
-        })
+        Some(waiting.place)
     }
 }

@@ -1,8 +1,8 @@
-use Rattle.std.proofs.Common.{◌≡◌, ◌<◌, ◌^◌, ◌∷◌, [], length, ap, ◌∙◌, arith, rules}
+use Rattle.std.proofs.Common.{◌≡◌, ◌∷◌, [], length, ap, ◌∙◌, arith}
 use Rattle.std.proofs.lemmas.List.{length-append}
 use Rattle.ob_calls.specs.declared.calls.Waiting.{Waiting}
 use Rattle.std.specs.Prelude.{reverse}
-use Rattle.ob_calls.specs.Kept.{act_of, IsPlaced}
+use Rattle.ob_calls.specs.Kept.{act_of}
 use Rattle.ob_calls.proofs.Acts.{pushed_acts, pushed_counted, operands_few, calls_waiting}
 use Rattle.ob_calls.proofs.calls.Calls.push.Goals as goal
 
@@ -16,17 +16,11 @@ move_all-requires c =
 pub invariant_of-self : goal.invariant_of-self
 invariant_of-self c =
     let d = c.self.inside in
-    let w : Waiting = record { unit = c.args.place.unit; operands = c.len-count.result; procedure = c.from.result; first = c.from-2.result; next = c.args.place.next } in
+    let w : Waiting = record { place = c.args.place; operands = c.len-count.result } in
     let calls = calls_waiting d c.args.self.now c.self.view_is in
     let n : c.len-count.result ≡ length c.args.operands.now.items = c.len-count.ensures ∙ c.args.operands.now.ok.0 in
-    let first : c.from-2.result ≡ c.args.place.first = search rules in
-    let procedure : c.from.result ≡ c.args.place.procedure = search rules in
-    let high : c.args.place.first < 2 ^ 32 = search rules in
-    let most : c.args.place.procedure < 2 ^ 32 = search rules in
-    let some = c.requires.some in
-    let placed : IsPlaced w = record { some = omega (arith, first, some); first = omega (arith, first, high); procedure = omega (arith, procedure, most) } in
     record {
-      counted = rw (c.push_reserved.ensures.items, c.move_all.ensures.items) (pushed_counted w d.waiting.items d.operands.items c.args.operands.now.items n (omega (arith, c.len-count.ensures, c.requires.few)) placed c.self.invariant.counted);
+      counted = rw (c.push_reserved.ensures.items, c.move_all.ensures.items) (pushed_counted w d.waiting.items d.operands.items c.args.operands.now.items n (omega (arith, c.len-count.ensures, c.requires.few)) c.requires.some c.self.invariant.counted);
       few = rw c.push_reserved.ensures.items (omega (arith, calls, c.requires.room, length-append d.waiting.items (w ∷ [])));
       room = omega (arith, c.push_reserved.ensures.capacity, c.self.invariant.room);
       operands = omega (arith, c.move_all.ensures.room, c.self.invariant.operands);
@@ -35,9 +29,6 @@ invariant_of-self c =
 pub returns-clause-calls : goal.returns-clause-calls
 returns-clause-calls c =
     let d = c.self.inside in
-    let w : Waiting = record { unit = c.args.place.unit; operands = c.len-count.result; procedure = c.from.result; first = c.from-2.result; next = c.args.place.next } in
+    let w : Waiting = record { place = c.args.place; operands = c.len-count.result } in
     let n : c.len-count.result ≡ length c.args.operands.now.items = c.len-count.ensures ∙ c.args.operands.now.ok.0 in
-    let first : c.from-2.result ≡ c.args.place.first = search rules in
-    let procedure : c.from.result ≡ c.args.place.procedure = search rules in
-    let ops = reverse c.args.operands.now.items in
-    rw (c.push_reserved.ensures.items, c.move_all.ensures.items) (pushed_acts w d.waiting.items d.operands.items c.args.operands.now.items n ∙ ap (λ acts. act_of w ops ∷ acts) c.self.view_is ∙ ap (λ n. record { m = c.args.place.unit; p = n; fb = c.from-2.result; pc = c.args.place.next; ops = ops } ∷ c.args.self.now) procedure ∙ ap (λ n. record { m = c.args.place.unit; p = c.args.place.procedure; fb = n; pc = c.args.place.next; ops = ops } ∷ c.args.self.now) first)
+    rw (c.push_reserved.ensures.items, c.move_all.ensures.items) (pushed_acts w d.waiting.items d.operands.items c.args.operands.now.items n ∙ ap (λ acts. act_of w (reverse c.args.operands.now.items) ∷ acts) c.self.view_is)
