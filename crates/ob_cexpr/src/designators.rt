@@ -31,8 +31,8 @@ pub fn check_designator<S: Surroundings>(
     ensures noted { OnOk result (book.new ≡ book_after book.old (spec.meant_by place (spec.named_of d.now) (S.around here.now)).notes) }
 {
     let selectors = d.selectors.as_slice();
-    let front = front_named(alloc, here, book, &d.ident, name_behind(selectors))?;
-    check_behind(alloc, here, book, place, d.ident.pos, selectors, front)
+    let front = front_named(alloc, here, book, &d.ident.ident(), name_behind(selectors))?;
+    check_behind(alloc, here, book, place, d.ident.pos(), selectors, front)
 }
 
 #[cycle(walk)]
@@ -143,7 +143,7 @@ fn check_step<S: Surroundings>(
 {
     match selector {
         Selector::Field { pos, ident } => {
-            select_step(alloc, here, book, start, *pos, ident, last, meant)
+            select_step(alloc, here, book, start, *pos, &ident.ident(), last, meant)
         }
         Selector::Index { pos, index } => check_index(alloc, here, book, *pos, index, meant),
         Selector::Deref(pos) => up_step(alloc, here, book, *pos, meant),

@@ -75,7 +75,7 @@ fn check_value<S: Surroundings>(
     ensures noted { OnOk result (book.new ≡ book_after book.old (spec.meant_by InExpression (spec.named_of d.now) (S.around here.now) ▷ λ m. spec.value_meant (spec.named_of d.now).ident.pos m).notes) }
 {
     if d.selectors.as_slice().is_empty() {
-        name_value(alloc, here, book, &d.ident)
+        name_value(alloc, here, book, &d.ident.ident())
     } else {
         check_selected(alloc, here, book, d)
     }
@@ -94,7 +94,7 @@ fn check_selected<S: Surroundings>(
     ensures noted { OnOk result (book.new ≡ book_after book.old (spec.meant_by InExpression (spec.named_of d.now) (S.around here.now) ▷ λ m. spec.value_meant (spec.named_of d.now).ident.pos m).notes) }
 {
     let m = check_designator(alloc, here, book, Where::InExpression, d)?;
-    value_if(alloc, book, d.ident.pos, m)
+    value_if(alloc, book, d.ident.pos(), m)
 }
 
 // A value in round brackets.

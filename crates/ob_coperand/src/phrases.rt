@@ -18,11 +18,11 @@ fn name_alone(d: &Designator) -> Option<Qualident>
     match d.selectors.as_slice() {
         [] => Some(Qualident {
             qualifier: None,
-            ident: d.ident,
+            ident: d.ident.ident(),
         }),
         [Selector::Field { pos: _, ident }] => Some(Qualident {
-            qualifier: Some(d.ident),
-            ident: *ident,
+            qualifier: Some(d.ident.ident()),
+            ident: ident.ident(),
         }),
         _ => None,
     }
@@ -52,7 +52,7 @@ pub fn start_of(e: &Expr) -> Pos
     ensures { result ≡ (spec.phrase_of e.now).start }
 {
     match e {
-        Expr::Designator(d) => d.ident.pos,
+        Expr::Designator(d) => d.ident.pos(),
         Expr::Int { pos, .. } => *pos,
         Expr::Char { pos, .. } => *pos,
         Expr::Str { pos, .. } => *pos,
@@ -97,7 +97,7 @@ pub fn name_behind(selectors: &[Selector]) -> Option<Ident>
     ensures { result ≡ designators.dot_of (map spec.behind_of selectors.now) }
 {
     match selectors {
-        [Selector::Field { pos: _, ident }, ..] => Some(*ident),
+        [Selector::Field { pos: _, ident }, ..] => Some(ident.ident()),
         _ => None,
     }
 }

@@ -26,7 +26,7 @@ fn selected_place<S: Surroundings>(
     ensures noted { OnOk result (book.new ≡ book_after book.old (exprs.meant_by Elsewhere (exprs.named_of designator.now) (S.around here.now) ▷ λ m. spec.target (exprs.named_of designator.now).ident.pos m).notes) }
 {
     let meant = check_designator(alloc, here, book, Where::Elsewhere, designator)?;
-    Ok(target_if(book, designator.ident.pos, meant))
+    Ok(target_if(book, designator.ident.pos(), meant))
 }
 
 // What is assigned to. Rule 26, and those of the designator.
@@ -40,7 +40,7 @@ fn assigned_place<S: Surroundings>(
     ensures noted { OnOk result (book.new ≡ book_after book.old (exprs.meant_by Elsewhere (exprs.named_of designator.now) (S.around here.now) ▷ λ m. spec.target (exprs.named_of designator.now).ident.pos m).notes) }
 {
     if designator.selectors.as_slice().is_empty() {
-        name_target(alloc, here, book, &designator.ident)
+        name_target(alloc, here, book, &designator.ident.ident())
     } else {
         selected_place(alloc, here, book, designator)
     }

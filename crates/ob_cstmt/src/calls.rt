@@ -33,8 +33,8 @@ fn constant_at(d: &Designator) -> Pos
     ensures { result ≡ spec.constant_at (exprs.named_of d.now).ident (exprs.named_of d.now).behind }
 {
     match d.selectors.as_slice() {
-        [Selector::Field { pos: _, ident }, ..] => ident.pos,
-        _ => d.ident.pos,
+        [Selector::Field { pos: _, ident }, ..] => ident.pos(),
+        _ => d.ident.pos(),
     }
 }
 
@@ -200,7 +200,7 @@ fn called<S: Surroundings>(
     ensures made { IfOk result (λ r. stmt_in r ≡ (spec.called (S.around here.now) (exprs.named_of d.now) meant).node) }
     ensures noted { OnOk result (book.new ≡ book_after book.old (spec.called (S.around here.now) (exprs.named_of d.now) meant).notes) }
 {
-    let start = d.ident.pos;
+    let start = d.ident.pos();
     match meant {
         Meant::Place(place) => place_meant(alloc, here, book, start, place),
         Meant::Constant(_) => {

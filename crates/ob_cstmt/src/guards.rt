@@ -13,7 +13,7 @@ use ob_cexpr::check_designator;
 use ob_cname::{named, type_named, types};
 use ob_cparts::{Test, first_of, guarded_if, tested_if};
 use ob_rules::{Entity, Meant, Notebook, Place, Surroundings, Where};
-use ob_tree::{Designator, Guard, Ident, List, Qualident, Selector};
+use ob_tree::{Designator, Guard, Ident, List, Mention, Qualident, Selector};
 use std::alloc::{AllocError, Global};
 
 fn plain<S: Surroundings>(
@@ -26,7 +26,7 @@ fn plain<S: Surroundings>(
     ensures noted { OnOk result (book.new ≡ book_after book.old (designators.designates (S.around here.now) InExpression x.now []).notes) }
 {
     let designator = Designator {
-        ident: *x,
+        ident: Mention::of(alloc, x)?,
         selectors: List::new(alloc),
     };
     check_designator(alloc, here, book, Where::InExpression, &designator)
@@ -45,10 +45,10 @@ fn qualified<S: Surroundings>(
     let mut selectors = List::new(alloc);
     selectors.push(Selector::Field {
         pos: x.pos,
-        ident: *x,
+        ident: Mention::of(alloc, x)?,
     })?;
     let designator = Designator {
-        ident: *unit,
+        ident: Mention::of(alloc, unit)?,
         selectors,
     };
     check_designator(alloc, here, book, Where::InExpression, &designator)

@@ -79,7 +79,7 @@ fn check_stmt<S: Surroundings>(
             cases,
             otherwise,
         } => {
-            let value = boxed_case_value(alloc, here, book, value)?;
+            let value = boxed_case_value(alloc, here, book, value.get())?;
             let selects = case_selects(types(here), &value);
             let cases = check_cases(alloc, here, book, cases.as_slice(), selects)?;
             let otherwise = check_otherwise(alloc, here, book, otherwise)?;
@@ -104,7 +104,7 @@ fn check_stmt<S: Surroundings>(
             book,
             body.as_slice(),
             *pos,
-            variable,
+            &variable.ident(),
             start,
             end,
             step,

@@ -13,7 +13,8 @@ use crate::behind::{go_on, next_behind, scanned};
 use crate::fault::ParseFault;
 use crate::source::Source;
 use ob_scan::Scanner;
-use ob_tree::{Ident, Name, Pos, Symbol, Token};
+use ob_tree::{Ident, Mention, Name, Pos, Symbol, Token};
+use std::alloc::Global;
 use std::marker::Model;
 
 /// Stands before a token, and goes on token by token, over a list of them or over a text. It is
@@ -155,6 +156,16 @@ impl<'a> Cursor<'a> {
             name: Name::new(t.text),
             pos: t.pos,
         })
+    }
+
+    /// Takes an identifier that is used; else Syntax at the next token, or Memory.
+    #[inline(always)]
+    pub fn mention(&mut self, alloc: Global) -> Result<Mention, ParseFault>
+        ensures { Reads (reads 0 spec.ident self.old) result self.new }
+    {
+        let t = self.token(Symbol::Ident)?;
+        let mention = Mention::new(alloc, t.text, t.pos)?;
+        Ok(mention)
     }
 }
 

@@ -136,7 +136,7 @@ fn selector(
     ensures { Adds (reads levels spec.selector tokens.old) found.old result found.new tokens.new }
 {
     if tokens.sees(Symbol::Dot) {
-        field(tokens, found)
+        field(alloc, tokens, found)
     } else if tokens.sees(Symbol::LeftSquare) {
         index(alloc, tokens, levels, found)
     } else if tokens.sees(Symbol::Caret) {
@@ -173,7 +173,7 @@ pub fn designator(
 ) -> Result<Designator, ParseFault>
     ensures { Reads (reads levels spec.designator tokens.old) result tokens.new }
 {
-    let ident = tokens.ident()?;
+    let ident = tokens.mention(alloc)?;
     if tokens.sees_selector() {
         let selectors = selectors(alloc, tokens, levels)?;
         Ok(Designator { ident, selectors })

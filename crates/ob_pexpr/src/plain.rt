@@ -8,7 +8,7 @@ ghost use Rattle.ob_pexpr.specs.Contract.{Adds, Reads};
 
 use crate::cursor::Cursor;
 use crate::fault::ParseFault;
-use ob_tree::{Boxed, Expr, List, Operator, Relation, Selector, Sign, Symbol, Tail};
+use ob_tree::{Boxed, Expr, List, Operator, Relation, Selector, Sign, Spelling, Symbol, Tail};
 use std::alloc::{AllocError, Global};
 
 #[inline(never)]
@@ -16,7 +16,7 @@ pub fn int(alloc: Global, tokens: &mut Cursor<'_>) -> Result<Expr, ParseFault>
     ensures { Reads (reads 0 spec.int tokens.old) result tokens.new }
 {
     let t = tokens.token(Symbol::Int)?;
-    let text = List::from_slice(alloc, t.text)?;
+    let text = Spelling::from_slice(alloc, t.text)?;
     Ok(Expr::Int { pos: t.pos, text })
 }
 
@@ -25,7 +25,7 @@ pub fn char(alloc: Global, tokens: &mut Cursor<'_>) -> Result<Expr, ParseFault>
     ensures { Reads (reads 0 spec.char tokens.old) result tokens.new }
 {
     let t = tokens.token(Symbol::Char)?;
-    let text = List::from_slice(alloc, t.text)?;
+    let text = Spelling::from_slice(alloc, t.text)?;
     Ok(Expr::Char { pos: t.pos, text })
 }
 
@@ -50,7 +50,7 @@ pub fn string(alloc: Global, tokens: &mut Cursor<'_>) -> Result<Expr, ParseFault
     ensures { Reads (reads 0 spec.string tokens.old) result tokens.new }
 {
     let t = tokens.token(Symbol::Str)?;
-    let text = List::from_slice(alloc, between_marks(t.text))?;
+    let text = Spelling::from_slice(alloc, between_marks(t.text))?;
     Ok(Expr::Str { pos: t.pos, text })
 }
 
@@ -64,11 +64,11 @@ pub fn nil(tokens: &mut Cursor<'_>) -> Result<Expr, ParseFault>
 
 /// A field, behind the selectors that were found before.
 #[inline(never)]
-pub fn field(tokens: &mut Cursor<'_>, found: &mut List<Selector>) -> Result<(), ParseFault>
+pub fn field(alloc: Global, tokens: &mut Cursor<'_>, found: &mut List<Selector>) -> Result<(), ParseFault>
     ensures { Adds (reads 0 spec.field tokens.old) found.old result found.new tokens.new }
 {
     let pos = tokens.expect(Symbol::Dot)?;
-    let ident = tokens.ident()?;
+    let ident = tokens.mention(alloc)?;
     found.push(Selector::Field { pos, ident })?;
     Ok(())
 }

@@ -248,7 +248,7 @@ fn case_statement(
     ensures { Puts (reads levels spec.case_statement tokens.old) found.old result found.new tokens.new }
 {
     let pos = tokens.expect(Symbol::KwCase)?;
-    let value = nested_expr(alloc, tokens, levels)?;
+    let value = Boxed::new(alloc, nested_expr(alloc, tokens, levels)?)?;
     tokens.expect(Symbol::KwOf)?;
     let cases = cases(alloc, tokens, levels)?;
     let otherwise = otherwise(alloc, tokens, levels)?;
@@ -313,7 +313,7 @@ fn for_loop(
     ensures { Puts (reads levels spec.for_loop tokens.old) found.old result found.new tokens.new }
 {
     let pos = tokens.expect(Symbol::KwFor)?;
-    let variable = tokens.ident()?;
+    let variable = tokens.mention(alloc)?;
     tokens.expect(Symbol::Becomes)?;
     let start = Boxed::new(alloc, nested_expr(alloc, tokens, levels)?)?;
     tokens.expect(Symbol::KwTo)?;

@@ -1,10 +1,10 @@
 //! Expressions.
 
 use crate::boxed::Boxed;
-use crate::ident::Ident;
 use crate::list::List;
+use crate::mention::Mention;
 use crate::pos::Pos;
-use crate::text::Text;
+use crate::spelling::Spelling;
 
 /// A relation of two operands.
 #[derive(Clone, Copy, PartialEq, Eq, Drop)]
@@ -52,17 +52,17 @@ pub enum Expr {
     /// An integer with its text, such as `12` or `0FH`.
     Int {
         pos: Pos,
-        text: Text,
+        text: Spelling,
     },
     /// A character with its text, such as `41X`.
     Char {
         pos: Pos,
-        text: Text,
+        text: Spelling,
     },
     /// A string, as the characters between its marks.
     Str {
         pos: Pos,
-        text: Text,
+        text: Spelling,
     },
     Nil(Pos),
     Set {
@@ -120,7 +120,7 @@ pub struct Element {
 #[cycle(expr)]
 #[derive(Drop)]
 pub struct Designator {
-    pub ident: Ident,
+    pub ident: Mention,
     pub selectors: List<Selector>,
 }
 
@@ -129,7 +129,7 @@ pub struct Designator {
 #[derive(Drop)]
 pub enum Selector {
     /// `.` and a name.
-    Field { pos: Pos, ident: Ident },
+    Field { pos: Pos, ident: Mention },
     /// One index: `a[i, j]` has two of these, and the second's position is the comma's.
     Index { pos: Pos, index: Expr },
     /// `^`

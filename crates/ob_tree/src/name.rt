@@ -51,6 +51,14 @@ impl Name {
         }
     }
 
+    /// How many characters: at most 64.
+    pub fn len(&self) -> usize
+        ensures characters { result ≡ length self.now }
+        ensures most { length self.now ≤ 64 }
+    {
+        self.len
+    }
+
     pub fn as_bytes(&self) -> &[u8]
         ensures { result.now ≡ self.now }
     {

@@ -2,8 +2,9 @@
 
 use crate::boxed::Boxed;
 use crate::expr::{Designator, Element, Expr};
-use crate::ident::{Ident, Qualident};
+use crate::ident::Qualident;
 use crate::list::List;
+use crate::mention::Mention;
 use crate::pos::Pos;
 
 /// A statement. `pos` is that of `:=` at an assignment, and else that of the first symbol.
@@ -26,7 +27,7 @@ pub enum Stmt {
     },
     Case {
         pos: Pos,
-        value: Expr,
+        value: Boxed<Expr>,
         cases: List<Case>,
         otherwise: Option<List<Stmt>>,
     },
@@ -42,7 +43,7 @@ pub enum Stmt {
     },
     For {
         pos: Pos,
-        variable: Ident,
+        variable: Mention,
         start: Boxed<Expr>,
         end: Boxed<Expr>,
         step: Option<Boxed<Expr>>,

@@ -14,7 +14,7 @@ pub fn at(line: u32, col: u32) -> Pos {
 pub fn place_of_statement(statement: &Stmt) -> Pos {
     match statement {
         Stmt::Empty => at(0, 0),
-        Stmt::Call(designator) => designator.ident.pos,
+        Stmt::Call(designator) => designator.ident.pos(),
         Stmt::Assign { pos, .. } => *pos,
         Stmt::If { pos, .. } => *pos,
         Stmt::Case { pos, .. } => *pos,
@@ -42,7 +42,7 @@ fn place_of_selector(selector: &Selector) -> Pos {
 pub fn place_of(value: &Expr) -> Pos {
     match value {
         Expr::Designator(designator) => match designator.selectors.as_slice() {
-            [] => designator.ident.pos,
+            [] => designator.ident.pos(),
             [.., last] => place_of_selector(last),
         },
         Expr::Int { pos, .. } => *pos,
@@ -111,12 +111,12 @@ fn put_elements(places: &mut Vec<Pos>, elements: &[Element]) -> Result<(), Alloc
 
 // Of the first name, and of each selector with the name, the index or the parameters in it.
 fn put_designator(places: &mut Vec<Pos>, designator: &Designator) -> Result<(), AllocError> {
-    places.push(designator.ident.pos)?;
+    places.push(designator.ident.pos())?;
     for selector in designator.selectors.as_slice() {
         places.push(place_of_selector(selector))?;
         match selector {
             Selector::Field { ident, .. } => {
-                places.push(ident.pos)?;
+                places.push(ident.pos())?;
             }
             Selector::Index { index, .. } => {
                 places.push(place_of(index))?;
@@ -232,7 +232,7 @@ fn put_loop(places: &mut Vec<Pos>, statement: &Stmt) -> Result<(), AllocError> {
             body,
         } => {
             places.push(*pos)?;
-            places.push(variable.pos)?;
+            places.push(variable.pos())?;
             places.push(place_of(start.get()))?;
             places.push(place_of(end.get()))?;
             if let Some(step) = step {
@@ -273,7 +273,7 @@ fn put_statement(places: &mut Vec<Pos>, statement: &Stmt) -> Result<(), AllocErr
             otherwise,
         } => {
             places.push(*pos)?;
-            places.push(place_of(value))?;
+            places.push(place_of(value.get()))?;
             for case in cases.as_slice() {
                 put_elements(places, case.labels.as_slice())?;
                 put_body(places, case.body.as_slice())?;

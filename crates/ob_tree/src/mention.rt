@@ -1,0 +1,71 @@
+ghost use Rattle.std.specs.Prelude.{◌≡◌, ◌≤◌, length, IfOk};
+
+use crate::ident::Ident;
+use crate::name::Name;
+use crate::pos::Pos;
+use crate::spelling::Spelling;
+use std::alloc::{AllocError, Global};
+use std::marker::Model;
+
+/// An identifier that is used where it stands, in less memory than an [`Ident`]. Contracts see
+/// it as the identifier.
+#[derive(Drop)]
+pub struct Mention {
+    name: Spelling,
+    pos: Pos,
+}
+
+impl Model for Mention {
+    ghost use Rattle.std.specs.Prelude.{◌≤◌, length};
+    ghost use Rattle.ob_tree.specs.declared.ident.Ident.{Ident as Identifier};
+
+    ghost Value = { Identifier };
+
+    ghost view = { λ m. record { name = m.name; pos = m.pos } };
+
+    ghost invariant = { λ m. length m.name ≤ 64 };
+}
+
+impl Mention {
+    /// The identifier of that text. Takes memory for more than 14 characters alone.
+    #[inline(always)]
+    pub fn new(alloc: Global, text: &[u8], pos: Pos) -> Result<Mention, AllocError>
+        requires { length text.now ≤ 64 }
+        ensures { IfOk result (λ m. m ≡ record { name = text.now; «pos» = pos }) }
+    {
+        let name = Spelling::from_slice(alloc, text)?;
+        Ok(Mention { name, pos })
+    }
+
+    /// The same identifier. Takes memory for more than 14 characters alone.
+    pub fn of(alloc: Global, ident: &Ident) -> Result<Mention, AllocError>
+        ensures { IfOk result (λ m. m ≡ ident.now) }
+    {
+        let text = &ident.name.as_bytes()[..ident.name.len()];
+        Mention::new(alloc, text, ident.pos)
+    }
+
+    /// Where it stands.
+    pub fn pos(&self) -> Pos
+        ensures { result ≡ self.now.pos }
+    {
+        self.pos
+    }
+
+    /// Its name.
+    pub fn name(&self) -> Name
+        ensures { result ≡ self.now.name }
+    {
+        Name::new(self.name.as_slice())
+    }
+
+    /// The identifier.
+    pub fn ident(&self) -> Ident
+        ensures { result ≡ self.now }
+    {
+        Ident {
+            name: self.name(),
+            pos: self.pos,
+        }
+    }
+}
