@@ -1,7 +1,7 @@
 use Rattle.std.proofs.Common.{sym, ◌∙◌}
 use Rattle.ob_types.specs.TypedView.{expr_view}
-use Rattle.ob_types.proofs.Assigns.{takes_sound, takes_complete}
-use Rattle.ob_types.proofs.assigning.assignable.Goals as goal
+use Rattle.ob_assign.proofs.Assigns.{takes_sound, takes_complete}
+use Rattle.ob_assign.proofs.assigning.assignable.Goals as goal
 
 pub returns : goal.returns
 returns g c = (

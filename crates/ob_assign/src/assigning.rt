@@ -11,15 +11,12 @@ ghost use Rattle.ob_types.specs.TypedView.{expr_view};
 ghost use Rattle.ob_types.specs.Assigning.{includes, is_extensible, has_nil, Assignable, IsTypeHeld};
 ghost use Rattle.ob_types.specs.AssigningTests.{described, is_at, widens, takes_type, has_room, takes_text, is_value, takes_procedure, takes_constant, takes_kind, takes};
 
-use crate::desc::Desc;
-use crate::relations::{
-    extends_within, is_same_at, shape_of, signature_within, signatures_match, target_within,
-};
-use crate::typed::{Binary, Designator, TypedExpr, Unary, Width};
-use crate::types::{Basic, Signature, TypeRef, Types};
-use crate::value::Value;
 use ob_format::is_name;
 use ob_tree::QName;
+use ob_types::{
+    Basic, Binary, Desc, Designator, Signature, TypeRef, TypedExpr, Types, Unary, Value, Width,
+    extends_within, is_same_at, shape_of, signature_within, signatures_match, target_within,
+};
 
 // What the map has of the type that t stands for.
 fn shape_within<'a, T: Types>(types: &'a T, t: &'a TypeRef) -> Option<&'a Desc>
@@ -74,7 +71,7 @@ fn is_wider(wide: &TypeRef, narrow: &TypeRef) -> bool
 
 /// Whether a variable of the type `v` takes a value of the type `t`. Over any map. Takes no
 /// memory.
-#[tactic(auto, unfolding(crate::specs::AssigningTests::takes_type))]
+#[tactic(auto, unfolding(ob_types::specs::AssigningTests::takes_type))]
 pub fn type_fits<T: Types>(types: &T, v: &TypeRef, t: &TypeRef) -> bool
     ensures { result ≡ takes_type (T.types types.now) v.now t.now }
 {
@@ -111,7 +108,7 @@ fn holds_text<T: Types>(types: &T, desc: &Desc, count: usize) -> bool
 }
 
 // Whether a variable of the type v takes a string of so many characters.
-#[tactic(auto, unfolding(crate::specs::AssigningTests::takes_text))]
+#[tactic(auto, unfolding(ob_types::specs::AssigningTests::takes_text))]
 fn text_fits<T: Types>(types: &T, v: &TypeRef, count: usize) -> bool
     ensures { result ≡ takes_text (T.types types.now) v.now count }
 {
@@ -129,7 +126,7 @@ pub fn is_plain(name: &QName) -> bool
 }
 
 // Whether a variable of the type v takes the procedure of that name.
-#[tactic(auto, unfolding(crate::specs::AssigningTests::takes_procedure))]
+#[tactic(auto, unfolding(ob_types::specs::AssigningTests::takes_procedure))]
 fn procedure_fits<T: Types>(types: &T, v: &TypeRef, name: &QName, signature: &Signature) -> bool
     ensures { result ≡ takes_procedure (T.types types.now) v.now name.now signature.now }
 {
@@ -218,7 +215,7 @@ pub fn constant_fits<T: Types>(types: &T, v: &TypeRef, value: &Value) -> bool
     }
 }
 
-#[tactic(auto, using(crate::proofs::TypedViews::view_variable, crate::proofs::TypedViews::view_field, crate::proofs::TypedViews::view_index, crate::proofs::TypedViews::view_deref, crate::proofs::TypedViews::view_guard))]
+#[tactic(auto, using(ob_types::proofs::TypedViews::view_variable, ob_types::proofs::TypedViews::view_field, ob_types::proofs::TypedViews::view_index, ob_types::proofs::TypedViews::view_deref, ob_types::proofs::TypedViews::view_guard))]
 fn type_of_designator(designator: &Designator) -> &TypeRef
     ensures { result.now ≡ designator_type designator.now }
 {
