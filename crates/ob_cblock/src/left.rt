@@ -15,6 +15,7 @@ use ob_chead::Head;
 use ob_known::{Imports, Scope};
 use ob_rules::{Later, Notebook};
 use ob_tree::List;
+use ob_trees::copy_type;
 use std::alloc::{AllocError, Global};
 
 fn copy_of(left: &Later) -> Result<Later, AllocError>
@@ -29,12 +30,12 @@ fn copy_of(left: &Later) -> Result<Later, AllocError>
         } => Ok(Later::PointsTo {
             pointer: pointer.clone()?,
             at: *at,
-            base: base.clone()?,
+            base: copy_type(base)?,
             inline: *inline,
         }),
         Later::Inherits { field, base } => Ok(Later::Inherits {
             field: *field,
-            base: base.clone()?,
+            base: copy_type(base)?,
         }),
     }
 }

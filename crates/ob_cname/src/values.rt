@@ -9,13 +9,11 @@ ghost use Rattle.ob_rules.specs.Values as spec;
 ghost use Rattle.ob_cname.specs.Basics.{basic_in, computed_type, kind_basic};
 
 use crate::shapes::basic_of;
+use ob_assign::{constant_fits, takes_nil, type_fits};
 use ob_rules::Valued;
 use ob_tree::List;
 use ob_trees::ExprTree;
-use ob_types::{
-    Basic, ExprType, TypeRef, Types, Value, Width, constant_fits, signature_within,
-    signatures_match, takes_nil, type_fits,
-};
+use ob_types::{Basic, ExprType, TypeRef, Types, Value, Width, signature_within, signatures_match};
 use std::alloc::{AllocError, Global};
 
 fn width_of(basic: Option<Basic>) -> Option<Width>

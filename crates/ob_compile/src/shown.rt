@@ -8,11 +8,12 @@ ghost use Rattle.ob_compile.specs.Showing.{IsShown};
 use crate::held::ShownFace;
 use crate::prints::EnvPrints;
 use ob_env::View;
+use ob_interface::interface_of;
 use ob_obj::Export;
 use ob_tree::{List, ObjName, Print};
 use ob_trees::copy_name;
 use ob_types::{Aspect, Object, Use};
-use ob_uses::{interface_of, view_is_held};
+use ob_uses::view_is_held;
 use std::alloc::{AllocError, Global};
 
 /// The interface of a module that is laid out.

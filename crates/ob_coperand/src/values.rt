@@ -13,12 +13,13 @@ ghost use Rattle.ob_rules.specs.Expressions as spec;
 ghost use Rattle.ob_rules.specs.Values as values;
 ghost use Rattle.ob_rules.specs.declared.meant.Meant.TheVariants as means;
 
+use ob_assign::is_plain;
 use ob_cname::{type_named, types};
 use ob_cvalue::{element, set_of};
 use ob_rules::{Computed, ElementOf, Meant, Notebook, Surroundings, Valued};
 use ob_tree::{Pos, QName, Qualident};
 use ob_trees::{ExprTree, copy_signature};
-use ob_types::{ExprType, Signature, TypeRef, Types, Value, is_plain, signature_within};
+use ob_types::{ExprType, Signature, TypeRef, Types, Value, signature_within};
 use std::alloc::{AllocError, Global};
 
 fn constant_of(book: &mut Notebook, start: Pos, x: Valued) -> Option<Value>

@@ -8,15 +8,13 @@ ghost use Rattle.ob_rules.specs.Books.{book_after};
 ghost use Rattle.ob_rules.specs.Operators as spec;
 ghost use Rattle.ob_rules.specs.Values as values;
 
+use ob_assign::{basic_of_binary, basic_of_unary};
 use ob_cname::{text_tree, tree_of};
 use ob_const::{fold_logical, fold_one, fold_texts, fold_two};
 use ob_rules::{Computed, Notebook, Valued};
 use ob_tree::Pos;
 use ob_trees::ExprTree;
-use ob_types::{
-    Basic, Binary, Comparison, Connective, ExprType, TypeRef, Unary, Value, basic_of_binary,
-    basic_of_unary,
-};
+use ob_types::{Basic, Binary, Comparison, Connective, ExprType, TypeRef, Unary, Value};
 use std::alloc::{AllocError, Global};
 
 // The constant; rule 11 where there is none.

@@ -3,4 +3,3 @@ pub mod Targets
 pub mod Sameness
 pub mod Climbs
 pub mod Equals
-pub mod Assigns

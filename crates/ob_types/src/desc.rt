@@ -5,7 +5,7 @@ use crate::value::Value;
 use ob_tree::{List, Mark, Name};
 
 /// What an object is: one variant for each kind of description, with its parts.
-#[derive(Drop, Clone)]
+#[derive(Drop)]
 pub enum Desc {
     /// A constant.
     Const(Value),
@@ -28,7 +28,6 @@ pub enum Desc {
 }
 
 /// A record type.
-#[derive(Clone)]
 pub struct RecordDesc {
     pub mark: Mark,
     /// The type that it extends.
@@ -85,7 +84,7 @@ impl RecordDesc {
 }
 
 /// A field of a record.
-#[derive(Drop, Clone)]
+#[derive(Drop)]
 pub struct Field {
     pub name: Name,
     pub mark: Mark,
@@ -105,7 +104,6 @@ pub enum Receiver {
 }
 
 /// A bound procedure that a record introduces.
-#[derive(Clone)]
 pub struct Method {
     pub name: Name,
     /// `Full` or `Hidden`.

@@ -11,7 +11,7 @@ pub enum Aspect {
 }
 
 /// An object of another module that a module was compiled against, with the aspect and its print.
-#[derive(Drop, Clone)]
+#[derive(Drop)]
 pub struct Use {
     pub object: QName,
     pub aspect: Aspect,
@@ -19,7 +19,7 @@ pub struct Use {
 }
 
 /// An object of a module, with the prints of its texts: of its shape, and of a record's layout.
-#[derive(Drop, Clone)]
+#[derive(Drop)]
 pub struct Object {
     pub name: ObjName,
     pub desc: Desc,
@@ -29,7 +29,7 @@ pub struct Object {
 
 /// What a module shows to others: its imports in the order of its source, its objects ascending
 /// by name, and its uses ascending by module, object and aspect.
-#[derive(Drop, Clone)]
+#[derive(Drop)]
 pub struct Interface {
     pub module: Name,
     pub imports: List<Name>,

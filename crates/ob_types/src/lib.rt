@@ -2,7 +2,6 @@
 //! types of a map of descriptions stand to each other.
 #![tactic(auto)]
 
-mod assigning;
 mod desc;
 mod face;
 mod relations;
@@ -11,10 +10,6 @@ mod typed;
 mod types;
 mod value;
 
-pub use assigning::{
-    assignable, basic_of, basic_of_binary, basic_of_unary, constant_fits, is_plain, takes_nil,
-    type_fits,
-};
 pub use desc::{Desc, Field, Method, Receiver, RecordDesc};
 pub use face::{Aspect, Interface, Object, Use};
 pub use ob_tree::Mark;

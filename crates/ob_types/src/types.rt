@@ -22,7 +22,6 @@ pub enum Basic {
 }
 
 /// A type: a basic one, or the one that a name stands for.
-#[derive(Clone)]
 pub enum TypeRef {
     Basic(Basic),
     Named(QName),
@@ -47,7 +46,6 @@ pub enum Mode {
 }
 
 /// The parameters of a procedure in order, and its result, none for a proper procedure.
-#[derive(Clone)]
 pub struct Signature {
     pub params: List<(Mode, TypeRef)>,
     pub result: Option<TypeRef>,

@@ -1,7 +1,6 @@
 use ob_tree::Text;
 
 /// The value of a constant.
-#[derive(Clone)]
 pub enum Value {
     Bool(bool),
     /// A character, 0X to 0FFX.

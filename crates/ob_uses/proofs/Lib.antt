@@ -5,7 +5,5 @@ pub mod Leading
 pub mod Going
 pub mod Pairing
 pub mod Looping
-pub mod Starting
 pub mod Objecting
-pub mod Interfacing
 pub mod Holding

@@ -1,5 +1,5 @@
--- The objects that the code makes are those of the definition.
-use Rattle.std.proofs.Common.{◌≡◌, ℕ, suc, Bool, true, false, cond, ◌&&◌, List, [], ◌∷◌, ◌++◌, length, map, Option, Some, None, append_assoc, refl, sym, ap, subst, ◌∙◌}
+-- Descriptions as others see them, and what is reached of a module's own types.
+use Rattle.std.proofs.Common.{◌≡◌, ℕ, suc, Bool, true, false, cond, ◌&&◌, List, [], ◌∷◌, ◌++◌, length, map, Option, Some, None, refl, sym, ap, subst, ◌∙◌}
 use Rattle.std.specs.Prelude.{◌⊎◌, bytes_eq}
 use Rattle.std.specs.List.{filter, flat_map}
 use Rattle.ob_tree.specs.declared.names.QName.{QName}
@@ -8,30 +8,22 @@ use Rattle.ob_types.specs.declared.desc.Desc.TheVariants as desc
 use Rattle.ob_types.specs.declared.desc.Field.{Field}
 use Rattle.ob_types.specs.declared.desc.Method.{Method}
 use Rattle.ob_types.specs.declared.typed.TypedType.{TypedType}
-use Rattle.ob_types.specs.declared.face.Object.{Object}
 use Rattle.ob_types.specs.declared.face.Aspect.TheVariants.{Shape}
-use Rattle.ob_types.specs.TypedSyntax.{Procedure, Module}
+use Rattle.ob_types.specs.TypedSyntax.{Module}
 use Rattle.ob_types.specs.Maps.{signature_types}
 use Rattle.ob_desc.specs.Grammar.{is_shown, seen, same_object}
 use Rattle.ob_desc.specs.Laws.{object_decides}
-use Rattle.ob_layout.specs.Lists.{in_order}
 use Rattle.ob_layout.specs.LaidOut.{type_named, is_own}
-use Rattle.ob_env.specs.Faces.{object_of}
 use Rattle.ob_env.specs.Shown.{is_visible}
 use Rattle.ob_counts.specs.Counts.{own_name}
 use Rattle.ob_counts.specs.Noted.{names_of}
 use Rattle.ob_uses.specs.declared.pair.Pair.{Pair}
-use Rattle.ob_uses.specs.declared.entry.Entry.{Entry}
 use Rattle.ob_uses.specs.declared.way.Way.TheVariants as way
 use Rattle.ob_uses.specs.Closed.{is_among, of_found, reached_from}
 use Rattle.ob_uses.specs.Reaching.{Reaches, first, onward, AreEnough}
-use Rattle.ob_uses.specs.Entries.{by_entry, entry_of}
-use Rattle.ob_uses.specs.Objects.{by_name, own_names, first_shown, signature_of, is_exported, shown_types, reached_types, types_among, constant_object, variable_object, procedure_object, type_object, objects_of, HasOwnTypes}
+use Rattle.ob_uses.specs.Objects.{own_names, first_shown, signature_of, is_exported, shown_types, reached_types, types_among, HasOwnTypes}
 use Rattle.ob_uses.specs.Ways.{paired, has_pair, AreReached, leads_by, desc_leads}
-use Rattle.ob_uses.proofs.Leading.{filter_join, map_join}
-use Rattle.ob_order.proofs.Putting.{order_each}
-use Rattle.ob_uses.proofs.Sorting.{Has}
-use Rattle.ob_uses.proofs.Searching.{known, no_both, itself, either, left_of, right_of, in_which, exact_here}
+use Rattle.ob_uses.proofs.Searching.{itself, either, left_of, right_of, in_which, exact_here}
 use Rattle.ob_uses.proofs.Pairing.{has_of_among, kept_only}
 use mathlib.Core.Logic.{inl, inr}
 
@@ -57,14 +49,6 @@ seen_twice (desc.ProcType m s) = refl
 seen_twice (desc.Record r) =
     ap (λ (l : List Field). desc.Record (record r { fields = l; methods = filter (λ m. is_shown m.mark) (filter (λ m. is_shown m.mark) r.methods) })) (filter_twice (λ (f : Field). is_shown f.mark) r.fields)
     ∙ ap (λ (l : List Method). desc.Record (record r { fields = filter (λ f. is_shown f.mark) r.fields; methods = l })) (filter_twice (λ (m : Method). is_shown m.mark) r.methods)
-
--- ---- entries part by part
-
-pub entries_cons : {X : Type 0} (m : List ℕ) (g : X → List ℕ × Desc) (f : X → Bool) (x : X) (xs : List X) → map (entry_of m) (map g (filter f (x ∷ xs))) ≡ map (entry_of m) (map g (filter f (x ∷ []))) ++ map (entry_of m) (map g (filter f xs))
-entries_cons m g f x xs =
-    ap (λ l. map (entry_of m) (map g l)) (filter_join f (x ∷ []) xs)
-    ∙ ap (map (entry_of m)) (map_join g (filter f (x ∷ [])) (filter f xs))
-    ∙ map_join (entry_of m) (map g (filter f (x ∷ []))) (map g (filter f xs))
 
 -- ---- what is reached of the module's own types
 
@@ -168,32 +152,10 @@ reached_exactly m q =
     let x = exact_here leads (first_shown m) (map (own_name m) m.types) (own_enough m) q in
     (λ e. x.0 (ap (λ k. is_among (reached_from leads k (first_shown m)) q) n ∙ e), λ r. sym (ap (λ k. is_among (reached_from leads k (first_shown m)) q) n) ∙ x.1 r)
 
-types_are : (m : Module) (map : QName → Option Desc) → HasOwnTypes map m → (starts : List QName) → starts ≡ first_shown m → (ps : List Pair) → AreReached (leads_by way.Shown map m.name) starts Shape ps → filter (λ t. has_pair ps (paired Shape (own_name m t))) m.types ≡ types_among m (reached_types m)
+pub types_are : (m : Module) (map : QName → Option Desc) → HasOwnTypes map m → (starts : List QName) → starts ≡ first_shown m → (ps : List Pair) → AreReached (leads_by way.Shown map m.name) starts Shape ps → filter (λ t. has_pair ps (paired Shape (own_name m t))) m.types ≡ types_among m (reached_types m)
 types_are m map has starts begin ps r =
     let s : AreReached (leads_by way.Shown map m.name) (first_shown m) Shape ps = subst (λ (l : List QName). AreReached (leads_by way.Shown map m.name) l Shape ps) begin r in
     filter_same (λ t. has_pair ps (paired Shape (own_name m t))) (λ t. is_among (reached_types m) (own_name m t)) m.types
     (λ t. let q : QName = own_name m t in both_ways (has_pair ps (paired Shape q)) (is_among (reached_types m) q)
     (λ e. (reached_exactly m q).1 (alike m map (own_map m) has q (s.right (paired Shape q) e).1))
     (λ e. s.whole q (alike m (own_map m) map (λ p o. sym (has p o)) q ((reached_exactly m q).0 e))))
-
--- ---- all objects
-
-map_twice : {X Y Z : Type 0} (f : X → Y) (g : Y → Z) (xs : List X) → map g (map f xs) ≡ map (λ x. g (f x)) xs
-map_twice f g [] = refl
-map_twice f g (x ∷ xs) = ap (λ l. g (f x) ∷ l) (map_twice f g xs)
-
-pub objects_are : (m : Module) (types : QName → Option Desc) → HasOwnTypes types m → (starts : List QName) → starts ≡ first_shown m → (ps : List Pair) → AreReached (leads_by way.Shown types m.name) starts Shape ps → (found : List Entry)
-    → found ≡ ((map (entry_of m.name) (map constant_object (filter (λ c. is_shown c.mark) m.constants)) ++ map (entry_of m.name) (map variable_object (filter (λ v. is_shown v.mark) m.variables))) ++ map (entry_of m.name) (map procedure_object (filter is_exported m.procedures))) ++ map (entry_of m.name) (map type_object (filter (λ t. has_pair ps (paired Shape (own_name m t))) m.types))
-    → map (λ e. e.object) (in_order by_entry found) ≡ map (object_of m.name) (objects_of m)
-objects_are m types has starts begin ps r found is =
-    let cs : List (List ℕ × Desc) = map constant_object (filter (λ c. is_shown c.mark) m.constants) in
-    let vs : List (List ℕ × Desc) = map variable_object (filter (λ v. is_shown v.mark) m.variables) in
-    let qs : List (List ℕ × Desc) = map procedure_object (filter is_exported m.procedures) in
-    let ts : List (List ℕ × Desc) = map type_object (types_among m (reached_types m)) in
-    let f : List ℕ × Desc → Entry = entry_of m.name in
-    let whole : found ≡ map f (((cs ++ vs) ++ qs) ++ ts) =
-    is ∙ ap (λ l. ((map f cs ++ map f vs) ++ map f qs) ++ map f (map type_object l)) (types_are m types has starts begin ps r)
-    ∙ ap (λ l. (l ++ map f qs) ++ map f ts) (sym (map_join f cs vs)) ∙ ap (λ l. l ++ map f ts) (sym (map_join f (cs ++ vs) qs)) ∙ sym (map_join f ((cs ++ vs) ++ qs) ts) in
-    ap (λ l. map (λ e. e.object) (in_order by_entry l)) whole
-    ∙ ap (map (λ e. e.object)) (order_each by_name by_entry f (λ x y. refl) (((cs ++ vs) ++ qs) ++ ts))
-    ∙ map_twice f (λ (e : Entry). e.object) (in_order by_name (((cs ++ vs) ++ qs) ++ ts))

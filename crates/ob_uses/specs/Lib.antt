@@ -2,8 +2,6 @@ pub mod Closed
 pub mod Reaching
 pub mod Objects
 pub mod Order
-pub mod Entries
-pub mod Placed
 pub mod Uses
 pub mod Ways
 pub mod Made

@@ -44,6 +44,8 @@ fn add_name(left: &mut Vec<QName>, alone: bool, own: &Name, name: &QName) -> Res
     Ok(())
 }
 
+/// Adds the name of the type, where it has one; if `alone`, only where that is one of the module
+/// `own`.
 #[tactic(auto, using(crate::proofs::Leading::names_none))]
 pub fn add_type(
     left: &mut Vec<QName>,
@@ -59,6 +61,7 @@ pub fn add_type(
     }
 }
 
+/// Adds the name of the type, where there is one, as `add_type` does.
 #[tactic(auto, using(crate::proofs::Leading::names_none))]
 pub fn add_optional(
     left: &mut Vec<QName>,

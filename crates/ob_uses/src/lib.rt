@@ -1,29 +1,22 @@
-//! What a checked module shows to others, and what of others it uses.
+//! What a checked module uses of others, and what is reached from types.
 #![tactic(auto)]
 
-mod ascending;
-mod copies;
-mod entry;
-mod interface;
 mod laws;
 mod leads;
-mod objects;
 mod pair;
 mod pairs;
-mod placed;
 mod prints;
-mod search;
+mod reach;
 mod sorted;
-mod starts;
 mod uses;
 mod way;
 
-pub use interface::interface_of;
 pub use laws::{reaching_is_exact, view_is_held};
-pub use objects::objects_of;
+pub use leads::{add_optional, add_type, shows};
 pub use pair::Pair;
 pub use pairs::pairs_of;
 pub use prints::Prints;
+pub use reach::search;
 pub use sorted::sorted_pairs;
 pub use uses::uses_of;
 pub use way::Way;

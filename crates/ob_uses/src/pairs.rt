@@ -11,7 +11,7 @@ ghost use Rattle.ob_uses.specs.Ways.{is_of, is_foreign, AreAllNames};
 
 use crate::leads::is_own;
 use crate::pair::Pair;
-use crate::search::search;
+use crate::reach::search;
 use crate::sorted::sorted_pairs;
 use crate::way::Way;
 use ob_counts::count_module;
