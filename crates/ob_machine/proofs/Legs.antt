@@ -16,7 +16,8 @@ use Rattle.ob_values.specs.declared.state.State.{State}
 use Rattle.ob_values.specs.Effects.{ops_of, world_of}
 use Rattle.ob_effect.specs.declared.acting.Place as effect_place
 use Rattle.ob_run.specs.declared.pause.Pause.TheVariants as pause
-use Rattle.ob_run.specs.Turns.{IsHere, Begins, Comes, TurnDoes, Spends, point_of}
+use Rattle.ob_several.specs.Points.{IsHere, Comes, point_of}
+use Rattle.ob_run.specs.Turns.{Begins, TurnDoes, Spends}
 use Rattle.ob_calls.specs.declared.calls.Place.{Place}
 use Rattle.ob_calls.specs.declared.calling.Called.{Called}
 use Rattle.ob_calls.specs.declared.calling.Called.TheVariants as called

@@ -9,7 +9,8 @@ use Rattle.ob_instr.specs.Rows.{entered}
 use Rattle.ob_instr.specs.Table.{run, position_at}
 use Rattle.ob_values.specs.declared.state.State.{State}
 use Rattle.ob_values.specs.Effects.{world_of}
-use Rattle.ob_run.specs.Turns.{Begins, Comes}
+use Rattle.ob_several.specs.Points.{Comes}
+use Rattle.ob_run.specs.Turns.{Begins}
 use Rattle.ob_calls.specs.declared.calls.Place.{Place}
 use Rattle.ob_calls.specs.Reached.{at_place}
 use Rattle.ob_machine.specs.declared.outcome.Outcome.{Outcome}

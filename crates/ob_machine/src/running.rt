@@ -4,7 +4,7 @@ ghost use Rattle.ob_instr.specs.Table.{position_at};
 ghost use Rattle.ob_image.specs.Room.{room};
 ghost use Rattle.ob_effect.specs.Bases.{AreBelow};
 ghost use Rattle.ob_effect.specs.Places.{is_call};
-ghost use Rattle.ob_run.specs.Turns.{IsHere};
+ghost use Rattle.ob_several.specs.Points.{IsHere};
 ghost use Rattle.ob_machine.specs.Machine.{IsEntry};
 ghost use Rattle.ob_machine.specs.Legs.{LegDoes, LegHasCause, CallDoes, CanRun, IsBegun, left_of, outcome_in};
 

@@ -1,7 +1,6 @@
 //! Runs the instructions of one call, up to the next call or return, with what they write.
 #![tactic(auto)]
 
-mod groups;
 mod pause;
 mod print;
 mod running;
