@@ -2,67 +2,31 @@
 use Rattle.std.proofs.Common.{◌≡◌, ℕ, suc, ◌+◌, ◌-◌, ◌≤◌, Bool, true, false, cond, List, [], ◌∷◌, map, Option, Some, None, refl, sym, ap, subst, ◌∙◌, arith}
 use Rattle.std.specs.Prelude.{Vec, bytes_eq, slice_get}
 use Rattle.std.specs.Option.{option_or}
-use Rattle.std.specs.Ordering.{nat_cmp, is_eq}
-use Rattle.std.specs.Cmp.{Equal-is}
-use Rattle.std.specs.Cmp.Lexicographic.{slice_cmp, bytes_decides}
-use Rattle.std.specs.declared.cmp.Ordering.{Ordering}
-use Rattle.std.specs.BTreeMap.{UpdatesBy}
+use Rattle.std.specs.Cmp.Lexicographic.{bytes_decides}
+use Rattle.std.specs.HashMap.{UpdatesBy}
 use Rattle.std.specs.Map.{KeepsOthers}
 use Rattle.std.specs.declared.alloc.Global.{Global}
-use Rattle.std.proofs.lemmas.Map.Lookups.{exact_bytes}
 use Rattle.ob_layout.specs.Index.{Positions, at_name, Puts, Notes, position_from, IsIndexOf, first_by}
 
-abbrev same : List ℕ → List ℕ → Bool
-same a b = is_eq (slice_cmp nat_cmp a b)
+abbrev by_items : Vec ℕ Global → Vec ℕ Global → Bool
+by_items x y = bytes_eq x.items y.items
 
-equal_names : (a b : List ℕ) → same a b ≡ true → a ≡ b
-equal_names a b e = exact_bytes a b ((Equal-is (slice_cmp nat_cmp a b)).0 e)
+equal_names : (a b : List ℕ) → bytes_eq a b ≡ true → a ≡ b
+equal_names a b e = (bytes_decides a b).0 e
 
-abbrev by_items : Vec ℕ Global → Vec ℕ Global → Ordering
-by_items x y = slice_cmp nat_cmp x.items y.items
-
--- two names that differ
-differ : (a b : List ℕ) → bytes_eq a b ≡ false → (v : Bool) → same a b ≡ v → v ≡ false
-differ a b e true h = sym (sym e ∙ (bytes_decides a b).1 (equal_names a b h))
-differ a b e false h = refl
-
-other_name : (name n : List ℕ) (old new : Positions) (w : Option ℕ) → UpdatesBy by_items (λ k. slice_cmp nat_cmp name k.items) old new w → same n name ≡ false → at_name new n ≡ at_name old n
+other_name : (name n : List ℕ) (old new : Positions) (w : Option ℕ) → UpdatesBy by_items (λ k. bytes_eq name k.items) old new w → bytes_eq n name ≡ false → at_name new n ≡ at_name old n
 unfolding KeepsOthers
-other_name name n old new w h e = h.3 (λ k. same n k.items) (λ x y t. ap (λ l. same l y.items) (equal_names n x.items t)) (λ k t. subst (λ l. same n l ≡ false) (equal_names name k.items t) e)
+other_name name n old new w h e = h.3 (λ k. bytes_eq n k.items) (λ x y t. ap (λ l. bytes_eq l y.items) (equal_names n x.items t)) (λ k t. subst (λ l. bytes_eq n l ≡ false) (equal_names name k.items t) e)
 
-puts : (name : List ℕ) (old new : Positions) (w : ℕ) → UpdatesBy by_items (λ k. slice_cmp nat_cmp name k.items) old new (Some w) → Puts old new name w
+pub puts : (name : List ℕ) (old new : Positions) (w : ℕ) → UpdatesBy by_items (λ k. bytes_eq name k.items) old new (Some w) → Puts old new name w
 puts name old new w h n = go (bytes_eq n name) refl
   where
     go : (b : Bool) → bytes_eq n name ≡ b → at_name new n ≡ cond b (Some w) (at_name old n)
-    go true e = subst (λ l. at_name new l ≡ Some w) (sym ((bytes_decides n name).0 e)) h.1
-    go false e = other_name name n old new (Some w) h (differ n name e (same n name) refl)
+    go true e = subst (λ l. at_name new l ≡ Some w) (sym (equal_names n name e)) h.1
+    go false e = other_name name n old new (Some w) h e
 
-pub puts_at : (bytes name : List ℕ) (old new : Positions) (w : ℕ) → bytes ≡ name → UpdatesBy by_items (λ k. slice_cmp nat_cmp bytes k.items) old new (Some w) → Puts old new name w
+pub puts_at : (bytes name : List ℕ) (old new : Positions) (w : ℕ) → bytes ≡ name → UpdatesBy by_items (λ k. bytes_eq bytes k.items) old new (Some w) → Puts old new name w
 puts_at bytes name old new w e h = subst (λ l. Puts old new l w) e (puts bytes old new w h)
-
--- ---- noting
-
-pub notes_new : (old new : Positions) (name : List ℕ) (w : ℕ) → None ≡ at_name old name → Puts old new name w → Notes old new name w
-notes_new old new name w none put n = go (bytes_eq n name) refl
-  where
-    go : (b : Bool) → bytes_eq n name ≡ b → at_name new n ≡ option_or (at_name old n) (cond b (Some w) None)
-    go true e = put n ∙ ap (λ b. cond b (Some w) (at_name old n)) e ∙ sym (ap (λ o. option_or o (Some w)) (ap (at_name old) ((bytes_decides n name).0 e) ∙ sym none))
-    go false e = put n ∙ ap (λ b. cond b (Some w) (at_name old n)) e ∙ sym (none_else (at_name old n))
-      where
-        none_else : (o : Option ℕ) → option_or o None ≡ o
-        none_else None = refl
-        none_else (Some k) = refl
-
-pub notes_none : (old : Positions) (name : List ℕ) (w k : ℕ) → Some k ≡ at_name old name → Notes old old name w
-notes_none old name w k there n = go (bytes_eq n name) refl
-  where
-    none_else : (o : Option ℕ) → o ≡ option_or o None
-    none_else None = refl
-    none_else (Some k) = refl
-
-    go : (b : Bool) → bytes_eq n name ≡ b → at_name old n ≡ option_or (at_name old n) (cond b (Some w) None)
-    go true e = let f : at_name old n ≡ Some k = ap (at_name old) ((bytes_decides n name).0 e) ∙ sym there in f ∙ sym (ap (λ o. option_or o (Some w)) f)
-    go false e = none_else (at_name old n)
 
 -- ---- an index that is made name by name
 
@@ -83,12 +47,12 @@ indexing_more old new at name more names so_far note x =
 pub indexing_none : (m : Positions) (names : List (List ℕ)) → ((x : List ℕ) → at_name m x ≡ None) → IsIndexing m 0 names names
 indexing_none m names none x = ap (λ o. option_or o (position_from 0 x names)) (none x)
 
+none_else : (o : Option ℕ) → o ≡ option_or o None
+none_else None = refl
+none_else (Some k) = refl
+
 pub indexing_all : (m : Positions) (at : ℕ) (names : List (List ℕ)) → IsIndexing m at [] names → IsIndexOf m names
 indexing_all m at names so_far x = none_else (at_name m x) ∙ so_far x
-  where
-    none_else : (o : Option ℕ) → o ≡ option_or o None
-    none_else None = refl
-    none_else (Some k) = refl
 
 -- ---- what stands at a position
 

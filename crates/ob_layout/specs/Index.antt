@@ -1,17 +1,17 @@
 -- Names that are found by an index.
 use Rattle.std.specs.Prelude.{◌≡◌, ℕ, suc, cond, List, [], ◌∷◌, Option, Some, None, Vec, bytes_eq}
 use Rattle.std.specs.Option.{option_or}
-use Rattle.std.specs.Ordering.{nat_cmp}
-use Rattle.std.specs.Cmp.Lexicographic.{slice_cmp}
-use Rattle.std.specs.BTreeMap.{BTreeMap, get_by}
+use Rattle.std.specs.HashMap.{HashMap, get_by}
+use Rattle.std.specs.declared.hash.BuildHasherDefault.{BuildHasherDefault}
+use Rattle.std.specs.declared.hash.FoldHasher.{FoldHasher}
 use Rattle.std.specs.declared.alloc.Global.{Global}
 
 abbrev pub Positions : Type 0
-Positions = BTreeMap (Vec ℕ Global) ℕ
+Positions = HashMap (Vec ℕ Global) ℕ (BuildHasherDefault FoldHasher)
 
 -- what stands at a name
 abbrev pub at_name : Positions → List ℕ → Option ℕ
-at_name m x = get_by (λ k. slice_cmp nat_cmp x k.items) m
+at_name m x = get_by (λ k. bytes_eq x k.items) m
 
 -- the second map has this number at the name, and is as the first at each other name
 abbrev pub Puts : Positions → Positions → List ℕ → ℕ → Type 0
