@@ -114,23 +114,28 @@ impl Env {
         }
     }
 
+    /// The position of a module among the interfaces, and that of an object of it there; none
+    /// exactly where no module of the walk has it. Takes no memory.
+    pub fn position(&self, module: &[u8], object: &[u8]) -> Option<(usize, usize)>
+        ensures { result ≡ place_of self.now (record { «module» = «module».now; object = object.now }) }
+    {
+        match self.modules.get(module) {
+            None => None,
+            Some(at) => {
+                match position_placed(self.faces.as_slice(), self.objects.as_slice(), at, object) {
+                    None => None,
+                    Some(position) => Some((at, position)),
+                }
+            }
+        }
+    }
+
     /// The position of a name's module among the interfaces, and that of its object there; none
     /// exactly where no module of the walk has it. Takes no memory.
     pub fn place(&self, name: &QName) -> Option<(usize, usize)>
         ensures { result ≡ place_of self.now name.now }
     {
-        match self.modules.get(name.module.as_bytes()) {
-            None => None,
-            Some(at) => match position_placed(
-                self.faces.as_slice(),
-                self.objects.as_slice(),
-                at,
-                name.object.as_bytes(),
-            ) {
-                None => None,
-                Some(position) => Some((at, position)),
-            },
-        }
+        self.position(name.module.as_bytes(), name.object.as_bytes())
     }
 
     /// The print of an object's aspect; none exactly where no module of the walk has the object
