@@ -1,51 +1,82 @@
--- What the blank interfaces describe is what is shown.
-use Rattle.std.proofs.Common.{◌≡◌, ℕ, Bool, true, false, cond, List, [], ◌∷◌, Option, Some, None, refl, sym, ap, ◌∙◌}
-use Rattle.std.specs.Prelude.{map as each, bytes_eq}
+-- What is seen at a name's place is what is shown of the name.
+use Rattle.std.proofs.Common.{◌≡◌, ℕ, List, Option, Some, None, refl, sym, ap, ◌∙◌}
+use Rattle.std.specs.Prelude.{map as each, slice_get}
 use Rattle.std.specs.Option.{option_map}
 use Rattle.ob_format.specs.Format.{◌>>=◌}
 use Rattle.ob_tree.specs.declared.names.QName.{QName}
+use Rattle.ob_types.specs.declared.desc.Desc.{Desc}
+use Rattle.ob_types.specs.declared.desc.Desc.TheVariants as desc
 use Rattle.ob_types.specs.declared.face.Object.{Object}
 use Rattle.ob_types.specs.declared.face.Interface.{Interface}
+use Rattle.ob_layout.specs.Index.{position_from}
+use Rattle.ob_layout.proofs.Names.{first_at, first_none}
 use Rattle.ob_env.specs.Faces.{face_of}
-use Rattle.ob_env.specs.Found.{object_by_name, interface_by_name, object_found}
+use Rattle.ob_env.specs.Found.{object_by_name, object_names, module_names, object_found}
 use Rattle.ob_env.specs.Laws.{described_found}
+use Rattle.ob_env.specs.Marks.{place_in, place_of}
 use Rattle.ob_env.specs.Shown.{blank, shown}
-use Rattle.ob_shown.specs.Faces.{shown_object, shown_face, shown_faces}
+use Rattle.ob_shown.specs.Faces.{blank_record, seen_at}
 
-object_blank : (os : List Object) (x : List ℕ) → object_by_name (each shown_object os) x ≡ option_map shown_object (object_by_name os x)
-object_blank [] x = refl
-object_blank (o ∷ os) x = go (bytes_eq x o.name) (object_blank os x)
+-- ---- of one object
+
+pub of_record : (d b : Desc) → Some b ≡ blank_record d → b ≡ blank d
+of_record (desc.Record r) b e = cc
+of_record (desc.Const v) b e = absurd cc
+of_record (desc.Var m t) b e = absurd cc
+of_record (desc.Proc s) b e = absurd cc
+of_record (desc.Alias m t) b e = absurd cc
+of_record (desc.Array m n t) b e = absurd cc
+of_record (desc.OpenArray m t) b e = absurd cc
+of_record (desc.Pointer m t) b e = absurd cc
+of_record (desc.ProcType m s) b e = absurd cc
+
+pub of_other : (d : Desc) → None ≡ blank_record d → d ≡ blank d
+of_other (desc.Record r) e = absurd cc
+of_other (desc.Const v) e = refl
+of_other (desc.Var m t) e = refl
+of_other (desc.Proc s) e = refl
+of_other (desc.Alias m t) e = refl
+of_other (desc.Array m n t) e = refl
+of_other (desc.OpenArray m t) e = refl
+of_other (desc.Pointer m t) e = refl
+of_other (desc.ProcType m s) e = refl
+
+-- ---- of a name
+
+described_in : Option Object → Option Desc
+described_in o = option_map (λ (p : Object). p.desc) o
+
+blank_in : (o : Option Object) → option_map blank (described_in o) ≡ option_map (λ (p : Object). blank p.desc) o
+unfolding described_in
+blank_in None = refl
+blank_in (Some p) = refl
+
+at_face : (is : List Interface) (x : List ℕ) (k : ℕ) (g : Option Interface) → slice_get is k ≡ g → option_map blank (described_in (g >>= λ i. object_by_name i.objects x)) ≡ ((g >>= λ i. position_from 0 x (object_names i.objects)) >>= λ j. Some (k, j)) >>= seen_at is
+unfolding described_in
+at_face is x k None e = refl
+at_face is x k (Some i) e = go (position_from 0 x (object_names i.objects)) refl
   where
-    go : (b : Bool) → object_by_name (each shown_object os) x ≡ option_map shown_object (object_by_name os x) → cond b (Some (shown_object o)) (object_by_name (each shown_object os) x) ≡ option_map shown_object (cond b (Some o) (object_by_name os x))
-    go true e = refl
-    go false e = e
+    go : (p : Option ℕ) → position_from 0 x (object_names i.objects) ≡ p → option_map blank (described_in (object_by_name i.objects x)) ≡ (p >>= λ j. Some (k, j)) >>= seen_at is
+    go None h = ap (λ r. option_map blank (described_in r)) (first_none (λ (o : Object). o.name) i.objects x h)
+    go (Some j) h =
+        ap (λ r. option_map blank (described_in r)) (first_at (λ (o : Object). o.name) i.objects x j h)
+        ∙ blank_in (slice_get i.objects j)
+        ∙ sym (ap (λ (g : Option Interface). g >>= λ i. option_map (λ o. blank o.desc) (slice_get i.objects j)) e)
 
-face_blank : (is : List Interface) (m : List ℕ) → interface_by_name (shown_faces is) m ≡ option_map shown_face (interface_by_name is m)
-face_blank [] m = refl
-face_blank (i ∷ is) m = go (bytes_eq m i.«module») (face_blank is m)
-  where
-    go : (b : Bool) → interface_by_name (shown_faces is) m ≡ option_map shown_face (interface_by_name is m) → cond b (Some (shown_face i)) (interface_by_name (shown_faces is) m) ≡ option_map shown_face (cond b (Some i) (interface_by_name is m))
-    go true e = refl
-    go false e = e
+at_module : (is : List Interface) (q : QName) (o : Option ℕ) → position_from 0 q.«module» (module_names is) ≡ o → option_map blank (described_in (object_found is q)) ≡ (o >>= λ k. place_in is k q.object >>= λ j. Some (k, j)) >>= seen_at is
+unfolding described_in
+at_module is q None e = ap (λ (r : Option Interface). option_map blank (described_in (r >>= λ i. object_by_name i.objects q.object))) (first_none (λ (i : Interface). i.«module») is q.«module» e)
+at_module is q (Some k) e =
+    ap (λ (r : Option Interface). option_map blank (described_in (r >>= λ i. object_by_name i.objects q.object))) (first_at (λ (i : Interface). i.«module») is q.«module» k e)
+    ∙ at_face is q.object k (slice_get is k) refl
 
-found_blank : (is : List Interface) (q : QName) → object_found (shown_faces is) q ≡ option_map shown_object (object_found is q)
-found_blank is q = ap (λ o. o >>= λ i. object_by_name i.objects q.object) (face_blank is q.«module») ∙ go (interface_by_name is q.«module»)
-  where
-    go : (o : Option Interface) → (option_map shown_face o >>= λ i. object_by_name i.objects q.object) ≡ option_map shown_object (o >>= λ i. object_by_name i.objects q.object)
-    go None = refl
-    go (Some i) = object_blank i.objects q.object
-
-described_blank : (o : Option Object) → option_map (λ (p : Object). p.desc) (option_map shown_object o) ≡ option_map blank (option_map (λ (p : Object). p.desc) o)
-described_blank None = refl
-described_blank (Some o) = refl
-
-pub is_shown : (is : List Interface) (q : QName) → option_map (λ (o : Object). o.desc) (object_found (shown_faces is) q) ≡ shown (each face_of is) q
-is_shown is q = ap (option_map (λ (o : Object). o.desc)) (found_blank is q) ∙ described_blank (object_found is q) ∙ ap (option_map blank) (sym (described_found is q))
+pub is_shown : (is : List Interface) (q : QName) → place_of is q >>= seen_at is ≡ shown (each face_of is) q
+unfolding described_in
+is_shown is q = sym (ap (option_map blank) (described_found is q) ∙ at_module is q (position_from 0 q.«module» (module_names is)) refl)
 
 -- what was found by the bytes of a name
-pub shown_of : (is : List Interface) (m x : List ℕ) (q : QName) (o : Option Object) → m ≡ q.«module» → x ≡ q.object → o ≡ object_found (shown_faces is) (record { «module» = m; object = x }) → option_map (λ (p : Object). p.desc) o ≡ shown (each face_of is) q
+pub shown_of : (is : List Interface) (m x : List ℕ) (q : QName) (o : Option Desc) → m ≡ q.«module» → x ≡ q.object → o ≡ shown (each face_of is) (record { «module» = m; object = x }) → o ≡ shown (each face_of is) q
 shown_of is m x q o e f h =
-    ap (option_map (λ (p : Object). p.desc)) h
-    ∙ ap (λ (l : List ℕ). let r : QName = record { «module» = l; object = x } in option_map (λ (p : Object). p.desc) (object_found (shown_faces is) r)) e
-    ∙ ap (λ (l : List ℕ). let r : QName = record { «module» = q.«module»; object = l } in option_map (λ (p : Object). p.desc) (object_found (shown_faces is) r)) f
-    ∙ is_shown is q
+    h
+    ∙ ap (λ (l : List ℕ). let r : QName = record { «module» = l; object = x } in shown (each face_of is) r) e
+    ∙ ap (λ (l : List ℕ). let r : QName = record { «module» = q.«module»; object = l } in shown (each face_of is) r) f

@@ -1,9 +1,9 @@
 ghost use Rattle.std.specs.Prelude.{◌≡◌, IfOk, map};
 ghost use Rattle.ob_env.specs.Shown.{blank, unplaced, unnumbered};
-ghost use Rattle.ob_shown.specs.Faces.{shown_object, shown_face, shown_faces};
+ghost use Rattle.ob_shown.specs.Faces.{blank_record, blank_records};
 
 use ob_tree::List;
-use ob_trees::{copy_desc, copy_method, copy_type};
+use ob_trees::{copy_method, copy_type};
 use ob_types::{Desc, Field, Interface, Method, Object, RecordDesc, TypeRef};
 use std::alloc::{AllocError, Global};
 
@@ -77,11 +77,15 @@ fn blank_record(alloc: Global, described: &RecordDesc) -> Result<Desc, AllocErro
     }))
 }
 
-fn blank(alloc: Global, desc: &Desc) -> Result<Desc, AllocError>
-    ensures { IfOk result (λ d. d ≡ blank desc.now) }
+// A record without places, numbers and words; none of what is no record.
+fn blank_alone(alloc: Global, desc: &Desc) -> Result<Option<Desc>, AllocError>
+    ensures { IfOk result (λ d. d ≡ blank_record desc.now) }
 {
     match desc {
-        Desc::Record(described) => blank_record(alloc, described),
+        Desc::Record(described) => {
+            let blank = blank_record(alloc, described)?;
+            Ok(Some(blank))
+        }
         Desc::Const(_)
         | Desc::Var(..)
         | Desc::Proc(_)
@@ -89,53 +93,31 @@ fn blank(alloc: Global, desc: &Desc) -> Result<Desc, AllocError>
         | Desc::Array(..)
         | Desc::OpenArray(..)
         | Desc::Pointer(..)
-        | Desc::ProcType(..) => copy_desc(alloc, desc),
+        | Desc::ProcType(..) => Ok(None),
     }
 }
 
-fn shown_object(alloc: Global, object: &Object) -> Result<Object, AllocError>
-    ensures { IfOk result (λ o. o ≡ shown_object object.now) }
-{
-    let desc = blank(alloc, &object.desc)?;
-    let name = object.name.clone()?;
-    Ok(Object {
-        name,
-        desc,
-        shape: object.shape,
-        layout: object.layout,
-    })
-}
-
-fn shown_objects(alloc: Global, objects: &[Object]) -> Result<List<Object>, AllocError>
-    ensures { IfOk result (λ l. l ≡ map shown_object objects.now) }
+fn blank_row(alloc: Global, objects: &[Object]) -> Result<List<Option<Desc>>, AllocError>
+    ensures { IfOk result (λ l. l ≡ map (λ o. blank_record o.desc) objects.now) }
 {
     let mut all = List::new(alloc);
     'objects: for object in objects {
-        let one = shown_object(alloc, object)?;
+        let one = blank_alone(alloc, &object.desc)?;
         all.push(one)?;
     }
     Ok(all)
 }
 
-fn shown_face(alloc: Global, face: &Interface) -> Result<Interface, AllocError>
-    ensures { IfOk result (λ i. i ≡ shown_face face.now) }
-{
-    let objects = shown_objects(alloc, face.objects.as_slice())?;
-    Ok(Interface {
-        module: face.module,
-        imports: List::new(alloc),
-        objects,
-        uses: List::new(alloc),
-    })
-}
-
-/// Interfaces without places, numbers and words.
-pub fn shown_faces(alloc: Global, faces: &[Interface]) -> Result<List<Interface>, AllocError>
-    ensures { IfOk result (λ l. l ≡ shown_faces faces.now) }
+/// The records of interfaces without places, numbers and words, each where its object stands.
+pub fn blank_records(
+    alloc: Global,
+    faces: &[Interface],
+) -> Result<List<List<Option<Desc>>>, AllocError>
+    ensures { IfOk result (λ l. l ≡ blank_records faces.now) }
 {
     let mut all = List::new(alloc);
     'faces: for face in faces {
-        let one = shown_face(alloc, face)?;
+        let one = blank_row(alloc, face.objects.as_slice())?;
         all.push(one)?;
     }
     Ok(all)
