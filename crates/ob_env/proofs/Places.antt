@@ -1,6 +1,7 @@
 -- What stands at a position.
-use Rattle.std.proofs.Common.{◌≡◌, ℕ, zero, suc, ◌<◌, List, [], ◌∷◌, ◌++◌, length, append_assoc, append-nil, Option, Some, None, refl, sym, ap, subst, ◌∙◌, arith}
+use Rattle.std.proofs.Common.{◌≡◌, ℕ, zero, suc, ◌-◌, ◌<◌, ◌≤◌, List, [], ◌∷◌, ◌++◌, length, take, drop, get_or, append_assoc, append-nil, Option, Some, None, refl, sym, ap, subst, ◌∙◌, arith}
 use Rattle.std.specs.Prelude.{slice_get}
+use Rattle.std.proofs.Math.Seq.{take-length}
 use Rattle.ob_format.specs.Format.{◌>>=◌}
 use Rattle.ob_tree.specs.declared.names.QName.{QName}
 use Rattle.ob_types.specs.declared.face.Object.{Object}
@@ -66,3 +67,10 @@ tables_all ts is so_far = subst (λ (l : List NameIndex). AreTables l is) (appen
 pub none_left : {A : Type 0} (xs : List A) → length xs < 1 → xs ≡ []
 none_left [] l = refl
 none_left (x ∷ xs) l = absurd (omega (arith, l))
+
+-- a first item, and what is behind it
+pub parted : {A : Type 0} (rest : List A) (x : A) → x ≡ get_or rest 0 x → 1 ≤ length rest → rest ≡ x ∷ take (length rest - 1) (drop 1 rest)
+parted [] x e l = absurd (omega arith)
+parted (y ∷ rest) x e l =
+    let n : length (y ∷ rest) - 1 ≡ length rest = omega arith in
+    ap (λ z. z ∷ rest) (sym e) ∙ ap (λ l. x ∷ l) (sym (ap (λ k. take k rest) n ∙ take-length rest))
