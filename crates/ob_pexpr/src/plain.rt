@@ -64,7 +64,11 @@ pub fn nil(tokens: &mut Cursor<'_>) -> Result<Expr, ParseFault>
 
 /// A field, behind the selectors that were found before.
 #[inline(never)]
-pub fn field(alloc: Global, tokens: &mut Cursor<'_>, found: &mut List<Selector>) -> Result<(), ParseFault>
+pub fn field(
+    alloc: Global,
+    tokens: &mut Cursor<'_>,
+    found: &mut List<Selector>,
+) -> Result<(), ParseFault>
     ensures { Adds (reads 0 spec.field tokens.old) found.old result found.new tokens.new }
 {
     let pos = tokens.expect(Symbol::Dot)?;
