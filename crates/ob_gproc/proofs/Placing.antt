@@ -8,7 +8,7 @@ use Rattle.ob_types.specs.declared.typed.TypedProcedure.{TypedProcedure}
 use Rattle.ob_types.specs.TypedView.{procedure_view}
 use borrow.Author.Tests.{leb-true}
 use Rattle.ob_layout.specs.Words.{limited}
-use Rattle.ob_gproc.specs.Scoped.{procedures_before}
+use Rattle.ob_gproc.specs.Scoped.{procedures_before, types_before, types_count}
 use Rattle.ob_layout.specs.Index.{Positions, at_name, Notes}
 use Rattle.ob_layout.specs.Lists.{sum_of}
 use Rattle.ob_code.specs.Context.{before, is_record, records_among}
@@ -30,7 +30,7 @@ pub placing_all : (m : Positions) (total : ℕ) (whole : List ℕ → ℕ) → A
 placing_all m total whole so_far x = let e : total ≡ total + 0 = omega arith in ap (unwrap_or (at_name m x)) e ∙ so_far x
 
 module _ {A : Type 0} (name : A → List ℕ) (size : A → ℕ) where
-  placing_more : (y : A) (rest : List A) (old new : Positions) (total n s : ℕ) (bytes : List ℕ) (whole : List ℕ → ℕ) → bytes ≡ name y → s ≡ size y → Notes old new bytes total → n ≡ total + s
+  pub placing_more : (y : A) (rest : List A) (old new : Positions) (total n s : ℕ) (bytes : List ℕ) (whole : List ℕ → ℕ) → bytes ≡ name y → s ≡ size y → Notes old new bytes total → n ≡ total + s
       → ArePlacing old total (before name size (y ∷ rest)) whole → ArePlacing new n (before name size rest) whole
   placing_more y rest old new total n s bytes whole b z note k so_far x =
       ap (λ (q : ℕ). unwrap_or (at_name new x) (q + before name size rest x)) (k ∙ ap (λ (q : ℕ). total + q) z)
@@ -73,6 +73,28 @@ record_turn ts i d lt e = ap records_among (drop_more ts i d lt) ∙ among (get_
 
 pub other_turn : (ts : List TypedType) (i : ℕ) (d : TypedType) → i < length ts → false ≡ is_record (get_or ts i d).desc → records_among (drop i ts) ≡ records_among (drop (i + 1) ts)
 other_turn ts i d lt e = ap records_among (drop_more ts i d lt) ∙ among (get_or ts i d) (drop (i + 1) ts) false e
+
+-- a record type is placed
+pub types_turn : (ts : List TypedType) (i : ℕ) (d : TypedType) (old new : Positions) (total n : ℕ) (bytes : List ℕ) → i < length ts → bytes ≡ (get_or ts i d).name → true ≡ is_record (get_or ts i d).desc → Notes old new bytes total → n ≡ total + 1
+    → ArePlacing old total (types_before (drop i ts)) (types_before ts) × (total + types_count (drop i ts) ≡ types_count ts)
+    → ArePlacing new n (types_before (drop (i + 1) ts)) (types_before ts) × (n + types_count (drop (i + 1) ts) ≡ types_count ts)
+types_turn ts i d old new total n bytes lt b e note k so_far =
+    let r = record_turn ts i d lt e in
+    let f = ap (sum_of (λ (t : TypedType). 1)) r in (
+      placing_more (λ (t : TypedType). t.name) (λ t. 1) (get_or ts i d) (records_among (drop (i + 1) ts)) old new total n 1 bytes (types_before ts) b refl note k (λ x. ap (λ l. unwrap_or (at_name old x) (total + before (λ (t : TypedType). t.name) (λ t. 1) l x)) (sym r) ∙ so_far.0 x),
+      omega (arith, f, k, so_far.1),
+    )
+
+-- another type is not
+pub types_past : (ts : List TypedType) (i : ℕ) (d : TypedType) (m : Positions) (total : ℕ) → i < length ts → false ≡ is_record (get_or ts i d).desc
+    → ArePlacing m total (types_before (drop i ts)) (types_before ts) × (total + types_count (drop i ts) ≡ types_count ts)
+    → ArePlacing m total (types_before (drop (i + 1) ts)) (types_before ts) × (total + types_count (drop (i + 1) ts) ≡ types_count ts)
+types_past ts i d m total lt e so_far =
+    let r = other_turn ts i d lt e in
+    let f = ap (sum_of (λ (t : TypedType). 1)) r in (
+      λ x. ap (λ l. unwrap_or (at_name m x) (total + before (λ (t : TypedType). t.name) (λ t. 1) l x)) (sym r) ∙ so_far.0 x,
+      omega (arith, f, so_far.1),
+    )
 
 -- ---- bounds
 
