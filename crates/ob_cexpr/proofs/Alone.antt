@@ -91,10 +91,10 @@ alone_noted u w d ss f b e t =
     ∙ ap (λ n. book_after b (meant_by w n u ▷ f n.ident.pos).notes) (sym (named_is d))
 
 -- what is made of a name alone is made of the designator
-pub alone_made : {A E : Type 0} (u : Around) (w : Where) (d : Designator) (ss : List Selector) (f : Pos → Meant → Judged A) (r : Result (Option A) E) → ss ≡ d.selectors → true ≡ (length ss == 0)
-    → IfOk r (λ o. o ≡ (named u d.ident ▷ λ k. front_of u d.ident k None ▷ λ m. f d.ident.pos m).node) → IfOk r (λ o. o ≡ (meant_by w (named_of d) u ▷ λ m. f (named_of d).ident.pos m).node)
-alone_made u w d ss f r e t h = subst (λ z. IfOk r (λ o. o ≡ z)) (alone_node u w d ss f e t) h
+pub alone_made : {A E : Type 0} (u : Around) (w : Where) (d : Designator) (ss : List Selector) (f : Pos → Meant → Judged A) (r : Result (Option A) E) (x : Ident) → x ≡ d.ident → ss ≡ d.selectors → true ≡ (length ss == 0)
+    → IfOk r (λ o. o ≡ (named u x ▷ λ k. front_of u x k None ▷ λ m. f x.pos m).node) → IfOk r (λ o. o ≡ (meant_by w (named_of d) u ▷ λ m. f (named_of d).ident.pos m).node)
+alone_made u w d ss f r x i e t h = subst (λ z. IfOk r (λ o. o ≡ z)) (ap (λ (y : Ident). (named u y ▷ λ k. front_of u y k None ▷ λ m. f y.pos m).node) i ∙ alone_node u w d ss f e t) h
 
-pub alone_said : {A T E : Type 0} (u : Around) (w : Where) (d : Designator) (ss : List Selector) (f : Pos → Meant → Judged A) (r : Result T E) (b n : Notebook) → ss ≡ d.selectors → true ≡ (length ss == 0)
-    → OnOk r (n ≡ book_after b (named u d.ident ▷ λ k. front_of u d.ident k None ▷ λ m. f d.ident.pos m).notes) → OnOk r (n ≡ book_after b (meant_by w (named_of d) u ▷ λ m. f (named_of d).ident.pos m).notes)
-alone_said u w d ss f r b n e t h = subst (λ z. OnOk r (n ≡ z)) (alone_noted u w d ss f b e t) h
+pub alone_said : {A T E : Type 0} (u : Around) (w : Where) (d : Designator) (ss : List Selector) (f : Pos → Meant → Judged A) (r : Result T E) (b n : Notebook) (x : Ident) → x ≡ d.ident → ss ≡ d.selectors → true ≡ (length ss == 0)
+    → OnOk r (n ≡ book_after b (named u x ▷ λ k. front_of u x k None ▷ λ m. f x.pos m).notes) → OnOk r (n ≡ book_after b (meant_by w (named_of d) u ▷ λ m. f (named_of d).ident.pos m).notes)
+alone_said u w d ss f r b n x i e t h = subst (λ z. OnOk r (n ≡ z)) (ap (λ (y : Ident). book_after b (named u y ▷ λ k. front_of u y k None ▷ λ m. f y.pos m).notes) i ∙ alone_noted u w d ss f b e t) h

@@ -221,13 +221,14 @@ front_noted u w x bs o k l end eo el ee =
     ∙ ap (λ i. book_after k i.notes) (sym (front_is u w x bs))
 
 -- a designator, whose front is judged first
-pub meant_node : (u : Around) (w : Where) (d : Designator) (sel : List Selector) (dot : Option Ident) (o : Option Front) (r : Option Meant) → sel ≡ d.selectors → dot ≡ dot_of (map behind_of sel) → o ≡ (front_judged u d.ident dot).node
-    → r ≡ (behind_front u w d.ident.pos (map behind_of sel) o).node → r ≡ (meant_by w (named_of d) u).node
-meant_node u w d sel dot o r es ed eo er =
-    front_node u w d.ident (map behind_of sel) o r (eo ∙ ap (λ y. (front_judged u d.ident y).node) ed) er ∙ ap (λ ss. (designates u w d.ident (map behind_of ss)).node) es ∙ ap (λ n. (meant_by w n u).node) (sym (named_is d))
+pub meant_node : (u : Around) (w : Where) (d : Designator) (sel : List Selector) (dot : Option Ident) (o : Option Front) (r : Option Meant) (x : Ident) (at : Pos) → x ≡ d.ident → at ≡ d.ident.pos → sel ≡ d.selectors → dot ≡ dot_of (map behind_of sel) → o ≡ (front_judged u x dot).node
+    → r ≡ (behind_front u w at (map behind_of sel) o).node → r ≡ (meant_by w (named_of d) u).node
+meant_node u w d sel dot o r x at ex ea es ed eo er =
+    front_node u w d.ident (map behind_of sel) o r (eo ∙ ap (λ (y : Ident). (front_judged u y dot).node) ex ∙ ap (λ y. (front_judged u d.ident y).node) ed) (er ∙ ap (λ (p : Pos). (behind_front u w p (map behind_of sel) o).node) ea)
+    ∙ ap (λ ss. (designates u w d.ident (map behind_of ss)).node) es ∙ ap (λ n. (meant_by w n u).node) (sym (named_is d))
 
-pub meant_noted : (u : Around) (w : Where) (d : Designator) (sel : List Selector) (dot : Option Ident) (o : Option Front) (k l end : Notebook) → sel ≡ d.selectors → dot ≡ dot_of (map behind_of sel) → o ≡ (front_judged u d.ident dot).node
-    → l ≡ book_after k (front_judged u d.ident dot).notes → end ≡ book_after l (behind_front u w d.ident.pos (map behind_of sel) o).notes → end ≡ book_after k (meant_by w (named_of d) u).notes
-meant_noted u w d sel dot o k l end es ed eo el ee =
-    front_noted u w d.ident (map behind_of sel) o k l end (eo ∙ ap (λ y. (front_judged u d.ident y).node) ed) (el ∙ ap (λ y. book_after k (front_judged u d.ident y).notes) ed) ee
+pub meant_noted : (u : Around) (w : Where) (d : Designator) (sel : List Selector) (dot : Option Ident) (o : Option Front) (k l end : Notebook) (x : Ident) (at : Pos) → x ≡ d.ident → at ≡ d.ident.pos → sel ≡ d.selectors → dot ≡ dot_of (map behind_of sel) → o ≡ (front_judged u x dot).node
+    → l ≡ book_after k (front_judged u x dot).notes → end ≡ book_after l (behind_front u w at (map behind_of sel) o).notes → end ≡ book_after k (meant_by w (named_of d) u).notes
+meant_noted u w d sel dot o k l end x at ex ea es ed eo el ee =
+    front_noted u w d.ident (map behind_of sel) o k l end (eo ∙ ap (λ (y : Ident). (front_judged u y dot).node) ex ∙ ap (λ y. (front_judged u d.ident y).node) ed) (el ∙ ap (λ (y : Ident). book_after k (front_judged u y dot).notes) ex ∙ ap (λ y. book_after k (front_judged u d.ident y).notes) ed) (ee ∙ ap (λ (p : Pos). book_after l (behind_front u w p (map behind_of sel) o).notes) ea)
     ∙ ap (λ ss. book_after k (designates u w d.ident (map behind_of ss)).notes) es ∙ ap (λ n. book_after k (meant_by w n u).notes) (sym (named_is d))

@@ -1,9 +1,10 @@
-use Rattle.std.proofs.Common.{◌≡◌, refl, sym, ap, ◌∙◌, map, drop, ◌+◌, ◌∷◌, [], Some, arith, rules, length}
+use Rattle.std.proofs.Common.{◌≡◌, refl, sym, ap, subst, ◌∙◌, map, drop, ◌+◌, ◌∷◌, [], Some, arith, rules, length, IfOk}
 use Rattle.std.proofs.lemmas.List.{take_rest}
 use Rattle.std.proofs.lemmas.Result.{IfOk-weaker, on_ok_weaker}
 use Rattle.ob_tree.specs.declared.expr.Expr.TheVariants as expr
 use Rattle.ob_tree.proofs.expr.Expr.TheLaws.{the_size}
-use Rattle.ob_rules.specs.Judged.{sound, ◌▷◌}
+use Rattle.ob_tree.specs.declared.pos.Pos.{Pos}
+use Rattle.ob_rules.specs.Judged.{if_sound, sound, ◌▷◌}
 use Rattle.ob_rules.specs.Values.{constant}
 use Rattle.ob_rules.specs.Constants.{text_value}
 use Rattle.ob_rules.specs.Phrases.{Index}
@@ -164,33 +165,33 @@ walk::check_expr-returns-in-Designator-clause-noted g t c =
 
 pub walk::check_value-returns-then-is_empty-clause-made : goal.walk::check_value-returns-then-is_empty-clause-made
 walk::check_value-returns-then-is_empty-clause-made g t c =
-    alone_made (g.S.Surroundings.around c.args.here.now) InExpression c.args.d.now c.as_slice.result.now (λ p m. spec.value_meant p m) c.name_value.result c.as_slice.ensures (sym c.if-is_empty.true ∙ c.is_empty.ensures) c.name_value.ensures.made
+    alone_made (g.S.Surroundings.around c.args.here.now) InExpression c.args.d.now c.as_slice.result.now (λ p m. spec.value_meant p m) c.name_value.result c.ident.result c.ident.ensures c.as_slice.ensures (sym c.if-is_empty.true ∙ c.is_empty.ensures) c.name_value.ensures.made
 
 pub walk::check_value-returns-then-is_empty-clause-noted : goal.walk::check_value-returns-then-is_empty-clause-noted
 walk::check_value-returns-then-is_empty-clause-noted g t c =
-    alone_said (g.S.Surroundings.around c.args.here.now) InExpression c.args.d.now c.as_slice.result.now (λ p m. spec.value_meant p m) c.name_value.result c.args.book.now c.name_value.new.book c.as_slice.ensures (sym c.if-is_empty.true ∙ c.is_empty.ensures) c.name_value.ensures.noted
+    alone_said (g.S.Surroundings.around c.args.here.now) InExpression c.args.d.now c.as_slice.result.now (λ p m. spec.value_meant p m) c.name_value.result c.args.book.now c.name_value.new.book c.ident.result c.ident.ensures c.as_slice.ensures (sym c.if-is_empty.true ∙ c.is_empty.ensures) c.name_value.ensures.noted
 
 pub walk::check_selected-returns-clause-made : goal.walk::check_selected-returns-clause-made
 walk::check_selected-returns-clause-made g t c =
     let u = g.S.Surroundings.around c.args.here.now in
     let d = c.args.d.now in
     let v = spec.meant_by InExpression (spec.named_of d) u in
-    made_as c.value_if.result (v ▷ λ m. spec.value_meant (spec.named_of d).ident.pos m) (v ▷ λ m. spec.value_meant d.ident.pos m) (ap (λ n. v ▷ λ m. spec.value_meant n.ident.pos m) (named_is d)) (then_made c.value_if.result v (λ m. spec.value_meant d.ident.pos m) c.in_ok-m.m c.in_ok-m.ensures.made c.value_if.ensures.made)
+    made_as c.value_if.result (v ▷ λ m. spec.value_meant (spec.named_of d).ident.pos m) (v ▷ λ m. spec.value_meant d.ident.pos m) (ap (λ n. v ▷ λ m. spec.value_meant n.ident.pos m) (named_is d)) (then_made c.value_if.result v (λ m. spec.value_meant d.ident.pos m) c.in_ok-m.m c.in_ok-m.ensures.made (subst (λ (p : Pos). IfOk c.value_if.result (λ o. o ≡ (if_sound c.in_ok-m.m (λ m. spec.value_meant p m)).node)) c.pos.ensures c.value_if.ensures.made))
 
 pub walk::check_selected-returns-clause-noted : goal.walk::check_selected-returns-clause-noted
 walk::check_selected-returns-clause-noted g t c =
     let u = g.S.Surroundings.around c.args.here.now in
     let d = c.args.d.now in
     let v = spec.meant_by InExpression (spec.named_of d) u in
-    on_ok_weaker c.value_if.result (λ h. then_noted v (λ m. spec.value_meant d.ident.pos m) c.in_ok-m.m c.args.book.now c.check_designator.new.book c.value_if.new.book c.in_ok-m.ensures.made c.in_ok-m.ensures.noted h ∙ ap (λ n. book_after c.args.book.now (v ▷ λ m. spec.value_meant n.ident.pos m).notes) (sym (named_is d))) c.value_if.ensures.noted
+    on_ok_weaker c.value_if.result (λ h. then_noted v (λ m. spec.value_meant d.ident.pos m) c.in_ok-m.m c.args.book.now c.check_designator.new.book c.value_if.new.book c.in_ok-m.ensures.made c.in_ok-m.ensures.noted (h ∙ ap (λ (p : Pos). book_after c.check_designator.new.book (if_sound c.in_ok-m.m (λ m. spec.value_meant p m)).notes) c.pos.ensures) ∙ ap (λ n. book_after c.args.book.now (v ▷ λ m. spec.value_meant n.ident.pos m).notes) (sym (named_is d))) c.value_if.ensures.noted
 
 pub designators::check_designator-returns-clause-made : goal.designators::check_designator-returns-clause-made
 designators::check_designator-returns-clause-made g t c =
-    IfOk-weaker c.check_behind.result _ _ (λ r h. meant_node (g.S.Surroundings.around c.args.here.now) c.args.place c.args.d.now c.as_slice-selectors.result.now c.name_behind.result c.in_ok-front.front r c.as_slice-selectors.ensures c.name_behind.ensures c.in_ok-front.ensures.made h) c.check_behind.ensures.made
+    IfOk-weaker c.check_behind.result _ _ (λ r h. meant_node (g.S.Surroundings.around c.args.here.now) c.args.place c.args.d.now c.as_slice-selectors.result.now c.name_behind.result c.in_ok-front.front r c.ident.result c.pos.result c.ident.ensures c.pos.ensures c.as_slice-selectors.ensures c.name_behind.ensures c.in_ok-front.ensures.made h) c.check_behind.ensures.made
 
 pub designators::check_designator-returns-clause-noted : goal.designators::check_designator-returns-clause-noted
 designators::check_designator-returns-clause-noted g t c =
-    on_ok_weaker c.check_behind.result (λ h. meant_noted (g.S.Surroundings.around c.args.here.now) c.args.place c.args.d.now c.as_slice-selectors.result.now c.name_behind.result c.in_ok-front.front c.args.book.now c.front_named.new.book c.check_behind.new.book c.as_slice-selectors.ensures c.name_behind.ensures c.in_ok-front.ensures.made c.in_ok-front.ensures.noted h) c.check_behind.ensures.noted
+    on_ok_weaker c.check_behind.result (λ h. meant_noted (g.S.Surroundings.around c.args.here.now) c.args.place c.args.d.now c.as_slice-selectors.result.now c.name_behind.result c.in_ok-front.front c.args.book.now c.front_named.new.book c.check_behind.new.book c.ident.result c.pos.result c.ident.ensures c.pos.ensures c.as_slice-selectors.ensures c.name_behind.ensures c.in_ok-front.ensures.made c.in_ok-front.ensures.noted h) c.check_behind.ensures.noted
 
 pub designators::check_selectors-selectors-preserved : goal.designators::check_selectors-selectors-preserved
 designators::check_selectors-selectors-preserved g t c =

@@ -6,8 +6,8 @@ use Rattle.ob_cstmt.proofs.assign.assigned_place.Goals as goal
 
 pub returns-then-is_empty-clause-made : goal.returns-then-is_empty-clause-made
 returns-then-is_empty-clause-made g c =
-    alone_made (g.S.Surroundings.around c.args.here.now) Elsewhere c.args.designator.now c.as_slice.result.now (λ p m. spec.target p m) c.name_target.result c.as_slice.ensures (sym c.if-is_empty.true ∙ c.is_empty.ensures) c.name_target.ensures.made
+    alone_made (g.S.Surroundings.around c.args.here.now) Elsewhere c.args.designator.now c.as_slice.result.now (λ p m. spec.target p m) c.name_target.result c.ident.result c.ident.ensures c.as_slice.ensures (sym c.if-is_empty.true ∙ c.is_empty.ensures) c.name_target.ensures.made
 
 pub returns-then-is_empty-clause-noted : goal.returns-then-is_empty-clause-noted
 returns-then-is_empty-clause-noted g c =
-    alone_said (g.S.Surroundings.around c.args.here.now) Elsewhere c.args.designator.now c.as_slice.result.now (λ p m. spec.target p m) c.name_target.result c.args.book.now c.name_target.new.book c.as_slice.ensures (sym c.if-is_empty.true ∙ c.is_empty.ensures) c.name_target.ensures.noted
+    alone_said (g.S.Surroundings.around c.args.here.now) Elsewhere c.args.designator.now c.as_slice.result.now (λ p m. spec.target p m) c.name_target.result c.args.book.now c.name_target.new.book c.ident.result c.ident.ensures c.as_slice.ensures (sym c.if-is_empty.true ∙ c.is_empty.ensures) c.name_target.ensures.noted

@@ -1,5 +1,6 @@
 use Rattle.std.proofs.Common.{◌≡◌, sym, ap, ◌∙◌}
 use Rattle.std.proofs.lemmas.Result.{on_ok_weaker}
+use Rattle.ob_tree.specs.declared.pos.Pos.{Pos}
 use Rattle.ob_rules.specs.Names.{map_of}
 use Rattle.ob_rules.specs.declared.meant.Meant.{Meant}
 use Rattle.ob_rules.specs.declared.meant.Where.TheVariants.{Elsewhere}
@@ -17,6 +18,7 @@ pub returns-clause-made : goal.returns-clause-made
 returns-clause-made g c =
     let j = exprs.meant_by Elsewhere (exprs.named_of c.args.designator.now) (g.S.Surroundings.around c.args.here.now) in
     c.target_if.ensures.made
+    ∙ ap (λ (p : Pos). (if_sound c.in_ok-meant.meant (λ m. spec.target p m)).node) c.pos.ensures
     ∙ ap (λ o. (if_sound o (λ m. spec.target c.args.designator.now.ident.pos m)).node) c.in_ok-meant.ensures.made
     ∙ ap (λ x. (j ▷ λ m. spec.target x.pos m).node) (sym (named_start c.args.designator.now))
 
@@ -25,6 +27,7 @@ returns-clause-noted g c =
     let j = exprs.meant_by Elsewhere (exprs.named_of c.args.designator.now) (g.S.Surroundings.around c.args.here.now) in
     let f = λ (m : Meant). spec.target c.args.designator.now.ident.pos m in
     c.target_if.ensures.noted
+    ∙ ap (λ (p : Pos). book_after c.check_designator.new.book (if_sound c.in_ok-meant.meant (λ m. spec.target p m)).notes) c.pos.ensures
     ∙ ap (λ o. book_after c.check_designator.new.book (if_sound o f).notes) c.in_ok-meant.ensures.made
     ∙ ap (λ k. book_after k (if_sound j.node f).notes) c.in_ok-meant.ensures.noted
     ∙ after_joined c.args.book.now j.notes (if_sound j.node f).notes
