@@ -1,6 +1,8 @@
 use Rattle.std.proofs.Common.{◌≡◌, refl, sym, ap, ◌∙◌, map, drop, ◌+◌, List, [], ◌∷◌, Some}
 use Rattle.std.specs.Option.{option_map}
 use Rattle.ob_tree.specs.declared.expr.Element.{Element}
+use Rattle.ob_tree.specs.declared.expr.Expr.{Expr}
+use Rattle.ob_tree.specs.declared.ident.Ident.{Ident}
 use Rattle.ob_tree.specs.declared.stmt.Stmt.TheVariants as s
 use Rattle.ob_types.specs.declared.typed.TypedStmt.TheVariants as typed
 use Rattle.ob_rules.specs.Judged.{sound, made, ◌▷◌}
@@ -240,13 +242,13 @@ check_stmt-returns-in-Repeat-clause-around g t c =
 pub check_stmt-returns-in-For-clause-made : goal.check_stmt-returns-in-For-clause-made
 check_stmt-returns-in-For-clause-made g t c =
     let u = g.S.Surroundings.around c.args.here.now in
-    let whole : spec.judging c.args.stmt.now u ≡ spec.for u c.in-For.pos c.in-For.variable (exprs.phrase_of c.in-For.start) (exprs.phrase_of c.in-For.end) (spec.phrase_if c.in-For.step) (map spec.judging c.as_slice-in-For.result.now) = ap (λ y. spec.judging y u) (c.in-For.is ∙ ap (λ b. s.For c.in-For.pos c.in-For.variable c.in-For.start c.in-For.end c.in-For.step b) (sym c.as_slice-in-For.ensures)) ∙ judging_for c.in-For.pos c.in-For.variable c.in-For.start c.in-For.end c.in-For.step c.as_slice-in-For.result.now u in
+    let whole : spec.judging c.args.stmt.now u ≡ spec.for u c.in-For.pos c.ident.result (exprs.phrase_of c.in-For.start) (exprs.phrase_of c.in-For.end) (spec.phrase_if c.in-For.step) (map spec.judging c.as_slice-in-For.result.now) = ap (λ y. spec.judging y u) (c.in-For.is ∙ ap (λ b. s.For c.in-For.pos c.in-For.variable c.in-For.start c.in-For.end c.in-For.step b) (sym c.as_slice-in-For.ensures)) ∙ judging_for c.in-For.pos c.in-For.variable c.in-For.start c.in-For.end c.in-For.step c.as_slice-in-For.result.now u ∙ ap (λ (x : Ident). spec.for u c.in-For.pos x (exprs.phrase_of c.in-For.start) (exprs.phrase_of c.in-For.end) (spec.phrase_if c.in-For.step) (map spec.judging c.as_slice-in-For.result.now)) (sym c.ident.ensures) in
     alone_made c.check_for.result _ _ c.check_for.ensures.made (ap (λ j. j.node) (sym whole))
 
 pub check_stmt-returns-in-For-clause-noted : goal.check_stmt-returns-in-For-clause-noted
 check_stmt-returns-in-For-clause-noted g t c =
     let u = g.S.Surroundings.around c.args.here.now in
-    let whole : spec.judging c.args.stmt.now u ≡ spec.for u c.in-For.pos c.in-For.variable (exprs.phrase_of c.in-For.start) (exprs.phrase_of c.in-For.end) (spec.phrase_if c.in-For.step) (map spec.judging c.as_slice-in-For.result.now) = ap (λ y. spec.judging y u) (c.in-For.is ∙ ap (λ b. s.For c.in-For.pos c.in-For.variable c.in-For.start c.in-For.end c.in-For.step b) (sym c.as_slice-in-For.ensures)) ∙ judging_for c.in-For.pos c.in-For.variable c.in-For.start c.in-For.end c.in-For.step c.as_slice-in-For.result.now u in
+    let whole : spec.judging c.args.stmt.now u ≡ spec.for u c.in-For.pos c.ident.result (exprs.phrase_of c.in-For.start) (exprs.phrase_of c.in-For.end) (spec.phrase_if c.in-For.step) (map spec.judging c.as_slice-in-For.result.now) = ap (λ y. spec.judging y u) (c.in-For.is ∙ ap (λ b. s.For c.in-For.pos c.in-For.variable c.in-For.start c.in-For.end c.in-For.step b) (sym c.as_slice-in-For.ensures)) ∙ judging_for c.in-For.pos c.in-For.variable c.in-For.start c.in-For.end c.in-For.step c.as_slice-in-For.result.now u ∙ ap (λ (x : Ident). spec.for u c.in-For.pos x (exprs.phrase_of c.in-For.start) (exprs.phrase_of c.in-For.end) (spec.phrase_if c.in-For.step) (map spec.judging c.as_slice-in-For.result.now)) (sym c.ident.ensures) in
     noted_as c.check_for.result c.check_for.new.book c.args.book.now (spec.judging c.args.stmt.now u) _ whole c.check_for.ensures.noted
 
 pub check_stmt-returns-in-For-clause-around : goal.check_stmt-returns-in-For-clause-around
@@ -328,25 +330,25 @@ check_stmt-returns-in_ok-otherwise-in-With-clause-around g t c =
 pub check_stmt-returns-in_ok-otherwise-in-Case-clause-made : goal.check_stmt-returns-in_ok-otherwise-in-Case-clause-made
 check_stmt-returns-in_ok-otherwise-in-Case-clause-made g t c =
     let u = g.S.Surroundings.around c.args.here.now in
-    let x = spec.case_judged u (exprs.phrase_of c.in-Case.value) in
+    let x = spec.case_judged u (exprs.phrase_of c.get.result.now) in
     let ds = map spec.labelled_of c.as_slice-in-Case.result.now in
     let o = (option_map (λ b. map spec.judging b) c.in-Case.otherwise) in
     let m = g.S.Types.types c.types.result.now in
     let em : m ≡ map_of u = c.types.ensures.map in
     let es : c.case_selects-selects.result ≡ spec.selects_if m c.in_ok-value-in-Case.value = c.case_selects-selects.ensures in
-    let whole : spec.judging c.args.stmt.now u ≡ spec.case_with u c.in-Case.pos x ds o = ap (λ y. spec.judging y u) (c.in-Case.is ∙ ap (λ b. s.Case c.in-Case.pos c.in-Case.value b c.in-Case.otherwise) (sym c.as_slice-in-Case.ensures)) ∙ judging_case c.in-Case.pos c.in-Case.value c.as_slice-in-Case.result.now c.in-Case.otherwise u in
+    let whole : spec.judging c.args.stmt.now u ≡ spec.case_with u c.in-Case.pos x ds o = ap (λ y. spec.judging y u) (c.in-Case.is ∙ ap (λ (v : Expr). s.Case c.in-Case.pos v c.in-Case.cases c.in-Case.otherwise) (sym c.get.ensures) ∙ ap (λ b. s.Case c.in-Case.pos c.get.result.now b c.in-Case.otherwise) (sym c.as_slice-in-Case.ensures)) ∙ judging_case c.in-Case.pos c.get.result.now c.as_slice-in-Case.result.now c.in-Case.otherwise u in
     alone_made c.case_alone.result _ _ c.case_alone.ensures (case_of_parts u c.in-Case.pos x ds o m c.in_ok-value-in-Case.value c.case_selects-selects.result (cases_in c.in_ok-cases-in-Case.cases) (else_in c.in_ok-otherwise-in-Case.otherwise) _ em c.in_ok-value-in-Case.ensures.made es c.in_ok-cases-in-Case.ensures.made (c.in_ok-otherwise-in-Case.ensures.made ∙ ap (λ y. (spec.in_turn_if o y).node) c.in_ok-cases-in-Case.ensures.around) refl ∙ ap (λ j. j.node) (sym whole))
 
 pub check_stmt-returns-in_ok-otherwise-in-Case-clause-noted : goal.check_stmt-returns-in_ok-otherwise-in-Case-clause-noted
 check_stmt-returns-in_ok-otherwise-in-Case-clause-noted g t c =
     let u = g.S.Surroundings.around c.args.here.now in
-    let x = spec.case_judged u (exprs.phrase_of c.in-Case.value) in
+    let x = spec.case_judged u (exprs.phrase_of c.get.result.now) in
     let ds = map spec.labelled_of c.as_slice-in-Case.result.now in
     let o = (option_map (λ b. map spec.judging b) c.in-Case.otherwise) in
     let m = g.S.Types.types c.types.result.now in
     let em : m ≡ map_of u = c.types.ensures.map in
     let es : c.case_selects-selects.result ≡ spec.selects_if m c.in_ok-value-in-Case.value = c.case_selects-selects.ensures in
-    let whole : spec.judging c.args.stmt.now u ≡ spec.case_with u c.in-Case.pos x ds o = ap (λ y. spec.judging y u) (c.in-Case.is ∙ ap (λ b. s.Case c.in-Case.pos c.in-Case.value b c.in-Case.otherwise) (sym c.as_slice-in-Case.ensures)) ∙ judging_case c.in-Case.pos c.in-Case.value c.as_slice-in-Case.result.now c.in-Case.otherwise u in
+    let whole : spec.judging c.args.stmt.now u ≡ spec.case_with u c.in-Case.pos x ds o = ap (λ y. spec.judging y u) (c.in-Case.is ∙ ap (λ (v : Expr). s.Case c.in-Case.pos v c.in-Case.cases c.in-Case.otherwise) (sym c.get.ensures) ∙ ap (λ b. s.Case c.in-Case.pos c.get.result.now b c.in-Case.otherwise) (sym c.as_slice-in-Case.ensures)) ∙ judging_case c.in-Case.pos c.get.result.now c.as_slice-in-Case.result.now c.in-Case.otherwise u in
     always {P = c.check_otherwise-in-Case.new.book ≡ book_after c.args.book.now (spec.judging c.args.stmt.now u).notes} c.case_alone.result (case_says u c.in-Case.pos x ds o m c.in_ok-value-in-Case.value c.case_selects-selects.result c.args.book.now c.boxed_case_value.new.book c.check_cases.new.book c.check_otherwise-in-Case.new.book em c.in_ok-value-in-Case.ensures.made es c.in_ok-value-in-Case.ensures.noted c.in_ok-cases-in-Case.ensures.noted (c.in_ok-otherwise-in-Case.ensures.noted ∙ ap (λ y. book_after c.check_cases.new.book (spec.in_turn_if o y).notes) c.in_ok-cases-in-Case.ensures.around) ∙ ap (λ j. book_after c.args.book.now j.notes) (sym whole))
 
 pub check_stmt-returns-in_ok-otherwise-in-Case-clause-around : goal.check_stmt-returns-in_ok-otherwise-in-Case-clause-around
