@@ -180,7 +180,7 @@ fn put_value(places: &mut Vec<Pos>, value: &Expr) -> Result<(), AllocError> {
 fn put_body(places: &mut Vec<Pos>, body: &[Stmt]) -> Result<(), AllocError> {
     for statement in body {
         if let Stmt::Assign { target, .. } = statement {
-            places.push(target.ident.pos)?;
+            places.push(target.ident.pos())?;
         }
         places.push(place_of_statement(statement))?;
     }
