@@ -21,7 +21,7 @@ use ob_cname::{Member, find_member};
 use ob_cstmt::check_stmts;
 use ob_known::{Imports, Scope};
 use ob_rules::Notebook;
-use ob_tree::{Ident, List, Name, Stmt};
+use ob_tree::{CompactName, Ident, List, Name, Stmt};
 use ob_trees::{ProcedureTrees, StmtTrees, copy_name, copy_type};
 use ob_types::{
     Binding, Family, Passing, Receiver, TypedParameter, TypedType, TypedVariable, Types,
@@ -80,20 +80,25 @@ fn with_self(
     }
 }
 
-fn binding_of(bound: &BoundAs, member: Option<Member>) -> Result<Option<Binding>, AllocError>
+fn binding_of(
+    alloc: Global,
+    bound: &BoundAs,
+    member: Option<Member>,
+) -> Result<Option<Binding>, AllocError>
     ensures { IfOk result (λ r. r ≡ spec.binding_of bound.now.owner (bound_seen bound.now) (option_map member_seen member)) }
 {
     match member {
         None => Ok(None),
         Some(Member::Field(_, _)) => Ok(None),
         Some(Member::Method(introduced, method)) => {
+            let name = CompactName::of(alloc, &method.name)?;
             let owner = copy_name(&bound.owner)?;
             Ok(Some(Binding {
                 owner,
                 receiver: bound.receiver,
                 family: Family {
                     owner: introduced,
-                    name: method.name,
+                    name,
                 },
             }))
         }
@@ -113,7 +118,7 @@ fn bound_to<T: Types>(
         None => Ok(None),
         Some(bound) => {
             let member = find_member(alloc, types, &bound.owner, name)?;
-            binding_of(bound, member)
+            binding_of(alloc, bound, member)
         }
     }
 }

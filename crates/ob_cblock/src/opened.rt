@@ -19,7 +19,7 @@ use ob_cfield::Parameters;
 use ob_chead::{BoundAs, Head};
 use ob_known::{Imports, Inside, Outside, Scope};
 use ob_rules::{Notebook, Received};
-use ob_tree::{Ident, Mark, Name, ObjName, Pos};
+use ob_tree::{CompactName, Ident, Mark, Name, ObjName, Pos};
 use ob_trees::{copy_name, copy_type};
 use ob_types::{Passing, Receiver, TypeRef, Variable};
 use std::alloc::{AllocError, Global};
@@ -36,16 +36,18 @@ pub(crate) struct Opened {
     pub(crate) parameters: Option<Parameters>,
 }
 
-fn self_of(x: &Ident, kind: Receiver) -> Variable
-    ensures { result ≡ heading.self_of x.now kind }
+fn self_of(alloc: Global, x: &Ident, kind: Receiver) -> Result<Variable, AllocError>
+    ensures { IfOk result (λ r. r ≡ heading.self_of x.now kind) }
 {
-    match kind {
-        Receiver::Record => Variable::Parameter(Passing::VariableRecord, x.name),
-        Receiver::Pointer => Variable::Parameter(Passing::Scalar, x.name),
-    }
+    let name = CompactName::of(alloc, &x.name)?;
+    Ok(match kind {
+        Receiver::Record => Variable::Parameter(Passing::VariableRecord, name),
+        Receiver::Pointer => Variable::Parameter(Passing::Scalar, name),
+    })
 }
 
 fn received(
+    alloc: Global,
     receiver: &Option<Ident>,
     bound: &Option<BoundAs>,
 ) -> Result<Option<Received>, AllocError>
@@ -56,11 +58,9 @@ fn received(
         Some(x) => match bound {
             None => Ok(None),
             Some(bound) => {
+                let variable = self_of(alloc, x, bound.receiver)?;
                 let owner = copy_name(&bound.owner)?;
-                Ok(Some(Received {
-                    variable: self_of(x, bound.receiver),
-                    owner,
-                }))
+                Ok(Some(Received { variable, owner }))
             }
         },
     }
@@ -110,7 +110,7 @@ fn enter<E: Imports>(
     ensures outside { IfOk result (λ r. restored r (around_of E.types scope.new) ≡ around_of E.types scope.old) }
 {
     let path = inner_path(alloc, path.as_bytes())?;
-    let variable = received(receiver, bound)?;
+    let variable = received(alloc, receiver, bound)?;
     let of = result_in(parameters)?;
     let outside = scope.enter_body(alloc, inside, path, variable, of)?;
     Ok(outside)

@@ -15,7 +15,7 @@ use ob_cfield::{add_types, copy_typed};
 use ob_chead::key_of;
 use ob_cname::is_held;
 use ob_known::{Imports, Named, Scope, Table};
-use ob_tree::{List, Name, ObjName, QName};
+use ob_tree::{CompactName, List, Name, ObjName, QName};
 use ob_types::{TypeRef, TypedType, Types};
 use std::alloc::{AllocError, Global};
 
@@ -198,7 +198,7 @@ fn height_within<T: Types>(
             if left == 0 {
                 return Ok(None);
             }
-            let key = key_of(alloc, &name.module, name.object.as_bytes())?;
+            let key = key_of(alloc, &name.module.name(), name.object.as_bytes())?;
             match height_of(known, &key) {
                 Some(height) => Ok(if_within(left, height)),
                 None => named_height(alloc, types, known, left, name, key),
@@ -274,7 +274,7 @@ fn is_within<T: Types>(
 {
     let object = t.name.clone()?;
     let name = TypeRef::Named(QName {
-        module: unit,
+        module: CompactName::of(alloc, &unit)?,
         object,
     });
     match height_within(alloc, types, known, left, &name)? {

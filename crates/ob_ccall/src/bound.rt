@@ -17,7 +17,7 @@ use crate::callees::{copy_result, misplaced, result_kind};
 use ob_cname::{base_record, types};
 use ob_cplace::through;
 use ob_rules::{Chosen, Computed, Notebook, Place, Surroundings, Valued, Where};
-use ob_tree::{Name, Pos, QName};
+use ob_tree::{CompactName, Name, Pos, QName};
 use ob_trees::{ActualTrees, ExprTree, copy_name};
 use ob_types::{Callee, Family, Passing, Receiver, TypeRef};
 use std::alloc::{AllocError, Global};
@@ -93,20 +93,18 @@ pub fn unless_broken(broken: bool, call: Option<Valued>) -> Option<Valued>
     if broken { None } else { call }
 }
 
-fn family_of(chosen: &Chosen) -> Result<Family, AllocError>
+fn family_of(alloc: Global, chosen: &Chosen) -> Result<Family, AllocError>
     ensures { IfOk result (λ r. r ≡ spec.family_of chosen.now) }
 {
     let owner = copy_name(&chosen.introduced)?;
-    Ok(Family {
-        owner,
-        name: chosen.method.name,
-    })
+    let name = CompactName::of(alloc, &chosen.method.name)?;
+    Ok(Family { owner, name })
 }
 
-fn bound_callee(chosen: &Chosen) -> Result<Callee, AllocError>
+fn bound_callee(alloc: Global, chosen: &Chosen) -> Result<Callee, AllocError>
     ensures { IfOk result (λ r. r ≡ spec.bound_callee chosen.now chosen.now.base) }
 {
-    let family = family_of(chosen)?;
+    let family = family_of(alloc, chosen)?;
     let receiver = chosen.method.receiver;
     match &chosen.base {
         None => Ok(Callee::Bound { family, receiver }),
@@ -184,7 +182,7 @@ fn call_to(
         book.breaks(27, at);
         return Ok(None);
     }
-    let callee = bound_callee(&chosen)?;
+    let callee = bound_callee(alloc, &chosen)?;
     let of = copy_result(&chosen.method.signature.result)?;
     let kind = result_kind(&chosen.method.signature.result)?;
     let all = with_receiver(alloc, chosen, actuals)?;

@@ -12,7 +12,7 @@ ghost use Rattle.ob_rules.specs.Calls as spec;
 ghost use Rattle.ob_ccall.specs.Rows.{row_seen};
 
 use ob_rules::{Computed, Notebook, Place, Valued, Where};
-use ob_tree::{List, Name, ObjName, Pos, QName};
+use ob_tree::{CompactName, List, ObjName, Pos, QName};
 use ob_trees::{ActualTrees, ExprTree, copy_type};
 use ob_types::{Basic, Callee, ExprType, Mode, OutProcedure, Signature, TypeRef};
 use std::alloc::{AllocError, Global};
@@ -187,7 +187,7 @@ fn out_char(alloc: Global) -> Result<Signature, AllocError>
 fn out_string(alloc: Global) -> Result<QName, AllocError>
     ensures { IfOk result (λ r. r ≡ names.out_string) }
 {
-    let module = Name::new(b"Out");
+    let module = CompactName::new(alloc, b"Out")?;
     let object = ObjName::new(alloc, b"String(1")?;
     Ok(QName { module, object })
 }

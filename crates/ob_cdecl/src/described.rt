@@ -10,7 +10,7 @@ ghost use Rattle.ob_cdecl.specs.Order.{described_by, described_here, coming_by, 
 
 use ob_known::{Imports, Scope};
 use ob_rules::{Coming, Surroundings};
-use ob_tree::{Decl, Heading, List, ObjName, QName};
+use ob_tree::{CompactName, Decl, Heading, List, ObjName, QName};
 use ob_trees::copy_desc;
 use ob_types::{Desc, TypedType, Types};
 use std::alloc::{AllocError, Global};
@@ -40,7 +40,7 @@ fn own_name<E: Imports>(
 {
     let object = ObjName::new(alloc, t.name.as_bytes())?;
     Ok(QName {
-        module: scope.unit(),
+        module: CompactName::of(alloc, &scope.unit())?,
         object,
     })
 }

@@ -19,24 +19,28 @@ use ob_cfield::{Typed, add_types, first_name};
 use ob_ctype::{check_mark, check_type, is_module_level};
 use ob_known::{Imports, Scope};
 use ob_rules::{Entity, Notebook, Surroundings};
-use ob_tree::{Ident, IdentDef, Mark, Name, ObjName, TypeNode};
+use ob_tree::{CompactName, Ident, IdentDef, Mark, Name, ObjName, TypeNode};
 use ob_trees::copy_type;
 use ob_types::{TypeRef, Variable};
 use std::alloc::{AllocError, Global};
 
-fn variable_of<E: Imports>(scope: &Scope<'_, E>, name: Name) -> Variable
-    ensures { result ≡ spec.variable_of (types.is_module_level (around_of E.types scope.now)) (around_of E.types scope.now) name }
+fn variable_of<E: Imports>(
+    alloc: Global,
+    scope: &Scope<'_, E>,
+    name: &Name,
+) -> Result<Variable, AllocError>
+    ensures { IfOk result (λ r. r ≡ spec.variable_of (types.is_module_level (around_of E.types scope.now)) (around_of E.types scope.now) name.now) }
 {
+    let name = CompactName::of(alloc, name)?;
     if is_module_level(scope) {
-        return Variable::Module {
-            module: scope.unit(),
-            name,
-        };
+        let module = CompactName::of(alloc, &scope.unit())?;
+        return Ok(Variable::Module { module, name });
     }
-    Variable::Local(name)
+    Ok(Variable::Local(name))
 }
 
 fn variable_entity<E: Imports>(
+    alloc: Global,
     scope: &Scope<'_, E>,
     x: &Ident,
     mark: Option<Mark>,
@@ -50,7 +54,8 @@ fn variable_entity<E: Imports>(
             None => Ok(Entity::Unsound),
             Some(t) => {
                 let t = copy_type(t)?;
-                Ok(Entity::Variable(variable_of(scope, x.name), t))
+                let variable = variable_of(alloc, scope, &x.name)?;
+                Ok(Entity::Variable(variable, t))
             }
         },
     }
@@ -91,7 +96,7 @@ fn variable_declared<E: Imports>(
     ensures added { OnOk result (contents_of contents.new ≡ spec.together (contents_of contents.old) (spec.variable_marked (around_of E.types scope.old) d.now.ident (marked (around_of E.types scope.old) true d.now) (typing_only (option_copied of.entry))).part.contents) }
 {
     let mark = check_mark(&*scope, book, true, d);
-    let what = variable_entity(&*scope, &d.ident, mark, of)?;
+    let what = variable_entity(alloc, &*scope, &d.ident, mark, of)?;
     hold_variable(contents, &d.ident, mark, of)?;
     declare_new(alloc, scope, book, &d.ident, what)
 }

@@ -18,7 +18,7 @@ use crate::marks::check_mark;
 use ob_cname::{find_member, record_of as record_named};
 use ob_known::{Imports, Scope, Stack};
 use ob_rules::{Later, Notebook, Surroundings};
-use ob_tree::{IdentDef, List, Mark, Name, ObjName, QName};
+use ob_tree::{CompactName, IdentDef, List, Mark, Name, ObjName, QName};
 use ob_trees::copy_type;
 use ob_types::{Desc, Field, RecordDesc, TypeRef, TypedType};
 use std::alloc::{AllocError, Global};
@@ -140,7 +140,7 @@ fn field_if<E: Imports>(
         None => {
             let object = ObjName::new(alloc, b"".as_slice())?;
             let of = TypeRef::Named(QName {
-                module: scope.unit(),
+                module: CompactName::of(alloc, &scope.unit())?,
                 object,
             });
             let _ = field_declared(alloc, scope, book, base, before, d, of)?;

@@ -8,7 +8,7 @@ ghost use Rattle.ob_cfield.specs.Makes.{typing_of};
 
 use ob_known::{Imports, Scope};
 use ob_rules::Surroundings;
-use ob_tree::{List, ObjName, QName};
+use ob_tree::{CompactName, List, ObjName, QName};
 use ob_trees::copy_desc;
 use ob_types::{Desc, Signature, TypeRef, TypedParameter, TypedType};
 use std::alloc::{AllocError, Global};
@@ -41,7 +41,7 @@ pub fn typed_as<E: Imports>(
 {
     let object = ObjName::new(alloc, name)?;
     let of = TypeRef::Named(QName {
-        module: scope.unit(),
+        module: CompactName::of(alloc, &scope.unit())?,
         object,
     });
     let name = ObjName::new(alloc, name)?;

@@ -13,7 +13,7 @@ ghost use Rattle.ob_cfield.specs.ParameterMakes.{parameter_entity, names_declare
 use ob_cname::passing_of;
 use ob_known::{Imports, Scope};
 use ob_rules::{Entity, Notebook, Surroundings};
-use ob_tree::Ident;
+use ob_tree::{CompactName, Ident};
 use ob_trees::copy_type;
 use ob_types::{Mode, TypeRef, Variable};
 use std::alloc::{AllocError, Global};
@@ -35,6 +35,7 @@ fn note_twice<E: Imports>(scope: &Scope<'_, E>, book: &mut Notebook, x: &Ident)
 
 // What a parameter of that type stands for, none of a type that breaks a rule.
 fn entity_of<E: Imports>(
+    alloc: Global,
     scope: &Scope<'_, E>,
     mode: Mode,
     x: &Ident,
@@ -47,7 +48,8 @@ fn entity_of<E: Imports>(
         Some(t) => {
             let of = copy_type(t)?;
             let passing = passing_of(scope, mode, t);
-            Ok(Entity::Variable(Variable::Parameter(passing, x.name), of))
+            let name = CompactName::of(alloc, &x.name)?;
+            Ok(Entity::Variable(Variable::Parameter(passing, name), of))
         }
     }
 }
@@ -67,7 +69,7 @@ pub fn declare_names<E: Imports>(
 {
     'names: for x in names {
         note_twice(&*scope, book, x);
-        let what = entity_of(&*scope, mode, x, of)?;
+        let what = entity_of(alloc, &*scope, mode, x, of)?;
         scope.declare(alloc, x.name, what)?;
     }
     Ok(())

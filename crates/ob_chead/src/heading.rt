@@ -22,7 +22,7 @@ use ob_cfield::{Parameters, add_types, check_mark};
 use ob_ctype::check_parameters;
 use ob_known::{Imports, Inside, Scope};
 use ob_rules::{Entity, Known, Notebook, Surroundings};
-use ob_tree::{Heading, Ident, Mark, Name, ObjName, QName, Receiver};
+use ob_tree::{CompactName, Heading, Ident, Mark, Name, ObjName, QName, Receiver};
 use ob_trees::copy_signature;
 use std::alloc::{AllocError, Global};
 
@@ -291,7 +291,7 @@ fn head_entity<E: Imports>(
         Some(parameters) => {
             let object = head.path.clone()?;
             let name = QName {
-                module: scope.unit(),
+                module: CompactName::of(alloc, &scope.unit())?,
                 object,
             };
             let signature = copy_signature(alloc, &parameters.signature)?;

@@ -17,7 +17,7 @@ use ob_cfield::is_module_level;
 use ob_cname::{is_held, pointed, pointed_record, record_of, type_named};
 use ob_known::{Imports, Scope};
 use ob_rules::{Entity, Notebook, Surroundings};
-use ob_tree::{Ident, Pos, QName, Qualident, Receiver};
+use ob_tree::{CompactName, Ident, Pos, QName, Qualident, Receiver};
 use ob_trees::{copy_name, copy_type};
 use ob_types::{Passing, Receiver as Kind, TypeRef, Types, Variable};
 use std::alloc::{AllocError, Global};
@@ -183,13 +183,14 @@ pub fn owner_if<E: Imports>(
     }
 }
 
-fn self_of(x: &Ident, kind: Kind) -> Variable
-    ensures { result ≡ spec.self_of x.now kind }
+fn self_of(alloc: Global, x: &Ident, kind: Kind) -> Result<Variable, AllocError>
+    ensures { IfOk result (λ r. r ≡ spec.self_of x.now kind) }
 {
-    match kind {
-        Kind::Record => Variable::Parameter(Passing::VariableRecord, x.name),
-        Kind::Pointer => Variable::Parameter(Passing::Scalar, x.name),
-    }
+    let name = CompactName::of(alloc, &x.name)?;
+    Ok(match kind {
+        Kind::Record => Variable::Parameter(Passing::VariableRecord, name),
+        Kind::Pointer => Variable::Parameter(Passing::Scalar, name),
+    })
 }
 
 /// From here on the receiver is known, one that breaks a rule too.
@@ -206,7 +207,8 @@ pub fn know_receiver<E: Imports>(
         Some(receiver) => match bound {
             Some(Some(bound)) => {
                 let of = copy_type(&bound.of)?;
-                let what = Entity::Variable(self_of(&receiver.ident, bound.receiver), of);
+                let variable = self_of(alloc, &receiver.ident, bound.receiver)?;
+                let what = Entity::Variable(variable, of);
                 scope.declare(alloc, receiver.ident.name, what)
             }
             Some(None) => scope.declare(alloc, receiver.ident.name, Entity::Unsound),

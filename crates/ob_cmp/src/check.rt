@@ -155,7 +155,13 @@ fn check_uses<F: Shelf>(
     let mut face = None;
     let mut rest = uses;
     while let [of, more @ ..] = rest {
-        refresh(alloc, folder, &mut read, &mut face, &of.object.module)?;
+        refresh(
+            alloc,
+            folder,
+            &mut read,
+            &mut face,
+            &of.object.module.name(),
+        )?;
         let Ok(()) = check_use(&mut stale, &face, of) else {
             return Err(CheckFault::Memory);
         };

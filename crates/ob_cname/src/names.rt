@@ -7,7 +7,7 @@ ghost use Rattle.ob_rules.specs.Books.{book_after};
 ghost use Rattle.ob_rules.specs.Names as spec;
 
 use ob_rules::{Entity, Known, Notebook, Surroundings};
-use ob_tree::{Ident, Mark, Name, ObjName, Pos, QName, Qualident};
+use ob_tree::{CompactName, Ident, Mark, Name, ObjName, Pos, QName, Qualident};
 use ob_trees::copy_type;
 use ob_types::{Desc, OutProcedure, TypeRef};
 use std::alloc::{AllocError, Global};
@@ -114,7 +114,7 @@ pub fn exported<'a, S: Surroundings>(
         Some(desc) => {
             let object = ObjName::from_name(alloc, &x.name)?;
             book.name(QName {
-                module: *unit,
+                module: CompactName::of(alloc, unit)?,
                 object,
             })?;
             Ok(Some(desc))
@@ -180,7 +180,7 @@ fn type_of_desc(
         | Desc::Record(_) => {
             let object = ObjName::from_name(alloc, &x.name)?;
             Ok(Some(TypeRef::Named(QName {
-                module: *unit,
+                module: CompactName::of(alloc, unit)?,
                 object,
             })))
         }

@@ -21,10 +21,10 @@ fn variable_value<S: Surroundings>(
     alloc: Global,
     here: &S,
     at: Pos,
-    variable: Variable,
+    variable: &Variable,
     t: &TypeRef,
 ) -> Result<Option<Valued>, AllocError>
-    ensures { IfOk result (λ r. record { node = r; notes = no_notes } ≡ (designators.of_variable (designators.variable_named (S.around here.now) at variable t.now false) ▷ λ m. spec.value_meant at m)) }
+    ensures { IfOk result (λ r. record { node = r; notes = no_notes } ≡ (designators.of_variable (designators.variable_named (S.around here.now) at variable.now t.now false) ▷ λ m. spec.value_meant at m)) }
 {
     match variable_named(alloc, here, at, variable, t, false)? {
         None => Ok(None),
@@ -57,7 +57,7 @@ fn entity_value<S: Surroundings>(
     ensures noted { OnOk result (book.new ≡ book_after book.old (designators.front_of (S.around here.now) x.now entity.now None ▷ λ m. spec.value_meant x.now.«pos» m).notes) }
 {
     match entity {
-        Entity::Variable(variable, t) => variable_value(alloc, here, x.pos, *variable, t),
+        Entity::Variable(variable, t) => variable_value(alloc, here, x.pos, variable, t),
         Entity::Constant(value) => {
             let value = copy_value(alloc, value)?;
             Ok(Some(Valued::Constant(value)))

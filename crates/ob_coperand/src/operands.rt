@@ -105,20 +105,9 @@ pub fn bracketed(x: Option<Valued>) -> Option<Valued>
     match x {
         None => None,
         Some(Valued::Place(place)) => {
-            let root = place.root;
-            let selected = place.selected;
-            let read_only = place.read_only;
-            let guarded = place.guarded;
-            let (designator, of) = place.into_typed();
-            Some(Valued::Place(Place {
-                designator,
-                of,
-                root,
-                selected,
-                read_only,
-                var_record: false,
-                guarded,
-            }))
+            let mut place = place;
+            place.var_record = false;
+            Some(Valued::Place(place))
         }
         Some(Valued::Constant(value)) => Some(Valued::Constant(value)),
         Some(Valued::Node(node)) => Some(Valued::Node(node)),

@@ -87,14 +87,20 @@ fn count_desc(found: &mut Noted, desc: &Desc) -> Result<(), AllocError>
 }
 
 #[tactic(auto, using(crate::proofs::Parting::note_first))]
-fn count_type(found: &mut Noted, module: &Name, t: &TypedType) -> Result<(), AllocError>
+fn count_type(
+    alloc: Global,
+    found: &mut Noted,
+    module: &Name,
+    t: &TypedType,
+) -> Result<(), AllocError>
     ensures { OnOk result (found.new ≡ noted found.old (Shapes (ref.Named (record { «module» = «module».now; object = t.now.name })) ∷ counts_of_desc t.now.desc)) }
 {
-    note_own(found, module, &t.name)?;
+    note_own(alloc, found, module, &t.name)?;
     count_desc(found, &t.desc)
 }
 
 fn count_types(
+    alloc: Global,
     found: &mut Noted,
     module: &TypedModule,
     types: &[TypedType],
@@ -102,7 +108,7 @@ fn count_types(
     ensures { OnOk result (found.new ≡ noted found.old (flat_map (counts_of_type (module_view «module».now)) types.now)) }
 {
     'types: for t in types {
-        count_type(found, &module.name, t)?;
+        count_type(alloc, found, &module.name, t)?;
     }
     Ok(())
 }
@@ -138,7 +144,7 @@ fn count_binding<T: Types>(
 {
     match binding {
         None => Ok(()),
-        Some(bound) => match method_of(types, &bound.family.owner, &bound.family.name) {
+        Some(bound) => match method_of(types, &bound.family.owner, &bound.family.name.name()) {
             None => Ok(()),
             Some(method) => note_signature(found, &method.signature),
         },
@@ -223,7 +229,7 @@ fn count_all<T: Types>(
     ensures { OnOk result (found.new ≡ noted found.old (counts_of_module (T.types types.now) (module_view «module».now))) }
 {
     count_mentioned(alloc, found, module)?;
-    count_types(found, module, module.types.as_slice())?;
+    count_types(alloc, found, module, module.types.as_slice())?;
     count_variables(found, module.variables.as_slice())?;
     count_procedures(alloc, found, types, module.procedures.as_slice())?;
     count_stmts(alloc, found, module.body.as_slice())

@@ -6,9 +6,9 @@ ghost use Rattle.ob_counts.specs.Counts.{Shapes, Layouts, both, shapes, formal_c
 ghost use Rattle.ob_counts.specs.Noted.{noted};
 
 use crate::noted::Noted;
-use ob_tree::{Name, ObjName, QName};
+use ob_tree::{CompactName, Name, ObjName, QName};
 use ob_types::{Mode, Signature, TypeRef};
-use std::alloc::AllocError;
+use std::alloc::{AllocError, Global};
 
 /// The shapes of the named type and of those near it count.
 #[tactic(auto, unfolding(crate::specs::Noted::noted))]
@@ -22,14 +22,17 @@ pub fn note_named(found: &mut Noted, name: &QName) -> Result<(), AllocError>
 
 /// The shapes of the module's own type of that name and of those near it count.
 #[tactic(auto, unfolding(crate::specs::Noted::noted))]
-pub fn note_own(found: &mut Noted, module: &Name, name: &ObjName) -> Result<(), AllocError>
+pub fn note_own(
+    alloc: Global,
+    found: &mut Noted,
+    module: &Name,
+    name: &ObjName,
+) -> Result<(), AllocError>
     ensures { OnOk result (found.new ≡ noted found.old (Shapes (ref.Named (record { «module» = «module».now; object = name.now })) ∷ [])) }
 {
+    let module = CompactName::of(alloc, module)?;
     let object = name.clone()?;
-    found.shapes.push(QName {
-        module: *module,
-        object,
-    })?;
+    found.shapes.push(QName { module, object })?;
     Ok(())
 }
 

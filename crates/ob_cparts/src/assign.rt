@@ -85,7 +85,7 @@ fn entity_target<S: Surroundings>(
 {
     match entity {
         Entity::Variable(variable, t) => {
-            let place = variable_named(alloc, here, x.pos, *variable, t, false)?;
+            let place = variable_named(alloc, here, x.pos, variable, t, false)?;
             Ok(place_target(book, x.pos, place))
         }
         Entity::Constant(_)

@@ -11,8 +11,8 @@ ghost use Rattle.ob_cparts.specs.Seen.{expr_in, test_in};
 use ob_cname::is_pointer;
 use ob_cplace::guard_of;
 use ob_rules::{Entity, Known, Meant, Notebook, Place, Surroundings};
-use ob_tree::{Ident, Pos, QName, Qualident};
-use ob_trees::{ExprTree, copy_type};
+use ob_tree::{CompactName, Ident, Pos, QName, Qualident};
+use ob_trees::{ExprTree, copy_type, copy_variable};
 use ob_types::{Guarded, TypeRef, Types, Variable};
 use std::alloc::{AllocError, Global};
 
@@ -128,11 +128,14 @@ pub fn tested_if<T: Types>(
     }
 }
 
-fn variable_of(entity: &Entity) -> Option<Variable>
-    ensures { result ≡ spec.variable_in entity.now }
+fn variable_of(entity: &Entity) -> Result<Option<Variable>, AllocError>
+    ensures { IfOk result (λ r. r ≡ spec.variable_in entity.now) }
 {
     match entity {
-        Entity::Variable(variable, _) => Some(*variable),
+        Entity::Variable(variable, _) => {
+            let variable = copy_variable(variable)?;
+            Ok(Some(variable))
+        }
         Entity::Module(_)
         | Entity::TypeName(_)
         | Entity::Constant(_)
@@ -140,18 +143,23 @@ fn variable_of(entity: &Entity) -> Option<Variable>
         | Entity::Forward(_, _)
         | Entity::Predeclared(_)
         | Entity::LeftOut
-        | Entity::Unsound => None,
+        | Entity::Unsound => Ok(None),
     }
 }
 
-fn variable_behind(x: &Ident, entity: &Entity) -> Option<Variable>
-    ensures { result ≡ spec.variable_behind x.now entity.now }
+fn variable_behind(
+    alloc: Global,
+    x: &Ident,
+    entity: &Entity,
+) -> Result<Option<Variable>, AllocError>
+    ensures { IfOk result (λ r. r ≡ spec.variable_behind x.now entity.now) }
 {
     match entity {
-        Entity::Module(unit) => Some(Variable::Module {
-            module: *unit,
-            name: x.name,
-        }),
+        Entity::Module(unit) => {
+            let module = CompactName::of(alloc, unit)?;
+            let name = CompactName::of(alloc, &x.name)?;
+            Ok(Some(Variable::Module { module, name }))
+        }
         Entity::Variable(_, _)
         | Entity::TypeName(_)
         | Entity::Constant(_)
@@ -159,30 +167,44 @@ fn variable_behind(x: &Ident, entity: &Entity) -> Option<Variable>
         | Entity::Forward(_, _)
         | Entity::Predeclared(_)
         | Entity::LeftOut
-        | Entity::Unsound => None,
+        | Entity::Unsound => Ok(None),
     }
 }
 
-fn known_variable(known: Option<&Known>) -> Option<Variable>
-    ensures { result ≡ spec.entity_variable (option_copied known.entry) }
+fn known_variable(known: Option<&Known>) -> Result<Option<Variable>, AllocError>
+    ensures { IfOk result (λ r. r ≡ spec.entity_variable (option_copied known.entry)) }
 {
-    variable_of(&known?.what)
+    match known {
+        None => Ok(None),
+        Some(known) => variable_of(&known.what),
+    }
 }
 
-fn unit_variable(x: &Ident, known: Option<&Known>) -> Option<Variable>
-    ensures { result ≡ spec.module_variable x.now (option_copied known.entry) }
+fn unit_variable(
+    alloc: Global,
+    x: &Ident,
+    known: Option<&Known>,
+) -> Result<Option<Variable>, AllocError>
+    ensures { IfOk result (λ r. r ≡ spec.module_variable x.now (option_copied known.entry)) }
 {
-    variable_behind(x, &known?.what)
+    match known {
+        None => Ok(None),
+        Some(known) => variable_behind(alloc, x, &known.what),
+    }
 }
 
 /// The variable that the body of a branch means by the guarded name, also where a rule is broken at
-/// it. Takes no memory.
-pub fn variable_meant<S: Surroundings>(here: &S, name: &Qualident) -> Option<Variable>
-    ensures { result ≡ spec.variable_meant (S.around here.now) name.now.qualifier name.now.ident }
+/// it. An `Err` is want of memory.
+pub fn variable_meant<S: Surroundings>(
+    alloc: Global,
+    here: &S,
+    name: &Qualident,
+) -> Result<Option<Variable>, AllocError>
+    ensures { IfOk result (λ r. r ≡ spec.variable_meant (S.around here.now) name.now.qualifier name.now.ident) }
 {
     match &name.qualifier {
         None => known_variable(here.known(&name.ident.name)),
-        Some(unit) => unit_variable(&name.ident, here.known(&unit.name)),
+        Some(unit) => unit_variable(alloc, &name.ident, here.known(&unit.name)),
     }
 }
 

@@ -59,7 +59,7 @@ fn entity_variable<S: Surroundings>(
 {
     match entity {
         Entity::Variable(variable, of) => {
-            let place = variable_named(alloc, here, x.pos, *variable, of, false)?;
+            let place = variable_named(alloc, here, x.pos, variable, of, false)?;
             Ok(integer_place(types(here), book, at, place))
         }
         Entity::TypeName(_) | Entity::Module(_) => {
@@ -153,7 +153,8 @@ fn for_made<T: Types>(
     let step = step?;
     let body = body?;
     let width = width_or_long(width_of(basic_of(types, &place.of)));
-    Some(StmtTree::for_loop(place.root, width, start, end, step, body, at))
+    let (_, variable) = place.into_rooted();
+    Some(StmtTree::for_loop(variable, width, start, end, step, body, at))
 }
 
 /// FOR of its parts, where they are sound. Takes no memory.

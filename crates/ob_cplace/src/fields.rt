@@ -16,7 +16,7 @@ ghost use Rattle.ob_tree.specs.declared.pos.Pos.{Pos as APos};
 use crate::places::{dereferenced, pointed_type};
 use ob_cname::{Member, extends_record, find_member, is_held, pointed_record, record_of, types};
 use ob_rules::{Chosen, Coming, Entity, Meant, Notebook, Place, Surroundings};
-use ob_tree::{Ident, Mark, Name, Pos, QName};
+use ob_tree::{CompactName, Ident, Mark, Name, Pos, QName};
 use ob_trees::{DesignatorTree, copy_name, copy_type};
 use ob_types::{Field, Receiver, TypeRef, Types};
 use std::alloc::{AllocError, Global};
@@ -56,11 +56,11 @@ fn field_of<S: Surroundings>(
 {
     let unit = here.unit();
     let foreign = owner.module.as_bytes() != unit.as_bytes();
-    let root = place.root;
     let read_only = place.read_only;
     let Field { name, mark, of, .. } = field;
     let more = copy_type(&of)?;
-    let designator = place.into_designator();
+    let name = CompactName::of(alloc, &name)?;
+    let (designator, root) = place.into_rooted();
     let designator = DesignatorTree::field(alloc, designator, owner, name, more)?;
     Ok(Place {
         designator,

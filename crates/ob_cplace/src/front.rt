@@ -12,7 +12,7 @@ ghost use Rattle.ob_cplace.specs.Fronts.{front_judged};
 use crate::places::variable_named;
 use ob_cname::{exported, is_out, named, out_procedure};
 use ob_rules::{Entity, Meant, Notebook, Surroundings};
-use ob_tree::{Ident, Mark, Name, ObjName, Pos, QName};
+use ob_tree::{CompactName, Ident, Mark, Name, ObjName, Pos, QName};
 use ob_trees::{copy_name, copy_signature, copy_value};
 use ob_types::{Desc, OutProcedure, Signature, TypeRef, Variable};
 use std::alloc::{AllocError, Global};
@@ -21,11 +21,11 @@ fn place_of<S: Surroundings>(
     alloc: Global,
     here: &S,
     at: Pos,
-    variable: Variable,
+    variable: &Variable,
     t: &TypeRef,
     read_only: bool,
 ) -> Result<Option<Meant>, AllocError>
-    ensures { IfOk result (λ r. record { node = r; notes = judged.no_notes } ≡ spec.of_variable (spec.variable_named (S.around here.now) at variable t.now read_only)) }
+    ensures { IfOk result (λ r. record { node = r; notes = judged.no_notes } ≡ spec.of_variable (spec.variable_named (S.around here.now) at variable.now t.now read_only)) }
 {
     match variable_named(alloc, here, at, variable, t, read_only)? {
         None => Ok(None),
@@ -72,15 +72,15 @@ fn exported_meant<S: Surroundings>(
         }
         Desc::Var(mark, t) => {
             let variable = Variable::Module {
-                module: *unit,
-                name: x.name,
+                module: CompactName::of(alloc, unit)?,
+                name: CompactName::of(alloc, &x.name)?,
             };
-            place_of(alloc, here, start, variable, t, is_read_only(*mark))
+            place_of(alloc, here, start, &variable, t, is_read_only(*mark))
         }
         Desc::Proc(signature) => {
             let object = ObjName::from_name(alloc, &x.name)?;
             let name = QName {
-                module: *unit,
+                module: CompactName::of(alloc, unit)?,
                 object,
             };
             procedure_of(alloc, name, signature)
@@ -183,7 +183,7 @@ pub fn front_of<S: Surroundings>(
             let value = copy_value(alloc, value)?;
             Ok(Some(Meant::Constant(value)))
         }
-        Entity::Variable(variable, t) => place_of(alloc, here, x.pos, *variable, t, false),
+        Entity::Variable(variable, t) => place_of(alloc, here, x.pos, variable, t, false),
         Entity::Procedure(name, signature) => {
             let name = copy_name(name)?;
             procedure_of(alloc, name, signature)

@@ -105,12 +105,11 @@ pub fn guarded_by(
     ensures { IfOk result (λ r. r ≡ spec.guarded_by place by t at written) }
 {
     let (guarded, target) = by;
-    let root = place.root;
     let selected = place.selected;
     let read_only = place.read_only;
     let var_record = place.var_record;
     let of = copy_type(&t)?;
-    let designator = place.into_designator();
+    let (designator, root) = place.into_rooted();
     let designator = DesignatorTree::guard(alloc, designator, guarded, target, at, of)?;
     Ok(Place {
         designator,

@@ -13,7 +13,7 @@ use crate::guards::{guard_of, guarded_by};
 use ob_cname::{array_of, is_array, is_held, is_integer, pointed, tree_of, types};
 use ob_rules::{Meant, Notebook, Place, Surroundings, Valued};
 use ob_tree::Pos;
-use ob_trees::{DesignatorTree, copy_type};
+use ob_trees::{DesignatorTree, copy_type, copy_variable};
 use ob_types::{Passing, TypeRef, Types, Variable};
 use std::alloc::{AllocError, Global};
 
@@ -23,18 +23,20 @@ fn is_var_record(variable: &Variable) -> bool
     matches!(variable, Variable::Parameter(Passing::VariableRecord, _))
 }
 
-fn variable_at(variable: Variable, t: &TypeRef, read_only: bool) -> Result<Place, AllocError>
-    ensures { IfOk result (λ r. r ≡ spec.variable_at variable t.now read_only) }
+fn variable_at(variable: &Variable, t: &TypeRef, read_only: bool) -> Result<Place, AllocError>
+    ensures { IfOk result (λ r. r ≡ spec.variable_at variable.now t.now read_only) }
 {
     let of = copy_type(t)?;
     let more = copy_type(t)?;
+    let root = copy_variable(variable)?;
+    let front = copy_variable(variable)?;
     Ok(Place {
-        designator: DesignatorTree::variable(variable, more),
+        designator: DesignatorTree::variable(front, more),
         of,
-        root: variable,
+        root,
         selected: false,
         read_only,
-        var_record: is_var_record(&variable),
+        var_record: is_var_record(variable),
         guarded: false,
     })
 }
@@ -140,14 +142,14 @@ pub fn variable_named<S: Surroundings>(
     alloc: Global,
     here: &S,
     at: Pos,
-    variable: Variable,
+    variable: &Variable,
     t: &TypeRef,
     read_only: bool,
 ) -> Result<Option<Place>, AllocError>
-    ensures { IfOk result (λ r. record { node = r; notes = judged.no_notes } ≡ spec.variable_named (S.around here.now) at variable t.now read_only) }
+    ensures { IfOk result (λ r. record { node = r; notes = judged.no_notes } ≡ spec.variable_named (S.around here.now) at variable.now t.now read_only) }
 {
     let place = variable_at(variable, t, read_only)?;
-    with_guards(alloc, types(here), here.guards(), at, &variable, place)
+    with_guards(alloc, types(here), here.guards(), at, variable, place)
 }
 
 /// What a place of a pointer type points to, dereferenced.
@@ -160,10 +162,9 @@ pub fn dereferenced(
 ) -> Result<Place, AllocError>
     ensures { IfOk result (λ r. r ≡ phrases.dereferenced place at t written) }
 {
-    let root = place.root;
     let selected = place.selected;
     let of = copy_type(&t)?;
-    let designator = place.into_designator();
+    let (designator, root) = place.into_rooted();
     let designator = DesignatorTree::deref(alloc, designator, at, of)?;
     Ok(Place {
         designator,
@@ -291,11 +292,10 @@ fn indexed(
     ensures { IfOk result (λ r. r ≡ spec.indexed place at index array) }
 {
     let (length, element) = array;
-    let root = place.root;
     let read_only = place.read_only;
     let of = copy_type(&element)?;
     let index = tree_of(index);
-    let designator = place.into_designator();
+    let (designator, root) = place.into_rooted();
     let designator = DesignatorTree::index(alloc, designator, length, index, at, of)?;
     Ok(Place {
         designator,

@@ -277,7 +277,7 @@ fn check_guarded<S: Surroundings>(
     let mut all = Some(BranchTrees::new(alloc));
     'branches: for branch in branches {
         let test = check_guard(alloc, here, book, &branch.guard)?;
-        let variable = variable_meant(here, &branch.guard.variable);
+        let variable = variable_meant(alloc, here, &branch.guard.variable)?;
         let of = tested_type(test.as_ref())?;
         let body = check_guarded_body(alloc, here, book, branch.body.as_slice(), variable, of)?;
         all = with_branch(all, test_tree(test), body)?;

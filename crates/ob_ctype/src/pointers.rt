@@ -16,7 +16,7 @@ use ob_cfield::{Typed, add_types, typed_as};
 use ob_cname::{is_array, is_pointer, is_record};
 use ob_known::{Imports, Scope};
 use ob_rules::{Later, Notebook, Surroundings};
-use ob_tree::{Ident, List, Mark, ObjName, Pos, QName};
+use ob_tree::{CompactName, Ident, List, Mark, ObjName, Pos, QName};
 use ob_trees::copy_type;
 use ob_types::{Desc, TypeRef, TypedType};
 use std::alloc::{AllocError, Global};
@@ -133,7 +133,7 @@ fn coming_type<E: Imports>(
     name.extend_from_slice(x.name.as_bytes())?;
     let object = ObjName::new(alloc, &name)?;
     Ok(TypeRef::Named(QName {
-        module: scope.unit(),
+        module: CompactName::of(alloc, &scope.unit())?,
         object,
     }))
 }

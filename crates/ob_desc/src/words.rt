@@ -7,7 +7,7 @@ ghost use Rattle.ob_desc.specs.Forms.{lookup, last};
 ghost use Rattle.ob_desc.specs.Grammar.{small, count, dotted_at, dotted_identifier, marks, shown_mark};
 
 use ob_format::{Fault, is_name, is_object_name, number_of, split_at_byte, word};
-use ob_tree::{Name, ObjName, QName};
+use ob_tree::{CompactName, ObjName, QName};
 use ob_types::Mark;
 use std::alloc::Global;
 
@@ -71,7 +71,7 @@ pub fn dotted_of(alloc: Global, word: &[u8]) -> Result<QName, Fault>
             }
             let object = ObjName::new(alloc, object)?;
             Ok(QName {
-                module: Name::new(module),
+                module: CompactName::new(alloc, module)?,
                 object,
             })
         }

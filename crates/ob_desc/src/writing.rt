@@ -12,10 +12,10 @@ use ob_types::{
 };
 use std::alloc::{AllocError, Global};
 
-fn put_dotted(out: &mut Vec<u8>, module: &Name, object: &ObjName) -> Result<(), AllocError>
+fn put_dotted(out: &mut Vec<u8>, module: &[u8], object: &ObjName) -> Result<(), AllocError>
     ensures { OnOk result (Adds out.old.items out.new.items («module».now ++ 46 ∷ object.now)) }
 {
-    out.extend_from_slice(module.as_bytes())?;
+    out.extend_from_slice(module)?;
     out.push(b'.')?;
     out.extend_from_slice(object.as_bytes())?;
     Ok(())
@@ -39,7 +39,7 @@ fn put_type(out: &mut Vec<u8>, of: &TypeRef) -> Result<(), AllocError>
 {
     match of {
         TypeRef::Basic(basic) => put_bytes(out, basic_name_of(*basic)),
-        TypeRef::Named(name) => put_dotted(out, &name.module, &name.object),
+        TypeRef::Named(name) => put_dotted(out, name.module.as_bytes(), &name.object),
     }
 }
 
@@ -89,7 +89,7 @@ fn put_spaced(out: &mut Vec<u8>, module: &Name, object: &ObjName) -> Result<(), 
     ensures { OnOk result (Adds out.old.items out.new.items (32 ∷ («module».now ++ 46 ∷ object.now))) }
 {
     out.push(b' ')?;
-    put_dotted(out, module, object)
+    put_dotted(out, module.as_bytes(), object)
 }
 
 fn put_mark(out: &mut Vec<u8>, mark: Mark) -> Result<(), AllocError>

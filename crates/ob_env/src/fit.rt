@@ -13,7 +13,7 @@ use crate::env::Env;
 use crate::fault::EnvFault;
 use crate::names::names_differ;
 use crate::within::{is_name_marked, within_marks};
-use ob_tree::{List, Name, QName};
+use ob_tree::{CompactName, List, Name, ObjName, QName};
 use ob_types::{Desc, Interface, Object};
 use std::alloc::{AllocError, Global};
 
@@ -78,6 +78,15 @@ fn object_fits(
     is_sound(alloc, env, steps, desc)
 }
 
+// The name of that object of that module.
+fn name_of(alloc: Global, module: &Name, object: &ObjName) -> Result<QName, AllocError>
+    ensures { IfOk result (λ n. n ≡ record { «module» = «module».now; object = object.now }) }
+{
+    let module = CompactName::of(alloc, module)?;
+    let object = object.clone()?;
+    Ok(QName { module, object })
+}
+
 fn check_object(
     alloc: Global,
     env: &Env,
@@ -89,12 +98,8 @@ fn check_object(
     requires { SayWithin env.now 201 marks.now }
     ensures { Checks (object_answer env.now steps «module».now object.now) result }
 {
-    let Ok(own) = object.name.clone() else {
+    let Ok(name) = name_of(alloc, module, &object.name) else {
         return Err(EnvFault::Memory);
-    };
-    let name = QName {
-        module: *module,
-        object: own,
     };
     match object_fits(alloc, env, steps, marks, &name, &object.desc) {
         Err(_) => Err(EnvFault::Memory),

@@ -1,4 +1,4 @@
-ghost use Rattle.std.specs.Prelude.{◌≡◌, Some, IfSome};
+ghost use Rattle.std.specs.Prelude.{Some};
 ghost use Rattle.ob_env.specs.declared.fault.EnvFault.TheVariants as fault;
 ghost use Rattle.ob_env.specs.Stale.{first_among};
 ghost use Rattle.ob_env.specs.Building.{Named, Checks, use_answer, uses_answer};
@@ -8,25 +8,12 @@ use crate::fault::EnvFault;
 use ob_tree::{Name, Print, QName};
 use ob_types::{Interface, Use};
 
-// The same name, where there is memory for it.
-fn again(name: &QName) -> Option<QName>
-    ensures { IfSome result (λ q. q ≡ name.now) }
-{
-    match name.object.clone() {
-        Ok(object) => Some(QName {
-            module: name.module,
-            object,
-        }),
-        Err(_) => None,
-    }
-}
-
 fn absent(client: &Name, object: &QName) -> EnvFault
     ensures { Named (Some (fault.Absent client.now object.now)) result }
 {
-    match again(object) {
-        None => EnvFault::Memory,
-        Some(object) => EnvFault::Absent {
+    match object.clone() {
+        Err(_) => EnvFault::Memory,
+        Ok(object) => EnvFault::Absent {
             client: *client,
             object,
         },
@@ -36,9 +23,9 @@ fn absent(client: &Name, object: &QName) -> EnvFault
 fn changed(client: &Name, used: &Use, found: Print) -> EnvFault
     ensures { Named (Some (fault.Changed client.now used.now.object used.now.aspect used.now.print found)) result }
 {
-    match again(&used.object) {
-        None => EnvFault::Memory,
-        Some(object) => EnvFault::Changed {
+    match used.object.clone() {
+        Err(_) => EnvFault::Memory,
+        Ok(object) => EnvFault::Changed {
             client: *client,
             object,
             aspect: used.aspect,

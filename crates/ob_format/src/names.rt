@@ -9,7 +9,7 @@ ghost use Rattle.ob_format.specs.NameLaws.{name_exact, object_name_exact, qname_
 
 use crate::fault::Fault;
 use crate::wire::{Ranked, Wire, bytes_of, put_bytes, u16_at};
-use ob_tree::{Name, ObjName, QName};
+use ob_tree::{CompactName, Name, ObjName, QName};
 use std::alloc::{AllocError, Global};
 use std::cmp::Ordering;
 
@@ -115,6 +115,25 @@ impl Wire for Name {
     ghost exact = { name_exact };
 }
 
+impl Wire for CompactName {
+    ghost form = { name };
+
+    #[tactic(auto, unfolding(crate::specs::Names::name, crate::specs::Format::such_that_at))]
+    fn read(alloc: Global, bytes: &[u8]) -> Result<(CompactName, &[u8]), Fault> {
+        match short_text_at(bytes) {
+            Some((front, rest)) if is_name(front) => Ok((CompactName::new(alloc, front)?, rest)),
+            _ => Err(Fault::Damaged),
+        }
+    }
+
+    #[tactic(auto, unfolding(crate::specs::Names::name))]
+    fn write(&self, out: &mut Vec<u8>) -> Result<(), AllocError> {
+        write_short_text(self.as_bytes(), out)
+    }
+
+    ghost exact = { name_exact };
+}
+
 impl Ranked for Name {
     ghost rank = { slice_cmp nat_cmp };
 
@@ -155,7 +174,7 @@ impl Wire for QName {
 
     #[tactic(auto, unfolding(crate::specs::Names::qname, crate::specs::Format::made_at, crate::specs::Format::pair_at))]
     fn read(alloc: Global, bytes: &[u8]) -> Result<(QName, &[u8]), Fault> {
-        match Name::read(alloc, bytes) {
+        match CompactName::read(alloc, bytes) {
             Ok((module, rest)) => {
                 let (object, rest) = ObjName::read(alloc, rest)?;
                 Ok((QName { module, object }, rest))

@@ -23,20 +23,20 @@ pub trait Scope {
         ensures { IfOk result (λ n. n ≡ option_map pos (elements_of (context self.now).types t.now)) };
 
     /// Whether a module is the one at hand.
-    fn is_own(&self, unit: &Name) -> bool
+    fn is_own(&self, unit: &[u8]) -> bool
         ensures { result ≡ is_own (context self.now) unit.now };
 
     /// The place of a variable of the module among the module's words.
-    fn variable_place(&self, name: &Name) -> i32
+    fn variable_place(&self, name: &[u8]) -> i32
         ensures { result ≡ pos (variable_place (context self.now) name.now) };
 
     /// The first slot of a parameter.
-    fn parameter_slot(&self, name: &Name) -> u32
+    fn parameter_slot(&self, name: &[u8]) -> u32
         ensures is { result ≡ parameter_slot (context self.now) name.now }
         ensures within { result < 2 ^ 30 };
 
     /// The first word of a local variable, behind the slots.
-    fn local_slot(&self, name: &Name) -> i32
+    fn local_slot(&self, name: &[u8]) -> i32
         ensures { result ≡ pos (local_slot (context self.now) name.now) };
 
     /// The place of a field in the record type that declares it.

@@ -20,7 +20,7 @@ pub fn put_typed_and<S: Scope>(
 ) -> Result<(), GenFault>
     ensures { OnOk result (code.new ≡ appended code.old (line_of op (type_operand (S.context scope.now) name.now) (Number b) at ∷ [])) }
 {
-    if scope.is_own(&name.module) {
+    if scope.is_own(name.module.as_bytes()) {
         code.put(op, scope.type_index(&name.object), b, at)
     } else {
         code.put_type(op, scope.own_types(), name, b, at)
@@ -52,7 +52,7 @@ pub fn put_typed_behind<S: Scope>(
     requires { a < 2 ^ 31 }
     ensures { OnOk result (code.new ≡ appended code.old (placed_two op (count a) (type_operand (S.context scope.now) name.now) at ∷ [])) }
 {
-    if scope.is_own(&name.module) {
+    if scope.is_own(name.module.as_bytes()) {
         code.put(op, a as i32, scope.type_index(&name.object), Some(at))
     } else {
         code.put_type_behind(op, a as i32, scope.own_types(), name, at)

@@ -112,18 +112,18 @@ pub fn put_call<S: Scope>(
             family,
             receiver: Receiver::Pointer,
         } => {
-            let number = scope.method_number(&family.owner, &family.name)?;
+            let number = scope.method_number(&family.owner, &family.name.name())?;
             put_bound_call(code, Opcode::CallP, number, actuals, at)
         }
         Callee::Bound {
             family,
             receiver: Receiver::Record,
         } => {
-            let number = scope.method_number(&family.owner, &family.name)?;
+            let number = scope.method_number(&family.owner, &family.name.name())?;
             put_bound_call(code, Opcode::CallR, number, actuals, at)
         }
         Callee::Super { base, family, .. } => {
-            let number = scope.method_number(&family.owner, &family.name)?;
+            let number = scope.method_number(&family.owner, &family.name.name())?;
             put_typed_and(code, scope, Opcode::CallS, base, number, Some(at))
         }
         Callee::Out(procedure) => put_out(code, *procedure, at),

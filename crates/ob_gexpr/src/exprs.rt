@@ -140,7 +140,7 @@ fn put_selector<S: Scope>(
             name,
             of,
             ..
-        } => put_field(code, scope, owner, name, want, of),
+        } => put_field(code, scope, owner, &name.name(), want, of),
         Designator::Index {
             length,
             index,

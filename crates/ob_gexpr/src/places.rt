@@ -10,7 +10,7 @@ use crate::types::put_tag;
 use ob_code::Want;
 use ob_gcode::{Code, GenFault, Scope, put_bare, put_bare_at, put_count, put_plain};
 use ob_instr::Opcode;
-use ob_tree::{Name, Pos, QName, Which};
+use ob_tree::{CompactName, Name, Pos, QName, Which};
 use ob_types::{Passing, TypeRef, Variable};
 
 // The length of an array of a fixed length.
@@ -161,8 +161,8 @@ fn put_parameter<S: Scope>(
 fn put_global<S: Scope>(
     code: &mut Code,
     scope: &S,
-    unit: &Name,
-    name: &Name,
+    unit: &CompactName,
+    name: &CompactName,
     want: Want,
     of: &TypeRef,
 ) -> Result<(), GenFault>
@@ -175,15 +175,15 @@ fn put_global<S: Scope>(
 fn put_module_line<S: Scope>(
     code: &mut Code,
     scope: &S,
-    unit: &Name,
-    name: &Name,
+    unit: &CompactName,
+    name: &CompactName,
 ) -> Result<(), GenFault>
     ensures { OnOk result (code.new ≡ appended code.old (module_line (S.context scope.now) unit.now name.now ∷ [])) }
 {
-    if scope.is_own(unit) {
-        put_plain(code, Opcode::Global, scope.variable_place(name))
+    if scope.is_own(unit.as_bytes()) {
+        put_plain(code, Opcode::Global, scope.variable_place(name.as_bytes()))
     } else {
-        code.put_variable(unit, name)
+        code.put_variable(&unit.name(), &name.name())
     }
 }
 
@@ -199,12 +199,12 @@ pub fn put_variable<S: Scope>(
 {
     match variable {
         Variable::Module { module, name } => put_global(code, scope, module, name, want, of),
-        Variable::Local(name) => put_own(code, scope, scope.local_slot(name), want, of),
+        Variable::Local(name) => put_own(code, scope, scope.local_slot(name.as_bytes()), want, of),
         Variable::Parameter(how, name) => put_parameter(
             code,
             scope,
             *how,
-            scope.parameter_slot(name),
+            scope.parameter_slot(name.as_bytes()),
             want,
             of,
         ),

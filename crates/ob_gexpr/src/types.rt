@@ -56,11 +56,11 @@ pub fn put_procedure_value<S: Scope>(
 ) -> Result<(), GenFault>
     ensures { OnOk result (code.new ≡ appended code.old (procedure_line (S.context scope.now) name.now ∷ [])) }
 {
-    if scope.is_own(&name.module) {
+    if scope.is_own(name.module.as_bytes()) {
         code.put(Opcode::Proc, scope.procedure_index(&name.object), 0, None)
     } else {
         let object = name_of(name)?;
-        code.put_procedure(Opcode::ProcX, &name.module, &object, None)
+        code.put_procedure(Opcode::ProcX, &name.module.name(), &object, None)
     }
 }
 
@@ -73,7 +73,7 @@ pub fn put_declared<S: Scope>(
 ) -> Result<(), GenFault>
     ensures { OnOk result (code.new ≡ appended code.old (declared_line (S.context scope.now) name.now at ∷ [])) }
 {
-    if scope.is_own(&name.module) {
+    if scope.is_own(name.module.as_bytes()) {
         code.put(
             Opcode::Call,
             scope.procedure_index(&name.object),
@@ -82,7 +82,7 @@ pub fn put_declared<S: Scope>(
         )
     } else {
         let object = name_of(name)?;
-        code.put_procedure(Opcode::CallX, &name.module, &object, Some(at))
+        code.put_procedure(Opcode::CallX, &name.module.name(), &object, Some(at))
     }
 }
 

@@ -19,7 +19,12 @@ use std::alloc::Global;
 fn number_of<T: Types>(scope: &ModuleScope<'_, T>, binding: &Binding) -> u32
     ensures { result ≡ bound_number (T.types scope.now.types.now) (module_view scope.now.unit.now) (Some binding.now) }
 {
-    method_number(scope.types, &binding.family.owner, &binding.family.name).unwrap_or(0)
+    method_number(
+        scope.types,
+        &binding.family.owner,
+        &binding.family.name.name(),
+    )
+    .unwrap_or(0)
 }
 
 // A procedure that is bound to the record type of a name stands behind the others.

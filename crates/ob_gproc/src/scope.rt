@@ -56,20 +56,20 @@ impl<T: Types> Scope for ProcedureScope<'_, T> {
         }
     }
 
-    fn is_own(&self, unit: &Name) -> bool {
-        unit.as_bytes() == self.unit.name.as_bytes()
+    fn is_own(&self, unit: &[u8]) -> bool {
+        unit == self.unit.name.as_bytes()
     }
 
-    fn variable_place(&self, name: &Name) -> i32 {
-        self.variables.get(name.as_bytes()) as i32
+    fn variable_place(&self, name: &[u8]) -> i32 {
+        self.variables.get(name) as i32
     }
 
-    fn parameter_slot(&self, name: &Name) -> u32 {
-        self.slots.get(name.as_bytes()) as u32
+    fn parameter_slot(&self, name: &[u8]) -> u32 {
+        self.slots.get(name) as u32
     }
 
-    fn local_slot(&self, name: &Name) -> i32 {
-        (self.slots.total + self.words.get(name.as_bytes())) as i32
+    fn local_slot(&self, name: &[u8]) -> i32 {
+        (self.slots.total + self.words.get(name)) as i32
     }
 
     fn field_place(&self, owner: &QName, name: &Name) -> Result<i32, GenFault> {

@@ -15,7 +15,7 @@ use crate::links::has_module;
 use crate::loaded::Module;
 use ob_obj::RecordType;
 use ob_tdesc::{Declaration, Descriptors};
-use ob_tree::{List, Name, QName};
+use ob_tree::{CompactName, List, Name, QName};
 use std::alloc::{AllocError, Global};
 use std::marker::Model;
 
@@ -49,7 +49,7 @@ fn count_names(names: &[QName], modules: &[Module]) -> u32
     let mut count = 0;
     let mut rest = names;
     while let [name, more @ ..] = rest {
-        if !has_module(modules, &name.module) {
+        if !has_module(modules, &name.module.name()) {
             return count;
         }
         count += 1;
@@ -133,10 +133,8 @@ impl Types {
         ensures err { OnErr result (self.new ≡ self.old) }
     {
         let object = d.name.clone()?;
-        let name = QName {
-            module: d.module,
-            object,
-        };
+        let module = CompactName::of(alloc, &d.module)?;
+        let name = QName { module, object };
         self.table.reserve(1, d.methods.len())?;
         self.names.reserve(1)?;
         self.index.note(alloc, &name, self.names.len() as u32)?;

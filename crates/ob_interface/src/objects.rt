@@ -20,7 +20,7 @@ use crate::entry::Entry;
 use crate::starts::{exported, shown_starts};
 use ob_desc::write_desc;
 use ob_fprint::print_of;
-use ob_tree::{List, Name, ObjName, Print, QName};
+use ob_tree::{CompactName, List, Name, ObjName, Print, QName};
 use ob_types::{
     Aspect, Desc, Object, TypedConstant, TypedModule, TypedProcedure, TypedType, TypedVariable,
     Types,
@@ -171,18 +171,17 @@ fn add_procedures(
 
 // Whether the type is among those that were reached.
 fn is_reached(
+    alloc: Global,
     reached: &BTreeSet<Pair, Global>,
     module: &Name,
     name: &ObjName,
 ) -> Result<bool, AllocError>
     ensures { IfOk result (λ b. b ≡ has_pair reached.now.keys (paired Shape (record { «module» = «module».now; object = name.now }))) }
 {
+    let module = CompactName::of(alloc, module)?;
     let object = name.clone()?;
     let pair = Pair {
-        object: QName {
-            module: *module,
-            object,
-        },
+        object: QName { module, object },
         aspect: Aspect::Shape,
     };
     Ok(reached.contains(&pair))
@@ -198,7 +197,7 @@ fn add_type_object(
 ) -> Result<(), AllocError>
     ensures { OnOk result (found.new.items ≡ found.old.items ++ each (entry_of «module».now) (each type_object (filter (λ t. has_pair reached.now.keys (paired Shape (record { «module» = «module».now; object = t.name }))) (t.now ∷ [])))) }
 {
-    if !is_reached(reached, module, &t.name)? {
+    if !is_reached(alloc, reached, module, &t.name)? {
         return Ok(());
     }
     let name = t.name.clone()?;

@@ -10,7 +10,7 @@ ghost use Rattle.ob_counts.specs.Counts.{own_name};
 ghost use Rattle.ob_uses.specs.Objects.{formal_of, signature_of, is_exported, first_shown};
 ghost use Rattle.ob_uses.specs.Ways.{type_names};
 
-use ob_tree::{Name, QName};
+use ob_tree::{CompactName, Name, QName};
 use ob_types::{Desc, TypedModule, TypedParameter, TypedProcedure, TypedType, TypedVariable};
 use ob_uses::{add_optional, add_type, shows};
 use std::alloc::{AllocError, Global};
@@ -42,21 +42,25 @@ pub fn exported(procedure: &TypedProcedure) -> bool
     }
 }
 
-fn start_type(left: &mut Vec<QName>, module: &TypedModule, t: &TypedType) -> Result<(), AllocError>
+fn start_type(
+    alloc: Global,
+    left: &mut Vec<QName>,
+    module: &TypedModule,
+    t: &TypedType,
+) -> Result<(), AllocError>
     ensures { OnOk result (left.new.items ≡ left.old.items ++ each (own_name (module_view «module».now)) (filter (λ t. is_visible t.desc) (t.now ∷ []))) }
 {
     if !visible(&t.desc) {
         return Ok(());
     }
+    let module = CompactName::of(alloc, &module.name)?;
     let object = t.name.clone()?;
-    left.push(QName {
-        module: module.name,
-        object,
-    })?;
+    left.push(QName { module, object })?;
     Ok(())
 }
 
 fn start_types(
+    alloc: Global,
     left: &mut Vec<QName>,
     module: &TypedModule,
     types: &[TypedType],
@@ -64,7 +68,7 @@ fn start_types(
     ensures { OnOk result (left.new.items ≡ left.old.items ++ each (own_name (module_view «module».now)) (filter (λ t. is_visible t.desc) types.now)) }
 {
     'types: for t in types {
-        start_type(left, module, t)?;
+        start_type(alloc, left, module, t)?;
     }
     Ok(())
 }
@@ -154,7 +158,7 @@ pub fn shown_starts(alloc: Global, module: &TypedModule) -> Result<Vec<QName>, A
     ensures { IfOk result (λ v. v.items ≡ first_shown (module_view «module».now)) }
 {
     let mut left = Vec::new(alloc);
-    start_types(&mut left, module, module.types.as_slice())?;
+    start_types(alloc, &mut left, module, module.types.as_slice())?;
     start_variables(&mut left, &module.name, module.variables.as_slice())?;
     start_procedures(&mut left, &module.name, module.procedures.as_slice())?;
     Ok(left)

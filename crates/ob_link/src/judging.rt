@@ -14,7 +14,7 @@ use crate::fault::LoadRefusal;
 use crate::loaded::Loaded;
 use crate::member::Member;
 use ob_obj::{Link, Links, ObjFile};
-use ob_tree::{Name, ObjName, Print, ProcRef, QName};
+use ob_tree::{CompactName, Name, ObjName, Print, ProcRef, QName};
 use ob_types::Use;
 use std::alloc::{AllocError, Global};
 
@@ -148,7 +148,7 @@ fn first_break(
     let mut place = 0;
     let mut rest = uses;
     while let [first, more @ ..] = rest {
-        let member = find_near(loaded, new, near, &first.object.module);
+        let member = find_near(loaded, new, near, &first.object.module.name());
         let found = kept_print(member, place, first);
         if let Some(refusal) = use_break(client, first, print_alone(found))? {
             return Ok(Some(refusal));
@@ -181,7 +181,7 @@ fn has_procedure(loaded: &Loaded, new: &Loaded, link: &Link) -> bool
 fn has_type(loaded: &Loaded, new: &Loaded, name: &QName) -> bool
     ensures { result ≡ type_in (member_named name.now.«module» (loaded.now ++ new.now)) name.now.object }
 {
-    match find(loaded, new, &name.module) {
+    match find(loaded, new, &name.module.name()) {
         Some(member) => member.type_place(&name.object).is_some(),
         None => false,
     }
@@ -192,10 +192,8 @@ fn linked(alloc: Global, link: &Link) -> Result<QName, AllocError>
     ensures { IfOk result (λ q. q ≡ linked_as link.now) }
 {
     let object = ObjName::from_name(alloc, &link.name)?;
-    Ok(QName {
-        module: link.module,
-        object,
-    })
+    let module = CompactName::of(alloc, &link.module)?;
+    Ok(QName { module, object })
 }
 
 fn first_variable(

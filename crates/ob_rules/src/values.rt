@@ -53,6 +53,22 @@ impl Place {
         designator
     }
 
+    /// Its designator, and the variable at its front.
+    pub fn into_rooted(self) -> (DesignatorTree, Variable)
+        ensures { result ≡ (self.designator, self.root) }
+    {
+        let Place {
+            designator,
+            of,
+            root,
+            selected,
+            read_only,
+            var_record,
+            guarded,
+        } = self;
+        (designator, root)
+    }
+
     /// Its designator and its type.
     pub fn into_typed(self) -> (DesignatorTree, TypeRef)
         ensures { result ≡ (self.designator, self.of) }

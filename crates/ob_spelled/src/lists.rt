@@ -8,7 +8,7 @@ ghost use Rattle.ob_format.specs.Format.{list_of, rising};
 ghost use Rattle.ob_format.specs.Names.{name, object_name, qname};
 
 use ob_format::{Ranked, Wire, is_name, is_object_name, is_rising};
-use ob_tree::{List, Name, ObjName, QName};
+use ob_tree::{CompactName, List, Name, ObjName, QName};
 
 /// A value that may have a spelling.
 pub trait Spelled: Wire {
@@ -18,6 +18,13 @@ pub trait Spelled: Wire {
 }
 
 impl Spelled for Name {
+    #[tactic(auto, unfolding(ob_format::specs::Names::name, ob_format::specs::Format::text16))]
+    fn is_spelled(&self) -> bool {
+        is_name(self.as_bytes())
+    }
+}
+
+impl Spelled for CompactName {
     #[tactic(auto, unfolding(ob_format::specs::Names::name, ob_format::specs::Format::text16))]
     fn is_spelled(&self) -> bool {
         is_name(self.as_bytes())

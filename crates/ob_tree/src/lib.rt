@@ -2,6 +2,7 @@
 #![tactic(auto)]
 
 mod boxed;
+mod compact_name;
 mod decl;
 mod expr;
 mod ident;
@@ -21,6 +22,7 @@ mod type_node;
 mod which;
 
 pub use boxed::Boxed;
+pub use compact_name::CompactName;
 pub use decl::{Decl, Heading, Module, Receiver};
 pub use expr::{Designator, Element, Expr, Operator, Relation, Selector, Sign, Tail};
 pub use ident::{Ident, IdentDef, Import, Mark, Qualident};

@@ -1,9 +1,9 @@
 ghost use Rattle.std.specs.Prelude.{◌≡◌, ◌≤◌, length, IfOk};
 
+use crate::compact_name::CompactName;
 use crate::ident::Ident;
 use crate::name::Name;
 use crate::pos::Pos;
-use crate::spelling::Spelling;
 use std::alloc::{AllocError, Global};
 use std::marker::Model;
 
@@ -11,19 +11,16 @@ use std::marker::Model;
 /// it as the identifier.
 #[derive(Drop)]
 pub struct Mention {
-    name: Spelling,
+    name: CompactName,
     pos: Pos,
 }
 
 impl Model for Mention {
-    ghost use Rattle.std.specs.Prelude.{◌≤◌, length};
     ghost use Rattle.ob_tree.specs.declared.ident.Ident.{Ident as Identifier};
 
     ghost Value = { Identifier };
 
     ghost view = { λ m. record { name = m.name; pos = m.pos } };
-
-    ghost invariant = { λ m. length m.name ≤ 64 };
 }
 
 impl Mention {
@@ -33,7 +30,7 @@ impl Mention {
         requires { length text.now ≤ 64 }
         ensures { IfOk result (λ m. m ≡ record { name = text.now; «pos» = pos }) }
     {
-        let name = Spelling::from_slice(alloc, text)?;
+        let name = CompactName::new(alloc, text)?;
         Ok(Mention { name, pos })
     }
 
@@ -41,8 +38,11 @@ impl Mention {
     pub fn of(alloc: Global, ident: &Ident) -> Result<Mention, AllocError>
         ensures { IfOk result (λ m. m ≡ ident.now) }
     {
-        let text = &ident.name.as_bytes()[..ident.name.len()];
-        Mention::new(alloc, text, ident.pos)
+        let name = CompactName::of(alloc, &ident.name)?;
+        Ok(Mention {
+            name,
+            pos: ident.pos,
+        })
     }
 
     /// Where it stands.
@@ -56,7 +56,7 @@ impl Mention {
     pub fn name(&self) -> Name
         ensures { result ≡ self.now.name }
     {
-        Name::new(self.name.as_slice())
+        self.name.name()
     }
 
     /// The identifier.

@@ -2,7 +2,9 @@ ghost use Rattle.std.specs.Prelude.{◌≡◌, ◌↔◌, IsTrue, IfOk};
 ghost use Rattle.std.specs.Cmp.Lexicographic.{slice_cmp};
 ghost use Rattle.std.specs.Ordering.{nat_cmp};
 
+use crate::compact_name::CompactName;
 use crate::name::Name;
+use crate::spelling::Spelling;
 use std::alloc::{AllocError, Global};
 use std::cmp::Ordering;
 use std::marker::Model;
@@ -11,9 +13,10 @@ use std::marker::Model;
 /// without one of its own, as `p^` for what the pointer type `p` points to.
 ///
 /// Contracts see it as the list of its bytes. Two object names are the same where their bytes are.
+/// Takes memory beside itself for more than 14 bytes alone.
 #[derive(Debug, Drop)]
 pub struct ObjName {
-    bytes: Vec<u8>,
+    bytes: Spelling,
 }
 
 impl Model for ObjName {
@@ -24,7 +27,7 @@ impl Model for ObjName {
 
     ghost coded = { coded_list coded_ℕ };
 
-    ghost view = { λ n. n.bytes.items };
+    ghost view = { λ n. n.bytes };
 }
 
 impl ObjName {
@@ -32,7 +35,7 @@ impl ObjName {
     pub fn new(alloc: Global, bytes: &[u8]) -> Result<ObjName, AllocError>
         ensures { IfOk result (λ n. n ≡ bytes.now) }
     {
-        let bytes = Vec::from_slice(alloc, bytes)?;
+        let bytes = Spelling::from_slice(alloc, bytes)?;
         Ok(ObjName { bytes })
     }
 
@@ -47,7 +50,7 @@ impl ObjName {
     pub fn as_bytes(&self) -> &[u8]
         ensures { result.now ≡ self.now }
     {
-        &self.bytes
+        self.bytes.as_slice()
     }
 
     /// Whether the two names are the same. Takes no memory.
@@ -94,7 +97,7 @@ impl PartialEq for ObjName {
 /// The name of an object of some module: the module's name, and the object's name in it.
 #[derive(Debug, Drop, Clone, PartialEq)]
 pub struct QName {
-    pub module: Name,
+    pub module: CompactName,
     pub object: ObjName,
 }
 

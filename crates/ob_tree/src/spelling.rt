@@ -7,7 +7,7 @@ use std::marker::Model;
 /// The most bytes that stand in the spelling itself.
 const SHORT: usize = 14;
 
-#[derive(Drop)]
+#[derive(Debug, Drop)]
 enum Held {
     // So many bytes, and zeros behind them.
     Short { len: u8, bytes: [u8; 14] },
@@ -16,7 +16,7 @@ enum Held {
 
 /// Bytes of a text, in 16 bytes of memory where they are at most 14. Contracts see it as their
 /// list.
-#[derive(Drop)]
+#[derive(Debug, Drop)]
 pub struct Spelling {
     held: Held,
 }
@@ -72,6 +72,29 @@ impl Spelling {
         match &self.held {
             Held::Short { len, bytes } => &bytes[..*len as usize],
             Held::Long(bytes) => bytes.as_slice(),
+        }
+    }
+}
+
+impl Clone for Spelling {
+    ghost use Rattle.std.specs.Prelude.{◌≡◌};
+
+    ghost is_clone = { λ a b. b ≡ a };
+
+    fn clone(&self) -> Result<Spelling, AllocError> {
+        match &self.held {
+            Held::Short { len, bytes } => Ok(Spelling {
+                held: Held::Short {
+                    len: *len,
+                    bytes: *bytes,
+                },
+            }),
+            Held::Long(bytes) => {
+                let same = bytes.clone()?;
+                Ok(Spelling {
+                    held: Held::Long(same),
+                })
+            }
         }
     }
 }

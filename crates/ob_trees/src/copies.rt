@@ -3,17 +3,35 @@
 ghost use Rattle.std.specs.Prelude.{◌≡◌, IfOk};
 
 use ob_tree::{List, QName};
-use ob_types::{Desc, Field, Method, Mode, RecordDesc, Signature, TypeRef, Value};
+use ob_types::{Desc, Field, Method, Mode, RecordDesc, Signature, TypeRef, Value, Variable};
 use std::alloc::{AllocError, Global};
 
 pub fn copy_name(name: &QName) -> Result<QName, AllocError>
     ensures { IfOk result (λ r. r ≡ name.now) }
 {
+    let module = name.module.clone()?;
     let object = name.object.clone()?;
-    Ok(QName {
-        module: name.module,
-        object,
-    })
+    Ok(QName { module, object })
+}
+
+pub fn copy_variable(variable: &Variable) -> Result<Variable, AllocError>
+    ensures { IfOk result (λ r. r ≡ variable.now) }
+{
+    match variable {
+        Variable::Module { module, name } => {
+            let module = module.clone()?;
+            let name = name.clone()?;
+            Ok(Variable::Module { module, name })
+        }
+        Variable::Local(name) => {
+            let name = name.clone()?;
+            Ok(Variable::Local(name))
+        }
+        Variable::Parameter(passing, name) => {
+            let name = name.clone()?;
+            Ok(Variable::Parameter(*passing, name))
+        }
+    }
 }
 
 pub fn copy_type(t: &TypeRef) -> Result<TypeRef, AllocError>

@@ -3,7 +3,7 @@ ghost use Rattle.ob_types.specs.declared.typed.Designator.TheVariants as d;
 
 use crate::destructors::{destroy_designator, destroy_designators};
 use crate::expr::ExprTree;
-use ob_tree::{Boxed, List, Name, Pos, QName};
+use ob_tree::{Boxed, CompactName, List, Pos, QName};
 use ob_types::{Designator, Guarded, TypeRef, Variable};
 use std::alloc::{AllocError, Global};
 
@@ -39,7 +39,7 @@ impl DesignatorTree {
         alloc: Global,
         inner: DesignatorTree,
         owner: QName,
-        name: Name,
+        name: CompactName,
         of: TypeRef,
     ) -> Result<DesignatorTree, AllocError>
         ensures { IfOk result (λ t. t.inner ≡ d.Field inner.inner owner name of) }

@@ -12,7 +12,7 @@ mod stmt;
 
 pub use copies::{
     copy_desc, copy_field, copy_method, copy_name, copy_record, copy_signature, copy_type,
-    copy_value,
+    copy_value, copy_variable,
 };
 pub use designator::{DesignatorTree, DesignatorTrees};
 pub use expr::{ActualTrees, ExprTree};

@@ -10,7 +10,7 @@
 use crate::desc::{Desc, Receiver};
 use crate::types::{Basic, Signature, TypeRef};
 use crate::value::Value;
-use ob_tree::{Boxed, List, Mark, Name, ObjName, Pos, QName};
+use ob_tree::{Boxed, CompactName, List, Mark, Name, ObjName, Pos, QName};
 
 /// An integer type, as that in which an operation computes.
 #[derive(Clone, Copy, PartialEq, Eq)]
@@ -42,14 +42,27 @@ pub enum Passing {
 }
 
 /// A variable where it is named.
-#[derive(Clone, Copy)]
 pub enum Variable {
     /// A variable of a module, of the module at hand too.
-    Module { module: Name, name: Name },
+    Module {
+        module: CompactName,
+        name: CompactName,
+    },
     /// A local variable of the procedure at hand.
-    Local(Name),
+    Local(CompactName),
     /// A parameter of the procedure at hand.
-    Parameter(Passing, Name),
+    Parameter(Passing, CompactName),
+}
+
+// By hand, as that of `TypeRef`; and where it says so below.
+impl Drop for Variable {
+    fn drop(self) {
+        match self {
+            Variable::Module { module: _, name: _ } => {}
+            Variable::Local(_) => {}
+            Variable::Parameter(_, _) => {}
+        }
+    }
 }
 
 /// What a guard stands on.
@@ -167,7 +180,7 @@ pub enum OutProcedure {
 #[derive(Drop)]
 pub struct Family {
     pub owner: QName,
-    pub name: Name,
+    pub name: CompactName,
 }
 
 /// What a call names, but a procedure variable.
@@ -191,7 +204,7 @@ pub enum Callee {
     Out(OutProcedure),
 }
 
-// By hand, as that of `TypeRef`; and where it says so below.
+// By hand.
 impl Drop for Callee {
     fn drop(self) {
         match self {
@@ -223,7 +236,7 @@ pub enum Designator {
     Field {
         inner: Boxed<Designator>,
         owner: QName,
-        name: Name,
+        name: CompactName,
         of: TypeRef,
     },
     /// An element, of an array of that length, or of an open array. A further index is an index

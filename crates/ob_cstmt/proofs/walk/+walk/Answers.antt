@@ -89,10 +89,10 @@ check_guarded-branches-preserved g t c =
     let split : map spec.guarded_of (drop i c.args.branches.now) ≡ spec.guarded_of c.branch-item.result ∷ rest = map_from spec.guarded_of c.args.branches.now i c.branch-item.result c.branches-test.true ∙ ap (λ y. spec.guarded_of y ∷ rest) (sym c.branch-item.is) in
     let b : spec.GuardedBody = record { guard = c.branch-item.result.guard; body = map spec.judging c.branch-item.result.body } in
     let view : spec.guarded_of c.branch-item.result ∷ rest ≡ b ∷ rest = ap (λ y. y ∷ rest) (guarded_is c.branch-item.result) in
-    let inside = spec.guarded_around (g.S.Surroundings.around c.branches.here) c.variable_meant-variable.result c.in_ok-of.of in
-    guarded_step b rest u (g.S.Surroundings.around c.branches.here) (g.S.Surroundings.around c.check_guarded_body.new.here) (test_in c.in_ok-test.test) c.variable_meant-variable.result c.in_ok-of.of (expr_in c.test_tree.result) (stmts_in c.in_ok-body.body) (branches_in c.branches.all) (branches_in c.in_ok-all.all) _ c.branches.book c.check_guard.new.book c.check_guarded_body.new.book _
+    let inside = spec.guarded_around (g.S.Surroundings.around c.branches.here) c.in_ok-variable.variable c.in_ok-of.of in
+    guarded_step b rest u (g.S.Surroundings.around c.branches.here) (g.S.Surroundings.around c.check_guarded_body.new.here) (test_in c.in_ok-test.test) c.in_ok-variable.variable c.in_ok-of.of (expr_in c.test_tree.result) (stmts_in c.in_ok-body.body) (branches_in c.branches.all) (branches_in c.in_ok-all.all) _ c.branches.book c.check_guard.new.book c.check_guarded_body.new.book _
     c.branches.invariant.2 c.in_ok-body.ensures.around c.in_ok-test.ensures.made c.in_ok-test.ensures.noted
-    c.variable_meant-variable.ensures
+    c.in_ok-variable.ensures
     (c.in_ok-of.ensures ∙ ap (λ o. spec.type_if (test_in o)) c.as_ref.ensures.value)
     c.test_tree.ensures
     (c.in_ok-body.ensures.made ∙ ap (λ ss. (spec.in_turn (map spec.judging ss) inside).node) c.as_slice.ensures)

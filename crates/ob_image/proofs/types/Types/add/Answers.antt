@@ -18,13 +18,14 @@ invariant_of-self-2 c =
     let base : IfSome d.base (λ b. b < length old) = subst (λ l. IfSome d.base (λ b. b < length l)) (sym c.self.view_is) c.requires.base in
     let few : length old + 1 < 4294967296 = subst (λ (l : List Descriptor). length l + 1 < 4294967296) (sym c.self.view_is) c.requires.few in
     let object : c.in_ok-object.object ≡ d.name = c.in_ok-object.ensures.cases in
+    let unit : c.in_ok-module.«module» ≡ d.«module» = c.in_ok-module.ensures in
     let room : vec_len c.reserve-2.new.self < vec_capacity c.reserve-2.new.self = omega (arith, c.in_ok-reserve-2.ensures.ok) in
     let ok : IsOk c.push.result = c.push.ensures.succeeds room in
-    let names : c.push.new.self.items ≡ map name_of old ++ name_of d ∷ [] = c.push.ensures.items ∙ pushed c.push.result _ _ ok ∙ rw (c.reserve-2.ensures.items, c.self.invariant.0, object) refl in
+    let names : c.push.new.self.items ≡ map name_of old ++ name_of d ∷ [] = c.push.ensures.items ∙ pushed c.push.result _ _ ok ∙ rw (c.reserve-2.ensures.items, c.self.invariant.0, object, unit) refl in
     let number : c.len-2.result ≡ length old = c.len-2.ensures ∙ c.reserve-2.ensures.len ∙ c.self.inside.names.ok.0 ∙ ap length c.self.invariant.0 ∙ length-map old name_of in
     let before = c.self.inside.index.modules in
     let after = c.note.new.self.modules in
-    let notes : Notes before after (name_of d) (length old) = subst (λ n. Notes before after (name_of d) n) number (subst (λ o. Notes before after (record { «module» = d.«module»; object = o }) c.len-2.result) object c.in_ok-note.ensures.ok) in (
+    let notes : Notes before after (name_of d) (length old) = subst (λ n. Notes before after (name_of d) n) number (subst (λ m. Notes before after (record { «module» = m; object = d.name }) c.len-2.result) unit (subst (λ o. Notes before after (record { «module» = c.in_ok-module.«module»; object = o }) c.len-2.result) object c.in_ok-note.ensures.ok)) in (
       names ∙ sym (ap (map name_of) list ∙ names_more old d),
       rw list (omega (arith, few, length-append old (d ∷ []))),
       rw list (bases_added old d c.self.invariant.2 base),
