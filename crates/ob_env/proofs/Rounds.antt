@@ -60,7 +60,7 @@ module _ (p : TypeRef → Bool) where
   chained None = refl
   chained (Some o) = refl
 
-  round_marks : (is : List Interface) (q : QName) → is_marked is (marks_by p is) (ref.Named q) ≡ chain_described p (map_of is q)
+  pub round_marks : (is : List Interface) (q : QName) → is_marked is (marks_by p is) (ref.Named q) ≡ chain_described p (map_of is q)
   round_marks is q =
       ap (λ (o : Option Bool). unwrap_or o true) (placed_mark is q (position_from 0 q.«module» (module_names is)) refl)
       ∙ chained (object_found is q)
@@ -90,11 +90,11 @@ next_round is faces n marks next say same e t =
 
 -- ---- where all are marked
 
-true_left : (a b : Bool) → (a && b) ≡ true → a ≡ true
+pub true_left : (a b : Bool) → (a && b) ≡ true → a ≡ true
 true_left true b e = refl
 true_left false b e = absurd cc
 
-true_right : (a b : Bool) → (a && b) ≡ true → b ≡ true
+pub true_right : (a b : Bool) → (a && b) ≡ true → b ≡ true
 true_right true b e = e
 true_right false b e = absurd cc
 

@@ -1,10 +1,11 @@
 -- Which objects stand on no chain that is too long: a mark for each object of each interface.
-use Rattle.std.specs.Prelude.{◌≡◌, ℕ, Bool, true, false, List, map as each, Option, Some, slice_get, unwrap_or}
+use Rattle.std.specs.Prelude.{◌≡◌, ℕ, Bool, true, false, ◌&&◌, nat_lt, List, [], ◌∷◌, map as each, Option, Some, None, slice_get, unwrap_or}
 use Rattle.std.specs.List.{list_all}
 use Rattle.ob_format.specs.Format.{◌>>=◌}
 use Rattle.ob_tree.specs.declared.names.QName.{QName}
 use Rattle.ob_types.specs.declared.types.TypeRef.{TypeRef}
 use Rattle.ob_types.specs.declared.types.TypeRef.TheVariants as ref
+use Rattle.ob_types.specs.declared.face.Object.{Object}
 use Rattle.ob_types.specs.declared.face.Interface.{Interface}
 use Rattle.ob_types.specs.Maps.{stands_on}
 use Rattle.ob_layout.specs.Index.{position_from}
@@ -46,3 +47,36 @@ SayWithin is n marks = (t : TypeRef) → is_within (map_of is) n t ≡ is_marked
 abbrev pub is_basic : TypeRef → Bool
 is_basic (ref.Basic b) = true
 is_basic (ref.Named q) = false
+
+-- ---- heights, which rise from what a type stands on to the type
+
+-- the height at a place
+abbrev pub height_at : List (List ℕ) → ℕ × ℕ → Option ℕ
+height_at heights p = slice_get heights p.0 >>= λ m. slice_get m p.1
+
+abbrev pub is_less : Option ℕ → ℕ → Bool
+is_less None n = false
+is_less (Some h) n = nat_lt h n
+
+-- below a height are the basic types, and the names whose own height is less
+abbrev pub is_below : List Interface → List (List ℕ) → ℕ → TypeRef → Bool
+is_below is heights n (ref.Basic b) = true
+is_below is heights n (ref.Named q) = is_less (place_of is q >>= height_at heights) n
+
+-- the height is at most 200, and all that the object stands on is below it
+abbrev pub keeps_height : (ℕ → TypeRef → Bool) → Object → ℕ → Bool
+keeps_height below o h = nat_lt h 201 && list_all (below h) (stands_on o.desc)
+
+-- each object has a height, and keeps it
+abbrev pub row_keeps : (ℕ → TypeRef → Bool) → List Object → List ℕ → Bool
+row_keeps below [] hs = true
+row_keeps below (o ∷ os) [] = false
+row_keeps below (o ∷ os) (h ∷ hs) = keeps_height below o h && row_keeps below os hs
+
+abbrev pub rows_keep : (ℕ → TypeRef → Bool) → List Interface → List (List ℕ) → Bool
+rows_keep below [] rows = true
+rows_keep below (i ∷ is) [] = false
+rows_keep below (i ∷ is) (r ∷ rows) = row_keeps below i.objects r && rows_keep below is rows
+
+abbrev pub are_ranked : List Interface → List (List ℕ) → Bool
+are_ranked is heights = rows_keep (is_below is heights) is heights

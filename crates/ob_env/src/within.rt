@@ -6,6 +6,8 @@ ghost use Rattle.std.specs.Prelude.{map as each};
 ghost use Rattle.ob_env.specs.Marks.{mark_at, is_marked, row_by, marks_by, are_all, SayWithin, is_basic};
 
 use crate::env::Env;
+use crate::heights::heights_of;
+use crate::ranked::are_ranked;
 use crate::tested::{Test, all_stood_on};
 use ob_layout::item_at;
 use ob_tree::{List, QName};
@@ -136,11 +138,16 @@ fn rows_are_all(rows: &[List<bool>]) -> bool
     true
 }
 
-/// The marks of the types on which no chain of more than 201 types stands, itself among them. In
-/// rounds, each of which goes one type further; the last round is the one that marks all.
+/// The marks of the types on which no chain of more than 201 types stands, itself among them.
+/// Where all have a height, no chain is too long, and no mark says so. Otherwise in rounds, each of
+/// which goes one type further; the last round is the one that marks all.
 pub fn within_marks(alloc: Global, env: &Env) -> Result<List<List<bool>>, AllocError>
     ensures { IfOk result (λ marks. SayWithin env.now CHAIN marks) }
 {
+    let heights = heights_of(alloc, env)?;
+    if are_ranked(env, &heights) {
+        return Ok(List::new(alloc));
+    }
     let mut marks = rows_by(alloc, &BasicTest, env.faces())?;
     for round in 1..CHAIN {
         let _ = round;

@@ -1,7 +1,11 @@
 use Rattle.std.proofs.Common.{◌≡◌, ℕ, ◌≤◌, Bool, true, List, sym, ap, ◌∙◌, subst, arith}
 use Rattle.ob_env.specs.Marks.{marks_by, is_basic, are_all, SayWithin}
 use Rattle.ob_env.proofs.Rounds.{first_round, next_round, all_rounds}
+use Rattle.ob_env.proofs.Ranks.{ranked_marks}
 use Rattle.ob_env.proofs.within.within_marks.Goals as goal
+
+pub returns-then-are_ranked : goal.returns-then-are_ranked
+returns-then-are_ranked c = ranked_marks c.args.env.now c.in_ok-heights.heights c.new.result (sym c.if-are_ranked.ensures) c.new.ensures
 
 pub loop-round-init : goal.loop-round-init
 loop-round-init c = first_round c.args.env.now c.in_ok-marks.marks (c.in_ok-marks.ensures ∙ ap (marks_by is_basic) c.faces.ensures.faces)
