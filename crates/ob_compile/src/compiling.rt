@@ -10,6 +10,7 @@ ghost use Rattle.ob_compile.specs.Contract.{AreFile, Compiles, CompileHasCause};
 use crate::faces::compile_text;
 use crate::shape::Built;
 use crate::source::read_source;
+use ob_cache::SymbolReader;
 use ob_compiling::CompileFault;
 use ob_io::Shelf;
 use std::alloc::Global;
@@ -19,7 +20,12 @@ use std::alloc::Global;
 /// where the folder's count of faults rose, `Memory` where memory is wanting; and, as no law says yet
 /// that it does not come to that, where a file that was made has no spelling or the generator gives
 /// the module up.
-pub fn compile<F: Shelf>(alloc: Global, folder: &mut F, file: &str) -> Result<Built, CompileFault>
+pub fn compile<F: Shelf, R: SymbolReader>(
+    alloc: Global,
+    folder: &mut F,
+    reader: &mut R,
+    file: &str,
+) -> Result<Built, CompileFault>
     ensures told { F.tells folder.new ≡ F.tells folder.old }
     ensures files { F.tells folder.old ≡ true → SameFiles (F.files folder.new) (F.files folder.old) }
     ensures compiles { F.tells folder.old ≡ true → Compiles (compiled prints (symbol_entry (F.files folder.old)) (F.files folder.old file.now)) result }
@@ -28,7 +34,7 @@ pub fn compile<F: Shelf>(alloc: Global, folder: &mut F, file: &str) -> Result<Bu
     ensures cause { CompileHasCause (F.faults folder.old) (F.faults folder.new) result }
 {
     match read_source(alloc, folder, file) {
-        Ok(text) => compile_text(alloc, folder, text.as_slice()),
+        Ok(text) => compile_text(alloc, folder, reader, text.as_slice()),
         Err(fault) => Err(fault),
     }
 }

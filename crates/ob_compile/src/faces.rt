@@ -16,6 +16,7 @@ use crate::answers::{fault_of_env, fault_of_text, fault_of_walk, over_limit};
 use crate::held::SourceTree;
 use crate::rules::judged;
 use crate::shape::Built;
+use ob_cache::SymbolReader;
 use ob_compiling::CompileFault;
 use ob_env::Env;
 use ob_io::Shelf;
@@ -60,9 +61,10 @@ fn compile_over(alloc: Global, tree: &Module, faces: List<Interface>) -> Result<
 }
 
 // Compiles a module with these imports.
-fn compile_with<F: Shelf>(
+fn compile_with<F: Shelf, R: SymbolReader>(
     alloc: Global,
     folder: &mut F,
+    reader: &mut R,
     tree: &Module,
     imports: &[Name],
 ) -> Result<Built, CompileFault>
@@ -73,16 +75,17 @@ fn compile_with<F: Shelf>(
     ensures file { IfOk result (λ b. AreFile b.obj) }
     ensures cause { CompileHasCause (F.faults folder.old) (F.faults folder.new) result }
 {
-    match walk(alloc, folder, &tree.name.name, imports) {
+    match walk(alloc, folder, reader, &tree.name.name, imports) {
         Ok(faces) => compile_over(alloc, tree, faces),
         Err(stop) => Err(fault_of_walk(stop)),
     }
 }
 
 // Compiles a module.
-fn compile_tree<F: Shelf>(
+fn compile_tree<F: Shelf, R: SymbolReader>(
     alloc: Global,
     folder: &mut F,
+    reader: &mut R,
     tree: &Module,
 ) -> Result<Built, CompileFault>
     ensures told { F.tells folder.new ≡ F.tells folder.old }
@@ -99,13 +102,14 @@ fn compile_tree<F: Shelf>(
     let Ok(imports) = all_imported(alloc, listed) else {
         return Err(CompileFault::Memory);
     };
-    compile_with(alloc, folder, tree, imports.as_slice())
+    compile_with(alloc, folder, reader, tree, imports.as_slice())
 }
 
 /// Compiles the text of a source.
-pub fn compile_text<F: Shelf>(
+pub fn compile_text<F: Shelf, R: SymbolReader>(
     alloc: Global,
     folder: &mut F,
+    reader: &mut R,
     text: &[u8],
 ) -> Result<Built, CompileFault>
     requires { length text.now ≤ 1048576 }
@@ -119,7 +123,7 @@ pub fn compile_text<F: Shelf>(
     match read_module(alloc, text) {
         Ok(tree) => {
             let source = SourceTree { tree };
-            compile_tree(alloc, folder, &source.tree)
+            compile_tree(alloc, folder, reader, &source.tree)
         }
         Err(fault) => Err(fault_of_text(fault)),
     }

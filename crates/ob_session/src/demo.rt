@@ -13,6 +13,7 @@ ghost use Rattle.ob_session.specs.Does.{Shows, TextDoes, MakesSo, AreFew};
 use crate::commanding::do_command;
 use crate::files::{object_file, symbol_file};
 use itoa::Buffer;
+use ob_cache::SymbolCache;
 use ob_compile::{Built, compile};
 use ob_compiling::CompileFault;
 use ob_demo::source;
@@ -74,11 +75,16 @@ fn source_file(alloc: Global, at: u32) -> Result<Vec<u8>, AllocError>
 }
 
 // Compiles a file. It answers the number of the module's objects; none where it is refused.
-fn make_file(alloc: Global, folder: &mut MemFolder, file: &str) -> Result<Option<u32>, AllocError>
+fn make_file(
+    alloc: Global,
+    folder: &mut MemFolder,
+    cache: &mut SymbolCache,
+    file: &str,
+) -> Result<Option<u32>, AllocError>
     ensures makes { IfOk result (MakesSo (made_of (file_in folder.old.pairs) (compiled_file (file_in folder.old.pairs) file.now)) (file_in folder.new.pairs)) }
     ensures few { IfOk result AreFew }
 {
-    match compile(alloc, folder, file) {
+    match compile(alloc, folder, cache, file) {
         Ok(built) => {
             put_both(alloc, folder, &built)?;
             Ok(Some(built.face.objects.len() as u32))
@@ -96,6 +102,7 @@ fn make_one(
     count: u32,
     at: u32,
     folder: &mut MemFolder,
+    cache: &mut SymbolCache,
 ) -> Result<Option<u32>, AllocError>
     requires first { 1 ≤ at }
     requires last { at ≤ count }
@@ -109,12 +116,17 @@ fn make_one(
     };
     let text = source(alloc, count, at)?;
     put_file(folder, file, text.as_slice())?;
-    let made = make_file(alloc, folder, file)?;
+    let made = make_file(alloc, folder, cache, file)?;
     Ok(made)
 }
 
 // Makes all modules of a demo, in an empty folder.
-fn make_all(alloc: Global, count: u32, folder: &mut MemFolder) -> Result<Option<u32>, AllocError>
+fn make_all(
+    alloc: Global,
+    count: u32,
+    folder: &mut MemFolder,
+    cache: &mut SymbolCache,
+) -> Result<Option<u32>, AllocError>
     requires empty { folder.old.pairs ≡ [] }
     requires few { count ≤ 60 }
     ensures { IfOk result (MakesSo (demo_made count) (file_in folder.new.pairs)) }
@@ -122,7 +134,7 @@ fn make_all(alloc: Global, count: u32, folder: &mut MemFolder) -> Result<Option<
     let mut objects = 0;
     let mut at = 1;
     'modules: while at <= count {
-        match make_one(alloc, count, at, folder)? {
+        match make_one(alloc, count, at, folder, cache)? {
             Some(more) => {
                 objects += more;
                 at += 1;
@@ -230,6 +242,7 @@ pub fn do_demo<O: Sink>(
     alloc: Global,
     settings: Settings,
     count: u32,
+    cache: &mut SymbolCache,
     out: &mut O,
 ) -> Result<bool, Stop>
     requires first { 1 ≤ count }
@@ -241,7 +254,7 @@ pub fn do_demo<O: Sink>(
     ensures cause { SinkCause (O.faults out.old) (O.faults out.new) result }
 {
     let mut folder = MemFolder::new(alloc, Vec::new(alloc));
-    match make_all(alloc, count, &mut folder) {
+    match make_all(alloc, count, &mut folder, cache) {
         Ok(Some(objects)) => run_last(alloc, settings, count, objects, &mut folder, out),
         Ok(None) => Ok(true),
         Err(_) => Err(Stop::Memory),
