@@ -16,3 +16,10 @@ invariant_of-self-in-Some c =
     let e : c.self.inside.keys.items ≡ c.pop.new.self.items ++ k ∷ [] = (search rules) in
     let p : Puts c.self.inside.last c.put_back.new.places k.name k.before = subst (λ l. Puts c.self.inside.last c.put_back.new.places l k.before) c.as_bytes.ensures c.put_back.ensures in
     indexed_less c.self.inside.last c.put_back.new.places c.self.inside.keys.items c.pop.new.self.items k e c.self.invariant.0 c.self.invariant.1 p
+
+pub invariant_of-self-in-Some-2 : goal.invariant_of-self-in-Some-2
+invariant_of-self-in-Some-2 c =
+    let k = c.in-Some.key in
+    let e : c.self.inside.keys.items ≡ c.pop.new.self.items ++ k ∷ [] = (search rules) in
+    let p : Puts c.self.inside.last c.put_back.new.places k.name k.before = subst (λ l. Puts c.self.inside.last c.put_back.new.places l k.before) c.as_bytes.ensures c.put_back.ensures in
+    indexed_less c.self.inside.last c.put_back.new.places c.self.inside.keys.items c.pop.new.self.items k e c.self.invariant.0 c.self.invariant.1 p
