@@ -162,6 +162,21 @@ fn with_receiver(
     ActualTrees::after(alloc, passing, formal, value, actuals)
 }
 
+// The call with its receiver and these actual parameters.
+fn call_tree(
+    alloc: Global,
+    at: Pos,
+    chosen: Chosen,
+    actuals: ActualTrees,
+) -> Result<ExprTree, AllocError>
+    ensures { IfOk result (λ t. t.inner ≡ e.Call (spec.bound_callee chosen chosen.base) (spec.receiver_actual chosen.method.receiver chosen ∷ actuals.inner) at chosen.method.signature.result) }
+{
+    let callee = bound_callee(alloc, &chosen)?;
+    let of = copy_result(&chosen.method.signature.result)?;
+    let all = with_receiver(alloc, chosen, actuals)?;
+    Ok(ExprTree::call(callee, all, at, of))
+}
+
 fn call_to(
     alloc: Global,
     book: &mut Notebook,
@@ -182,14 +197,9 @@ fn call_to(
         book.breaks(27, at);
         return Ok(None);
     }
-    let callee = bound_callee(alloc, &chosen)?;
-    let of = copy_result(&chosen.method.signature.result)?;
-    let kind = result_kind(&chosen.method.signature.result)?;
-    let all = with_receiver(alloc, chosen, actuals)?;
-    Ok(Some(Valued::Node(Computed {
-        tree: ExprTree::call(callee, all, at, of),
-        of: kind,
-    })))
+    let of = result_kind(&chosen.method.signature.result)?;
+    let tree = call_tree(alloc, at, chosen, actuals)?;
+    Ok(Some(Valued::Node(Computed { tree, of })))
 }
 
 /// The call of a bound procedure with these actual parameters, which are judged already; `count` are
