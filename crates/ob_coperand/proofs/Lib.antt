@@ -1,3 +1,4 @@
 pub mod LiteralLaws
 pub mod RowLaws
 pub mod TestLaws
+pub mod PlaceLaws
