@@ -1,5 +1,7 @@
 ghost use Rattle.std.specs.Prelude.{◌≡◌, ◌∷◌, [], ◌++◌, OnOk, IfOk, Option, map as each};
 ghost use Rattle.std.specs.List.{flat_map};
+ghost use Rattle.std.specs.Option.{option_copied};
+ghost use Rattle.ob_layout.specs.Members.{method_in};
 ghost use Rattle.ob_types.specs.declared.types.TypeRef.TheVariants as ref;
 ghost use Rattle.ob_types.specs.Maps.{listed};
 ghost use Rattle.ob_types.specs.TypedView.{designator_view, procedure_view, mentioned_view, module_view};
@@ -15,7 +17,7 @@ use crate::notes::{
 use crate::stmts::count_stmts;
 use ob_tree::{List, Name, QName};
 use ob_types::{
-    Binding, Desc, Designator, Field, Mode, Passing, TypeRef, TypedModule, TypedParameter,
+    Binding, Desc, Designator, Field, Method, Mode, Passing, TypeRef, TypedModule, TypedParameter,
     TypedProcedure, TypedType, TypedVariable, Types,
 };
 use std::alloc::{AllocError, Global};
@@ -133,6 +135,13 @@ fn count_parameters(found: &mut Noted, parameters: &[TypedParameter]) -> Result<
     Ok(())
 }
 
+// The bound procedure that begins the family of what is bound.
+fn bound_method<'a, T: Types>(types: &'a T, bound: &Binding) -> Option<&'a Method>
+    ensures { option_copied result ≡ method_in (T.types types.now) bound.now.family.owner bound.now.family.name }
+{
+    method_of(types, &bound.family.owner, &bound.family.name.name())
+}
+
 // The parameters and the result of the bound procedure that a procedure redefines or begins.
 #[tactic(auto, using(crate::proofs::Parting::note_none))]
 fn count_binding<T: Types>(
@@ -144,7 +153,7 @@ fn count_binding<T: Types>(
 {
     match binding {
         None => Ok(()),
-        Some(bound) => match method_of(types, &bound.family.owner, &bound.family.name.name()) {
+        Some(bound) => match bound_method(types, bound) {
             None => Ok(()),
             Some(method) => note_signature(found, &method.signature),
         },

@@ -40,14 +40,15 @@ pub fn description(alloc: Global, shape: &str, layout: Option<&str>) -> anyhow::
     let Some((name, desc)) = read_desc(alloc, shape.as_bytes(), wanted)? else {
         return Ok(Answer::Refused);
     };
-    let again = write_desc(alloc, &name.module, &name.object, &desc, Aspect::Shape)?;
+    let module = name.module.name();
+    let again = write_desc(alloc, &module, &name.object, &desc, Aspect::Shape)?;
     if again.as_slice() != shape.as_bytes() {
         return Ok(Answer::Other);
     }
     let is_same = match (desc, wanted) {
         (Desc::Record(record), Some(text)) => {
             let desc = Desc::Record(record);
-            let again = write_desc(alloc, &name.module, &name.object, &desc, Aspect::Layout)?;
+            let again = write_desc(alloc, &module, &name.object, &desc, Aspect::Layout)?;
             again.as_slice() == text
         }
         (Desc::Record(_), None) => false,
