@@ -25,6 +25,11 @@ reach-preserved g c =
     passed (leads_by c.args.way (g.T.Types.types c.args.types.now) c.args.own.now) c.args.starts.now c.args.aspect c.reach.seen.keys c.reach.left.items c.pop.new.self.items c.in-Some.object
     c.in-Some.ensures.items (sym c.contains.ensures ∙ c.if-not-contains.false) c.reach.invariant
 
+pub reach-preserved-else-not-contains : goal.reach-preserved-else-not-contains
+reach-preserved-else-not-contains g c =
+    passed (leads_by c.args.way (g.T.Types.types c.args.types.now) c.args.own.now) c.args.starts.now c.args.aspect c.reach.seen.keys c.reach.left.items c.pop.new.self.items c.in-Some.object
+    c.in-Some.ensures.items (sym c.contains.ensures ∙ c.if-not-contains.false) c.reach.invariant
+
 pub reach-smaller-in_ok-insert : goal.reach-smaller-in_ok-insert
 reach-smaller-in_ok-insert g c =
     falls_entered c.args.way (g.T.Types.types c.args.types.now) c.args.own.now c.args.aspect c.reach.seen.keys c.insert.new.self.keys (g.T.Types.finite c.args.types.now).0 c.reach.left.items c.pop.new.self.items c.add_found.new.left.items c.in-Some.object
