@@ -16,12 +16,12 @@ ghost use Rattle.ob_cblock.specs.Procedures.{left_of, blank, entered};
 
 use ob_cdecl::{append_notes, closing_judged};
 use ob_cfield::Parameters;
-use ob_chead::{BoundAs, Head};
+use ob_chead::{BoundAs, Head, self_of};
 use ob_known::{Imports, Inside, Outside, Scope};
 use ob_rules::{Notebook, Received};
-use ob_tree::{CompactName, Ident, Mark, Name, ObjName, Pos};
+use ob_tree::{Ident, Mark, Name, ObjName, Pos};
 use ob_trees::{copy_name, copy_type};
-use ob_types::{Passing, Receiver, TypeRef, Variable};
+use ob_types::TypeRef;
 use std::alloc::{AllocError, Global};
 
 /// What is left of a heading while the body of its procedure is judged.
@@ -34,16 +34,6 @@ pub(crate) struct Opened {
     pub(crate) path: ObjName,
     pub(crate) receiver: Option<Ident>,
     pub(crate) parameters: Option<Parameters>,
-}
-
-fn self_of(alloc: Global, x: &Ident, kind: Receiver) -> Result<Variable, AllocError>
-    ensures { IfOk result (λ r. r ≡ heading.self_of x.now kind) }
-{
-    let name = CompactName::of(alloc, &x.name)?;
-    Ok(match kind {
-        Receiver::Record => Variable::Parameter(Passing::VariableRecord, name),
-        Receiver::Pointer => Variable::Parameter(Passing::Scalar, name),
-    })
 }
 
 fn received(

@@ -14,3 +14,4 @@ pub use head::{BoundAs, Head};
 pub use heading::add_heading;
 pub use heads::Heads;
 pub use keys::key_of;
+pub use owner::self_of;

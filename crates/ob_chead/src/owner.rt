@@ -183,7 +183,8 @@ pub fn owner_if<E: Imports>(
     }
 }
 
-fn self_of(alloc: Global, x: &Ident, kind: Kind) -> Result<Variable, AllocError>
+/// The variable that a receiver of that name is. An `Err` is a want of memory.
+pub fn self_of(alloc: Global, x: &Ident, kind: Kind) -> Result<Variable, AllocError>
     ensures { IfOk result (λ r. r ≡ spec.self_of x.now kind) }
 {
     let name = CompactName::of(alloc, &x.name)?;
