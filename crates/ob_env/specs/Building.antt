@@ -65,6 +65,10 @@ stale_answer is = first_among (uses_answer is) is
 abbrev pub unfit_answer : List Interface → Option EnvFault
 unfit_answer is = option_map fault.Unfit (first_unfit (faces_of is))
 
+-- each use is met, and each object fits
+abbrev pub Stand : List Interface → Type 0
+Stand is = (stale_answer is ≡ None) × (unfit_answer is ≡ None)
+
 -- the fault of an object that does not fit
 abbrev pub object_answer : List Interface → (steps : ℕ) → List ℕ → Object → Option EnvFault
 object_answer is steps m o = option_map fault.Unfit (misfit (map_of is) steps m (o.name, o.desc))

@@ -80,3 +80,8 @@ rows_keep below (i ∷ is) (r ∷ rows) = row_keeps below i.objects r && rows_ke
 
 abbrev pub are_ranked : List Interface → List (List ℕ) → Bool
 are_ranked is heights = rows_keep (is_below is heights) is heights
+
+-- heights that are known are kept
+abbrev pub AreRanks : List Interface → Option (List (List ℕ)) → Type 0
+AreRanks is None = Unit {0}
+AreRanks is (Some heights) = are_ranked is heights ≡ true

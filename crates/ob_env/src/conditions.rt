@@ -7,7 +7,7 @@ ghost use Rattle.ob_layout.specs.Words.{words_of, most_words};
 ghost use Rattle.ob_env.specs.Mapped.{map_of};
 ghost use Rattle.ob_env.specs.Fit as fit;
 
-use crate::env::Env;
+use crate::interfaces::Interfaces;
 use crate::targets::{base_record, is_open_for, is_record_for, is_structure_for};
 use crate::tested::{Test, all_named};
 use ob_layout::{counted_words, counted_words_of_name};
@@ -27,7 +27,7 @@ pub fn describes_type(desc: &Desc) -> bool
 // Whether a type is held.
 #[derive(Drop)]
 struct HeldTest<'a> {
-    env: &'a Env,
+    env: &'a Interfaces,
     steps: usize,
 }
 
@@ -46,14 +46,14 @@ impl Test for HeldTest<'_> {
 }
 
 /// Each type that is named is held.
-pub fn names_types(env: &Env, steps: usize, desc: &Desc) -> bool
+pub fn names_types(env: &Interfaces, steps: usize, desc: &Desc) -> bool
     ensures { result ≡ fit.names_types (map_of env.now) steps desc.now }
 {
     all_named(&HeldTest { env, steps }, desc)
 }
 
 /// A base is a record, and a pointer's base a record or array.
-pub fn has_bases(env: &Env, steps: usize, desc: &Desc) -> bool
+pub fn has_bases(env: &Interfaces, steps: usize, desc: &Desc) -> bool
     ensures { result ≡ fit.has_bases (map_of env.now) steps desc.now }
 {
     match desc {
@@ -66,7 +66,7 @@ pub fn has_bases(env: &Env, steps: usize, desc: &Desc) -> bool
     }
 }
 
-fn has_plain_result(env: &Env, steps: usize, signature: &Signature) -> bool
+fn has_plain_result(env: &Interfaces, steps: usize, signature: &Signature) -> bool
     ensures { result ≡ fit.has_plain_result (map_of env.now) steps signature.now }
 {
     match &signature.result {
@@ -75,7 +75,7 @@ fn has_plain_result(env: &Env, steps: usize, signature: &Signature) -> bool
     }
 }
 
-fn no_open_fields(env: &Env, steps: usize, fields: &[Field]) -> bool
+fn no_open_fields(env: &Interfaces, steps: usize, fields: &[Field]) -> bool
     ensures { result ≡ list_all (fit.is_closed_field (map_of env.now) steps) fields.now }
 {
     let mut rest = fields;
@@ -88,7 +88,7 @@ fn no_open_fields(env: &Env, steps: usize, fields: &[Field]) -> bool
     true
 }
 
-fn plain_methods(env: &Env, steps: usize, methods: &[Method]) -> bool
+fn plain_methods(env: &Interfaces, steps: usize, methods: &[Method]) -> bool
     ensures { result ≡ list_all (fit.is_plain_method (map_of env.now) steps) methods.now }
 {
     let mut rest = methods;
@@ -102,7 +102,7 @@ fn plain_methods(env: &Env, steps: usize, methods: &[Method]) -> bool
 }
 
 /// Open arrays and results stand where they may.
-pub fn keeps_places(env: &Env, steps: usize, desc: &Desc) -> bool
+pub fn keeps_places(env: &Interfaces, steps: usize, desc: &Desc) -> bool
     ensures { result ≡ fit.keeps_places (map_of env.now) steps desc.now }
 {
     match desc {
@@ -123,7 +123,7 @@ pub fn keeps_places(env: &Env, steps: usize, desc: &Desc) -> bool
 
 /// A type's words keep their limit.
 #[tactic(auto, using(crate::proofs::Sizes::few_words))]
-pub fn has_few_words(env: &Env, name: &QName, desc: &Desc) -> bool
+pub fn has_few_words(env: &Interfaces, name: &QName, desc: &Desc) -> bool
     ensures { result ≡ (not (is_type desc.now) || nat_le (words_of (map_of env.now) (ref.Named name.now)) most_words) }
 {
     !describes_type(desc) || counted_words_of_name(env, name) <= MOST as u64
@@ -149,13 +149,13 @@ fn procedures_before(base: Option<&RecordDesc>) -> u32
 
 // The field lies behind so many words and before others.
 #[tactic(auto, using(crate::proofs::Sizes::inside))]
-fn is_inside(env: &Env, before: u32, words: u32, field: &Field) -> bool
+fn is_inside(env: &Interfaces, before: u32, words: u32, field: &Field) -> bool
     ensures { result ≡ fit.is_inside (map_of env.now) before words field.now }
 {
     before <= field.place && field.place as u64 + counted_words(env, &field.of) <= words as u64
 }
 
-fn all_inside(env: &Env, before: u32, words: u32, fields: &[Field]) -> bool
+fn all_inside(env: &Interfaces, before: u32, words: u32, fields: &[Field]) -> bool
     ensures { result ≡ list_all (fit.is_inside (map_of env.now) before words) fields.now }
 {
     let mut rest = fields;
@@ -190,7 +190,7 @@ fn covers(base: Option<&RecordDesc>, r: &RecordDesc) -> bool
 
 /// The procedures of a record are few, it covers its base, its fields lie inside it, and it has
 /// numbers of its own.
-pub fn has_sound_sizes(env: &Env, steps: usize, r: &RecordDesc) -> bool
+pub fn has_sound_sizes(env: &Interfaces, steps: usize, r: &RecordDesc) -> bool
     ensures { result ≡ fit.has_sound_sizes (map_of env.now) steps r.now }
 {
     let base = base_record(env, steps, r);

@@ -1,101 +1,116 @@
-ghost use Rattle.std.specs.Prelude.{◌≡◌, IfOk};
+ghost use Rattle.std.specs.Prelude.{◌≡◌, Some, IfOk, IfSome};
 ghost use Rattle.std.specs.Option.{option_copied};
-ghost use Rattle.ob_env.specs.Faces.{print_in};
-ghost use Rattle.ob_env.specs.Found.{object_found, module_names, carried_print, CarryPrints};
-ghost use Rattle.ob_env.specs.Tables.{AreTables};
-ghost use Rattle.ob_env.specs.Faces.{faces_of};
-ghost use Rattle.ob_env.specs.Marks.{place_of};
+ghost use Rattle.ob_env.specs.Faces.{print_in, faces_of};
+ghost use Rattle.ob_env.specs.Found.{object_found, CarryPrints};
+ghost use Rattle.ob_env.specs.Marks.{place_of, AreRanks};
 ghost use Rattle.ob_types.specs.Relations.{IsGrounded};
 ghost use Rattle.ob_env.specs.Mapped.{map_of};
-ghost use Rattle.ob_env.specs.Building.{Builds};
-ghost use Rattle.ob_layout.specs.Index.{IsIndexOf};
+ghost use Rattle.ob_env.specs.Building.{Builds, Stand};
 
 use crate::fault::EnvFault;
 use crate::fit::check_fit;
-use crate::found::{modules_of, placed, position_placed, tables_of};
+use crate::grown::ranks_behind;
+use crate::interfaces::Interfaces;
 use crate::stale::check_uses;
-use ob_layout::NameIndex;
+use crate::within::ranks_of;
+use ob_cache::SymbolFile;
 use ob_tree::{List, Print, QName};
-use ob_types::{Aspect, Interface, Object};
+use ob_types::{Aspect, Object};
 use std::alloc::Global;
 use std::marker::Model;
 
 /// Interfaces that are closed, coherent and fit. Contracts see it as the list of them, in the
 /// order in which the walk left their modules.
 pub struct Env {
-    faces: List<Interface>,
-    // the positions of their modules
-    modules: NameIndex,
-    // of each interface the positions of its objects
-    objects: Vec<NameIndex>,
+    faces: Interfaces,
+    // the heights of their objects, where they are known
+    ranks: Option<List<List<u32>>>,
 }
 
 impl Model for Env {
     ghost use Rattle.std.specs.Prelude.{List as Listed};
-    ghost use Rattle.std.specs.Coded.{coded_list};
     ghost use Rattle.ob_types.specs.declared.face.Interface.{Interface as Face};
-    ghost use Rattle.ob_layout.specs.Index.{IsIndexOf};
-    ghost use Rattle.ob_env.specs.Found.{module_names, CarryPrints};
-    ghost use Rattle.ob_env.specs.Tables.{AreTables};
+    ghost use Rattle.ob_env.specs.Building.{Stand};
+    ghost use Rattle.ob_env.specs.Marks.{AreRanks};
 
     ghost Value = { Listed Face };
 
     ghost view = { λ e. e.faces };
 
-    ghost invariant = { λ e. IsIndexOf e.modules.positions (module_names e.faces) × AreTables e.objects.items e.faces × CarryPrints e.faces };
+    ghost invariant = { λ e. Stand e.faces × AreRanks e.faces e.ranks };
 }
 
 impl Drop for Env {
     fn drop(self) {
-        let Env {
-            faces: _,
-            modules: _,
-            objects: _,
-        } = self;
+        let Env { faces: _, ranks: _ } = self;
     }
 }
 
-// The print of an aspect.
-fn carried(object: &Object, aspect: Aspect) -> Option<Print>
-    ensures { result ≡ carried_print object.now aspect }
+// The environment of these interfaces, or the first fault.
+fn judged(alloc: Global, faces: Interfaces) -> Result<Env, EnvFault>
+    ensures answer { Builds faces result }
+    ensures grounded { IfOk result (λ env. IsGrounded (map_of env)) }
 {
-    match aspect {
-        Aspect::Shape => Some(object.shape),
-        Aspect::Layout => object.layout,
-    }
+    check_uses(&faces, faces.faces())?;
+    let Ok(ranks) = ranks_of(alloc, &faces) else {
+        return Err(EnvFault::Memory);
+    };
+    check_fit(alloc, &faces, &ranks)?;
+    Ok(Env { faces, ranks })
 }
 
 impl Env {
     /// The environment of the interfaces of a whole walk, each object of which carries the prints
     /// of its texts; or the first use that is not met, or else the first object that does not fit. The types
     /// of what it accepts are grounded.
-    pub fn build(alloc: Global, faces: List<Interface>) -> Result<Env, EnvFault>
+    pub fn build(alloc: Global, faces: List<SymbolFile>) -> Result<Env, EnvFault>
         requires { CarryPrints faces }
         ensures answer { Builds faces result }
         ensures grounded { IfOk result (λ env. IsGrounded (map_of env)) }
     {
-        let Ok(modules) = modules_of(alloc, faces.as_slice()) else {
+        match Interfaces::new(alloc, faces) {
+            Ok(faces) => judged(alloc, faces),
+            Err(_) => Err(EnvFault::Memory),
+        }
+    }
+
+    // The heights of the types of these interfaces, where they begin with those of this
+    // environment, and what is new stands.
+    fn grown(self, alloc: Global, faces: &Interfaces) -> Option<List<List<u32>>>
+        ensures { IfSome result (λ ranks. Stand faces.now × AreRanks faces.now (Some ranks)) }
+    {
+        let Env {
+            faces: before,
+            ranks,
+        } = self;
+        ranks_behind(alloc, faces, &before, ranks)
+    }
+
+    /// The environment of these interfaces, as [`Env::build`] answers it, in the place of this one.
+    /// Where they begin with those of this environment, only what is new is tested.
+    pub fn renewed(self, alloc: Global, faces: List<SymbolFile>) -> Result<Env, EnvFault>
+        requires { CarryPrints faces }
+        ensures answer { Builds faces result }
+        ensures grounded { IfOk result (λ env. IsGrounded (map_of env)) }
+    {
+        let Ok(faces) = Interfaces::new(alloc, faces) else {
             return Err(EnvFault::Memory);
         };
-        let Ok(objects) = tables_of(alloc, faces.as_slice()) else {
-            return Err(EnvFault::Memory);
-        };
-        let env = Env {
-            faces,
-            modules,
-            objects,
-        };
-        check_uses(&env, env.faces())?;
-        check_fit(alloc, &env)?;
-        Ok(env)
+        match self.grown(alloc, &faces) {
+            Some(heights) => Ok(Env {
+                faces,
+                ranks: Some(heights),
+            }),
+            None => judged(alloc, faces),
+        }
     }
 
     /// The interfaces, in the order in which the walk left their modules.
-    pub fn faces(&self) -> &[Interface]
+    pub fn faces(&self) -> &[SymbolFile]
         ensures faces { result.now ≡ self.now }
         ensures prints { CarryPrints self.now }
     {
-        self.faces.as_slice()
+        self.faces.faces()
     }
 
     /// The object of that name, with its description and prints; none exactly where no module of
@@ -103,15 +118,7 @@ impl Env {
     pub fn lookup(&self, name: &QName) -> Option<&Object>
         ensures { option_copied result ≡ object_found self.now name.now }
     {
-        match self.modules.get(name.module.as_bytes()) {
-            None => None,
-            Some(at) => placed(
-                self.faces.as_slice(),
-                self.objects.as_slice(),
-                at,
-                name.object.as_bytes(),
-            ),
-        }
+        self.faces.lookup(name)
     }
 
     /// The position of a module among the interfaces, and that of an object of it there; none
@@ -119,23 +126,7 @@ impl Env {
     pub fn position(&self, module: &[u8], object: &[u8]) -> Option<(usize, usize)>
         ensures { result ≡ place_of self.now (record { «module» = «module».now; object = object.now }) }
     {
-        match self.modules.get(module) {
-            None => None,
-            Some(at) => {
-                match position_placed(self.faces.as_slice(), self.objects.as_slice(), at, object) {
-                    None => None,
-                    Some(position) => Some((at, position)),
-                }
-            }
-        }
-    }
-
-    /// The position of a name's module among the interfaces, and that of its object there; none
-    /// exactly where no module of the walk has it. Takes no memory.
-    pub fn place(&self, name: &QName) -> Option<(usize, usize)>
-        ensures { result ≡ place_of self.now name.now }
-    {
-        self.position(name.module.as_bytes(), name.object.as_bytes())
+        self.faces.position(module, object)
     }
 
     /// The print of an object's aspect; none exactly where no module of the walk has the object
@@ -143,10 +134,6 @@ impl Env {
     pub fn print_of(&self, name: &QName, aspect: Aspect) -> Option<Print>
         ensures { result ≡ print_in (faces_of self.now) name.now aspect }
     {
-        let _ = self.faces();
-        match self.lookup(name) {
-            None => None,
-            Some(object) => carried(object, aspect),
-        }
+        self.faces.print_of(name, aspect)
     }
 }

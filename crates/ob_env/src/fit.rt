@@ -2,36 +2,37 @@ ghost use Rattle.std.specs.Prelude.{◌≡◌, IfOk, IfSome};
 ghost use Rattle.ob_env.specs.Stale.{first_among};
 ghost use Rattle.ob_env.specs.Fit.{is_sound_record, fits, steps_of, stands as stands_well};
 ghost use Rattle.ob_env.specs.Mapped.{map_of};
-ghost use Rattle.ob_env.specs.Marks.{SayWithin};
+ghost use Rattle.ob_env.specs.Marks.{SayWithin, AreRanks};
 ghost use Rattle.ob_env.specs.Faces.{faces_of};
 ghost use Rattle.ob_env.specs.Building.{Checks, object_answer, objects_answer, unfit_answer};
 
 use crate::conditions::{
     describes_type, has_bases, has_few_words, has_sound_sizes, keeps_places, names_types,
 };
-use crate::env::Env;
 use crate::fault::EnvFault;
+use crate::interfaces::Interfaces;
 use crate::names::names_differ;
 use crate::within::{is_name_marked, within_marks};
+use ob_cache::SymbolFile;
 use ob_tree::{CompactName, List, Name, ObjName, QName};
-use ob_types::{Desc, Interface, Object};
+use ob_types::{Desc, Object};
 use std::alloc::{AllocError, Global};
 
 // More steps than any chain of aliases that comes to an end; none where they do not fit.
-fn steps_for(faces: &[Interface]) -> Option<usize>
+fn steps_for(faces: &[SymbolFile]) -> Option<usize>
     ensures { IfSome result (λ n. n ≡ steps_of (faces_of faces.now)) }
 {
     let mut total: usize = 201;
     let mut rest = faces;
     while let [first, more @ ..] = rest {
-        total = total.checked_add(first.objects.len())?;
+        total = total.checked_add(first.face().objects.len())?;
         rest = more;
     }
     Some(total)
 }
 
 // A record's sizes and names.
-fn is_sound(alloc: Global, env: &Env, steps: usize, desc: &Desc) -> Result<bool, AllocError>
+fn is_sound(alloc: Global, env: &Interfaces, steps: usize, desc: &Desc) -> Result<bool, AllocError>
     ensures { IfOk result (λ b. b ≡ is_sound_record (map_of env.now) steps desc.now) }
 {
     match desc {
@@ -47,7 +48,7 @@ fn is_sound(alloc: Global, env: &Env, steps: usize, desc: &Desc) -> Result<bool,
 }
 
 // No chain from the type on is too long.
-fn stands(env: &Env, marks: &List<List<bool>>, name: &QName, desc: &Desc) -> bool
+fn stands(env: &Interfaces, marks: &List<List<bool>>, name: &QName, desc: &Desc) -> bool
     requires { SayWithin env.now 201 marks.now }
     ensures { result ≡ stands_well (map_of env.now) 0 name.now desc.now }
 {
@@ -57,7 +58,7 @@ fn stands(env: &Env, marks: &List<List<bool>>, name: &QName, desc: &Desc) -> boo
 // Whether an object keeps the ten conditions.
 fn object_fits(
     alloc: Global,
-    env: &Env,
+    env: &Interfaces,
     steps: usize,
     marks: &List<List<bool>>,
     name: &QName,
@@ -89,7 +90,7 @@ fn name_of(alloc: Global, module: &Name, object: &ObjName) -> Result<QName, Allo
 
 fn check_object(
     alloc: Global,
-    env: &Env,
+    env: &Interfaces,
     steps: usize,
     marks: &List<List<bool>>,
     module: &Name,
@@ -111,7 +112,7 @@ fn check_object(
 // The objects of an interface in order.
 fn check_objects(
     alloc: Global,
-    env: &Env,
+    env: &Interfaces,
     steps: usize,
     marks: &List<List<bool>>,
     module: &Name,
@@ -130,10 +131,10 @@ fn check_objects(
 
 fn check_faces(
     alloc: Global,
-    env: &Env,
+    env: &Interfaces,
     steps: usize,
     marks: &List<List<bool>>,
-    faces: &[Interface],
+    faces: &[SymbolFile],
 ) -> Result<(), EnvFault>
     requires { SayWithin env.now 201 marks.now }
     ensures { Checks (first_among (objects_answer env.now steps) faces.now) result }
@@ -145,23 +146,41 @@ fn check_faces(
             env,
             steps,
             marks,
-            &first.module,
-            first.objects.as_slice(),
+            &first.face().module,
+            first.face().objects.as_slice(),
         )?;
         rest = more;
     }
     Ok(())
 }
 
+/// The objects of some of the interfaces, in order, where the marks say which chains are short.
+pub fn check_part(
+    alloc: Global,
+    env: &Interfaces,
+    marks: &List<List<bool>>,
+    faces: &[SymbolFile],
+) -> Result<(), EnvFault>
+    requires { SayWithin env.now 201 marks.now }
+    ensures { Checks (first_among (objects_answer env.now (steps_of (faces_of env.now))) faces.now) result }
+{
+    match steps_for(env.faces()) {
+        None => Err(EnvFault::Memory),
+        Some(steps) => check_faces(alloc, env, steps, marks, faces),
+    }
+}
+
 /// The objects of the interfaces in order.
-pub fn check_fit(alloc: Global, env: &Env) -> Result<(), EnvFault>
+pub fn check_fit(
+    alloc: Global,
+    env: &Interfaces,
+    ranks: &Option<List<List<u32>>>,
+) -> Result<(), EnvFault>
+    requires { AreRanks env.now ranks.now }
     ensures { Checks (unfit_answer env.now) result }
 {
-    let Some(steps) = steps_for(env.faces()) else {
-        return Err(EnvFault::Memory);
-    };
-    match within_marks(alloc, env) {
+    match within_marks(alloc, env, ranks) {
         Err(_) => Err(EnvFault::Memory),
-        Ok(marks) => check_faces(alloc, env, steps, &marks, env.faces()),
+        Ok(marks) => check_part(alloc, env, &marks, env.faces()),
     }
 }

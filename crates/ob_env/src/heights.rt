@@ -1,15 +1,17 @@
-use crate::env::Env;
+use crate::interfaces::Interfaces;
 use crate::ranked::{CHAIN, height_placed};
+use ob_cache::SymbolFile;
 use ob_layout::item_at;
 use ob_tree::{List, QName};
 use ob_types::{Desc, Field, Mode, Object, RecordDesc, Signature, TypeRef};
 use std::alloc::{AllocError, Global};
 
-// The heights known so far: those of earlier interfaces, those that the objects of this one had
-// before, and those that they have anew.
+// The heights known so far: those of the interfaces that come first, those of the ones behind
+// them, those that the objects of this one had before, and those that they have anew.
 #[derive(Drop)]
 struct Known<'a> {
-    env: &'a Env,
+    env: &'a Interfaces,
+    first: &'a List<List<u32>>,
     rows: &'a List<List<u32>>,
     before: &'a List<u32>,
     anew: &'a List<u32>,
@@ -53,8 +55,13 @@ fn with_name(known: &Known<'_>, so_far: Greatest, name: &QName) -> Greatest {
     let Some((face, object)) = known.env.place(name) else {
         return so_far;
     };
-    if face < known.rows.len() {
-        let height = height_placed(known.rows.as_slice(), face, object);
+    if face < known.first.len() {
+        let height = height_placed(known.first.as_slice(), face, object);
+        return with_height(so_far, height, true);
+    }
+    let behind = face - known.first.len();
+    if behind < known.rows.len() {
+        let height = height_placed(known.rows.as_slice(), behind, object);
         return with_height(so_far, height, true);
     }
     match item_at(known.anew.as_slice(), object) {
@@ -128,7 +135,8 @@ fn greatest_of(known: &Known<'_>, desc: &Desc) -> Greatest {
 
 fn next_row(
     alloc: Global,
-    env: &Env,
+    env: &Interfaces,
+    first: &List<List<u32>>,
     rows: &List<List<u32>>,
     before: &List<u32>,
     objects: &[Object],
@@ -138,6 +146,7 @@ fn next_row(
     for object in objects {
         let known = Known {
             env,
+            first,
             rows,
             before,
             anew: &heights,
@@ -153,14 +162,15 @@ fn next_row(
 // row is made anew until it stays the same.
 fn next_heights(
     alloc: Global,
-    env: &Env,
+    env: &Interfaces,
+    first: &List<List<u32>>,
     rows: &List<List<u32>>,
     objects: &[Object],
 ) -> Result<List<u32>, AllocError> {
     let mut before = List::new(alloc);
     for pass in 0..CHAIN {
         let _ = pass;
-        let Row { heights, is_last } = next_row(alloc, env, rows, &before, objects)?;
+        let Row { heights, is_last } = next_row(alloc, env, first, rows, &before, objects)?;
         if is_last || heights == before {
             return Ok(heights);
         }
@@ -169,13 +179,25 @@ fn next_heights(
     Ok(before)
 }
 
-/// A height for each object of each interface: more than the heights of all on which it stands,
-/// wherever no chain of types is too long. Nothing is proved of it, since the heights are tested.
-pub fn heights_of(alloc: Global, env: &Env) -> Result<List<List<u32>>, AllocError> {
+/// A height for each object of the interfaces that stand behind those with these heights: more
+/// than the heights of all on which it stands, wherever no chain of types is too long. Nothing is
+/// proved of it, since the heights are tested.
+pub fn heights_behind(
+    alloc: Global,
+    env: &Interfaces,
+    first: &List<List<u32>>,
+    faces: &[SymbolFile],
+) -> Result<List<List<u32>>, AllocError> {
     let mut rows = List::new(alloc);
-    for face in env.faces() {
-        let row = next_heights(alloc, env, &rows, face.objects.as_slice())?;
+    for face in faces {
+        let row = next_heights(alloc, env, first, &rows, face.face().objects.as_slice())?;
         rows.push(row)?;
     }
     Ok(rows)
+}
+
+/// Such a height for each object of each interface.
+pub fn heights_of(alloc: Global, env: &Interfaces) -> Result<List<List<u32>>, AllocError> {
+    let none = List::new(alloc);
+    heights_behind(alloc, env, &none, env.faces())
 }

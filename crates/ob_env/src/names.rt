@@ -2,7 +2,7 @@ ghost use Rattle.std.specs.Prelude.{◌≡◌, ◌++◌, map as each, OnOk, IfOk
 ghost use Rattle.ob_env.specs.Mapped.{map_of};
 ghost use Rattle.ob_env.specs.Fit.{own_names, visible_names, are_distinct, has_distinct_names};
 
-use crate::env::Env;
+use crate::interfaces::Interfaces;
 use crate::targets::base_record;
 use ob_layout::NameIndex;
 use ob_tree::Name;
@@ -44,7 +44,12 @@ fn push_own(names: &mut Vec<Name>, r: &RecordDesc) -> Result<(), AllocError>
 }
 
 // The names that a record and its bases show.
-fn visible(alloc: Global, env: &Env, steps: usize, r: &RecordDesc) -> Result<Vec<Name>, AllocError>
+fn visible(
+    alloc: Global,
+    env: &Interfaces,
+    steps: usize,
+    r: &RecordDesc,
+) -> Result<Vec<Name>, AllocError>
     ensures { IfOk result (λ v. v.items ≡ visible_names (map_of env.now) steps CHAIN r.now) }
 {
     let mut names = Vec::new(alloc);
@@ -79,7 +84,7 @@ fn all_differ(alloc: Global, names: &[Name]) -> Result<bool, AllocError>
 /// Whether the names differ that a record and its bases show.
 pub fn names_differ(
     alloc: Global,
-    env: &Env,
+    env: &Interfaces,
     steps: usize,
     r: &RecordDesc,
 ) -> Result<bool, AllocError>

@@ -2,11 +2,12 @@ ghost use Rattle.std.specs.Prelude.{◌≡◌, slice_get};
 ghost use Rattle.ob_types.specs.declared.types.TypeRef.TheVariants as ref;
 ghost use Rattle.ob_env.specs.Marks.{height_at, is_below, keeps_height, row_keeps, rows_keep, are_ranked};
 
-use crate::env::Env;
+use crate::interfaces::Interfaces;
 use crate::tested::{Test, all_stood_on};
+use ob_cache::SymbolFile;
 use ob_layout::item_at;
 use ob_tree::{List, QName};
-use ob_types::{Interface, Object, TypeRef};
+use ob_types::{Object, TypeRef};
 
 /// The most types in a chain; each height is less.
 pub const CHAIN: u32 = 201;
@@ -28,7 +29,7 @@ pub fn height_placed(heights: &[List<u32>], face: usize, object: usize) -> Optio
 }
 
 // Whether the type of that name has a lower height.
-fn is_name_below(env: &Env, heights: &[List<u32>], most: u32, name: &QName) -> bool
+fn is_name_below(env: &Interfaces, heights: &[List<u32>], most: u32, name: &QName) -> bool
     ensures { result ≡ is_below env.now heights.now most (ref.Named name.now) }
 {
     match env.place(name) {
@@ -43,7 +44,7 @@ fn is_name_below(env: &Env, heights: &[List<u32>], most: u32, name: &QName) -> b
 // Whether a type is below a height.
 #[derive(Drop)]
 struct RankTest<'a> {
-    env: &'a Env,
+    env: &'a Interfaces,
     heights: &'a List<List<u32>>,
     most: u32,
 }
@@ -62,7 +63,7 @@ impl Test for RankTest<'_> {
 }
 
 // Whether all that an object stands on is below its height.
-fn object_keeps(env: &Env, heights: &List<List<u32>>, object: &Object, height: u32) -> bool
+fn object_keeps(env: &Interfaces, heights: &List<List<u32>>, object: &Object, height: u32) -> bool
     ensures { result ≡ keeps_height (is_below env.now heights.now) object.now height }
 {
     if height >= CHAIN {
@@ -76,7 +77,12 @@ fn object_keeps(env: &Env, heights: &List<List<u32>>, object: &Object, height: u
     all_stood_on(&test, &object.desc)
 }
 
-fn objects_keep(env: &Env, heights: &List<List<u32>>, objects: &[Object], row: &[u32]) -> bool
+fn objects_keep(
+    env: &Interfaces,
+    heights: &List<List<u32>>,
+    objects: &[Object],
+    row: &[u32],
+) -> bool
     ensures { result ≡ row_keeps (is_below env.now heights.now) objects.now row.now }
 {
     let mut rest = objects;
@@ -94,7 +100,14 @@ fn objects_keep(env: &Env, heights: &List<List<u32>>, objects: &[Object], row: &
     true
 }
 
-fn faces_keep(env: &Env, heights: &List<List<u32>>, faces: &[Interface], rows: &[List<u32>]) -> bool
+/// Whether each object of some interfaces has a height in these rows, at most 200, that is above
+/// the heights of all on which it stands.
+pub fn faces_keep(
+    env: &Interfaces,
+    heights: &List<List<u32>>,
+    faces: &[SymbolFile],
+    rows: &[List<u32>],
+) -> bool
     ensures { result ≡ rows_keep (is_below env.now heights.now) faces.now rows.now }
 {
     let mut rest = faces;
@@ -103,7 +116,12 @@ fn faces_keep(env: &Env, heights: &List<List<u32>>, faces: &[Interface], rows: &
         let [row, others @ ..] = left else {
             return false;
         };
-        if !objects_keep(env, heights, first.objects.as_slice(), row.as_slice()) {
+        if !objects_keep(
+            env,
+            heights,
+            first.face().objects.as_slice(),
+            row.as_slice(),
+        ) {
             return false;
         }
         rest = more;
@@ -114,7 +132,7 @@ fn faces_keep(env: &Env, heights: &List<List<u32>>, faces: &[Interface], rows: &
 
 /// Whether each object has a height, at most 200, that is above the heights of all on which it
 /// stands.
-pub fn are_ranked(env: &Env, heights: &List<List<u32>>) -> bool
+pub fn are_ranked(env: &Interfaces, heights: &List<List<u32>>) -> bool
     ensures { result ≡ are_ranked env.now heights.now }
 {
     faces_keep(env, heights, env.faces(), heights.as_slice())

@@ -3,10 +3,11 @@ ghost use Rattle.ob_env.specs.declared.fault.EnvFault.TheVariants as fault;
 ghost use Rattle.ob_env.specs.Stale.{first_among};
 ghost use Rattle.ob_env.specs.Building.{Named, Checks, use_answer, uses_answer};
 
-use crate::env::Env;
 use crate::fault::EnvFault;
+use crate::interfaces::Interfaces;
+use ob_cache::SymbolFile;
 use ob_tree::{Name, Print, QName};
-use ob_types::{Interface, Use};
+use ob_types::Use;
 
 fn absent(client: &Name, object: &QName) -> EnvFault
     ensures { Named (Some (fault.Absent client.now object.now)) result }
@@ -36,7 +37,7 @@ fn changed(client: &Name, used: &Use, found: Print) -> EnvFault
 }
 
 // A use of a client.
-fn check_use(env: &Env, client: &Name, used: &Use) -> Result<(), EnvFault>
+fn check_use(env: &Interfaces, client: &Name, used: &Use) -> Result<(), EnvFault>
     ensures { Checks (use_answer env.now client.now used.now) result }
 {
     match env.print_of(&used.object, used.aspect) {
@@ -52,7 +53,7 @@ fn check_use(env: &Env, client: &Name, used: &Use) -> Result<(), EnvFault>
 }
 
 // The uses of a client in order.
-fn check_client(env: &Env, client: &Name, uses: &[Use]) -> Result<(), EnvFault>
+fn check_client(env: &Interfaces, client: &Name, uses: &[Use]) -> Result<(), EnvFault>
     ensures { Checks (first_among (use_answer env.now client.now) uses.now) result }
 {
     let mut rest = uses;
@@ -64,12 +65,13 @@ fn check_client(env: &Env, client: &Name, uses: &[Use]) -> Result<(), EnvFault>
 }
 
 /// The uses of each interface in order.
-pub fn check_uses(env: &Env, faces: &[Interface]) -> Result<(), EnvFault>
+pub fn check_uses(env: &Interfaces, faces: &[SymbolFile]) -> Result<(), EnvFault>
     ensures { Checks (first_among (uses_answer env.now) faces.now) result }
 {
     let mut rest = faces;
     while let [first, more @ ..] = rest {
-        check_client(env, &first.module, first.uses.as_slice())?;
+        let face = first.face();
+        check_client(env, &face.module, face.uses.as_slice())?;
         rest = more;
     }
     Ok(())

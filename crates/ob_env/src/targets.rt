@@ -5,7 +5,7 @@ ghost use Rattle.ob_types.specs.Tests.{target_of, alias_of, target, shape_at};
 ghost use Rattle.ob_env.specs.Mapped.{map_of};
 ghost use Rattle.ob_env.specs.Fit.{is, record_of, base_of};
 
-use crate::env::Env;
+use crate::interfaces::Interfaces;
 use ob_types::{Desc, RecordDesc, TypeRef, shape_of};
 
 fn aliased(desc: &Desc) -> Option<&TypeRef>
@@ -18,14 +18,14 @@ fn aliased(desc: &Desc) -> Option<&TypeRef>
 }
 
 // What the type is equated to.
-fn alias_target<'a>(env: &'a Env, t: &TypeRef) -> Option<&'a TypeRef>
+fn alias_target<'a>(env: &'a Interfaces, t: &TypeRef) -> Option<&'a TypeRef>
     ensures { option_copied result ≡ alias_of (map_of env.now) t.now }
 {
     aliased(shape_of(env, t)?)
 }
 
 // The type that t is equated to, at most so many equations on.
-fn target_for<'a>(env: &'a Env, steps: usize, t: &'a TypeRef) -> &'a TypeRef
+fn target_for<'a>(env: &'a Interfaces, steps: usize, t: &'a TypeRef) -> &'a TypeRef
     ensures { result.now ≡ target (map_of env.now) steps t.now }
 {
     let mut current = t;
@@ -39,14 +39,14 @@ fn target_for<'a>(env: &'a Env, steps: usize, t: &'a TypeRef) -> &'a TypeRef
 }
 
 // What the type stands for.
-fn shape_for<'a>(env: &'a Env, steps: usize, t: &'a TypeRef) -> Option<&'a Desc>
+fn shape_for<'a>(env: &'a Interfaces, steps: usize, t: &'a TypeRef) -> Option<&'a Desc>
     ensures { option_copied result ≡ shape_at (map_of env.now) (target (map_of env.now) steps t.now) }
 {
     shape_of(env, target_for(env, steps, t))
 }
 
 /// Whether the type stands for a record.
-pub fn is_record_for(env: &Env, steps: usize, t: &TypeRef) -> bool
+pub fn is_record_for(env: &Interfaces, steps: usize, t: &TypeRef) -> bool
     ensures { result ≡ is (map_of env.now) steps is_record t.now }
 {
     match shape_for(env, steps, t) {
@@ -56,7 +56,7 @@ pub fn is_record_for(env: &Env, steps: usize, t: &TypeRef) -> bool
 }
 
 /// Whether the type stands for a record or an array.
-pub fn is_structure_for(env: &Env, steps: usize, t: &TypeRef) -> bool
+pub fn is_structure_for(env: &Interfaces, steps: usize, t: &TypeRef) -> bool
     ensures { result ≡ is (map_of env.now) steps is_structure t.now }
 {
     match shape_for(env, steps, t) {
@@ -69,7 +69,7 @@ pub fn is_structure_for(env: &Env, steps: usize, t: &TypeRef) -> bool
 }
 
 /// Whether the type stands for an open array.
-pub fn is_open_for(env: &Env, steps: usize, t: &TypeRef) -> bool
+pub fn is_open_for(env: &Interfaces, steps: usize, t: &TypeRef) -> bool
     ensures { result ≡ is (map_of env.now) steps is_open t.now }
 {
     match shape_for(env, steps, t) {
@@ -88,7 +88,11 @@ fn record(desc: &Desc) -> Option<&RecordDesc>
 }
 
 /// The record that stands as the base of a record.
-pub fn base_record<'a>(env: &'a Env, steps: usize, r: &'a RecordDesc) -> Option<&'a RecordDesc>
+pub fn base_record<'a>(
+    env: &'a Interfaces,
+    steps: usize,
+    r: &'a RecordDesc,
+) -> Option<&'a RecordDesc>
     ensures { option_copied result ≡ base_of (map_of env.now) steps r.now }
 {
     match &r.base {

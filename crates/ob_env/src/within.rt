@@ -3,15 +3,16 @@ ghost use Rattle.std.specs.List.{list_all};
 ghost use Rattle.ob_types.specs.declared.types.TypeRef.TheVariants as ref;
 ghost use Rattle.ob_types.specs.Maps.{stands_on};
 ghost use Rattle.std.specs.Prelude.{map as each};
-ghost use Rattle.ob_env.specs.Marks.{mark_at, is_marked, row_by, marks_by, are_all, SayWithin, is_basic};
+ghost use Rattle.ob_env.specs.Marks.{mark_at, is_marked, row_by, marks_by, are_all, SayWithin, AreRanks, is_basic};
 
-use crate::env::Env;
 use crate::heights::heights_of;
+use crate::interfaces::Interfaces;
 use crate::ranked::are_ranked;
 use crate::tested::{Test, all_stood_on};
+use ob_cache::SymbolFile;
 use ob_layout::item_at;
 use ob_tree::{List, QName};
-use ob_types::{Interface, Object, TypeRef};
+use ob_types::{Object, TypeRef};
 use std::alloc::{AllocError, Global};
 
 /// The most types in a chain.
@@ -46,7 +47,7 @@ fn mark_placed(marks: &[List<bool>], face: usize, object: usize) -> Option<bool>
 }
 
 /// Whether the type of that name is marked.
-pub fn is_name_marked(env: &Env, marks: &[List<bool>], name: &QName) -> bool
+pub fn is_name_marked(env: &Interfaces, marks: &[List<bool>], name: &QName) -> bool
     ensures { result ≡ is_marked env.now marks.now (ref.Named name.now) }
 {
     match env.place(name) {
@@ -61,7 +62,7 @@ pub fn is_name_marked(env: &Env, marks: &[List<bool>], name: &QName) -> bool
 // Whether a type is marked.
 #[derive(Drop)]
 struct MarkTest<'a> {
-    env: &'a Env,
+    env: &'a Interfaces,
     marks: &'a List<List<bool>>,
 }
 
@@ -89,16 +90,16 @@ fn marks_of<P: Test>(alloc: Global, p: &P, objects: &[Object]) -> Result<List<bo
 }
 
 // The marks of the types of an interface all of whose parts pass.
-fn face_marks<P: Test>(alloc: Global, p: &P, face: &Interface) -> Result<List<bool>, AllocError>
+fn face_marks<P: Test>(alloc: Global, p: &P, face: &SymbolFile) -> Result<List<bool>, AllocError>
     ensures { IfOk result (λ row. row ≡ row_by (P.passes p.now) face.now) }
 {
-    marks_of(alloc, p, face.objects.as_slice())
+    marks_of(alloc, p, face.face().objects.as_slice())
 }
 
 fn rows_by<P: Test>(
     alloc: Global,
     p: &P,
-    faces: &[Interface],
+    faces: &[SymbolFile],
 ) -> Result<List<List<bool>>, AllocError>
     ensures { IfOk result (λ rows. rows ≡ marks_by (P.passes p.now) faces.now) }
 {
@@ -138,16 +139,10 @@ fn rows_are_all(rows: &[List<bool>]) -> bool
     true
 }
 
-/// The marks of the types on which no chain of more than 201 types stands, itself among them.
-/// Where all have a height, no chain is too long, and no mark says so. Otherwise in rounds, each of
-/// which goes one type further; the last round is the one that marks all.
-pub fn within_marks(alloc: Global, env: &Env) -> Result<List<List<bool>>, AllocError>
+// In rounds, each of which goes one type further; the last round is the one that marks all.
+fn round_marks(alloc: Global, env: &Interfaces) -> Result<List<List<bool>>, AllocError>
     ensures { IfOk result (λ marks. SayWithin env.now CHAIN marks) }
 {
-    let heights = heights_of(alloc, env)?;
-    if are_ranked(env, &heights) {
-        return Ok(List::new(alloc));
-    }
     let mut marks = rows_by(alloc, &BasicTest, env.faces())?;
     for round in 1..CHAIN {
         let _ = round;
@@ -158,4 +153,32 @@ pub fn within_marks(alloc: Global, env: &Env) -> Result<List<List<bool>>, AllocE
         marks = next;
     }
     Ok(marks)
+}
+
+/// A height for each object, above the heights of all on which it stands; none where heights that
+/// keep this were not found.
+pub fn ranks_of(alloc: Global, env: &Interfaces) -> Result<Option<List<List<u32>>>, AllocError>
+    ensures { IfOk result (λ ranks. AreRanks env.now ranks) }
+{
+    let heights = heights_of(alloc, env)?;
+    if are_ranked(env, &heights) {
+        return Ok(Some(heights));
+    }
+    Ok(None)
+}
+
+/// The marks of the types on which no chain of more than 201 types stands, itself among them.
+/// Where all have a height, no chain is too long, and no mark says so; else they are made in rounds.
+pub fn within_marks(
+    alloc: Global,
+    env: &Interfaces,
+    ranks: &Option<List<List<u32>>>,
+) -> Result<List<List<bool>>, AllocError>
+    requires { AreRanks env.now ranks.now }
+    ensures { IfOk result (λ marks. SayWithin env.now CHAIN marks) }
+{
+    match ranks {
+        Some(_) => Ok(List::new(alloc)),
+        None => round_marks(alloc, env),
+    }
 }

@@ -3,7 +3,7 @@ use Rattle.ob_cache.proofs.Readings.{reading_found, one_reading}
 use Rattle.ob_cache.proofs.cache.SymbolCacheSymbolReader.read.Goals as goal
 
 pub returns-in-Ok-Some-clause-found : goal.returns-in-Ok-Some-clause-found
-returns-in-Ok-Some-clause-found c = reading_found c.args.bytes.now c.in-Ok-Some.face (λ i. omega (arith, c.type_inv.bytes i)) (rw c.in-Ok-Some.field-0-is at c.in-Ok-Some.ensures)
+returns-in-Ok-Some-clause-found c = reading_found c.args.bytes.now c.in-Ok-Some.file (λ i. omega (arith, c.type_inv.bytes i)) (rw c.in-Ok-Some.field-0-is at c.in-Ok-Some.ensures)
 
 pub returns-in-Ok-Some-clause-again : goal.returns-in-Ok-Some-clause-again
-returns-in-Ok-Some-clause-again c = λ f fits is. one_reading c.args.bytes.now f c.in-Ok-Some.face (rw c.in-Ok-Some.field-0-is at c.in-Ok-Some.ensures) fits is
+returns-in-Ok-Some-clause-again c = λ f fits is. one_reading c.args.bytes.now f c.in-Ok-Some.file (rw c.in-Ok-Some.field-0-is at c.in-Ok-Some.ensures) fits is

@@ -1,5 +1,5 @@
 use Rattle.ob_env.proofs.Prints.{print_none, print_some}
-use Rattle.ob_env.proofs.env.Env.print_of.Goals as goal
+use Rattle.ob_env.proofs.interfaces.Interfaces.print_of.Goals as goal
 
 pub returns-in-None : goal.returns-in-None
 returns-in-None c = print_none c.args.self.now c.args.name.now c.args.aspect c.faces.ensures.prints c.in-None.ensures

@@ -4,7 +4,7 @@ use Rattle.ob_types.specs.declared.face.Interface.{Interface}
 use Rattle.std.proofs.Common.{List}
 use Rattle.ob_env.specs.Found.{object_found, object_placed}
 use Rattle.ob_env.proofs.Places.{found_none, found_at}
-use Rattle.ob_env.proofs.env.Env.lookup.Goals as goal
+use Rattle.ob_env.proofs.interfaces.Interfaces.lookup.Goals as goal
 
 pub returns-in-None : goal.returns-in-None
 returns-in-None c = subst (λ (l : List Interface). None ≡ object_found l c.args.name.now) c.self.view_is (found_none c.self.inside.faces c.self.inside.modules.positions c.args.name.now c.as_bytes.result.now c.as_bytes.ensures c.self.invariant.0 c.in-None.ensures)

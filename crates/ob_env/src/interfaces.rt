@@ -1,0 +1,118 @@
+ghost use Rattle.std.specs.Prelude.{◌≡◌, IfOk};
+ghost use Rattle.std.specs.Option.{option_copied};
+ghost use Rattle.ob_env.specs.Faces.{print_in, faces_of};
+ghost use Rattle.ob_env.specs.Found.{object_found, module_names, carried_print, CarryPrints};
+ghost use Rattle.ob_env.specs.Marks.{place_of};
+ghost use Rattle.ob_layout.specs.Index.{IsIndexOf};
+
+use crate::found::{modules_of, placed, position_placed};
+use ob_cache::SymbolFile;
+use ob_layout::NameIndex;
+use ob_tree::{List, Print, QName};
+use ob_types::{Aspect, Object};
+use std::alloc::{AllocError, Global};
+use std::marker::Model;
+
+/// Interfaces in which modules and objects are found by their names. Contracts see it as the list
+/// of them.
+pub struct Interfaces {
+    faces: List<SymbolFile>,
+    // the positions of their modules
+    modules: NameIndex,
+}
+
+impl Model for Interfaces {
+    ghost use Rattle.std.specs.Prelude.{List as Listed};
+    ghost use Rattle.ob_types.specs.declared.face.Interface.{Interface as Face};
+    ghost use Rattle.ob_layout.specs.Index.{IsIndexOf};
+    ghost use Rattle.ob_env.specs.Found.{module_names, CarryPrints};
+
+    ghost Value = { Listed Face };
+
+    ghost view = { λ e. e.faces };
+
+    ghost invariant = { λ e. IsIndexOf e.modules.positions (module_names e.faces) × CarryPrints e.faces };
+}
+
+impl Drop for Interfaces {
+    fn drop(self) {
+        let Interfaces {
+            faces: _,
+            modules: _,
+        } = self;
+    }
+}
+
+// The print of an aspect.
+fn carried(object: &Object, aspect: Aspect) -> Option<Print>
+    ensures { result ≡ carried_print object.now aspect }
+{
+    match aspect {
+        Aspect::Shape => Some(object.shape),
+        Aspect::Layout => object.layout,
+    }
+}
+
+impl Interfaces {
+    /// These interfaces, each object of which carries the prints of its texts.
+    pub fn new(alloc: Global, faces: List<SymbolFile>) -> Result<Interfaces, AllocError>
+        requires { CarryPrints faces }
+        ensures { IfOk result (λ e. e ≡ faces) }
+    {
+        let modules = modules_of(alloc, faces.as_slice())?;
+        Ok(Interfaces { faces, modules })
+    }
+
+    /// The interfaces in their order.
+    pub fn faces(&self) -> &[SymbolFile]
+        ensures faces { result.now ≡ self.now }
+        ensures prints { CarryPrints self.now }
+    {
+        self.faces.as_slice()
+    }
+
+    /// The object of that name, with its description and prints; none exactly where no module has
+    /// it. Takes no memory.
+    pub fn lookup(&self, name: &QName) -> Option<&Object>
+        ensures { option_copied result ≡ object_found self.now name.now }
+    {
+        match self.modules.get(name.module.as_bytes()) {
+            None => None,
+            Some(at) => placed(self.faces.as_slice(), at, name.object.as_bytes()),
+        }
+    }
+
+    /// The position of a module among the interfaces, and that of an object of it there; none
+    /// exactly where no module has it. Takes no memory.
+    pub fn position(&self, module: &[u8], object: &[u8]) -> Option<(usize, usize)>
+        ensures { result ≡ place_of self.now (record { «module» = «module».now; object = object.now }) }
+    {
+        match self.modules.get(module) {
+            None => None,
+            Some(at) => match position_placed(self.faces.as_slice(), at, object) {
+                None => None,
+                Some(position) => Some((at, position)),
+            },
+        }
+    }
+
+    /// The position of a name's module among the interfaces, and that of its object there; none
+    /// exactly where no module has it. Takes no memory.
+    pub fn place(&self, name: &QName) -> Option<(usize, usize)>
+        ensures { result ≡ place_of self.now name.now }
+    {
+        self.position(name.module.as_bytes(), name.object.as_bytes())
+    }
+
+    /// The print of an object's aspect; none exactly where no module has the object with that
+    /// aspect. Takes no memory.
+    pub fn print_of(&self, name: &QName, aspect: Aspect) -> Option<Print>
+        ensures { result ≡ print_in (faces_of self.now) name.now aspect }
+    {
+        let _ = self.faces();
+        match self.lookup(name) {
+            None => None,
+            Some(object) => carried(object, aspect),
+        }
+    }
+}
