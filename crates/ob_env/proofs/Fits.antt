@@ -21,7 +21,7 @@ objects_unfit : (is : List Interface) (steps : ℕ) (m : List ℕ) (os : List Ob
 objects_unfit is steps m [] = refl
 objects_unfit is steps m (o ∷ os) = mapped_else fault.Unfit (misfit (map_of is) steps m (o.name, o.desc)) (first_among (misfit (map_of is) steps m) (map (λ o. (o.name, o.desc)) os)) ∙ ap (or_else (object_answer is steps m o)) (objects_unfit is steps m os)
 
-faces_unfit : (is js : List Interface) (steps : ℕ) → option_map fault.Unfit (first_among (λ f. first_among (misfit (map_of is) steps f.«module») f.objects) (map face_of js)) ≡ first_among (objects_answer is steps) js
+pub faces_unfit : (is js : List Interface) (steps : ℕ) → option_map fault.Unfit (first_among (λ f. first_among (misfit (map_of is) steps f.«module») f.objects) (map face_of js)) ≡ first_among (objects_answer is steps) js
 faces_unfit is [] steps = refl
 faces_unfit is (j ∷ js) steps =
     mapped_else fault.Unfit (first_among (misfit (map_of is) steps j.«module») (map (λ o. (o.name, o.desc)) j.objects)) (first_among (λ f. first_among (misfit (map_of is) steps f.«module») f.objects) (map face_of js))

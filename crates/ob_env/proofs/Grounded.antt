@@ -29,11 +29,11 @@ use Rattle.ob_env.specs.Mapped.{map_of}
 use Rattle.ob_env.specs.Faces.{faces_of}
 use Rattle.ob_env.specs.Building.{unfit_answer}
 
-left_of : (a b : Bool) → (a && b) ≡ true → a ≡ true
+pub left_of : (a b : Bool) → (a && b) ≡ true → a ≡ true
 left_of true b e = refl
 left_of false b e = absurd cc
 
-right_of : (a b : Bool) → (a && b) ≡ true → b ≡ true
+pub right_of : (a b : Bool) → (a && b) ≡ true → b ≡ true
 right_of true b e = e
 right_of false b e = absurd cc
 
@@ -45,11 +45,11 @@ unlike : (b : Bool) → not b ≡ true → b ≡ true → ⊥
 unlike true e h = absurd cc
 unlike false e h = absurd cc
 
-all_left : {X : Type 0} (P : X → Type 0) (xs ys : List X) → AllByRecursion P (xs ++ ys) → AllByRecursion P xs
+pub all_left : {X : Type 0} (P : X → Type 0) (xs ys : List X) → AllByRecursion P (xs ++ ys) → AllByRecursion P xs
 all_left P [] ys h = tt
 all_left P (x ∷ xs) ys h = (h.0, all_left P xs ys h.1)
 
-all_right : {X : Type 0} (P : X → Type 0) (xs ys : List X) → AllByRecursion P (xs ++ ys) → AllByRecursion P ys
+pub all_right : {X : Type 0} (P : X → Type 0) (xs ys : List X) → AllByRecursion P (xs ++ ys) → AllByRecursion P ys
 all_right P [] ys h = h
 all_right P (x ∷ xs) ys h = all_right P xs ys h.1
 
@@ -63,11 +63,11 @@ held_is : (map : QName → Option Desc) (steps : ℕ) (t : TypeRef) → is_held 
 held_is map steps (ref.Basic b) e = tt
 held_is map steps (ref.Named q) e = held_option (map q) e
 
-all_held : (map : QName → Option Desc) (steps : ℕ) (ts : List TypeRef) → list_all (is_held map steps) ts ≡ true → AllByRecursion (λ t. IsHeld map t) ts
+pub all_held : (map : QName → Option Desc) (steps : ℕ) (ts : List TypeRef) → list_all (is_held map steps) ts ≡ true → AllByRecursion (λ t. IsHeld map t) ts
 all_held map steps [] e = tt
 all_held map steps (t ∷ ts) e = (held_is map steps t (left_of (is_held map steps t) (list_all (is_held map steps) ts) e), all_held map steps ts (right_of (is_held map steps t) (list_all (is_held map steps) ts) e))
 
-stood_held : (map : QName → Option Desc) (d : Desc) → AllByRecursion (λ t. IsHeld map t) (named_by d) → AllByRecursion (λ t. IsHeld map t) (stands_on d)
+pub stood_held : (map : QName → Option Desc) (d : Desc) → AllByRecursion (λ t. IsHeld map t) (named_by d) → AllByRecursion (λ t. IsHeld map t) (stands_on d)
 stood_held map (desc.Const v) h = tt
 stood_held map (desc.Var m t) h = tt
 stood_held map (desc.Proc s) h = tt
@@ -113,14 +113,14 @@ is_to map kind t u s h = subst (λ (w : TypeRef). is_described kind (shape_at ma
 
 -- ---- a map of which all descriptions fit
 
-record AllFit (map : QName → Option Desc) (steps : ℕ) : Type 0 where
-  enough : 201 ≤ steps
-  fit : (q : QName) (d : Desc) → map q ≡ Some d → fits map steps q d ≡ true
+pub record AllFit (map : QName → Option Desc) (steps : ℕ) : Type 0 where
+  pub enough : 201 ≤ steps
+  pub fit : (q : QName) (d : Desc) → map q ≡ Some d → fits map steps q d ≡ true
 
-held_in : (map : QName → Option Desc) (steps : ℕ) → AllFit map steps → (q : QName) (d : Desc) → map q ≡ Some d → AllByRecursion (λ t. IsHeld map t) (named_by d)
+pub held_in : (map : QName → Option Desc) (steps : ℕ) → AllFit map steps → (q : QName) (d : Desc) → map q ≡ Some d → AllByRecursion (λ t. IsHeld map t) (named_by d)
 held_in map steps all q d e = all_held map steps (named_by d) (left_of (names_types map steps d) _ (all.fit q d e))
 
-chain_in : (map : QName → Option Desc) (steps : ℕ) → AllFit map steps → (t : TypeRef) → IsHeld map t → IsWithin map 201 t
+pub chain_in : (map : QName → Option Desc) (steps : ℕ) → AllFit map steps → (t : TypeRef) → IsHeld map t → IsWithin map 201 t
 chain_in map steps all (ref.Basic b) h = within_is map (held_in map steps all) 201 (ref.Basic b) h refl
 chain_in map steps all (ref.Named q) h = within_is map (held_in map steps all) 201 (ref.Named q) h (go (map q) refl h)
   where
@@ -184,11 +184,11 @@ grounded map steps all = record { held = held_in map steps all; chains = chain_i
 
 -- ---- where no object is unfit
 
-or_none : {A : Type 0} (o p : Option A) → or_else o p ≡ None → (o ≡ None) × (p ≡ None)
+pub or_none : {A : Type 0} (o p : Option A) → or_else o p ≡ None → (o ≡ None) × (p ≡ None)
 or_none None p e = (refl, e)
 or_none (Some a) p e = absurd cc
 
-fit_if : (b : Bool) (q : QName) → unless b q ≡ None → b ≡ true
+pub fit_if : (b : Bool) (q : QName) → unless b q ≡ None → b ≡ true
 fit_if true q e = refl
 fit_if false q e = absurd cc
 
@@ -211,13 +211,13 @@ face_step : (types : QName → Option Desc) (steps : ℕ) (f : Face Print) (q : 
 face_step types steps f q d later more none true t h = subst (λ (l : List ℕ). fits types steps (at_name l q.object) d ≡ true) (sym ((bytes_decides q.«module» f.«module»).0 t)) (object_fits types steps f.«module» f.objects q.object d none h)
 face_step types steps f q d later more none false t h = more h
 
-faces_fit : (types : QName → Option Desc) (steps : ℕ) (fs : List (Face Print)) (q : QName) (d : Desc) → first_among (λ (f : Face Print). first_among (misfit types steps f.«module») f.objects) fs ≡ None → (face_named fs q.«module» >>= λ g. object_named g.objects q.object) ≡ Some d → fits types steps q d ≡ true
+pub faces_fit : (types : QName → Option Desc) (steps : ℕ) (fs : List (Face Print)) (q : QName) (d : Desc) → first_among (λ (f : Face Print). first_among (misfit types steps f.«module») f.objects) fs ≡ None → (face_named fs q.«module» >>= λ g. object_named g.objects q.object) ≡ Some d → fits types steps q d ≡ true
 faces_fit types steps [] q d none e = absurd cc
 faces_fit types steps (f ∷ fs) q d none e =
     let parts = or_none (first_among (misfit types steps f.«module») f.objects) (first_among (λ (f : Face Print). first_among (misfit types steps f.«module») f.objects) fs) none in
     face_step types steps f q d (face_named fs q.«module») (λ h. faces_fit types steps fs q d parts.1 h) parts.0 (bytes_eq q.«module» f.«module») refl e
 
-none_mapped : (o : Option QName) → option_map fault.Unfit o ≡ None → o ≡ None
+pub none_mapped : (o : Option QName) → option_map fault.Unfit o ≡ None → o ≡ None
 none_mapped None e = refl
 none_mapped (Some q) e = absurd cc
 

@@ -34,7 +34,7 @@ raised : (is : List Interface) (heights : List (List ℕ)) (h n : ℕ) → h ≤
 raised is heights h n le (ref.Basic b) e = refl
 raised is heights h n le (ref.Named q) e = less_more (place_of is q >>= height_at heights) h n le e
 
-all_pass : (p r : TypeRef → Bool) → ((t : TypeRef) → p t ≡ true → r t ≡ true) → (ts : List TypeRef) → list_all p ts ≡ true → list_all r ts ≡ true
+pub all_pass : (p r : TypeRef → Bool) → ((t : TypeRef) → p t ≡ true → r t ≡ true) → (ts : List TypeRef) → list_all p ts ≡ true → list_all r ts ≡ true
 all_pass p r f [] e = refl
 all_pass p r f (t ∷ ts) e = ap (λ b. b && list_all r ts) (f t (true_left (p t) (list_all p ts) e)) ∙ all_pass p r f ts (true_right (p t) (list_all p ts) e)
 
