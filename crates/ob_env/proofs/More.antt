@@ -1,5 +1,5 @@
 -- Interfaces, and more that come after them.
-use Rattle.std.proofs.Common.{◌≡◌, ℕ, zero, suc, ◌≤◌, Bool, true, false, cond, List, [], ◌∷◌, ◌++◌, length, Option, Some, None, refl, sym, ap, subst, ◌∙◌, arith}
+use Rattle.std.proofs.Common.{◌≡◌, ℕ, zero, suc, ◌≤◌, Bool, true, false, cond, List, [], ◌∷◌, ◌++◌, length, Option, Some, None, refl, sym, ap, subst, ◌∙◌, arith, drop}
 use Rattle.std.specs.Prelude.{◌&&◌, nat_lt, slice_get, bytes_eq}
 use Rattle.std.specs.Option.{option_map}
 use Rattle.std.specs.List.{list_all, AllByRecursion}
@@ -90,9 +90,9 @@ Known fs gs i = face_named (faces_of (fs ++ gs)) i.«module» ≡ face_named (fa
 all_known : (fs gs : List Interface) → AllByRecursion (Known fs gs) fs
 all_known [] gs = tt
 all_known (f ∷ fs) gs = (
-    ap (λ (b : Bool). cond b (Some (face_of f)) (face_named (faces_of (fs ++ gs)) f.«module»)) itself ∙ sym (ap (λ (b : Bool). cond b (Some (face_of f)) (face_named (faces_of fs) f.«module»)) itself),
-    all_more (Known fs gs) (Known (f ∷ fs) gs) (λ i e. ap (λ (o : Option (Face Print)). cond (bytes_eq i.«module» f.«module») (Some (face_of f)) o) e) fs (all_known fs gs),
-  )
+  ap (λ (b : Bool). cond b (Some (face_of f)) (face_named (faces_of (fs ++ gs)) f.«module»)) itself ∙ sym (ap (λ (b : Bool). cond b (Some (face_of f)) (face_named (faces_of fs) f.«module»)) itself),
+  all_more (Known fs gs) (Known (f ∷ fs) gs) (λ i e. ap (λ (o : Option (Face Print)). cond (bytes_eq i.«module» f.«module») (Some (face_of f)) o) e) fs (all_known fs gs),
+)
   where
     itself : bytes_eq f.«module» f.«module» ≡ true
     itself = (bytes_decides f.«module» f.«module»).1 refl
@@ -117,10 +117,10 @@ uses_more fs gs e = none_all (uses_answer fs) (uses_answer (fs ++ gs)) (λ i h. 
 
 grows : (fs gs : List Interface) (n m : ℕ) → 201 ≤ n → 201 ≤ m → first_among (objects_answer fs n) fs ≡ None → Grows (map_of fs) (map_of (fs ++ gs)) n m
 grows fs gs n m le me e = record {
-    fit = record { enough = le; fit = λ q d h. faces_fit (map_of fs) n (faces_of fs) q d (none_mapped _ (faces_unfit fs fs n ∙ e)) h };
-    enough = me;
-    keeps = map_more fs gs;
-  }
+  fit = record { enough = le; fit = λ q d h. faces_fit (map_of fs) n (faces_of fs) q d (none_mapped _ (faces_unfit fs fs n ∙ e)) h };
+  enough = me;
+  keeps = map_more fs gs;
+}
 
 object_more : (fs gs : List Interface) (n m : ℕ) → Grows (map_of fs) (map_of (fs ++ gs)) n m → (i : Interface) → Known fs gs i → (o : Object) → object_answer fs n i.«module» o ≡ None → object_answer (fs ++ gs) m i.«module» o ≡ None
 object_more fs gs n m g i same o e =
@@ -133,8 +133,8 @@ object_more fs gs n m g i same o e =
 pub objects_more : (fs gs : List Interface) (n m : ℕ) → 201 ≤ n → 201 ≤ m → first_among (objects_answer fs n) fs ≡ None → first_among (objects_answer (fs ++ gs) m) fs ≡ None
 objects_more fs gs n m le me e =
     none_more (Known fs gs) (objects_answer fs n) (objects_answer (fs ++ gs) m)
-      (λ i same h. none_all (object_answer fs n i.«module») (object_answer (fs ++ gs) m i.«module») (object_more fs gs n m (grows fs gs n m le me e) i same) i.objects h)
-      fs (all_known fs gs) e
+    (λ i same h. none_all (object_answer fs n i.«module») (object_answer (fs ++ gs) m i.«module») (object_more fs gs n m (grows fs gs n m le me e) i same) i.objects h)
+    fs (all_known fs gs) e
 
 -- ---- heights
 
@@ -184,8 +184,8 @@ module _ (below wider : ℕ → TypeRef → Bool) (widens : (n : ℕ) (t : TypeR
   rows_more (i ∷ fs) gs [] more l e f = absurd cc
   rows_more (i ∷ fs) gs (r ∷ rows) more l e f =
       both_true (row_keeps wider i.objects r) (rows_keep wider (fs ++ gs) (rows ++ more))
-        (row_more i.objects r (left_of (row_keeps below i.objects r) (rows_keep below fs rows) e))
-        (rows_more fs gs rows more (omega (arith, l)) (right_of (row_keeps below i.objects r) (rows_keep below fs rows) e) f)
+      (row_more i.objects r (left_of (row_keeps below i.objects r) (rows_keep below fs rows) e))
+      (rows_more fs gs rows more (omega (arith, l)) (right_of (row_keeps below i.objects r) (rows_keep below fs rows) e) f)
 
 pub ranked_more : (fs gs : List Interface) (rows more : List (List ℕ)) → length rows ≡ length fs → are_ranked fs rows ≡ true → rows_keep (is_below (fs ++ gs) (rows ++ more)) gs more ≡ true → are_ranked (fs ++ gs) (rows ++ more) ≡ true
 ranked_more fs gs rows more l e f = rows_more (is_below fs rows) (is_below (fs ++ gs) (rows ++ more)) (λ n t h. below_more fs gs rows more n t h) fs gs rows more l e f
@@ -195,8 +195,7 @@ ranked_more fs gs rows more l e f = rows_more (is_below fs rows) (is_below (fs +
 appended_stands : (fs gs : List Interface) → stale_answer fs ≡ None → unfit_answer fs ≡ None → first_among (uses_answer (fs ++ gs)) gs ≡ None → first_among (objects_answer (fs ++ gs) (steps_of (faces_of (fs ++ gs)))) gs ≡ None → (stale_answer (fs ++ gs) ≡ None) × (unfit_answer (fs ++ gs) ≡ None)
 appended_stands fs gs fresh fit uses objects =
     let old : first_among (objects_answer fs (steps_of (faces_of fs))) fs ≡ None = unfit_is fs fs (steps_of (faces_of fs)) refl refl ∙ fit in
-    let kept : first_among (objects_answer (fs ++ gs) (steps_of (faces_of (fs ++ gs)))) fs ≡ None = objects_more fs gs (steps_of (faces_of fs)) (steps_of (faces_of (fs ++ gs))) (omega arith) (omega arith) old in
-    (
+    let kept : first_among (objects_answer (fs ++ gs) (steps_of (faces_of (fs ++ gs)))) fs ≡ None = objects_more fs gs (steps_of (faces_of fs)) (steps_of (faces_of (fs ++ gs))) (omega arith) (omega arith) old in (
       none_append (uses_answer (fs ++ gs)) fs gs (uses_more fs gs fresh) uses,
       sym (unfit_is (fs ++ gs) (fs ++ gs) (steps_of (faces_of (fs ++ gs))) refl refl) ∙ none_append (objects_answer (fs ++ gs) (steps_of (faces_of (fs ++ gs)))) fs gs kept objects,
     )
@@ -205,6 +204,17 @@ appended_stands fs gs fresh fit uses objects =
 pub grown_stands : (is fs gs : List Interface) → is ≡ fs ++ gs → stale_answer fs ≡ None → unfit_answer fs ≡ None → first_among (uses_answer is) gs ≡ None → first_among (objects_answer is (steps_of (faces_of is))) gs ≡ None → (stale_answer is ≡ None) × (unfit_answer is ≡ None)
 grown_stands is fs gs e fresh fit uses objects =
     subst (λ (l : List Interface). (stale_answer l ≡ None) × (unfit_answer l ≡ None)) (sym e)
-      (appended_stands fs gs fresh fit
-        (subst (λ (l : List Interface). first_among (uses_answer l) gs ≡ None) e uses)
-        (subst (λ (l : List Interface). first_among (objects_answer l (steps_of (faces_of l))) gs ≡ None) e objects))
+    (appended_stands fs gs fresh fit
+    (subst (λ (l : List Interface). first_among (uses_answer l) gs ≡ None) e uses)
+    (subst (λ (l : List Interface). first_among (objects_answer l (steps_of (faces_of l))) gs ≡ None) e objects))
+
+-- with heights that are known in front, and those of what is new behind them
+pub ranked_behind : (is fs gs : List Interface) (all rows : List (List ℕ)) (known : ℕ) → is ≡ fs ++ gs → are_ranked fs rows ≡ true → known ≡ length rows → known ≡ length fs → all ≡ rows ++ drop (length rows) all → rows_keep (is_below is all) gs (drop known all) ≡ true → are_ranked is all ≡ true
+ranked_behind is fs gs all rows known same ranked n m whole keeps =
+    let rest : List (List ℕ) = drop (length rows) all in
+    let here : rows_keep (is_below is all) gs rest ≡ true = subst (λ (k : ℕ). rows_keep (is_below is all) gs (drop k all) ≡ true) n keeps in
+    let there : rows_keep (is_below (fs ++ gs) all) gs rest ≡ true = subst (λ (l : List Interface). rows_keep (is_below l all) gs rest ≡ true) same here in
+    let parted : rows_keep (is_below (fs ++ gs) (rows ++ rest)) gs rest ≡ true = subst (λ (a : List (List ℕ)). rows_keep (is_below (fs ++ gs) a) gs rest ≡ true) whole there in
+    let joined : are_ranked (fs ++ gs) (rows ++ rest) ≡ true = ranked_more fs gs rows rest (sym n ∙ m) ranked parted in
+    let back : are_ranked (fs ++ gs) all ≡ true = subst (λ (a : List (List ℕ)). are_ranked (fs ++ gs) a ≡ true) (sym whole) joined in
+    subst (λ (l : List Interface). are_ranked l all ≡ true) (sym same) back

@@ -1,15 +1,15 @@
-ghost use Rattle.std.specs.Prelude.{◌≡◌, Some, IfOk, IfSome};
+ghost use Rattle.std.specs.Prelude.{◌≡◌, true, IfOk, IfErr, IfSome};
 ghost use Rattle.std.specs.Option.{option_copied};
 ghost use Rattle.ob_env.specs.Faces.{print_in, faces_of};
 ghost use Rattle.ob_env.specs.Found.{object_found, CarryPrints};
-ghost use Rattle.ob_env.specs.Marks.{place_of, AreRanks};
+ghost use Rattle.ob_env.specs.Marks.{place_of, are_ranked, AreRanks};
 ghost use Rattle.ob_types.specs.Relations.{IsGrounded};
 ghost use Rattle.ob_env.specs.Mapped.{map_of};
-ghost use Rattle.ob_env.specs.Building.{Builds, Stand};
+ghost use Rattle.ob_env.specs.Building.{Builds, Named, Stand, fault_of, stands_as};
 
+use crate::behind::ranks_behind;
 use crate::fault::EnvFault;
 use crate::fit::check_fit;
-use crate::grown::ranks_behind;
 use crate::interfaces::Interfaces;
 use crate::stale::check_uses;
 use crate::within::ranks_of;
@@ -46,17 +46,28 @@ impl Drop for Env {
     }
 }
 
+// The heights of the objects of interfaces that stand, where heights are known; or the first fault.
+fn standing(alloc: Global, faces: &Interfaces) -> Result<Option<List<List<u32>>>, EnvFault>
+    ensures stand { IfOk result (λ ranks. Stand faces.now × AreRanks faces.now ranks) }
+    ensures fault { IfErr result (λ e. Named (fault_of (stands_as faces.now)) e) }
+{
+    check_uses(faces, faces.faces())?;
+    let Ok(ranks) = ranks_of(alloc, faces) else {
+        return Err(EnvFault::Memory);
+    };
+    check_fit(alloc, faces, &ranks)?;
+    Ok(ranks)
+}
+
 // The environment of these interfaces, or the first fault.
 fn judged(alloc: Global, faces: Interfaces) -> Result<Env, EnvFault>
     ensures answer { Builds faces result }
     ensures grounded { IfOk result (λ env. IsGrounded (map_of env)) }
 {
-    check_uses(&faces, faces.faces())?;
-    let Ok(ranks) = ranks_of(alloc, &faces) else {
-        return Err(EnvFault::Memory);
-    };
-    check_fit(alloc, &faces, &ranks)?;
-    Ok(Env { faces, ranks })
+    match standing(alloc, &faces) {
+        Ok(ranks) => Ok(Env { faces, ranks }),
+        Err(fault) => Err(fault),
+    }
 }
 
 impl Env {
@@ -77,7 +88,7 @@ impl Env {
     // The heights of the types of these interfaces, where they begin with those of this
     // environment, and what is new stands.
     fn grown(self, alloc: Global, faces: &Interfaces) -> Option<List<List<u32>>>
-        ensures { IfSome result (λ ranks. Stand faces.now × AreRanks faces.now (Some ranks)) }
+        ensures { IfSome result (λ ranks. Stand faces.now × (are_ranked faces.now ranks ≡ true)) }
     {
         let Env {
             faces: before,

@@ -58,20 +58,63 @@ fn rest_keeps(faces: &Interfaces, all: &List<List<u32>>, known: usize, more: &[S
     }
 }
 
-// Whether what is new stands, where all have heights.
-fn rest_stands(
+// Whether each use of what is new is met.
+fn uses_stand(faces: &Interfaces, more: &[SymbolFile]) -> bool
+    ensures { result ≡ true → first_among (uses_answer faces.now) more.now ≡ None }
+{
+    match check_uses(faces, more) {
+        Ok(()) => true,
+        Err(_) => false,
+    }
+}
+
+// Whether each object of what is new fits, where all have heights.
+fn objects_stand(
     alloc: Global,
     faces: &Interfaces,
     all: &List<List<u32>>,
     more: &[SymbolFile],
 ) -> bool
     requires { are_ranked faces.now all.now ≡ true }
-    ensures uses { result ≡ true → first_among (uses_answer faces.now) more.now ≡ None }
-    ensures objects { result ≡ true → first_among (objects_answer faces.now (steps_of (faces_of faces.now))) more.now ≡ None }
+    ensures { result ≡ true → first_among (objects_answer faces.now (steps_of (faces_of faces.now))) more.now ≡ None }
 {
     let _ = all;
-    let marks = List::new(alloc);
-    check_uses(faces, more).is_ok() && check_part(alloc, faces, &marks, more).is_ok()
+    let none = List::new(alloc);
+    match check_part(alloc, faces, &none, more) {
+        Ok(()) => true,
+        Err(_) => false,
+    }
+}
+
+// The heights of the objects of these interfaces, where what is new stands and has heights too.
+fn grown_ranks(
+    alloc: Global,
+    faces: &Interfaces,
+    before: &Interfaces,
+    heights: List<List<u32>>,
+) -> Option<List<List<u32>>>
+    requires stand { Stand before.now }
+    requires ranked { are_ranked before.now heights ≡ true }
+    ensures { IfSome result (λ all. Stand faces.now × (are_ranked faces.now all ≡ true)) }
+{
+    let more = behind(faces.faces(), before.faces())?;
+    let known = heights.len();
+    if known != before.faces().len() {
+        return None;
+    }
+    let Ok(all) = with_heights(alloc, faces, heights, more) else {
+        return None;
+    };
+    if !rest_keeps(faces, &all, known, more) {
+        return None;
+    }
+    if !uses_stand(faces, more) {
+        return None;
+    }
+    if !objects_stand(alloc, faces, &all, more) {
+        return None;
+    }
+    Some(all)
 }
 
 /// The heights of the objects of these interfaces, where they begin with those that stood before
@@ -84,19 +127,10 @@ pub fn ranks_behind(
 ) -> Option<List<List<u32>>>
     requires stand { Stand before.now }
     requires ranks { AreRanks before.now ranks }
-    ensures { IfSome result (λ all. Stand faces.now × AreRanks faces.now (Some all)) }
+    ensures { IfSome result (λ all. Stand faces.now × (are_ranked faces.now all ≡ true)) }
 {
-    let heights = ranks?;
-    let more = behind(faces.faces(), before.faces())?;
-    let known = heights.len();
-    if known != before.faces().len() {
-        return None;
+    match ranks {
+        None => None,
+        Some(heights) => grown_ranks(alloc, faces, before, heights),
     }
-    let Ok(all) = with_heights(alloc, faces, heights, more) else {
-        return None;
-    };
-    if rest_keeps(faces, &all, known, more) && rest_stands(alloc, faces, &all, more) {
-        return Some(all);
-    }
-    None
 }
