@@ -7,10 +7,10 @@ ghost use Rattle.ob_walk.specs.Walk.{symbol_entry};
 ghost use Rattle.ob_compiling.specs.Compiling.{compiled, prints};
 ghost use Rattle.ob_compile.specs.Contract.{AreFile, Compiles, CompileHasCause};
 
+use crate::compiler::Compiler;
 use crate::faces::compile_text;
 use crate::shape::Built;
 use crate::source::read_source;
-use ob_cache::SymbolReader;
 use ob_compiling::CompileFault;
 use ob_io::Shelf;
 use std::alloc::Global;
@@ -20,10 +20,10 @@ use std::alloc::Global;
 /// where the folder's count of faults rose, `Memory` where memory is wanting; and, as no law says yet
 /// that it does not come to that, where a file that was made has no spelling or the generator gives
 /// the module up.
-pub fn compile<F: Shelf, R: SymbolReader>(
+pub fn compile<F: Shelf>(
     alloc: Global,
     folder: &mut F,
-    reader: &mut R,
+    compiler: &mut Compiler,
     file: &str,
 ) -> Result<Built, CompileFault>
     ensures told { F.tells folder.new ≡ F.tells folder.old }
@@ -34,7 +34,7 @@ pub fn compile<F: Shelf, R: SymbolReader>(
     ensures cause { CompileHasCause (F.faults folder.old) (F.faults folder.new) result }
 {
     match read_source(alloc, folder, file) {
-        Ok(text) => compile_text(alloc, folder, reader, text.as_slice()),
+        Ok(text) => compile_text(alloc, folder, compiler, text.as_slice()),
         Err(fault) => Err(fault),
     }
 }

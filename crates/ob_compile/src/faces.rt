@@ -4,7 +4,7 @@ ghost use Rattle.std.specs.Prelude.{◌≡◌, ◌≤◌, true, length, map as e
 ghost use Rattle.ob_io.specs.Io.{SameFiles};
 ghost use Rattle.ob_sym.specs.Grammar.{face as face_form};
 ghost use Rattle.ob_reading.specs.Reading.{reading};
-ghost use Rattle.ob_env.specs.Building.{stands_as};
+ghost use Rattle.ob_env.specs.Building.{Builds, stands_as};
 ghost use Rattle.ob_env.specs.Found.{CarryPrints};
 ghost use Rattle.ob_walk.specs.Walk.{symbol_entry, walk as walking};
 ghost use Rattle.ob_walk.specs.Answer.{after_walk};
@@ -13,16 +13,16 @@ ghost use Rattle.ob_compile.specs.Contract.{AreFile, Compiles, Makes, CompileHas
 ghost use Rattle.ob_compile.specs.Steps.{stood};
 
 use crate::answers::{fault_of_env, fault_of_text, fault_of_walk, over_limit};
+use crate::compiler::Compiler;
 use crate::held::SourceTree;
 use crate::rules::judged;
 use crate::shape::Built;
-use ob_cache::SymbolReader;
+use ob_cache::SymbolFile;
 use ob_compiling::CompileFault;
-use ob_env::Env;
+use ob_env::{Env, EnvFault};
 use ob_io::Shelf;
 use ob_reading::read_module;
 use ob_tree::{Import, List, Module, Name, Which};
-use ob_types::Interface;
 use ob_walk::walk;
 use std::alloc::{AllocError, Global};
 
@@ -49,22 +49,42 @@ fn all_imported(alloc: Global, imports: &[Import]) -> Result<List<Name>, AllocEr
     Ok(all)
 }
 
-// Compiles a module over the interfaces of the modules below it.
-fn compile_over(alloc: Global, tree: &Module, faces: List<Interface>) -> Result<Built, CompileFault>
+// The environment of these interfaces, made from the one of the compile before.
+fn environment(alloc: Global, last: Option<Env>, faces: List<SymbolFile>) -> Result<Env, EnvFault>
+    requires { CarryPrints faces }
+    ensures { Builds faces result }
+{
+    match last {
+        Some(env) => env.renewed(alloc, faces),
+        None => Env::build(alloc, faces),
+    }
+}
+
+// Compiles a module over the interfaces of the modules below it, and keeps their environment.
+fn compile_over(
+    alloc: Global,
+    last: &mut Option<Env>,
+    tree: &Module,
+    faces: List<SymbolFile>,
+) -> Result<Built, CompileFault>
     requires { CarryPrints faces }
     ensures { Makes (of_standing prints tree.now (stands_as faces)) result }
 {
-    match Env::build(alloc, faces) {
-        Ok(env) => judged(alloc, tree, &env),
+    match environment(alloc, last.take(), faces) {
+        Ok(env) => {
+            let built = judged(alloc, tree, &env);
+            *last = Some(env);
+            built
+        }
         Err(fault) => Err(fault_of_env(fault)),
     }
 }
 
 // Compiles a module with these imports.
-fn compile_with<F: Shelf, R: SymbolReader>(
+fn compile_with<F: Shelf>(
     alloc: Global,
     folder: &mut F,
-    reader: &mut R,
+    compiler: &mut Compiler,
     tree: &Module,
     imports: &[Name],
 ) -> Result<Built, CompileFault>
@@ -75,17 +95,23 @@ fn compile_with<F: Shelf, R: SymbolReader>(
     ensures file { IfOk result (λ b. AreFile b.obj) }
     ensures cause { CompileHasCause (F.faults folder.old) (F.faults folder.new) result }
 {
-    match walk(alloc, folder, reader, &tree.name.name, imports) {
-        Ok(faces) => compile_over(alloc, tree, faces),
+    match walk(
+        alloc,
+        folder,
+        &mut compiler.symbols,
+        &tree.name.name,
+        imports,
+    ) {
+        Ok(faces) => compile_over(alloc, &mut compiler.last, tree, faces),
         Err(stop) => Err(fault_of_walk(stop)),
     }
 }
 
 // Compiles a module.
-fn compile_tree<F: Shelf, R: SymbolReader>(
+fn compile_tree<F: Shelf>(
     alloc: Global,
     folder: &mut F,
-    reader: &mut R,
+    compiler: &mut Compiler,
     tree: &Module,
 ) -> Result<Built, CompileFault>
     ensures told { F.tells folder.new ≡ F.tells folder.old }
@@ -102,14 +128,14 @@ fn compile_tree<F: Shelf, R: SymbolReader>(
     let Ok(imports) = all_imported(alloc, listed) else {
         return Err(CompileFault::Memory);
     };
-    compile_with(alloc, folder, reader, tree, imports.as_slice())
+    compile_with(alloc, folder, compiler, tree, imports.as_slice())
 }
 
 /// Compiles the text of a source.
-pub fn compile_text<F: Shelf, R: SymbolReader>(
+pub fn compile_text<F: Shelf>(
     alloc: Global,
     folder: &mut F,
-    reader: &mut R,
+    compiler: &mut Compiler,
     text: &[u8],
 ) -> Result<Built, CompileFault>
     requires { length text.now ≤ 1048576 }
@@ -123,7 +149,7 @@ pub fn compile_text<F: Shelf, R: SymbolReader>(
     match read_module(alloc, text) {
         Ok(tree) => {
             let source = SourceTree { tree };
-            compile_tree(alloc, folder, reader, &source.tree)
+            compile_tree(alloc, folder, compiler, &source.tree)
         }
         Err(fault) => Err(fault_of_text(fault)),
     }

@@ -2,6 +2,7 @@
 #![tactic(auto)]
 
 mod answers;
+mod compiler;
 mod compiling;
 mod faces;
 mod files;
@@ -13,5 +14,6 @@ mod shape;
 mod shown;
 mod source;
 
+pub use compiler::Compiler;
 pub use compiling::compile;
 pub use shape::Built;

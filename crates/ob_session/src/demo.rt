@@ -13,8 +13,7 @@ ghost use Rattle.ob_session.specs.Does.{Shows, TextDoes, MakesSo, AreFew};
 use crate::commanding::do_command;
 use crate::files::{object_file, symbol_file};
 use itoa::Buffer;
-use ob_cache::SymbolCache;
-use ob_compile::{Built, compile};
+use ob_compile::{Built, Compiler, compile};
 use ob_compiling::CompileFault;
 use ob_demo::source;
 use ob_io::{Folder, MemFolder, Sink};
@@ -78,13 +77,13 @@ fn source_file(alloc: Global, at: u32) -> Result<Vec<u8>, AllocError>
 fn make_file(
     alloc: Global,
     folder: &mut MemFolder,
-    cache: &mut SymbolCache,
+    compiler: &mut Compiler,
     file: &str,
 ) -> Result<Option<u32>, AllocError>
     ensures makes { IfOk result (MakesSo (made_of (file_in folder.old.pairs) (compiled_file (file_in folder.old.pairs) file.now)) (file_in folder.new.pairs)) }
     ensures few { IfOk result AreFew }
 {
-    match compile(alloc, folder, cache, file) {
+    match compile(alloc, folder, compiler, file) {
         Ok(built) => {
             put_both(alloc, folder, &built)?;
             Ok(Some(built.face.objects.len() as u32))
@@ -102,7 +101,7 @@ fn make_one(
     count: u32,
     at: u32,
     folder: &mut MemFolder,
-    cache: &mut SymbolCache,
+    compiler: &mut Compiler,
 ) -> Result<Option<u32>, AllocError>
     requires first { 1 ≤ at }
     requires last { at ≤ count }
@@ -116,7 +115,7 @@ fn make_one(
     };
     let text = source(alloc, count, at)?;
     put_file(folder, file, text.as_slice())?;
-    let made = make_file(alloc, folder, cache, file)?;
+    let made = make_file(alloc, folder, compiler, file)?;
     Ok(made)
 }
 
@@ -125,7 +124,7 @@ fn make_all(
     alloc: Global,
     count: u32,
     folder: &mut MemFolder,
-    cache: &mut SymbolCache,
+    compiler: &mut Compiler,
 ) -> Result<Option<u32>, AllocError>
     requires empty { folder.old.pairs ≡ [] }
     requires few { count ≤ 60 }
@@ -134,7 +133,7 @@ fn make_all(
     let mut objects = 0;
     let mut at = 1;
     'modules: while at <= count {
-        match make_one(alloc, count, at, folder, cache)? {
+        match make_one(alloc, count, at, folder, compiler)? {
             Some(more) => {
                 objects += more;
                 at += 1;
@@ -242,7 +241,7 @@ pub fn do_demo<O: Sink>(
     alloc: Global,
     settings: Settings,
     count: u32,
-    cache: &mut SymbolCache,
+    compiler: &mut Compiler,
     out: &mut O,
 ) -> Result<bool, Stop>
     requires first { 1 ≤ count }
@@ -254,7 +253,7 @@ pub fn do_demo<O: Sink>(
     ensures cause { SinkCause (O.faults out.old) (O.faults out.new) result }
 {
     let mut folder = MemFolder::new(alloc, Vec::new(alloc));
-    match make_all(alloc, count, &mut folder, cache) {
+    match make_all(alloc, count, &mut folder, compiler) {
         Ok(Some(objects)) => run_last(alloc, settings, count, objects, &mut folder, out),
         Ok(None) => Ok(true),
         Err(_) => Err(Stop::Memory),

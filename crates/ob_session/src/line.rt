@@ -10,7 +10,7 @@ use crate::comparing::{do_check, do_compare, do_show};
 use crate::compiling::do_compile;
 use crate::demo::do_demo;
 use crate::saying::do_unknown;
-use ob_cache::SymbolCache;
+use ob_compile::Compiler;
 use ob_io::{Folder, Sink};
 use ob_lines::{LineWords, words_of};
 use ob_load::System;
@@ -24,7 +24,7 @@ pub fn do_line<F: Folder, O: Sink>(
     settings: Settings,
     system: &mut System,
     folder: &mut F,
-    cache: &mut SymbolCache,
+    compiler: &mut Compiler,
     n: u32,
     line: &[u8],
     out: &mut O,
@@ -37,11 +37,11 @@ pub fn do_line<F: Folder, O: Sink>(
     ensures cause { Cause (O.faults out.old) (O.faults out.new) (F.faults folder.old) (F.faults folder.new) result }
 {
     match words_of(line) {
-        LineWords::Compile(file) => do_compile(alloc, folder, cache, file, out),
+        LineWords::Compile(file) => do_compile(alloc, folder, compiler, file, out),
         LineWords::Compare(old, new) => do_compare(alloc, folder, old, new, out),
         LineWords::Check(name) => do_check(alloc, folder, &name, out),
         LineWords::Show(name) => do_show(alloc, folder, &name, out),
-        LineWords::Demo(count) => do_demo(alloc, settings, count, cache, out),
+        LineWords::Demo(count) => do_demo(alloc, settings, count, compiler, out),
         LineWords::Command(name, command) => {
             do_command(alloc, settings, system, folder, &name, &command, out)
         }

@@ -15,7 +15,7 @@ ghost use Rattle.ob_session.specs.Stand.{Pieces};
 ghost use Rattle.ob_session.specs.Session.{Causes, StatusIs};
 
 use crate::line::do_line;
-use ob_cache::SymbolCache;
+use ob_compile::Compiler;
 use ob_io::{Folder, Sink, Source};
 use ob_load::System;
 use ob_pieces::{Input, Next, NextFault, next_line};
@@ -30,7 +30,7 @@ fn do_flushed<F: Folder, O: Sink>(
     settings: Settings,
     system: &mut System,
     folder: &mut F,
-    cache: &mut SymbolCache,
+    compiler: &mut Compiler,
     n: u32,
     line: &[u8],
     out: &mut O,
@@ -42,7 +42,7 @@ fn do_flushed<F: Folder, O: Sink>(
     ensures told_sink { O.tells out.new ≡ O.tells out.old }
     ensures cause { Cause (O.faults out.old) (O.faults out.new) (F.faults folder.old) (F.faults folder.new) result }
 {
-    match do_line(alloc, settings, system, folder, cache, n, line, out) {
+    match do_line(alloc, settings, system, folder, compiler, n, line, out) {
         Ok(refused) => match out.flush() {
             Ok(()) => Ok(refused),
             Err(_) => Err(Stop::Sink),
@@ -86,7 +86,7 @@ fn run_lines<F: Folder, I: Source, O: Sink>(
     system: &mut System,
     input: &mut Input,
     folder: &mut F,
-    cache: &mut SymbolCache,
+    compiler: &mut Compiler,
     script: &mut I,
     out: &mut O,
 ) -> u8
@@ -107,7 +107,7 @@ fn run_lines<F: Folder, I: Source, O: Sink>(
     'lines: loop {
         match next_line(input, taken, &mut line, script) {
             Ok(Next::Line(count)) => {
-                match do_flushed(alloc, settings, system, folder, cache, n, &line, out) {
+                match do_flushed(alloc, settings, system, folder, compiler, n, &line, out) {
                     Ok(this) => {
                         refused = either(refused, this);
                         taken = count;
@@ -117,7 +117,7 @@ fn run_lines<F: Folder, I: Source, O: Sink>(
                 }
             }
             Ok(Next::Last(_)) => {
-                match do_flushed(alloc, settings, system, folder, cache, n, &line, out) {
+                match do_flushed(alloc, settings, system, folder, compiler, n, &line, out) {
                     Ok(this) => return verdict(either(refused, this)),
                     Err(stop) => return status_of(stop),
                 }
@@ -152,14 +152,14 @@ fn run_script<F: Folder, I: Source, O: Sink>(
     let Ok(mut input) = Input::new(alloc) else {
         return 5;
     };
-    let mut cache = SymbolCache::new(alloc);
+    let mut compiler = Compiler::new(alloc);
     run_lines(
         alloc,
         settings,
         &mut system,
         &mut input,
         folder,
-        &mut cache,
+        &mut compiler,
         script,
         out,
     )

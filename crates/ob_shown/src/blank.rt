@@ -2,9 +2,10 @@ ghost use Rattle.std.specs.Prelude.{◌≡◌, IfOk, map};
 ghost use Rattle.ob_env.specs.Shown.{blank, unplaced, unnumbered};
 ghost use Rattle.ob_shown.specs.Faces.{blank_record, blank_records};
 
+use ob_cache::SymbolFile;
 use ob_tree::List;
 use ob_trees::{copy_method, copy_type};
-use ob_types::{Desc, Field, Interface, Method, Object, RecordDesc, TypeRef};
+use ob_types::{Desc, Field, Method, Object, RecordDesc, TypeRef};
 use std::alloc::{AllocError, Global};
 
 fn unplaced(field: &Field) -> Result<Field, AllocError>
@@ -111,13 +112,13 @@ fn blank_row(alloc: Global, objects: &[Object]) -> Result<List<Option<Desc>>, Al
 /// The records of interfaces without places, numbers and words, each where its object stands.
 pub fn blank_records(
     alloc: Global,
-    faces: &[Interface],
+    faces: &[SymbolFile],
 ) -> Result<List<List<Option<Desc>>>, AllocError>
     ensures { IfOk result (λ l. l ≡ blank_records faces.now) }
 {
     let mut all = List::new(alloc);
     'faces: for face in faces {
-        let one = blank_row(alloc, face.objects.as_slice())?;
+        let one = blank_row(alloc, face.face().objects.as_slice())?;
         all.push(one)?;
     }
     Ok(all)

@@ -5,11 +5,12 @@ ghost use Rattle.ob_env.specs.Shown.{blank, shown};
 ghost use Rattle.ob_shown.specs.Faces.{blank_record, blank_records as all_blank, seen_at, shown_finite};
 
 use crate::blank::blank_records;
+use ob_cache::SymbolFile;
 use ob_env::Env;
 use ob_known::Imports;
 use ob_layout::item_at;
 use ob_tree::{List, Name, QName};
-use ob_types::{Desc, Interface, Object, Types};
+use ob_types::{Desc, Object, Types};
 use std::alloc::{AllocError, Global};
 use std::marker::Model;
 
@@ -64,7 +65,7 @@ fn seen_among<'a>(objects: &'a [Object], records: &'a [Option<Desc>], at: usize)
 }
 
 fn seen_in<'a>(
-    faces: &'a [Interface],
+    faces: &'a [SymbolFile],
     records: &'a [List<Option<Desc>>],
     face: usize,
     object: usize,
@@ -76,7 +77,7 @@ fn seen_in<'a>(
         None => None,
         Some(found) => match item_at(records, face) {
             None => None,
-            Some(row) => seen_among(found.objects.as_slice(), row.as_slice(), object),
+            Some(row) => seen_among(found.face().objects.as_slice(), row.as_slice(), object),
         },
     }
 }

@@ -1,0 +1,26 @@
+//! What one compile leaves for the next.
+
+use ob_cache::SymbolCache;
+use ob_env::Env;
+use std::alloc::Global;
+
+/// What compiles leave for those behind them: the symbol files that were read, and the environment
+/// of the last module. It makes a compile faster where much below the module is as it was, and says
+/// nothing of the answer.
+#[derive(Drop)]
+pub struct Compiler {
+    /// The symbol files that were read.
+    pub(crate) symbols: SymbolCache,
+    /// The environment of the last module.
+    pub(crate) last: Option<Env>,
+}
+
+impl Compiler {
+    /// One that has compiled nothing yet. Takes no memory.
+    pub fn new(alloc: Global) -> Compiler {
+        Compiler {
+            symbols: SymbolCache::new(alloc),
+            last: None,
+        }
+    }
+}
