@@ -1,7 +1,7 @@
 //! What one compile leaves for the next.
 
 use ob_cache::SymbolCache;
-use ob_env::Env;
+use ob_coherent::CoherentEnv;
 use std::alloc::Global;
 
 /// What compiles leave for those behind them: the symbol files that were read, and the environment
@@ -12,7 +12,7 @@ pub struct Compiler {
     /// The symbol files that were read.
     pub(crate) symbols: SymbolCache,
     /// The environment of the last module.
-    pub(crate) last: Option<Env>,
+    pub(crate) last: Option<CoherentEnv>,
 }
 
 impl Compiler {

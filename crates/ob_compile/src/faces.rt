@@ -18,8 +18,9 @@ use crate::held::SourceTree;
 use crate::rules::judged;
 use crate::shape::Built;
 use ob_cache::SymbolFile;
+use ob_coherent::CoherentEnv;
 use ob_compiling::CompileFault;
-use ob_env::{Env, EnvFault};
+use ob_env::EnvFault;
 use ob_io::Shelf;
 use ob_reading::read_module;
 use ob_tree::{Import, List, Module, Name, Which};
@@ -50,20 +51,24 @@ fn all_imported(alloc: Global, imports: &[Import]) -> Result<List<Name>, AllocEr
 }
 
 // The environment of these interfaces, made from the one of the compile before.
-fn environment(alloc: Global, last: Option<Env>, faces: List<SymbolFile>) -> Result<Env, EnvFault>
+fn environment(
+    alloc: Global,
+    last: Option<CoherentEnv>,
+    faces: List<SymbolFile>,
+) -> Result<CoherentEnv, EnvFault>
     requires { CarryPrints faces }
     ensures { Builds faces result }
 {
     match last {
         Some(env) => env.renewed(alloc, faces),
-        None => Env::build(alloc, faces),
+        None => CoherentEnv::build(alloc, faces),
     }
 }
 
 // Compiles a module over the interfaces of the modules below it, and keeps their environment.
 fn compile_over(
     alloc: Global,
-    last: &mut Option<Env>,
+    last: &mut Option<CoherentEnv>,
     tree: &Module,
     faces: List<SymbolFile>,
 ) -> Result<Built, CompileFault>
@@ -72,7 +77,7 @@ fn compile_over(
 {
     match environment(alloc, last.take(), faces) {
         Ok(env) => {
-            let built = judged(alloc, tree, &env);
+            let built = judged(alloc, tree, env.env());
             *last = Some(env);
             built
         }

@@ -3,7 +3,7 @@ use Rattle.std.specs.Prelude.{ℕ, List, map as each, Option, Some, slice_get}
 use Rattle.std.specs.List.{AllByRecursion}
 use Rattle.ob_format.specs.Format.{◌>>=◌}
 use Rattle.ob_sym.specs.Grammar.{IsObjectOf}
-use Rattle.ob_layout.specs.Index.{first_by}
+use Rattle.ob_layout.specs.Index.{first_by, position_from}
 use Rattle.ob_tree.specs.declared.names.QName.{QName}
 use Rattle.ob_tree.specs.declared.print.Print.{Print}
 use Rattle.ob_types.specs.declared.face.Aspect.{Aspect}
@@ -39,3 +39,11 @@ object_names os = each (λ o. o.name) os
 -- each object carries the prints of its texts
 abbrev pub CarryPrints : List Interface → Type 0
 CarryPrints is = AllByRecursion (λ i. AllByRecursion (λ o. IsObjectOf i.«module» o) i.objects) is
+
+-- where a name stands in the interface at a position
+abbrev pub place_in : List Interface → ℕ → List ℕ → Option ℕ
+place_in is k x = slice_get is k >>= λ i. position_from 0 x (object_names i.objects)
+
+-- where a name stands: the position of its module, and its own
+abbrev pub place_of : List Interface → QName → Option (ℕ × ℕ)
+place_of is q = position_from 0 q.«module» (module_names is) >>= λ k. place_in is k q.object >>= λ j. Some (k, j)

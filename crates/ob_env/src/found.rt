@@ -1,7 +1,7 @@
 ghost use Rattle.std.specs.Prelude.{◌≡◌, IfOk};
 ghost use Rattle.std.specs.Option.{option_copied};
 ghost use Rattle.ob_layout.specs.Index.{IsIndexOf};
-ghost use Rattle.ob_env.specs.Marks.{place_in};
+ghost use Rattle.ob_env.specs.Found.{place_in};
 ghost use Rattle.ob_env.specs.Found.{module_names, object_placed};
 
 use ob_cache::SymbolFile;

@@ -13,7 +13,7 @@ use Rattle.ob_layout.proofs.Names.{first_at, first_none}
 use Rattle.ob_env.specs.Faces.{face_of}
 use Rattle.ob_env.specs.Found.{object_by_name, object_names, module_names, object_found}
 use Rattle.ob_env.specs.Laws.{described_found}
-use Rattle.ob_env.specs.Marks.{place_in, place_of}
+use Rattle.ob_env.specs.Found.{place_in, place_of}
 use Rattle.ob_env.specs.Shown.{blank, shown}
 use Rattle.ob_shown.specs.Faces.{blank_record, seen_at}
 
