@@ -62,8 +62,13 @@ impl SymbolCache {
         self.positions.note(alloc, module.as_bytes(), position)
     }
 
-    // Keeps a file in the place of the module's earlier one.
-    fn keep(&mut self, alloc: Global, module: &Name, file: SymbolFile) -> Result<(), AllocError> {
+    /// Keeps a file as that of the module, in the place of its earlier one.
+    pub fn keep(
+        &mut self,
+        alloc: Global,
+        module: &Name,
+        file: SymbolFile,
+    ) -> Result<(), AllocError> {
         let Some(at) = self.positions.get(module.as_bytes()) else {
             return self.push(alloc, module, file);
         };

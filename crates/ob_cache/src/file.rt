@@ -72,23 +72,23 @@ fn are_same(a: &[u8], b: &[u8]) -> bool
     a == b
 }
 
-// The file of these bytes, which spell that interface.
-fn shared(alloc: Global, bytes: &[u8], face: Interface) -> Result<SymbolFile, AllocError>
-    requires { whole face_form bytes.now ≡ Some face }
-    ensures { IfOk result (λ f. f ≡ face) }
-{
-    let objects = index_of(alloc, face.objects.as_slice())?;
-    let bytes = Text::from_slice(alloc, bytes)?;
-    let spelled = Spelled {
-        bytes,
-        face,
-        objects,
-    };
-    let shared = Rc::new(alloc, spelled)?;
-    Ok(SymbolFile { shared })
-}
-
 impl SymbolFile {
+    /// The symbol file of these bytes, which spell that interface.
+    pub fn of(alloc: Global, bytes: &[u8], face: Interface) -> Result<SymbolFile, AllocError>
+        requires { whole face_form bytes.now ≡ Some face }
+        ensures { IfOk result (λ f. f ≡ face) }
+    {
+        let objects = index_of(alloc, face.objects.as_slice())?;
+        let bytes = Text::from_slice(alloc, bytes)?;
+        let spelled = Spelled {
+            bytes,
+            face,
+            objects,
+        };
+        let shared = Rc::new(alloc, spelled)?;
+        Ok(SymbolFile { shared })
+    }
+
     /// The symbol file of these bytes. `Damaged` comes exactly where the bytes are no symbol file,
     /// `Memory` only where memory is wanting.
     pub fn read(alloc: Global, bytes: &[u8]) -> Result<SymbolFile, SymFault>
@@ -96,7 +96,7 @@ impl SymbolFile {
         ensures again { (f : Face) → face_form.fits f → bytes.now ≡ face_form.spell f → MatchResult result (λ g. g ≡ f) (λ e. e ≡ SymFault.Memory) }
     {
         let face = read_sym(alloc, bytes)?;
-        match shared(alloc, bytes, face) {
+        match SymbolFile::of(alloc, bytes, face) {
             Ok(file) => Ok(file),
             Err(_) => Err(SymFault::Memory),
         }
