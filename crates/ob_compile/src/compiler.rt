@@ -1,6 +1,6 @@
 //! What one compile leaves for the next.
 
-use ob_cache::SymbolCache;
+use ob_cache::{SymbolCache, SymbolFile};
 use ob_coherent::CoherentEnv;
 use std::alloc::Global;
 
@@ -21,6 +21,14 @@ impl Compiler {
         Compiler {
             symbols: SymbolCache::new(alloc),
             last: None,
+        }
+    }
+
+    /// Keeps the symbol file of a module that was compiled, so that its bytes need not be read. Where
+    /// memory is wanting it is not kept.
+    pub(crate) fn keep(&mut self, alloc: Global, file: &SymbolFile) {
+        if let Ok(again) = file.clone() {
+            let _ = self.symbols.keep(alloc, &file.face().module, again);
         }
     }
 }

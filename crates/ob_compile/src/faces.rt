@@ -65,21 +65,25 @@ fn environment(
     }
 }
 
-// Compiles a module over the interfaces of the modules below it, and keeps their environment.
+// Compiles a module over the interfaces of the modules below it, and keeps their environment and
+// what was made.
 fn compile_over(
     alloc: Global,
-    last: &mut Option<CoherentEnv>,
+    compiler: &mut Compiler,
     tree: &Module,
     faces: List<SymbolFile>,
 ) -> Result<Built, CompileFault>
     requires { CarryPrints faces }
     ensures { Makes (of_standing prints tree.now (stands_as faces)) result }
 {
-    match environment(alloc, last.take(), faces) {
+    match environment(alloc, compiler.last.take(), faces) {
         Ok(env) => {
-            let built = judged(alloc, tree, env.env());
-            *last = Some(env);
-            built
+            let made = judged(alloc, tree, env.env());
+            compiler.last = Some(env);
+            if let Ok(built) = &made {
+                compiler.keep(alloc, &built.face);
+            }
+            made
         }
         Err(fault) => Err(fault_of_env(fault)),
     }
@@ -107,7 +111,7 @@ fn compile_with<F: Shelf>(
         &tree.name.name,
         imports,
     ) {
-        Ok(faces) => compile_over(alloc, &mut compiler.last, tree, faces),
+        Ok(faces) => compile_over(alloc, compiler, tree, faces),
         Err(stop) => Err(fault_of_walk(stop)),
     }
 }

@@ -12,6 +12,7 @@ ghost use Rattle.ob_compile.specs.Contract.{AreFile, Makes};
 use crate::answers::over_limit;
 use crate::held::ShownFace;
 use crate::shape::Built;
+use ob_cache::SymbolFile;
 use ob_compiling::CompileFault;
 use ob_obj::{ObjFile, write_obj};
 use ob_spelled::{has_object_file, has_symbol_file};
@@ -70,15 +71,18 @@ fn limit_of_files(obj: &Text, sym: &Text) -> Option<Which>
 }
 
 // What is compiled, with the bytes of its two files.
-fn built(shown: ShownFace, obj: Text, sym: Text) -> Result<Built, CompileFault>
+fn built(alloc: Global, shown: ShownFace, obj: Text, sym: Text) -> Result<Built, CompileFault>
     requires face { face_form.fits shown.face }
+    requires spelled { sym ≡ face_form.spell shown.face }
     requires file { AreFile obj }
     ensures { (c : Compiled PrintValue) → shown.face ≡ interface_by prints c → obj ≡ object_bytes prints c → sym ≡ symbol_bytes prints c → Makes (within c (limit_of_files (object_bytes prints c) (symbol_bytes prints c))) result }
 {
     match limit_of_files(&obj, &sym) {
         Some(which) => Err(over_limit(which)),
         None => {
-            let face = shown.into_inner();
+            let Ok(face) = SymbolFile::of(alloc, sym.as_slice(), shown.into_inner()) else {
+                return Err(CompileFault::Memory);
+            };
             Ok(Built { face, sym, obj })
         }
     }
@@ -95,5 +99,5 @@ pub fn written(alloc: Global, shown: ShownFace, file: &ObjFile) -> Result<Built,
     let Ok(sym) = symbol_bytes(alloc, &shown.face) else {
         return Err(CompileFault::Memory);
     };
-    built(shown, obj, sym)
+    built(alloc, shown, obj, sym)
 }

@@ -1,12 +1,13 @@
 //! What a compile gives.
 
+use ob_cache::SymbolFile;
 use ob_tree::Text;
-use ob_types::Interface;
 
-/// What the compile of a module gives: its interface, and the bytes of its two files.
+/// What the compile of a module gives: its symbol file, which contracts see as its interface, and the
+/// bytes of its two files.
 #[derive(Drop)]
 pub struct Built {
-    pub face: Interface,
+    pub face: SymbolFile,
     pub sym: Text,
     pub obj: Text,
 }
