@@ -5,7 +5,6 @@ use Rattle.std.specs.Option.{option_map}
 use Rattle.ob_format.specs.Format.{◌>>=◌}
 use Rattle.ob_tree.specs.declared.names.QName.{QName}
 use Rattle.ob_types.specs.declared.desc.Desc.{Desc}
-use Rattle.ob_types.specs.declared.desc.Desc.TheVariants as desc
 use Rattle.ob_types.specs.declared.face.Object.{Object}
 use Rattle.ob_types.specs.declared.face.Interface.{Interface}
 use Rattle.ob_layout.specs.Index.{position_from}
@@ -15,31 +14,7 @@ use Rattle.ob_env.specs.Found.{object_by_name, object_names, module_names, objec
 use Rattle.ob_env.specs.Laws.{described_found}
 use Rattle.ob_env.specs.Found.{place_in, place_of}
 use Rattle.ob_env.specs.Shown.{blank, shown}
-use Rattle.ob_shown.specs.Faces.{blank_record, seen_at}
-
--- ---- of one object
-
-pub of_record : (d b : Desc) → Some b ≡ blank_record d → b ≡ blank d
-of_record (desc.Record r) b e = cc
-of_record (desc.Const v) b e = absurd cc
-of_record (desc.Var m t) b e = absurd cc
-of_record (desc.Proc s) b e = absurd cc
-of_record (desc.Alias m t) b e = absurd cc
-of_record (desc.Array m n t) b e = absurd cc
-of_record (desc.OpenArray m t) b e = absurd cc
-of_record (desc.Pointer m t) b e = absurd cc
-of_record (desc.ProcType m s) b e = absurd cc
-
-pub of_other : (d : Desc) → None ≡ blank_record d → d ≡ blank d
-of_other (desc.Record r) e = absurd cc
-of_other (desc.Const v) e = refl
-of_other (desc.Var m t) e = refl
-of_other (desc.Proc s) e = refl
-of_other (desc.Alias m t) e = refl
-of_other (desc.Array m n t) e = refl
-of_other (desc.OpenArray m t) e = refl
-of_other (desc.Pointer m t) e = refl
-of_other (desc.ProcType m s) e = refl
+use Rattle.ob_shown.specs.Faces.{seen_at}
 
 -- ---- of a name
 

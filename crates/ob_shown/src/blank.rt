@@ -1,6 +1,6 @@
-ghost use Rattle.std.specs.Prelude.{◌≡◌, IfOk, map};
+ghost use Rattle.std.specs.Prelude.{◌≡◌, ◌++◌, IfOk, OnOk, map};
 ghost use Rattle.ob_env.specs.Shown.{blank, unplaced, unnumbered};
-ghost use Rattle.ob_shown.specs.Faces.{blank_record, blank_records};
+ghost use Rattle.ob_shown.specs.Faces.{blank_of, row_of, rows_of};
 
 use ob_cache::SymbolFile;
 use ob_tree::List;
@@ -78,14 +78,14 @@ fn blank_record(alloc: Global, described: &RecordDesc) -> Result<Desc, AllocErro
     }))
 }
 
-// A record without places, numbers and words; none of what is no record.
-fn blank_alone(alloc: Global, desc: &Desc) -> Result<Option<Desc>, AllocError>
-    ensures { IfOk result (λ d. d ≡ blank_record desc.now) }
+// Puts a record without places, numbers and words behind others; nothing of what is no record.
+fn put_blank(alloc: Global, blanks: &mut List<Desc>, desc: &Desc) -> Result<(), AllocError>
+    ensures { OnOk result (blanks.new ≡ blanks.old ++ blank_of desc.now) }
 {
     match desc {
         Desc::Record(described) => {
             let blank = blank_record(alloc, described)?;
-            Ok(Some(blank))
+            blanks.push(blank)
         }
         Desc::Const(_)
         | Desc::Var(..)
@@ -94,27 +94,34 @@ fn blank_alone(alloc: Global, desc: &Desc) -> Result<Option<Desc>, AllocError>
         | Desc::Array(..)
         | Desc::OpenArray(..)
         | Desc::Pointer(..)
-        | Desc::ProcType(..) => Ok(None),
+        | Desc::ProcType(..) => Ok(()),
     }
 }
 
-fn blank_row(alloc: Global, objects: &[Object]) -> Result<List<Option<Desc>>, AllocError>
-    ensures { IfOk result (λ l. l ≡ map (λ o. blank_record o.desc) objects.now) }
+/// The records of an interface without places, numbers and words, and how many of them stand before
+/// each of its objects.
+#[derive(Drop)]
+pub struct BlankRow {
+    pub before: List<usize>,
+    pub blanks: List<Desc>,
+}
+
+#[tactic(auto, using(crate::proofs::Rows::before_more, crate::proofs::Rows::blanks_more))]
+fn blank_row(alloc: Global, objects: &[Object]) -> Result<BlankRow, AllocError>
+    ensures { IfOk result (λ r. r ≡ row_of objects.now) }
 {
-    let mut all = List::new(alloc);
+    let mut before = List::new(alloc);
+    let mut blanks = List::new(alloc);
     'objects: for object in objects {
-        let one = blank_alone(alloc, &object.desc)?;
-        all.push(one)?;
+        before.push(blanks.len())?;
+        put_blank(alloc, &mut blanks, &object.desc)?;
     }
-    Ok(all)
+    Ok(BlankRow { before, blanks })
 }
 
-/// The records of interfaces without places, numbers and words, each where its object stands.
-pub fn blank_records(
-    alloc: Global,
-    faces: &[SymbolFile],
-) -> Result<List<List<Option<Desc>>>, AllocError>
-    ensures { IfOk result (λ l. l ≡ blank_records faces.now) }
+/// The records of interfaces, each interface by itself.
+pub fn blank_rows(alloc: Global, faces: &[SymbolFile]) -> Result<List<BlankRow>, AllocError>
+    ensures { IfOk result (λ l. l ≡ rows_of faces.now) }
 {
     let mut all = List::new(alloc);
     'faces: for face in faces {

@@ -1,10 +1,11 @@
-ghost use Rattle.std.specs.Prelude.{◌≡◌, IfOk, map, slice_get};
+ghost use Rattle.std.specs.Prelude.{◌≡◌, IfOk, slice_get};
 ghost use Rattle.std.specs.Option.{option_copied, option_map};
 ghost use Rattle.ob_env.specs.Faces.{faces_of};
 ghost use Rattle.ob_env.specs.Shown.{blank, shown};
-ghost use Rattle.ob_shown.specs.Faces.{blank_record, blank_records as all_blank, seen_at, shown_finite};
+ghost use Rattle.ob_types.specs.Relations.{is_record};
+ghost use Rattle.ob_shown.specs.Faces.{row_of, rows_of, blank_at, seen_at, shown_finite};
 
-use crate::blank::blank_records;
+use crate::blank::{BlankRow, blank_rows};
 use ob_cache::SymbolFile;
 use ob_env::Env;
 use ob_known::Imports;
@@ -19,65 +20,74 @@ use std::marker::Model;
 /// else is found in the environment.
 pub struct Shown<'a> {
     env: &'a Env,
-    records: List<List<Option<Desc>>>,
+    rows: List<BlankRow>,
 }
 
 impl<'a> Model for Shown<'a> {
     ghost use Rattle.std.specs.Prelude.{◌≡◌, List as Listed};
     ghost use Rattle.std.specs.Coded.{coded_list};
     ghost use Rattle.ob_types.specs.declared.face.Interface.{Interface as Face};
-    ghost use Rattle.ob_shown.specs.Faces.{blank_records as all_blank};
+    ghost use Rattle.ob_shown.specs.Faces.{rows_of};
 
     ghost Value = { Listed Face };
 
     ghost view = { λ s. s.env.now };
 
-    ghost invariant = { λ s. s.records ≡ all_blank s.env.now };
+    ghost invariant = { λ s. s.rows ≡ rows_of s.env.now };
 }
 
 impl Drop for Shown<'_> {
     fn drop(self) {
-        let Shown { env: _, records: _ } = self;
+        let Shown { env: _, rows: _ } = self;
     }
 }
 
-fn seen<'a>(desc: &'a Desc, record: &'a Option<Desc>) -> &'a Desc
-    requires { «record».now ≡ blank_record desc.now }
-    ensures { result.now ≡ blank desc.now }
+fn is_record(desc: &Desc) -> bool
+    ensures { result ≡ is_record desc.now }
 {
-    match record {
-        None => desc,
-        Some(blank) => blank,
+    matches!(desc, Desc::Record(_))
+}
+
+// The record that stands at a position.
+fn blank_at(row: &BlankRow, at: usize) -> Option<&Desc>
+    ensures { option_copied result ≡ blank_at row.now at }
+{
+    match item_at(row.before.as_slice(), at) {
+        None => None,
+        Some(before) => item_at(row.blanks.as_slice(), *before),
     }
 }
 
-fn seen_among<'a>(objects: &'a [Object], records: &'a [Option<Desc>], at: usize) -> Option<&'a Desc>
-    requires { records.now ≡ map (λ o. blank_record o.desc) objects.now }
+fn seen_among<'a>(objects: &'a [Object], row: &'a BlankRow, at: usize) -> Option<&'a Desc>
+    requires { row.now ≡ row_of objects.now }
     ensures { option_copied result ≡ option_map (λ o. blank o.desc) (slice_get objects.now at) }
 {
     match item_at(objects, at) {
         None => None,
-        Some(object) => match item_at(records, at) {
-            None => None,
-            Some(record) => Some(seen(&object.desc, record)),
-        },
+        Some(object) => {
+            if is_record(&object.desc) {
+                blank_at(row, at)
+            } else {
+                Some(&object.desc)
+            }
+        }
     }
 }
 
 fn seen_in<'a>(
     faces: &'a [SymbolFile],
-    records: &'a [List<Option<Desc>>],
+    rows: &'a [BlankRow],
     face: usize,
     object: usize,
 ) -> Option<&'a Desc>
-    requires { records.now ≡ all_blank faces.now }
+    requires { rows.now ≡ rows_of faces.now }
     ensures { option_copied result ≡ seen_at faces.now (face, object) }
 {
     match item_at(faces, face) {
         None => None,
-        Some(found) => match item_at(records, face) {
+        Some(found) => match item_at(rows, face) {
             None => None,
-            Some(row) => seen_among(found.face().objects.as_slice(), row.as_slice(), object),
+            Some(row) => seen_among(found.face().objects.as_slice(), row, object),
         },
     }
 }
@@ -87,8 +97,8 @@ impl<'a> Shown<'a> {
     pub fn new(alloc: Global, env: &'a Env) -> Result<Shown<'a>, AllocError>
         ensures { IfOk result (λ s. s ≡ env.now) }
     {
-        let records = blank_records(alloc, env.faces())?;
-        Ok(Shown { env, records })
+        let rows = blank_rows(alloc, env.faces())?;
+        Ok(Shown { env, rows })
     }
 
     // The object of that name, without places, numbers and words.
@@ -98,7 +108,7 @@ impl<'a> Shown<'a> {
         match self.env.position(module, object) {
             None => None,
             Some((face, position)) => {
-                seen_in(self.env.faces(), self.records.as_slice(), face, position)
+                seen_in(self.env.faces(), self.rows.as_slice(), face, position)
             }
         }
     }

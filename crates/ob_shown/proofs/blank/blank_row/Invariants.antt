@@ -1,6 +1,6 @@
-use Rattle.std.proofs.Common.{◌≡◌, ◌++◌, map, drop}
-use Rattle.ob_shown.specs.Faces.{blank_record}
+use Rattle.std.proofs.Common.{◌≡◌, ◌++◌, drop, length}
+use Rattle.ob_shown.specs.Faces.{befores, blanks_of}
 use Rattle.ob_shown.proofs.blank.blank_row.Given as goal
 
 abbrev pub invariant-objects : goal.invariant-objects
-invariant-objects l = l.all ++ map (λ o. blank_record o.desc) (drop l.object-index l.objects) ≡ map (λ o. blank_record o.desc) l.objects
+invariant-objects l = (l.before ++ befores (length l.blanks) (drop l.object-index l.objects) ≡ befores 0 l.objects) × (l.blanks ++ blanks_of (drop l.object-index l.objects) ≡ blanks_of l.objects)
