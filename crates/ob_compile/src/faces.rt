@@ -65,6 +65,20 @@ fn environment(
     }
 }
 
+// Keeps what was made.
+fn kept(
+    alloc: Global,
+    compiler: &mut Compiler,
+    made: Result<Built, CompileFault>,
+) -> Result<Built, CompileFault>
+    ensures { result ≡ made }
+{
+    if let Ok(built) = &made {
+        compiler.keep(alloc, &built.face);
+    }
+    made
+}
+
 // Compiles a module over the interfaces of the modules below it, and keeps their environment and
 // what was made.
 fn compile_over(
@@ -80,10 +94,7 @@ fn compile_over(
         Ok(env) => {
             let made = judged(alloc, tree, env.env());
             compiler.last = Some(env);
-            if let Ok(built) = &made {
-                compiler.keep(alloc, &built.face);
-            }
-            made
+            kept(alloc, compiler, made)
         }
         Err(fault) => Err(fault_of_env(fault)),
     }
