@@ -20,12 +20,7 @@ use std::alloc::Global;
 /// where the folder's count of faults rose, `Memory` where memory is wanting; and, as no law says yet
 /// that it does not come to that, where a file that was made has no spelling or the generator gives
 /// the module up.
-pub fn compile<F: Shelf>(
-    alloc: Global,
-    folder: &mut F,
-    compiler: &mut Compiler,
-    file: &str,
-) -> Result<Built, CompileFault>
+pub fn compile<F: Shelf>(alloc: Global, folder: &mut F, file: &str) -> Result<Built, CompileFault>
     ensures told { F.tells folder.new ≡ F.tells folder.old }
     ensures files { F.tells folder.old ≡ true → SameFiles (F.files folder.new) (F.files folder.old) }
     ensures compiles { F.tells folder.old ≡ true → Compiles (compiled prints (symbol_entry (F.files folder.old)) (F.files folder.old file.now)) result }
@@ -33,8 +28,29 @@ pub fn compile<F: Shelf>(
     ensures file { IfOk result (λ b. AreFile b.obj) }
     ensures cause { CompileHasCause (F.faults folder.old) (F.faults folder.new) result }
 {
-    match read_source(alloc, folder, file) {
-        Ok(text) => compile_text(alloc, folder, compiler, text.as_slice()),
-        Err(fault) => Err(fault),
+    let mut compiler = Compiler::new(alloc);
+    compiler.compile(alloc, folder, file)
+}
+
+impl Compiler {
+    /// Compiles a file as [`compile`] does, whatever was compiled before, and leaves for the next
+    /// one what it read and made.
+    pub fn compile<F: Shelf>(
+        &mut self,
+        alloc: Global,
+        folder: &mut F,
+        file: &str,
+    ) -> Result<Built, CompileFault>
+        ensures told { F.tells folder.new ≡ F.tells folder.old }
+        ensures files { F.tells folder.old ≡ true → SameFiles (F.files folder.new) (F.files folder.old) }
+        ensures compiles { F.tells folder.old ≡ true → Compiles (compiled prints (symbol_entry (F.files folder.old)) (F.files folder.old file.now)) result }
+        ensures fits { IfOk result (λ b. face_form.fits b.face) }
+        ensures file { IfOk result (λ b. AreFile b.obj) }
+        ensures cause { CompileHasCause (F.faults folder.old) (F.faults folder.new) result }
+    {
+        match read_source(alloc, folder, file) {
+            Ok(text) => compile_text(alloc, folder, self, text.as_slice()),
+            Err(fault) => Err(fault),
+        }
     }
 }

@@ -14,7 +14,7 @@ ghost use Rattle.ob_ages.specs.Files.{stood, sym_file};
 
 use crate::counting::count_objects;
 use crate::files::{object_file, read_symbols, symbol_file};
-use ob_compile::{Built, Compiler, compile};
+use ob_compile::{Built, Compiler};
 use ob_compiling::CompileFault;
 use ob_io::{Failed, Folder, Sink};
 use ob_printing::{Counts, Stop, put_compiled, refuse_compile};
@@ -129,7 +129,7 @@ pub fn do_compile<F: Folder, O: Sink>(
     ensures told_sink { O.tells out.new ≡ O.tells out.old }
     ensures cause { Cause (O.faults out.old) (O.faults out.new) (F.faults folder.old) (F.faults folder.new) result }
 {
-    match compile(alloc, folder, compiler, file) {
+    match compiler.compile(alloc, folder, file) {
         Ok(built) => put_built(alloc, folder, &built, out),
         Err(CompileFault::Refused(why)) => refuse_compile(file, &why, out),
         Err(CompileFault::Folder) => Err(Stop::Folder),

@@ -13,7 +13,7 @@ ghost use Rattle.ob_session.specs.Does.{Shows, TextDoes, MakesSo, AreFew};
 use crate::commanding::do_command;
 use crate::files::{object_file, symbol_file};
 use itoa::Buffer;
-use ob_compile::{Built, Compiler, compile};
+use ob_compile::{Built, Compiler};
 use ob_compiling::CompileFault;
 use ob_demo::source;
 use ob_io::{Folder, MemFolder, Sink};
@@ -83,7 +83,7 @@ fn make_file(
     ensures makes { IfOk result (MakesSo (made_of (file_in folder.old.pairs) (compiled_file (file_in folder.old.pairs) file.now)) (file_in folder.new.pairs)) }
     ensures few { IfOk result AreFew }
 {
-    match compile(alloc, folder, compiler, file) {
+    match compiler.compile(alloc, folder, file) {
         Ok(built) => {
             put_both(alloc, folder, &built)?;
             Ok(Some(built.face.face().objects.len() as u32))
