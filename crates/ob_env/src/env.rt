@@ -13,8 +13,8 @@ use ob_types::{Aspect, Object};
 use std::alloc::{AllocError, Global};
 use std::marker::Model;
 
-/// Env in which modules and objects are found by their names. Contracts see it as the list
-/// of them.
+/// The interfaces around a module, in which modules and objects are found by their names.
+/// Contracts see it as the list of them, in the order in which the walk left their modules.
 pub struct Env {
     faces: List<SymbolFile>,
     // the positions of their modules
