@@ -1,7 +1,7 @@
 -- Words above the limit are kept as the next number.
-use Rattle.std.proofs.Common.{◌≡◌, ℕ, ◌+◌, ◌*◌, ◌<◌, List, [], ◌∷◌, ◌++◌, suc, length, drop, get_or, refl, sym, ap, subst, ◌∙◌, arith}
+use Rattle.std.proofs.Common.{◌≡◌, ℕ, ◌+◌, ◌*◌, ◌<◌, Bool, true, false, List, [], ◌∷◌, ◌++◌, suc, length, drop, get_or, refl, sym, ap, subst, ◌∙◌, arith}
 use Rattle.std.proofs.lemmas.List.{drop_more}
-use Rattle.std.specs.Prelude.{min}
+use Rattle.std.specs.Prelude.{min, ◌&&◌}
 use Rattle.ob_types.specs.declared.types.TypeRef.{TypeRef}
 use Rattle.ob_types.specs.declared.desc.Field.{Field}
 use Rattle.ob_layout.specs.LaidOut.{kept, placed, numbered}
@@ -49,3 +49,13 @@ placed_step words xs x at next fs i f ys whole l is e one all behind =
     ∙ appended xs x (placed_behind words (kept (at + words f.of)) (drop (i + 1) fs))
     ∙ ap (λ (g : Field). xs ++ g ∷ placed_behind words (kept (at + words f.of)) (drop (i + 1) fs)) one
     ∙ inv
+
+-- ---- whether all end
+
+pub ends_more : (a b c whole : Bool) → (a && (b && c)) ≡ whole → ((a && b) && c) ≡ whole
+ends_more true b c whole e = e
+ends_more false b c whole e = e
+
+pub ends_last : (a whole : Bool) → (a && true) ≡ whole → a ≡ whole
+ends_last true whole e = e
+ends_last false whole e = e

@@ -1,4 +1,5 @@
 pub mod Keeping
 pub mod Rows
+pub mod Ends
 pub mod Counting
 pub mod Options

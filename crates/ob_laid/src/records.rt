@@ -1,14 +1,14 @@
 //! Records and types of a module, laid out.
 
-ghost use Rattle.std.specs.Prelude.{◌≡◌, ◌+◌, ◌<◌, length, map, IfOk};
+ghost use Rattle.std.specs.Prelude.{◌≡◌, ◌+◌, length, map, IfOk};
 ghost use Rattle.ob_types.specs.TypedView.{module_view};
 ghost use Rattle.ob_layout.specs.LaidOut.{words_in, procedures_in, base_of, kept, placed, numbered as numbered_from, laid_record as record_laid, laid_desc as desc_laid, laid_type as type_laid};
 ghost use Rattle.ob_env.specs.Faces.{faces_of, described};
 ghost use Rattle.ob_laid.specs.Placed.{placed_behind};
-ghost use Rattle.ob_laid.specs.Sums.{own_name, rows_below};
+ghost use Rattle.ob_laid.specs.Sums.{own_name, Hold};
 
 use crate::counts::{count_of_base, own_count};
-use crate::sums::{CHAIN, own_words, plus, words_at, words_of_base};
+use crate::sums::{CHAIN, Sum, own_words, plus, words_at, words_of_base};
 use ob_env::View;
 use ob_tree::List;
 use ob_trees::{copy_desc, copy_method, copy_type};
@@ -29,24 +29,22 @@ fn placed_at(field: &Field, place: u32) -> Result<Field, AllocError>
 
 // The place behind a field, those above the limit as the next number.
 #[tactic(auto, using(crate::proofs::Keeping::kept_right))]
-fn next_place(view: &View<'_>, rows: &[List<u32>], at: u32, field: &Field) -> u32
-    requires rows { rows.now ≡ rows_below (described (faces_of view.now.env.now)) (module_view view.now.«module».now) (length rows.now) }
-    requires steps { 201 < length rows.now }
+fn next_place(view: &View<'_>, rows: &[List<Sum>], at: u32, field: &Field) -> u32
+    requires { Hold (described (faces_of view.now.env.now)) (module_view view.now.«module».now) rows.now 201 }
     ensures { result ≡ kept (at + words_in (described (faces_of view.now.env.now)) (module_view view.now.«module».now) field.now.of) }
 {
-    plus(at, words_at(view, rows, CHAIN, &field.of))
+    plus(at, words_at(view, rows, CHAIN, &field.of).words)
 }
 
 // Fields one behind the other.
 fn placed_fields(
     alloc: Global,
     view: &View<'_>,
-    rows: &[List<u32>],
+    rows: &[List<Sum>],
     from: u32,
     fields: &[Field],
 ) -> Result<List<Field>, AllocError>
-    requires rows { rows.now ≡ rows_below (described (faces_of view.now.env.now)) (module_view view.now.«module».now) (length rows.now) }
-    requires steps { 201 < length rows.now }
+    requires { Hold (described (faces_of view.now.env.now)) (module_view view.now.«module».now) rows.now 201 }
     ensures { IfOk result (λ l. l ≡ placed_behind (words_in (described (faces_of view.now.env.now)) (module_view view.now.«module».now)) from fields.now) }
 {
     let mut all = List::new(alloc);
@@ -102,14 +100,13 @@ fn copy_base(base: &Option<TypeRef>) -> Result<Option<TypeRef>, AllocError>
 fn laid_fields(
     alloc: Global,
     view: &View<'_>,
-    rows: &[List<u32>],
+    rows: &[List<Sum>],
     own: &RecordDesc,
 ) -> Result<List<Field>, AllocError>
-    requires rows { rows.now ≡ rows_below (described (faces_of view.now.env.now)) (module_view view.now.«module».now) (length rows.now) }
-    requires steps { 201 < length rows.now }
+    requires { Hold (described (faces_of view.now.env.now)) (module_view view.now.«module».now) rows.now 201 }
     ensures { IfOk result (λ l. l ≡ placed (words_in (described (faces_of view.now.env.now)) (module_view view.now.«module».now)) (base_of (words_in (described (faces_of view.now.env.now)) (module_view view.now.«module».now)) own.now.base) own.now.fields) }
 {
-    let from = words_of_base(view, rows, CHAIN, &own.base);
+    let from = words_of_base(view, rows, CHAIN, &own.base).words;
     placed_fields(alloc, view, rows, from, own.fields.as_slice())
 }
 
@@ -128,12 +125,11 @@ fn laid_methods(
 fn laid_record(
     alloc: Global,
     view: &View<'_>,
-    rows: &[List<u32>],
+    rows: &[List<Sum>],
     name: &[u8],
     own: &RecordDesc,
 ) -> Result<RecordDesc, AllocError>
-    requires rows { rows.now ≡ rows_below (described (faces_of view.now.env.now)) (module_view view.now.«module».now) (length rows.now) }
-    requires steps { 201 < length rows.now }
+    requires { Hold (described (faces_of view.now.env.now)) (module_view view.now.«module».now) rows.now 201 }
     ensures { IfOk result (λ r. r ≡ record_laid (words_in (described (faces_of view.now.env.now)) (module_view view.now.«module».now)) (procedures_in (described (faces_of view.now.env.now)) (module_view view.now.«module».now)) (own_name (module_view view.now.«module».now).name name.now) own.now) }
 {
     let base = copy_base(&own.base)?;
@@ -145,7 +141,7 @@ fn laid_record(
         base,
         fields,
         methods,
-        words: own_words(view, rows, CHAIN, name),
+        words: own_words(view, rows, CHAIN, name).words,
         procedures,
     })
 }
@@ -153,12 +149,11 @@ fn laid_record(
 fn laid_desc(
     alloc: Global,
     view: &View<'_>,
-    rows: &[List<u32>],
+    rows: &[List<Sum>],
     name: &[u8],
     desc: &Desc,
 ) -> Result<Desc, AllocError>
-    requires rows { rows.now ≡ rows_below (described (faces_of view.now.env.now)) (module_view view.now.«module».now) (length rows.now) }
-    requires steps { 201 < length rows.now }
+    requires { Hold (described (faces_of view.now.env.now)) (module_view view.now.«module».now) rows.now 201 }
     ensures { IfOk result (λ d. d ≡ desc_laid (words_in (described (faces_of view.now.env.now)) (module_view view.now.«module».now)) (procedures_in (described (faces_of view.now.env.now)) (module_view view.now.«module».now)) (own_name (module_view view.now.«module».now).name name.now) desc.now) }
 {
     match desc {
@@ -180,11 +175,10 @@ fn laid_desc(
 fn laid_type(
     alloc: Global,
     view: &View<'_>,
-    rows: &[List<u32>],
+    rows: &[List<Sum>],
     of: &TypedType,
 ) -> Result<TypedType, AllocError>
-    requires rows { rows.now ≡ rows_below (described (faces_of view.now.env.now)) (module_view view.now.«module».now) (length rows.now) }
-    requires steps { 201 < length rows.now }
+    requires { Hold (described (faces_of view.now.env.now)) (module_view view.now.«module».now) rows.now 201 }
     ensures { IfOk result (λ t. t ≡ type_laid (described (faces_of view.now.env.now)) (module_view view.now.«module».now) of.now) }
 {
     let name = of.name.clone()?;
@@ -196,11 +190,10 @@ fn laid_type(
 pub fn laid_types(
     alloc: Global,
     view: &View<'_>,
-    rows: &[List<u32>],
+    rows: &[List<Sum>],
     types: &[TypedType],
 ) -> Result<List<TypedType>, AllocError>
-    requires rows { rows.now ≡ rows_below (described (faces_of view.now.env.now)) (module_view view.now.«module».now) (length rows.now) }
-    requires steps { 201 < length rows.now }
+    requires { Hold (described (faces_of view.now.env.now)) (module_view view.now.«module».now) rows.now 201 }
     ensures { IfOk result (λ l. l ≡ map (type_laid (described (faces_of view.now.env.now)) (module_view view.now.«module».now)) types.now) }
 {
     let mut all = List::new(alloc);

@@ -1,11 +1,12 @@
 //! The words of types, where those of the module's own records are sums over their declarations.
 
-ghost use Rattle.std.specs.Prelude.{◌≡◌, ◌+◌, ◌*◌, ◌<◌, true, suc, Some, IfOk, length};
+ghost use Rattle.std.specs.Prelude.{◌≡◌, ◌+◌, ◌*◌, ◌&&◌, true, suc, Some, IfOk};
+ghost use Rattle.std.specs.Option.{option_copied};
 ghost use Rattle.ob_types.specs.TypedView.{module_view};
 ghost use Rattle.ob_layout.specs.Lists.{sum_of};
 ghost use Rattle.ob_layout.specs.LaidOut.{summed, declared_words, record_words, base_of, kept, is_own};
 ghost use Rattle.ob_env.specs.Faces.{faces_of, described};
-ghost use Rattle.ob_laid.specs.Sums.{own_ref, row_at, rows_below};
+ghost use Rattle.ob_laid.specs.Sums.{own_ref, sum_in, ends_in, base_ends, fields_end, declared_ends, row_at, row_in, all_end, Hold};
 
 use ob_env::View;
 use ob_layout::item_at;
@@ -19,6 +20,14 @@ pub const CHAIN: usize = 201;
 /// More words than a type may have.
 const MANY: u64 = 1_048_577;
 
+/// The words of a type in so many steps, those above the limit as the next number, and whether each
+/// chain of names from it ends within them, so that they are its words in any more steps.
+#[derive(Clone, Copy, Drop)]
+pub struct Sum {
+    pub words: u32,
+    pub ends: bool,
+}
+
 /// So many words and more, those above the limit as the next number.
 pub fn plus(a: u32, b: u32) -> u32
     ensures { result ≡ kept (a + b) }
@@ -27,17 +36,35 @@ pub fn plus(a: u32, b: u32) -> u32
     sum.min(MANY) as u32
 }
 
-fn times(length: u32, words: u32) -> u32
-    ensures { result ≡ kept (length * words) }
+// The words of a type that stands on no other.
+fn ended(words: u32) -> Sum
+    ensures { result ≡ record { words = kept words; ends = true } }
 {
-    let product = u64::from(length) * u64::from(words);
-    product.min(MANY) as u32
+    Sum {
+        words: u64::from(words).min(MANY) as u32,
+        ends: true,
+    }
 }
 
-fn kept_words(words: u32) -> u32
-    ensures { result ≡ kept words }
+// Both one behind the other.
+fn both(a: Sum, b: Sum) -> Sum
+    ensures { result ≡ record { words = kept (a.words + b.words); ends = a.ends && b.ends } }
 {
-    u64::from(words).min(MANY) as u32
+    Sum {
+        words: plus(a.words, b.words),
+        ends: a.ends && b.ends,
+    }
+}
+
+// So many of them.
+fn times(length: u32, sum: Sum) -> Sum
+    ensures { result ≡ record { words = kept (length * sum.words); ends = sum.ends } }
+{
+    let product = u64::from(length) * u64::from(sum.words);
+    Sum {
+        words: product.min(MANY) as u32,
+        ends: sum.ends,
+    }
 }
 
 /// Whether a name is of a type of the module.
@@ -47,59 +74,72 @@ pub fn is_own(view: &View<'_>, name: &QName) -> bool
     name.module.as_bytes() == view.module().name.as_bytes()
 }
 
+// The row of so many steps; where it was not made, the last one.
+fn row_of(rows: &[List<Sum>], steps: usize) -> Option<&List<Sum>>
+    ensures { option_copied result ≡ row_in rows.now steps }
+{
+    match item_at(rows, steps) {
+        Some(row) => Some(row),
+        None => item_at(rows, rows.len().saturating_sub(1)),
+    }
+}
+
 /// The words of the type of the module that has this name, in so many steps.
-pub fn own_words(view: &View<'_>, rows: &[List<u32>], steps: usize, name: &[u8]) -> u32
-    requires rows { rows.now ≡ rows_below (described (faces_of view.now.env.now)) (module_view view.now.«module».now) (length rows.now) }
-    requires steps { steps < length rows.now }
-    ensures { result ≡ kept (summed (described (faces_of view.now.env.now)) (module_view view.now.«module».now) steps (own_ref (module_view view.now.«module».now).name name.now)) }
+pub fn own_words(view: &View<'_>, rows: &[List<Sum>], steps: usize, name: &[u8]) -> Sum
+    requires { Hold (described (faces_of view.now.env.now)) (module_view view.now.«module».now) rows.now steps }
+    ensures { result ≡ sum_in (described (faces_of view.now.env.now)) (module_view view.now.«module».now) steps (own_ref (module_view view.now.«module».now).name name.now) }
 {
     match view.position(name) {
-        None => 1,
-        Some(at) => match item_at(rows, steps) {
-            None => 1,
+        None => Sum {
+            words: 1,
+            ends: steps > 0,
+        },
+        Some(at) => match row_of(rows, steps) {
+            None => unreachable!(),
             Some(row) => match item_at(row.as_slice(), at) {
-                None => 1,
-                Some(words) => *words,
+                None => unreachable!(),
+                Some(sum) => *sum,
             },
         },
     }
 }
 
-/// The words of a type in so many steps, those above the limit as the next number.
-#[tactic(auto, using(crate::proofs::Rows::own_kept, crate::proofs::Rows::basic_words, crate::proofs::Keeping::kept_times))]
-pub fn words_at(view: &View<'_>, rows: &[List<u32>], steps: usize, t: &TypeRef) -> u32
-    requires rows { rows.now ≡ rows_below (described (faces_of view.now.env.now)) (module_view view.now.«module».now) (length rows.now) }
-    requires steps { steps < length rows.now }
-    ensures { result ≡ kept (summed (described (faces_of view.now.env.now)) (module_view view.now.«module».now) steps t.now) }
+/// The words of a type in so many steps.
+#[tactic(auto, using(crate::proofs::Rows::own_kept, crate::proofs::Rows::basic_words, crate::proofs::Rows::hold_less))]
+pub fn words_at(view: &View<'_>, rows: &[List<Sum>], steps: usize, t: &TypeRef) -> Sum
+    requires { Hold (described (faces_of view.now.env.now)) (module_view view.now.«module».now) rows.now steps }
+    ensures { result ≡ sum_in (described (faces_of view.now.env.now)) (module_view view.now.«module».now) steps t.now }
 {
     let TypeRef::Named(name) = t else {
-        return 1;
+        return ended(1);
     };
     if is_own(view, name) {
         return own_words(view, rows, steps, name.object.as_bytes());
     }
     if steps == 0 {
-        return 1;
+        return Sum {
+            words: 1,
+            ends: false,
+        };
     }
     match view.desc_of(name) {
         Some(Desc::Alias(_, of)) => words_at(view, rows, steps - 1, of),
         Some(Desc::Array(_, length, of)) => times(*length, words_at(view, rows, steps - 1, of)),
-        Some(Desc::OpenArray(_, _)) => 0,
-        Some(Desc::Record(described)) => kept_words(described.words),
-        _ => 1,
+        Some(Desc::OpenArray(_, _)) => ended(0),
+        Some(Desc::Record(described)) => ended(described.words),
+        _ => ended(1),
     }
 }
 
 // The words of fields.
-#[tactic(auto, using(crate::proofs::Keeping::kept_more))]
-fn words_of_fields(view: &View<'_>, rows: &[List<u32>], steps: usize, fields: &[Field]) -> u32
-    requires rows { rows.now ≡ rows_below (described (faces_of view.now.env.now)) (module_view view.now.«module».now) (length rows.now) }
-    requires steps { steps < length rows.now }
-    ensures { result ≡ kept (sum_of (λ f. summed (described (faces_of view.now.env.now)) (module_view view.now.«module».now) steps f.of) fields.now) }
+#[tactic(auto, using(crate::proofs::Keeping::kept_more, crate::proofs::Keeping::ends_more, crate::proofs::Keeping::ends_last))]
+fn words_of_fields(view: &View<'_>, rows: &[List<Sum>], steps: usize, fields: &[Field]) -> Sum
+    requires { Hold (described (faces_of view.now.env.now)) (module_view view.now.«module».now) rows.now steps }
+    ensures { result ≡ record { words = kept (sum_of (λ f. summed (described (faces_of view.now.env.now)) (module_view view.now.«module».now) steps f.of) fields.now); ends = fields_end (ends_in (described (faces_of view.now.env.now)) (module_view view.now.«module».now) steps) fields.now } }
 {
-    let mut total = 0;
+    let mut total = ended(0);
     'fields: for field in fields {
-        total = plus(total, words_at(view, rows, steps, &field.of));
+        total = both(total, words_at(view, rows, steps, &field.of));
     }
     total
 }
@@ -107,28 +147,26 @@ fn words_of_fields(view: &View<'_>, rows: &[List<u32>], steps: usize, fields: &[
 /// The words of the base of a record, if it has one.
 pub fn words_of_base(
     view: &View<'_>,
-    rows: &[List<u32>],
+    rows: &[List<Sum>],
     steps: usize,
     base: &Option<TypeRef>,
-) -> u32
-    requires rows { rows.now ≡ rows_below (described (faces_of view.now.env.now)) (module_view view.now.«module».now) (length rows.now) }
-    requires steps { steps < length rows.now }
-    ensures { result ≡ kept (base_of (summed (described (faces_of view.now.env.now)) (module_view view.now.«module».now) steps) base.now) }
+) -> Sum
+    requires { Hold (described (faces_of view.now.env.now)) (module_view view.now.«module».now) rows.now steps }
+    ensures { result ≡ record { words = kept (base_of (summed (described (faces_of view.now.env.now)) (module_view view.now.«module».now) steps) base.now); ends = base_ends (ends_in (described (faces_of view.now.env.now)) (module_view view.now.«module».now) steps) base.now } }
 {
     match base {
-        None => 0,
+        None => ended(0),
         Some(t) => words_at(view, rows, steps, t),
     }
 }
 
 // The words of a record of the module.
 #[tactic(auto, using(crate::proofs::Keeping::kept_plus))]
-fn words_of_record(view: &View<'_>, rows: &[List<u32>], steps: usize, own: &RecordDesc) -> u32
-    requires rows { rows.now ≡ rows_below (described (faces_of view.now.env.now)) (module_view view.now.«module».now) (length rows.now) }
-    requires steps { steps < length rows.now }
-    ensures { result ≡ kept (record_words (summed (described (faces_of view.now.env.now)) (module_view view.now.«module».now) steps) true own.now) }
+fn words_of_record(view: &View<'_>, rows: &[List<Sum>], steps: usize, own: &RecordDesc) -> Sum
+    requires { Hold (described (faces_of view.now.env.now)) (module_view view.now.«module».now) rows.now steps }
+    ensures { result ≡ record { words = kept (record_words (summed (described (faces_of view.now.env.now)) (module_view view.now.«module».now) steps) true own.now); ends = base_ends (ends_in (described (faces_of view.now.env.now)) (module_view view.now.«module».now) steps) own.now.base && fields_end (ends_in (described (faces_of view.now.env.now)) (module_view view.now.«module».now) steps) own.now.fields } }
 {
-    plus(
+    both(
         words_of_base(view, rows, steps, &own.base),
         words_of_fields(view, rows, steps, own.fields.as_slice()),
     )
@@ -136,45 +174,46 @@ fn words_of_record(view: &View<'_>, rows: &[List<u32>], steps: usize, own: &Reco
 
 // The words of a type of the module that is so described, in one step more.
 #[tactic(auto, using(crate::proofs::Keeping::kept_times))]
-fn words_of_desc(view: &View<'_>, rows: &[List<u32>], steps: usize, desc: &Desc) -> u32
-    requires rows { rows.now ≡ rows_below (described (faces_of view.now.env.now)) (module_view view.now.«module».now) (length rows.now) }
-    requires steps { steps < length rows.now }
-    ensures { result ≡ kept (declared_words (summed (described (faces_of view.now.env.now)) (module_view view.now.«module».now) steps) true (Some desc.now)) }
+fn words_of_desc(view: &View<'_>, rows: &[List<Sum>], steps: usize, desc: &Desc) -> Sum
+    requires { Hold (described (faces_of view.now.env.now)) (module_view view.now.«module».now) rows.now steps }
+    ensures { result ≡ record { words = kept (declared_words (summed (described (faces_of view.now.env.now)) (module_view view.now.«module».now) steps) true (Some desc.now)); ends = declared_ends (ends_in (described (faces_of view.now.env.now)) (module_view view.now.«module».now) steps) true (Some desc.now) } }
 {
     match desc {
         Desc::Alias(_, of) => words_at(view, rows, steps, of),
         Desc::Array(_, length, of) => times(*length, words_at(view, rows, steps, of)),
-        Desc::OpenArray(_, _) => 0,
+        Desc::OpenArray(_, _) => ended(0),
         Desc::Record(described) => words_of_record(view, rows, steps, described),
-        Desc::Const(_) => 1,
-        Desc::Var(_, _) => 1,
-        Desc::Proc(_) => 1,
-        Desc::Pointer(_, _) => 1,
-        Desc::ProcType(_, _) => 1,
+        Desc::Const(_) => ended(1),
+        Desc::Var(_, _) => ended(1),
+        Desc::Proc(_) => ended(1),
+        Desc::Pointer(_, _) => ended(1),
+        Desc::ProcType(_, _) => ended(1),
     }
 }
 
 // The words of the type of the module that has this name, in one step more.
 #[tactic(auto, using(crate::proofs::Rows::next_none, crate::proofs::Rows::next_is))]
-fn next_words(view: &View<'_>, rows: &[List<u32>], steps: usize, name: &[u8]) -> u32
-    requires rows { rows.now ≡ rows_below (described (faces_of view.now.env.now)) (module_view view.now.«module».now) (length rows.now) }
-    requires steps { steps < length rows.now }
-    ensures { result ≡ kept (summed (described (faces_of view.now.env.now)) (module_view view.now.«module».now) (suc steps) (own_ref (module_view view.now.«module».now).name name.now)) }
+fn next_words(view: &View<'_>, rows: &[List<Sum>], steps: usize, name: &[u8]) -> Sum
+    requires { Hold (described (faces_of view.now.env.now)) (module_view view.now.«module».now) rows.now steps }
+    ensures { result ≡ sum_in (described (faces_of view.now.env.now)) (module_view view.now.«module».now) (suc steps) (own_ref (module_view view.now.«module».now).name name.now) }
 {
     match view.own_desc(name) {
-        None => 1,
+        None => ended(1),
         Some(desc) => words_of_desc(view, rows, steps, desc),
     }
 }
 
-fn first_row(alloc: Global, view: &View<'_>, types: &[TypedType]) -> Result<List<u32>, AllocError>
-    requires types { types.now ≡ view.now.«module».now.types }
+fn first_row(alloc: Global, view: &View<'_>, types: &[TypedType]) -> Result<List<Sum>, AllocError>
+    requires { types.now ≡ view.now.«module».now.types }
     ensures { IfOk result (λ row. row ≡ row_at (described (faces_of view.now.env.now)) (module_view view.now.«module».now) 0) }
 {
     let mut row = List::new(alloc);
     'types: for t in types {
         let _ = t;
-        row.push(1)?;
+        row.push(Sum {
+            words: 1,
+            ends: false,
+        })?;
     }
     Ok(row)
 }
@@ -183,12 +222,11 @@ fn first_row(alloc: Global, view: &View<'_>, types: &[TypedType]) -> Result<List
 fn next_row(
     alloc: Global,
     view: &View<'_>,
-    rows: &[List<u32>],
+    rows: &[List<Sum>],
     steps: usize,
     types: &[TypedType],
-) -> Result<List<u32>, AllocError>
-    requires rows { rows.now ≡ rows_below (described (faces_of view.now.env.now)) (module_view view.now.«module».now) (length rows.now) }
-    requires steps { steps < length rows.now }
+) -> Result<List<Sum>, AllocError>
+    requires rows { Hold (described (faces_of view.now.env.now)) (module_view view.now.«module».now) rows.now steps }
     requires types { types.now ≡ view.now.«module».now.types }
     ensures { IfOk result (λ row. row ≡ row_at (described (faces_of view.now.env.now)) (module_view view.now.«module».now) (suc steps)) }
 {
@@ -199,10 +237,25 @@ fn next_row(
     Ok(row)
 }
 
-/// The words of all types of the module, in each number of steps up to the longest chain.
+// Whether each chain of names ends within the steps of a row.
+fn all_end(row: &[Sum]) -> bool
+    ensures { result ≡ all_end row.now }
+{
+    let mut rest = row;
+    while let [first, more @ ..] = rest {
+        if !first.ends {
+            return false;
+        }
+        rest = more;
+    }
+    true
+}
+
+/// The words of all types of the module, in each number of steps up to the longest chain. There
+/// are no rows behind the first in which each chain of names ends.
 #[tactic(auto, using(crate::proofs::Rows::more_rows))]
-pub fn all_rows(alloc: Global, view: &View<'_>) -> Result<Vec<List<u32>>, AllocError>
-    ensures { IfOk result (λ rows. (rows.items ≡ rows_below (described (faces_of view.now.env.now)) (module_view view.now.«module».now) 202) × (length rows.items ≡ 202)) }
+pub fn all_rows(alloc: Global, view: &View<'_>) -> Result<Vec<List<Sum>>, AllocError>
+    ensures { IfOk result (λ rows. Hold (described (faces_of view.now.env.now)) (module_view view.now.«module».now) rows.items 201) }
 {
     let types = view.module().types.as_slice();
     let mut rows = Vec::new(alloc);
@@ -211,7 +264,11 @@ pub fn all_rows(alloc: Global, view: &View<'_>) -> Result<Vec<List<u32>>, AllocE
     'rows: while rows.len() <= CHAIN {
         let steps = rows.len() - 1;
         let row = next_row(alloc, view, &rows, steps, types)?;
+        let ended = all_end(row.as_slice());
         rows.push(row)?;
+        if ended {
+            return Ok(rows);
+        }
     }
     Ok(rows)
 }

@@ -1,6 +1,8 @@
 -- What the rules of the language see of the objects of interfaces: no places, numbers and words.
-use Rattle.std.specs.Prelude.{ℕ, ◌+◌, List, [], ◌∷◌, ◌++◌, map as each, Option, slice_get}
+use Rattle.std.specs.Prelude.{ℕ, suc, cond, nat_eq, List, [], ◌∷◌, ◌++◌, map as each, Option, Some, None, slice_get}
 use Rattle.std.specs.Option.{option_map}
+use Rattle.std.specs.Ordering.{nat_cmp}
+use Rattle.std.specs.declared.cmp.Ordering.{Ordering}
 use Rattle.std.proofs.Common.{ap}
 use Rattle.ob_format.specs.Format.{◌>>=◌}
 use Rattle.ob_types.specs.declared.desc.Desc.{Desc}
@@ -11,37 +13,28 @@ use Rattle.ob_types.specs.Maps.{IsFinite}
 use Rattle.ob_env.specs.Faces.{Face}
 use Rattle.ob_env.specs.Laws.{names_of, among, contains, either}
 use Rattle.ob_env.specs.Shown.{blank, shown}
-use Rattle.ob_shown.specs.declared.blank.BlankRow.{BlankRow}
+use Rattle.ob_shown.specs.declared.blank.BlankRecord.{BlankRecord}
 
--- how many records a description is
-abbrev pub records_in : Desc → ℕ
-records_in (desc.Record r) = 1
-records_in d = 0
+-- a record without them, at the position of its object; what is no record has none
+abbrev pub blank_of : ℕ → Desc → List BlankRecord
+blank_of at (desc.Record r) = record { at = at; desc = blank (desc.Record r) } ∷ []
+blank_of at d = []
 
--- how many records stand before each object, counted on from n
-abbrev pub befores : ℕ → List Object → List ℕ
-befores n [] = []
-befores n (o ∷ os) = n ∷ befores (n + records_in o.desc) os
+-- the records among objects, whose positions are counted on from n
+abbrev pub blanks_from : ℕ → List Object → List BlankRecord
+blanks_from n [] = []
+blanks_from n (o ∷ os) = blank_of n o.desc ++ blanks_from (suc n) os
 
--- a record without them; what is no record has none
-abbrev pub blank_of : Desc → List Desc
-blank_of (desc.Record r) = blank (desc.Record r) ∷ []
-blank_of d = []
+abbrev pub by_place : BlankRecord → BlankRecord → Ordering
+by_place a b = nat_cmp a.at b.at
 
-abbrev pub blanks_of : List Object → List Desc
-blanks_of [] = []
-blanks_of (o ∷ os) = blank_of o.desc ++ blanks_of os
+-- the record of the object at a position
+abbrev pub blank_at : List BlankRecord → ℕ → Option Desc
+blank_at [] at = None
+blank_at (b ∷ bs) at = cond (nat_eq b.at at) (Some b.desc) (blank_at bs at)
 
--- the records of an interface, and how many of them stand before each of its objects
-abbrev pub row_of : List Object → BlankRow
-row_of os = record { before = befores 0 os; blanks = blanks_of os }
-
--- the record that stands at a position
-abbrev pub blank_at : BlankRow → ℕ → Option Desc
-blank_at row at = slice_get row.before at >>= λ k. slice_get row.blanks k
-
-abbrev pub rows_of : List Interface → List BlankRow
-rows_of is = each (λ i. row_of i.objects) is
+abbrev pub rows_of : List Interface → List (List BlankRecord)
+rows_of is = each (λ i. blanks_from 0 i.objects) is
 
 -- what is seen of the object at a place: the position of its module, and its own
 abbrev pub seen_at : List Interface → ℕ × ℕ → Option Desc

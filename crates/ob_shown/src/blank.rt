@@ -1,6 +1,6 @@
 ghost use Rattle.std.specs.Prelude.{◌≡◌, ◌++◌, IfOk, OnOk, map};
 ghost use Rattle.ob_env.specs.Shown.{blank, unplaced, unnumbered};
-ghost use Rattle.ob_shown.specs.Faces.{blank_of, row_of, rows_of};
+ghost use Rattle.ob_shown.specs.Faces.{blank_of, blanks_from, rows_of};
 
 use ob_cache::SymbolFile;
 use ob_tree::List;
@@ -78,14 +78,26 @@ fn blank_record(alloc: Global, described: &RecordDesc) -> Result<Desc, AllocErro
     }))
 }
 
-// Puts a record without places, numbers and words behind others; nothing of what is no record.
-fn put_blank(alloc: Global, blanks: &mut List<Desc>, desc: &Desc) -> Result<(), AllocError>
-    ensures { OnOk result (blanks.new ≡ blanks.old ++ blank_of desc.now) }
+/// A record without places, numbers and words, and the position of its object in its interface.
+#[derive(Drop)]
+pub struct BlankRecord {
+    pub at: usize,
+    pub desc: Desc,
+}
+
+// Puts the record of the object at a position behind others; nothing of what is no record.
+fn put_blank(
+    alloc: Global,
+    blanks: &mut List<BlankRecord>,
+    at: usize,
+    desc: &Desc,
+) -> Result<(), AllocError>
+    ensures { OnOk result (blanks.new ≡ blanks.old ++ blank_of at desc.now) }
 {
     match desc {
         Desc::Record(described) => {
-            let blank = blank_record(alloc, described)?;
-            blanks.push(blank)
+            let desc = blank_record(alloc, described)?;
+            blanks.push(BlankRecord { at, desc })
         }
         Desc::Const(_)
         | Desc::Var(..)
@@ -98,29 +110,27 @@ fn put_blank(alloc: Global, blanks: &mut List<Desc>, desc: &Desc) -> Result<(), 
     }
 }
 
-/// The records of an interface without places, numbers and words, and how many of them stand before
-/// each of its objects.
-#[derive(Drop)]
-pub struct BlankRow {
-    pub before: List<usize>,
-    pub blanks: List<Desc>,
-}
-
-#[tactic(auto, using(crate::proofs::Rows::before_more, crate::proofs::Rows::blanks_more))]
-fn blank_row(alloc: Global, objects: &[Object]) -> Result<BlankRow, AllocError>
-    ensures { IfOk result (λ r. r ≡ row_of objects.now) }
+// The records among objects.
+#[tactic(auto, using(crate::proofs::Rows::blanks_more))]
+fn blank_row(alloc: Global, objects: &[Object]) -> Result<List<BlankRecord>, AllocError>
+    ensures { IfOk result (λ l. l ≡ blanks_from 0 objects.now) }
 {
-    let mut before = List::new(alloc);
     let mut blanks = List::new(alloc);
-    'objects: for object in objects {
-        before.push(blanks.len())?;
-        put_blank(alloc, &mut blanks, &object.desc)?;
+    let mut at = 0;
+    let mut rest = objects;
+    while let [first, more @ ..] = rest {
+        put_blank(alloc, &mut blanks, at, &first.desc)?;
+        at += 1;
+        rest = more;
     }
-    Ok(BlankRow { before, blanks })
+    Ok(blanks)
 }
 
 /// The records of interfaces, each interface by itself.
-pub fn blank_rows(alloc: Global, faces: &[SymbolFile]) -> Result<List<BlankRow>, AllocError>
+pub fn blank_rows(
+    alloc: Global,
+    faces: &[SymbolFile],
+) -> Result<List<List<BlankRecord>>, AllocError>
     ensures { IfOk result (λ l. l ≡ rows_of faces.now) }
 {
     let mut all = List::new(alloc);

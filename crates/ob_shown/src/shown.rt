@@ -1,11 +1,12 @@
 ghost use Rattle.std.specs.Prelude.{◌≡◌, IfOk, slice_get};
 ghost use Rattle.std.specs.Option.{option_copied, option_map};
+ghost use Rattle.std.specs.List.Sorted.{IsStrictlySortedBy};
 ghost use Rattle.ob_env.specs.Faces.{faces_of};
 ghost use Rattle.ob_env.specs.Shown.{blank, shown};
 ghost use Rattle.ob_types.specs.Relations.{is_record};
-ghost use Rattle.ob_shown.specs.Faces.{row_of, rows_of, blank_at, seen_at, shown_finite};
+ghost use Rattle.ob_shown.specs.Faces.{by_place, blanks_from, rows_of, blank_at, seen_at, shown_finite};
 
-use crate::blank::{BlankRow, blank_rows};
+use crate::blank::{BlankRecord, blank_rows};
 use ob_cache::SymbolFile;
 use ob_env::Env;
 use ob_known::Imports;
@@ -20,7 +21,7 @@ use std::marker::Model;
 /// else is found in the environment.
 pub struct Shown<'a> {
     env: &'a Env,
-    rows: List<BlankRow>,
+    rows: List<List<BlankRecord>>,
 }
 
 impl<'a> Model for Shown<'a> {
@@ -48,18 +49,19 @@ fn is_record(desc: &Desc) -> bool
     matches!(desc, Desc::Record(_))
 }
 
-// The record that stands at a position.
-fn blank_at(row: &BlankRow, at: usize) -> Option<&Desc>
+// The record of the object at a position.
+fn blank_at(row: &[BlankRecord], at: usize) -> Option<&Desc>
+    requires { IsStrictlySortedBy by_place row.now }
     ensures { option_copied result ≡ blank_at row.now at }
 {
-    match item_at(row.before.as_slice(), at) {
-        None => None,
-        Some(before) => item_at(row.blanks.as_slice(), *before),
+    match row.binary_search_by_key(&at, |blank| blank.at) {
+        Ok(place) => Some(&row[place].desc),
+        Err(_) => None,
     }
 }
 
-fn seen_among<'a>(objects: &'a [Object], row: &'a BlankRow, at: usize) -> Option<&'a Desc>
-    requires { row.now ≡ row_of objects.now }
+fn seen_among<'a>(objects: &'a [Object], row: &'a [BlankRecord], at: usize) -> Option<&'a Desc>
+    requires { row.now ≡ blanks_from 0 objects.now }
     ensures { option_copied result ≡ option_map (λ o. blank o.desc) (slice_get objects.now at) }
 {
     match item_at(objects, at) {
@@ -76,7 +78,7 @@ fn seen_among<'a>(objects: &'a [Object], row: &'a BlankRow, at: usize) -> Option
 
 fn seen_in<'a>(
     faces: &'a [SymbolFile],
-    rows: &'a [BlankRow],
+    rows: &'a [List<BlankRecord>],
     face: usize,
     object: usize,
 ) -> Option<&'a Desc>
@@ -87,7 +89,7 @@ fn seen_in<'a>(
         None => None,
         Some(found) => match item_at(rows, face) {
             None => None,
-            Some(row) => seen_among(found.face().objects.as_slice(), row, object),
+            Some(row) => seen_among(found.face().objects.as_slice(), row.as_slice(), object),
         },
     }
 }

@@ -1,15 +1,13 @@
-use Rattle.std.proofs.Common.{◌≡◌, length, map, sym, ap, ◌∙◌}
+use Rattle.std.proofs.Common.{map, sym, subst, ap, ◌∙◌}
 use Rattle.ob_layout.specs.LaidOut.{laid_type}
 use Rattle.ob_types.specs.TypedView.{module_view}
 use Rattle.ob_env.specs.Faces.{faces_of, described}
-use Rattle.ob_laid.specs.Sums.{rows_below}
+use Rattle.ob_laid.specs.Sums.{Hold}
 use Rattle.ob_laid.proofs.laying.types_of.Goals as goal
 
-pub laid_types-requires-clause-rows : goal.laid_types-requires-clause-rows
-laid_types-requires-clause-rows c =
-    let v = c.deref.ensures.value in
-    let e : length c.deref.result.now ≡ 202 = ap length v ∙ c.in_ok-rows.ensures.1 in
-    v ∙ c.in_ok-rows.ensures.0 ∙ ap (rows_below (described (faces_of c.in_ok-view.view.env.now)) (module_view c.in_ok-view.view.«module».now)) (sym e)
+pub laid_types-requires : goal.laid_types-requires
+laid_types-requires c =
+    subst (λ rows. Hold (described (faces_of c.in_ok-view.view.env.now)) (module_view c.in_ok-view.view.«module».now) rows 201) (sym c.deref.ensures.value) c.in_ok-rows.ensures
 
 pub returns : goal.returns
 returns c =
