@@ -1,10 +1,7 @@
 pub mod Stales
-pub mod Alls
 pub mod Steps
 pub mod Sizes
 pub mod Distinct
-pub mod Rounds
-pub mod Ranks
 pub mod Fits
 pub mod Grown
 pub mod More

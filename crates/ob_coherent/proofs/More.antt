@@ -25,11 +25,11 @@ use Rattle.ob_env.specs.Stale.{compared, prints_agree, first_among}
 use Rattle.ob_env.specs.Found.{module_names, object_names}
 use Rattle.ob_env.specs.Mapped.{map_of}
 use Rattle.ob_env.specs.Fit.{fits, steps_of, unless}
-use Rattle.ob_coherent.specs.Marks.{height_at, is_less, is_below, keeps_height, row_keeps, rows_keep, are_ranked}
+use Rattle.ob_heights.specs.Marks.{height_at, is_less, is_below, keeps_height, row_keeps, rows_keep, are_ranked}
 use Rattle.ob_env.specs.Found.{place_in, place_of}
 use Rattle.ob_env.specs.Building.{use_fault, use_answer, uses_answer, stale_answer, unfit_answer, object_answer, objects_answer}
 use Rattle.ob_coherent.proofs.Fits.{faces_unfit, unfit_is}
-use Rattle.ob_coherent.proofs.Ranks.{all_pass}
+use Rattle.ob_heights.proofs.Ranks.{all_pass}
 use Rattle.ob_env.proofs.Grounded.{left_of, right_of, or_none, fit_if, faces_fit, none_mapped}
 use Rattle.ob_coherent.proofs.Grown.{Grows, still_fits}
 

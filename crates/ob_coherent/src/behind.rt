@@ -2,15 +2,14 @@ ghost use Rattle.std.specs.Prelude.{◌≡◌, ◌++◌, true, None, Some, lengt
 ghost use Rattle.ob_env.specs.Faces.{faces_of};
 ghost use Rattle.ob_env.specs.Fit.{steps_of};
 ghost use Rattle.ob_env.specs.Stale.{first_among};
-ghost use Rattle.ob_coherent.specs.Marks.{is_below, rows_keep, are_ranked, AreRanks};
+ghost use Rattle.ob_heights.specs.Marks.{is_below, rows_keep, are_ranked, AreRanks};
 ghost use Rattle.ob_env.specs.Building.{uses_answer, objects_answer, Stand};
 
 use crate::fit::check_part;
-use crate::heights::heights_behind;
-use crate::ranked::faces_keep;
 use crate::stale::check_uses;
 use ob_cache::SymbolFile;
 use ob_env::Env;
+use ob_heights::{faces_keep, heights_behind};
 use ob_tree::List;
 use std::alloc::{AllocError, Global};
 

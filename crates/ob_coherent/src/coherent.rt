@@ -1,6 +1,6 @@
 ghost use Rattle.std.specs.Prelude.{◌≡◌, true, IfOk, IfErr, IfSome};
 ghost use Rattle.ob_env.specs.Found.{CarryPrints};
-ghost use Rattle.ob_coherent.specs.Marks.{are_ranked, AreRanks};
+ghost use Rattle.ob_heights.specs.Marks.{are_ranked, AreRanks};
 ghost use Rattle.ob_types.specs.Relations.{IsGrounded};
 ghost use Rattle.ob_env.specs.Mapped.{map_of};
 ghost use Rattle.ob_env.specs.Building.{Builds, Named, Stand, fault_of, stands_as};
@@ -8,9 +8,9 @@ ghost use Rattle.ob_env.specs.Building.{Builds, Named, Stand, fault_of, stands_a
 use crate::behind::ranks_behind;
 use crate::fit::check_fit;
 use crate::stale::check_uses;
-use crate::within::ranks_of;
 use ob_cache::SymbolFile;
 use ob_env::{Env, EnvFault};
+use ob_heights::ranks_of;
 use ob_tree::List;
 use std::alloc::Global;
 use std::marker::Model;
@@ -27,7 +27,7 @@ impl Model for CoherentEnv {
     ghost use Rattle.std.specs.Prelude.{List as Listed};
     ghost use Rattle.ob_types.specs.declared.face.Interface.{Interface as Face};
     ghost use Rattle.ob_env.specs.Building.{Stand};
-    ghost use Rattle.ob_coherent.specs.Marks.{AreRanks};
+    ghost use Rattle.ob_heights.specs.Marks.{AreRanks};
 
     ghost Value = { Listed Face };
 

@@ -8,8 +8,8 @@ ghost use Rattle.ob_env.specs.Mapped.{map_of};
 ghost use Rattle.ob_env.specs.Fit as fit;
 
 use crate::targets::{base_record, is_open_for, is_record_for, is_structure_for};
-use crate::tested::{Test, all_named};
 use ob_env::Env;
+use ob_heights::{Test, all_named};
 use ob_layout::{counted_words, counted_words_of_name};
 use ob_tree::QName;
 use ob_types::{Desc, Field, Method, RecordDesc, Signature, TypeRef, Types};

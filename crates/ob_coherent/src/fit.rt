@@ -2,7 +2,7 @@ ghost use Rattle.std.specs.Prelude.{◌≡◌, IfOk, IfSome};
 ghost use Rattle.ob_env.specs.Stale.{first_among};
 ghost use Rattle.ob_env.specs.Fit.{is_sound_record, fits, steps_of, stands as stands_well};
 ghost use Rattle.ob_env.specs.Mapped.{map_of};
-ghost use Rattle.ob_coherent.specs.Marks.{SayWithin, AreRanks};
+ghost use Rattle.ob_heights.specs.Marks.{SayWithin, AreRanks};
 ghost use Rattle.ob_env.specs.Faces.{faces_of};
 ghost use Rattle.ob_env.specs.Building.{Checks, object_answer, objects_answer, unfit_answer};
 
@@ -10,9 +10,9 @@ use crate::conditions::{
     describes_type, has_bases, has_few_words, has_sound_sizes, keeps_places, names_types,
 };
 use crate::names::names_differ;
-use crate::within::{is_name_marked, within_marks};
 use ob_cache::SymbolFile;
 use ob_env::{Env, EnvFault};
+use ob_heights::{is_name_marked, within_marks};
 use ob_tree::{CompactName, List, Name, ObjName, QName};
 use ob_types::{Desc, Object};
 use std::alloc::{AllocError, Global};

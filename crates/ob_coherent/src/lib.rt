@@ -5,12 +5,8 @@ mod behind;
 mod coherent;
 mod conditions;
 mod fit;
-mod heights;
 mod names;
-mod ranked;
 mod stale;
 mod targets;
-mod tested;
-mod within;
 
 pub use coherent::CoherentEnv;

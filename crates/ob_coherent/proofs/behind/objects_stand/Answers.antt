@@ -1,4 +1,4 @@
-use Rattle.ob_coherent.proofs.Ranks.{ranked_marks}
+use Rattle.ob_heights.proofs.Ranks.{ranked_marks}
 use Rattle.ob_coherent.proofs.behind.objects_stand.Goals as goal
 
 pub check_part-requires : goal.check_part-requires

@@ -3,7 +3,7 @@ use Rattle.std.specs.Prelude.{◌||◌}
 use Rattle.ob_types.specs.declared.types.TypeRef.TheVariants as ref
 use Rattle.ob_env.specs.Mapped.{map_of}
 use Rattle.ob_env.specs.Fit.{is_within}
-use Rattle.ob_coherent.specs.Marks.{is_marked}
+use Rattle.ob_heights.specs.Marks.{is_marked}
 use Rattle.ob_coherent.proofs.fit.stands.Goals as goal
 
 pub returns-else-not-describes_type : goal.returns-else-not-describes_type
