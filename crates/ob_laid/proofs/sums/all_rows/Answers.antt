@@ -20,7 +20,7 @@ returns-then-ended c =
     let m = module_view c.args.view.now.«module».now in
     let s : suc (c.len-steps.result - 1) ≡ suc (length c.rows.rows.items - 1) = omega arith in
     subst (λ (rows : List (List Sum)). Hold map m rows 201) (sym c.in_ok-push-2.ensures.items)
-        (hold_more map m c.rows.rows.items c.in_ok-row.row 201 c.rows.invariant.0 c.rows.invariant.1 (c.in_ok-row.ensures ∙ ap (row_at map m) s) (search rules))
+    (hold_more map m c.rows.rows.items c.in_ok-row.row 201 c.rows.invariant.0 c.rows.invariant.1 (c.in_ok-row.ensures ∙ ap (row_at map m) s) (search rules))
 
 pub returns : goal.returns
 returns c =
