@@ -1,2 +1,3 @@
 pub mod Sorted
 pub mod Faces
+pub mod Lengths

@@ -15,6 +15,7 @@ use crate::checks::are_imports;
 use crate::desc::has_texts;
 use crate::groups::is_import_list;
 use crate::lists::{Spelled, is_rising_list};
+use crate::short::is_short_procedure;
 use ob_desc::write_desc;
 use ob_tree::{List, Name, ObjName};
 use ob_types::{Aspect, Desc, Interface, Object, Use};
@@ -27,14 +28,28 @@ const MOST_OBJECTS: usize = 4096;
 /// One more than the most bytes of a text.
 const MOST_BYTES: usize = 4_294_967_296;
 
-// Whether the shape text of a description that has texts is short enough.
+// Whether the shape text of a description that has texts is short enough, by writing it.
 #[tactic(auto, using(ob_sym::proofs::Seen::seen_is))]
-fn has_short_shape(alloc: Global, module: &Name, object: &Object) -> Result<bool, AllocError>
+fn is_written_short(alloc: Global, module: &Name, object: &Object) -> Result<bool, AllocError>
     requires { IsSpelled (object_of «module».now object.now.name) object.now.desc }
     ensures { IfOk result (λ b. b ≡ true → length (shape_text (object_of «module».now object.now.name) object.now.desc) < 2 ^ 32) }
 {
     let text = write_desc(alloc, module, &object.name, &object.desc, Aspect::Shape)?;
     Ok(text.len() < MOST_BYTES)
+}
+
+// Whether the shape text of a description that has texts is short enough. That of most procedures
+// is not written for this.
+fn has_short_shape(alloc: Global, module: &Name, object: &Object) -> Result<bool, AllocError>
+    requires { IsSpelled (object_of «module».now object.now.name) object.now.desc }
+    ensures { IfOk result (λ b. b ≡ true → length (shape_text (object_of «module».now object.now.name) object.now.desc) < 2 ^ 32) }
+{
+    if let Desc::Proc(of) = &object.desc {
+        if is_short_procedure(module, &object.name, of) {
+            return Ok(true);
+        }
+    }
+    is_written_short(alloc, module, object)
 }
 
 // Whether the layout text of a record is short enough.

@@ -8,6 +8,7 @@ mod file;
 mod groups;
 mod lists;
 mod parts;
+mod short;
 
 pub use face::has_symbol_file;
 pub use file::has_object_file;
