@@ -19,7 +19,7 @@ fn taken(alloc: Global, set: BTreeSet<Entry, Global>) -> Result<List<Object>, Al
     let mut objects = List::new(alloc);
     'entries: while let Some(entry) = left.pop_first() {
         let Entry { object } = entry;
-        objects.push(object)?;
+        objects.push(object.into_inner())?;
     }
     Ok(objects)
 }

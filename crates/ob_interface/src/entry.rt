@@ -6,13 +6,14 @@ ghost use Rattle.std.specs.Cmp.{eq_by_cmp_equiv, partial_order_from_agreeing_tot
 ghost use Rattle.std.specs.Cmp;
 ghost use Rattle.ob_interface.specs.Entries.{by_entry, entries_total};
 
+use ob_tree::Boxed;
 use ob_types::Object;
 use std::cmp::Ordering;
 
-/// An object, ordered by its name alone.
+/// An object, ordered by its name alone. It is boxed, since a set moves its entries about.
 #[derive(Drop)]
 pub struct Entry {
-    pub object: Object,
+    pub object: Boxed<Object>,
 }
 
 impl PartialEq for Entry {
@@ -49,6 +50,6 @@ impl Ord for Entry {
     ghost matches_eq = { λ x y. refl };
 
     fn cmp(&self, other: &Entry) -> Ordering {
-        self.object.name.compare(&other.object.name)
+        self.object.get().name.compare(&other.object.get().name)
     }
 }

@@ -20,7 +20,7 @@ use crate::entry::Entry;
 use crate::starts::{exported, shown_starts};
 use ob_desc::write_desc;
 use ob_fprint::print_of;
-use ob_tree::{CompactName, List, Name, ObjName, Print, QName};
+use ob_tree::{Boxed, CompactName, List, Name, ObjName, Print, QName};
 use ob_types::{
     Aspect, Desc, Object, TypedConstant, TypedModule, TypedProcedure, TypedType, TypedVariable,
     Types,
@@ -62,14 +62,14 @@ fn entry(alloc: Global, module: &Name, name: ObjName, desc: Desc) -> Result<Entr
     let text = write_desc(alloc, module, &name, &desc, Aspect::Shape)?;
     let shape = print_of(text.as_slice());
     let layout = layout_print(alloc, module, &name, &desc)?;
-    Ok(Entry {
-        object: Object {
-            name,
-            desc,
-            shape,
-            layout,
-        },
-    })
+    let object = Object {
+        name,
+        desc,
+        shape,
+        layout,
+    };
+    let object = Boxed::new(alloc, object)?;
+    Ok(Entry { object })
 }
 
 fn add_constant(
