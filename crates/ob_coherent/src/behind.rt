@@ -13,8 +13,9 @@ use ob_heights::{faces_keep, heights_behind};
 use ob_tree::List;
 use std::alloc::{AllocError, Global};
 
-// What is behind these interfaces; none where others come first.
-fn behind<'a>(faces: &'a [SymbolFile], before: &[SymbolFile]) -> Option<&'a [SymbolFile]>
+/// What of these interfaces is behind others that come first; none where others come first, which
+/// is told by their bytes.
+pub fn faces_behind<'a>(faces: &'a [SymbolFile], before: &[SymbolFile]) -> Option<&'a [SymbolFile]>
     ensures { IfSome result (λ more. faces.now ≡ before.now ++ more.now) }
 {
     let mut rest = faces;
@@ -91,7 +92,7 @@ fn grown_ranks(
     requires ranked { are_ranked before.now heights ≡ true }
     ensures { IfSome result (λ all. Stand faces.now × (are_ranked faces.now all ≡ true)) }
 {
-    let more = behind(faces.faces(), before.faces())?;
+    let more = faces_behind(faces.faces(), before.faces())?;
     let known = heights.len();
     if known != before.faces().len() {
         return None;

@@ -9,4 +9,5 @@ mod names;
 mod stale;
 mod targets;
 
+pub use behind::faces_behind;
 pub use coherent::CoherentEnv;

@@ -11,15 +11,23 @@ use Rattle.std.proofs.lemmas.List.Sorted.{IsNonDecreasingBy-from_default}
 use Rattle.ob_types.specs.declared.desc.Desc.{Desc}
 use Rattle.ob_types.specs.declared.desc.Desc.TheVariants as desc
 use Rattle.ob_types.specs.declared.face.Object.{Object}
+use Rattle.ob_types.specs.declared.face.Interface.{Interface}
 use Rattle.ob_types.specs.Relations.{is_record}
 use Rattle.ob_env.specs.Shown.{blank}
 use Rattle.ob_shown.specs.declared.blank.BlankRecord.{BlankRecord}
-use Rattle.ob_shown.specs.Faces.{blank_of, blanks_from, blank_at, by_place}
+use Rattle.ob_shown.specs.Faces.{blank_of, blanks_from, rows_of, blank_at, by_place}
 
 -- ---- a row as it is made
 
 pub blanks_more : (blanks more : List BlankRecord) (n : ℕ) (o : Object) (rest : List Object) (all : List BlankRecord) → blanks ++ blanks_from n (o ∷ rest) ≡ all → more ≡ blanks ++ blank_of n o.desc → more ++ blanks_from (suc n) rest ≡ all
 blanks_more blanks more n o rest all so_far is = ap (λ (l : List BlankRecord). l ++ blanks_from (suc n) rest) is ∙ append_assoc blanks (blank_of n o.desc) (blanks_from (suc n) rest) ∙ so_far
+
+pub rows_behind : (is more : List Interface) (rows behind all : List (List BlankRecord)) → rows ≡ rows_of is → behind ≡ rows_of more → all ≡ rows ++ behind → all ≡ rows_of (is ++ more)
+rows_behind is more rows behind all e f g = g ∙ ap (λ l. l ++ behind) e ∙ ap (λ l. rows_of is ++ l) f ∙ both is
+  where
+    both : (l : List Interface) → rows_of l ++ rows_of more ≡ rows_of (l ++ more)
+    both [] = refl
+    both (x ∷ l) = ap (λ (r : List (List BlankRecord)). blanks_from 0 x.objects ∷ r) (both l)
 
 -- ---- positions
 

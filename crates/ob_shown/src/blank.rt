@@ -1,12 +1,14 @@
-ghost use Rattle.std.specs.Prelude.{◌≡◌, ◌++◌, IfOk, OnOk, map};
+ghost use Rattle.std.specs.Prelude.{◌≡◌, ◌++◌, [], IfOk, OnOk, map};
 ghost use Rattle.ob_env.specs.Shown.{blank, unplaced, unnumbered};
 ghost use Rattle.ob_shown.specs.Faces.{blank_of, blanks_from, rows_of};
 
 use ob_cache::SymbolFile;
+use ob_coherent::faces_behind;
 use ob_tree::List;
 use ob_trees::{copy_method, copy_type};
 use ob_types::{Desc, Field, Method, Object, RecordDesc, TypeRef};
 use std::alloc::{AllocError, Global};
+use std::marker::Model;
 
 fn unplaced(field: &Field) -> Result<Field, AllocError>
     ensures { IfOk result (λ f. f ≡ unplaced field.now) }
@@ -126,11 +128,8 @@ fn blank_row(alloc: Global, objects: &[Object]) -> Result<List<BlankRecord>, All
     Ok(blanks)
 }
 
-/// The records of interfaces, each interface by itself.
-pub fn blank_rows(
-    alloc: Global,
-    faces: &[SymbolFile],
-) -> Result<List<List<BlankRecord>>, AllocError>
+// The records of interfaces, each interface by itself.
+fn blank_rows(alloc: Global, faces: &[SymbolFile]) -> Result<List<List<BlankRecord>>, AllocError>
     ensures { IfOk result (λ l. l ≡ rows_of faces.now) }
 {
     let mut all = List::new(alloc);
@@ -139,4 +138,86 @@ pub fn blank_rows(
         all.push(one)?;
     }
     Ok(all)
+}
+
+// Interfaces once more.
+fn copy_faces(alloc: Global, faces: &[SymbolFile]) -> Result<List<SymbolFile>, AllocError>
+    ensures { IfOk result (λ l. l ≡ faces.now) }
+{
+    let mut all = List::new(alloc);
+    'faces: for face in faces {
+        let one = face.clone()?;
+        all.push(one)?;
+    }
+    Ok(all)
+}
+
+/// The records of interfaces, without places, numbers and words. Contracts see it as the list of
+/// the interfaces.
+pub struct BlankRecords {
+    faces: List<SymbolFile>,
+    rows: List<List<BlankRecord>>,
+}
+
+impl Model for BlankRecords {
+    ghost use Rattle.std.specs.Prelude.{◌≡◌, List as Listed};
+    ghost use Rattle.ob_types.specs.declared.face.Interface.{Interface as Face};
+    ghost use Rattle.ob_shown.specs.Faces.{rows_of};
+
+    ghost Value = { Listed Face };
+
+    ghost view = { λ b. b.faces };
+
+    ghost invariant = { λ b. b.rows ≡ rows_of b.faces };
+}
+
+impl Drop for BlankRecords {
+    fn drop(self) {
+        let BlankRecords { faces: _, rows: _ } = self;
+    }
+}
+
+impl BlankRecords {
+    /// Those of no interfaces. Takes no memory.
+    pub fn new(alloc: Global) -> BlankRecords
+        ensures { result ≡ [] }
+    {
+        BlankRecords {
+            faces: List::new(alloc),
+            rows: List::new(alloc),
+        }
+    }
+
+    // With those of more interfaces.
+    #[tactic(auto, using(crate::proofs::Rows::rows_behind))]
+    fn grown(self, alloc: Global, more: &[SymbolFile]) -> Result<BlankRecords, AllocError>
+        ensures { IfOk result (λ b. b ≡ self ++ more.now) }
+    {
+        let BlankRecords { faces, rows } = self;
+        let mut faces = faces;
+        let mut rows = rows;
+        let copies = copy_faces(alloc, more)?;
+        let blanks = blank_rows(alloc, more)?;
+        faces.append(copies)?;
+        rows.append(blanks)?;
+        Ok(BlankRecords { faces, rows })
+    }
+
+    /// Those of these interfaces, in the place of others, whichever they are. Where those come
+    /// first, only what is behind them is gone through.
+    pub fn renewed(self, alloc: Global, faces: &[SymbolFile]) -> Result<BlankRecords, AllocError>
+        ensures { IfOk result (λ b. b ≡ faces.now) }
+    {
+        match faces_behind(faces, self.faces.as_slice()) {
+            Some(more) => self.grown(alloc, more),
+            None => BlankRecords::new(alloc).grown(alloc, faces),
+        }
+    }
+
+    /// The records, each interface by itself.
+    pub(crate) fn rows(&self) -> &[List<BlankRecord>]
+        ensures { result.now ≡ rows_of self.now }
+    {
+        self.rows.as_slice()
+    }
 }

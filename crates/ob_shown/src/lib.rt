@@ -5,4 +5,5 @@
 mod blank;
 mod shown;
 
+pub use blank::BlankRecords;
 pub use shown::Shown;

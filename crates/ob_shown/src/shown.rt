@@ -6,40 +6,37 @@ ghost use Rattle.ob_env.specs.Shown.{blank, shown};
 ghost use Rattle.ob_types.specs.Relations.{is_record};
 ghost use Rattle.ob_shown.specs.Faces.{by_place, blanks_from, rows_of, blank_at, seen_at, shown_finite};
 
-use crate::blank::{BlankRecord, blank_rows};
+use crate::blank::{BlankRecord, BlankRecords};
 use ob_cache::SymbolFile;
 use ob_env::Env;
 use ob_known::Imports;
 use ob_layout::item_at;
 use ob_tree::{List, Name, QName};
 use ob_types::{Desc, Object, Types};
-use std::alloc::{AllocError, Global};
 use std::marker::Model;
 
 /// What the modules of an environment show. Contracts see it as the list of the environment's
-/// interfaces. It keeps copies of their records alone, without places, numbers and words; all
-/// else is found in the environment.
+/// interfaces. Their records are copies without places, numbers and words; all else is found in the
+/// environment.
 pub struct Shown<'a> {
     env: &'a Env,
-    rows: List<List<BlankRecord>>,
+    records: &'a BlankRecords,
 }
 
 impl<'a> Model for Shown<'a> {
     ghost use Rattle.std.specs.Prelude.{◌≡◌, List as Listed};
-    ghost use Rattle.std.specs.Coded.{coded_list};
     ghost use Rattle.ob_types.specs.declared.face.Interface.{Interface as Face};
-    ghost use Rattle.ob_shown.specs.Faces.{rows_of};
 
     ghost Value = { Listed Face };
 
     ghost view = { λ s. s.env.now };
 
-    ghost invariant = { λ s. s.rows ≡ rows_of s.env.now };
+    ghost invariant = { λ s. s.records.now ≡ s.env.now };
 }
 
 impl Drop for Shown<'_> {
     fn drop(self) {
-        let Shown { env: _, rows: _ } = self;
+        let Shown { env: _, records: _ } = self;
     }
 }
 
@@ -95,12 +92,12 @@ fn seen_in<'a>(
 }
 
 impl<'a> Shown<'a> {
-    /// What the modules of the environment show.
-    pub fn new(alloc: Global, env: &'a Env) -> Result<Shown<'a>, AllocError>
-        ensures { IfOk result (λ s. s ≡ env.now) }
+    /// What the modules of the environment show, by the records of its interfaces. Takes no memory.
+    pub fn new(env: &'a Env, records: &'a BlankRecords) -> Shown<'a>
+        requires { records.now ≡ env.now }
+        ensures { result ≡ env.now }
     {
-        let rows = blank_rows(alloc, env.faces())?;
-        Ok(Shown { env, rows })
+        Shown { env, records }
     }
 
     // The object of that name, without places, numbers and words.
@@ -110,7 +107,7 @@ impl<'a> Shown<'a> {
         match self.env.position(module, object) {
             None => None,
             Some((face, position)) => {
-                seen_in(self.env.faces(), self.rows.as_slice(), face, position)
+                seen_in(self.env.faces(), self.records.rows(), face, position)
             }
         }
     }
