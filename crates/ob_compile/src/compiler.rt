@@ -2,10 +2,11 @@
 
 use ob_cache::{SymbolCache, SymbolFile};
 use ob_coherent::CoherentEnv;
+use ob_shown::BlankRecords;
 use std::alloc::Global;
 
 /// What compiles leave for those behind them: the symbol files that were read, and the environment
-/// of the last module. It makes a compile faster where much below the module is as it was, and says
+/// of the last module with its records. It makes a compile faster where much below the module is as it was, and says
 /// nothing of the answer.
 #[derive(Drop)]
 pub struct Compiler {
@@ -13,6 +14,8 @@ pub struct Compiler {
     pub(crate) symbols: SymbolCache,
     /// The environment of the last module.
     pub(crate) last: Option<CoherentEnv>,
+    /// The records of an environment, as modules see them.
+    pub(crate) records: Option<BlankRecords>,
 }
 
 impl Compiler {
@@ -21,6 +24,7 @@ impl Compiler {
         Compiler {
             symbols: SymbolCache::new(alloc),
             last: None,
+            records: None,
         }
     }
 

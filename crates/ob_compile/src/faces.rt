@@ -8,7 +8,8 @@ ghost use Rattle.ob_env.specs.Building.{Builds, stands_as};
 ghost use Rattle.ob_env.specs.Found.{CarryPrints};
 ghost use Rattle.ob_walk.specs.Walk.{symbol_entry, walk as walking};
 ghost use Rattle.ob_walk.specs.Answer.{after_walk};
-ghost use Rattle.ob_compiling.specs.Compiling.{of_reading, of_tree, of_reached, of_standing, prints, imported};
+ghost use Rattle.ob_env.specs.Faces.{faces_of};
+ghost use Rattle.ob_compiling.specs.Compiling.{of_reading, of_tree, of_reached, of_standing, of_faces, prints, imported};
 ghost use Rattle.ob_compile.specs.Contract.{AreFile, Compiles, Makes, CompileHasCause};
 ghost use Rattle.ob_compile.specs.Steps.{stood};
 
@@ -20,9 +21,10 @@ use crate::shape::Built;
 use ob_cache::SymbolFile;
 use ob_coherent::CoherentEnv;
 use ob_compiling::CompileFault;
-use ob_env::EnvFault;
+use ob_env::{Env, EnvFault};
 use ob_io::Shelf;
 use ob_reading::read_module;
+use ob_shown::BlankRecords;
 use ob_tree::{Import, List, Module, Name, Which};
 use ob_walk::walk;
 use std::alloc::{AllocError, Global};
@@ -79,6 +81,33 @@ fn kept(
     made
 }
 
+// The records of an environment, made from those of the compile before.
+fn records(alloc: Global, last: Option<BlankRecords>, env: &Env) -> Result<BlankRecords, AllocError>
+    ensures { IfOk result (λ r. r ≡ env.now) }
+{
+    match last {
+        Some(records) => records.renewed(alloc, env.faces()),
+        None => BlankRecords::new(alloc).renewed(alloc, env.faces()),
+    }
+}
+
+// Compiles a module over an environment, and keeps its records.
+fn compile_in(
+    alloc: Global,
+    compiler: &mut Compiler,
+    tree: &Module,
+    env: &Env,
+) -> Result<Built, CompileFault>
+    ensures { Makes (of_faces prints (faces_of env.now) tree.now) result }
+{
+    let Ok(records) = records(alloc, compiler.records.take(), env) else {
+        return Err(CompileFault::Memory);
+    };
+    let made = judged(alloc, tree, env, &records);
+    compiler.records = Some(records);
+    made
+}
+
 // Compiles a module over the interfaces of the modules below it, and keeps their environment and
 // what was made.
 fn compile_over(
@@ -92,7 +121,7 @@ fn compile_over(
 {
     match environment(alloc, compiler.last.take(), faces) {
         Ok(env) => {
-            let made = judged(alloc, tree, env.env());
+            let made = compile_in(alloc, compiler, tree, env.env());
             compiler.last = Some(env);
             kept(alloc, compiler, made)
         }

@@ -19,18 +19,24 @@ use ob_compiling::{CompileFault, CompileRefusal};
 use ob_env::Env;
 use ob_laid::lay_out;
 use ob_rules::Broken;
-use ob_shown::Shown;
+use ob_shown::{BlankRecords, Shown};
 use ob_tree::{Module, Which};
 use ob_trees::ModuleTree;
 use std::alloc::{AllocError, Global};
 
 // A module, judged by the rules over its environment.
-fn checked(alloc: Global, tree: &Module, env: &Env) -> Result<Checked, AllocError>
+fn checked(
+    alloc: Global,
+    tree: &Module,
+    env: &Env,
+    records: &BlankRecords,
+) -> Result<Checked, AllocError>
+    requires { records.now ≡ env.now }
     ensures tree { IfOk result (λ r. option_map (λ t. t.inner) r.tree ≡ checked (shown (faces_of env.now)) tree.now) }
     ensures broken { IfOk result (λ r. r.broken ≡ first_break (shown (faces_of env.now)) tree.now) }
     ensures deep { IfOk result (λ r. r.deep ≡ is_deep (faces_of env.now) tree.now) }
 {
-    let imported = Shown::new(alloc, env)?;
+    let imported = Shown::new(env, records);
     let checked = check_module(alloc, tree, &imported)?;
     Ok(checked)
 }
@@ -91,11 +97,17 @@ fn by_rules(alloc: Global, env: &Env, checked: Checked) -> Result<Built, Compile
     ruled(alloc, env, tree, broken)
 }
 
-/// Judges a module over its environment, and makes its files.
-pub fn judged(alloc: Global, tree: &Module, env: &Env) -> Result<Built, CompileFault>
+/// Judges a module over its environment, which has these records, and makes its files.
+pub fn judged(
+    alloc: Global,
+    tree: &Module,
+    env: &Env,
+    records: &BlankRecords,
+) -> Result<Built, CompileFault>
+    requires { records.now ≡ env.now }
     ensures { Makes (of_faces prints (faces_of env.now) tree.now) result }
 {
-    let Ok(checked) = checked(alloc, tree, env) else {
+    let Ok(checked) = checked(alloc, tree, env, records) else {
         return Err(CompileFault::Memory);
     };
     by_rules(alloc, env, checked)

@@ -9,8 +9,8 @@ use Rattle.ob_compile.proofs.faces.compile_over.Goals as goal
 
 pub returns-in-Ok : goal.returns-in-Ok
 returns-in-Ok c =
-    let made = subst (λ (l : List Interface). Makes (of_faces prints (faces_of l) c.args.tree.now) c.judged-made.result) c.env.ensures c.judged-made.ensures in
-    rw c.kept.ensures (stands c.args.tree.now c.args.faces c.in-Ok.env c.judged-made.result c.in-Ok.ensures.0 c.in-Ok.ensures.1 made)
+    let made = subst (λ (l : List Interface). Makes (of_faces prints (faces_of l) c.args.tree.now) c.compile_in-made.result) c.env.ensures c.compile_in-made.ensures in
+    rw c.kept.ensures (stands c.args.tree.now c.args.faces c.in-Ok.env c.compile_in-made.result c.in-Ok.ensures.0 c.in-Ok.ensures.1 made)
 
 pub returns-in-Err : goal.returns-in-Err
 returns-in-Err c = c.fault_of_env.ensures c.args.tree.now (stands_as c.args.faces) c.in-Err.ensures
