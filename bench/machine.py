@@ -1,4 +1,4 @@
-"""The programs that bench/machine times, in Python: NAME SIZE, with the names and the sizes of crates/ob_bench."""
+"""The programs that bench/machine times, in Python: NAME SIZE, with the names and the sizes of crates/bench_parts."""
 import sys
 
 

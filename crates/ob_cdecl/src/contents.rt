@@ -5,8 +5,8 @@ ghost use Rattle.ob_rules.specs.Declarations as spec;
 ghost use Rattle.ob_cdecl.specs.Seen.{contents_of, holds_body, holds_constant, holds_variable, holds_types};
 
 use ob_tree::{List, Mark, Name};
-use ob_trees::{ProcedureTrees, StmtTrees};
 use ob_types::{TypeRef, TypedConstant, TypedType, TypedVariable, Value};
+use ob_types_trees::{ProcedureTrees, StmtTrees};
 use std::alloc::{AllocError, Global};
 
 /// What a part of a module adds to it.

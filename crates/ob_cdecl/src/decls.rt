@@ -3,7 +3,7 @@
 #![tactic(auto, using(ob_rules::proofs::BookLaws::after_none, ob_rules::proofs::BookLaws::after_joined))]
 
 ghost use Rattle.std.specs.Prelude.{◌≡◌, IfOk, OnOk};
-ghost use Rattle.ob_known.specs.Scopes.{around_of};
+ghost use Rattle.ob_cdecl_scopes.specs.Scopes.{around_of};
 ghost use Rattle.ob_rules.specs.Books.{book_after};
 ghost use Rattle.ob_rules.specs.Judged.{paired, ◌▷◌};
 ghost use Rattle.ob_rules.specs.Expressions.{phrase_of, constant_value};
@@ -11,13 +11,13 @@ ghost use Rattle.ob_rules.specs.Declarations as spec;
 ghost use Rattle.ob_cdecl.specs.Seen.{contents_of};
 
 use crate::contents::Contents;
+use ob_cdecl_scopes::{Imports, Scope};
+use ob_cdecl_type::{check_mark, is_module_level};
 use ob_cexpr::{check_constant, start_of};
-use ob_ctype::{check_mark, is_module_level};
-use ob_known::{Imports, Scope};
 use ob_rules::{Entity, Notebook, Surroundings};
 use ob_tree::{Expr, Ident, IdentDef, Mark, Pos};
-use ob_trees::copy_value;
 use ob_types::Value;
+use ob_types_trees::copy_value;
 use std::alloc::{AllocError, Global};
 
 /// From here on a name is known in the innermost scope, where it was not. Rule 1 where it was.

@@ -3,16 +3,16 @@
 ghost use Rattle.std.specs.Prelude.{◌≡◌, ◌++◌, [], IfOk, OnOk};
 ghost use Rattle.std.specs.List.{cons_option};
 ghost use Rattle.std.specs.Option.{option_copied};
-ghost use Rattle.ob_known.specs.Scopes.{around_of};
+ghost use Rattle.ob_cdecl_scopes.specs.Scopes.{around_of};
 ghost use Rattle.ob_rules.specs.Headings.{heading_of};
 ghost use Rattle.ob_rules.specs.Declarations as spec;
 ghost use Rattle.ob_cdecl.specs.Order.{described_by, described_here, coming_by, coming_within};
 
-use ob_known::{Imports, Scope};
+use ob_cdecl_scopes::{Imports, Scope};
 use ob_rules::{Coming, Surroundings};
 use ob_tree::{CompactName, Decl, Heading, List, ObjName, QName};
-use ob_trees::copy_desc;
 use ob_types::{Desc, TypedType, Types};
+use ob_types_trees::copy_desc;
 use std::alloc::{AllocError, Global};
 
 fn described(alloc: Global, t: &TypedType, desc: Option<&Desc>) -> Result<TypedType, AllocError>

@@ -3,14 +3,14 @@
 #![tactic(auto, using(ob_rules::proofs::BookLaws::after_none, ob_rules::proofs::BookLaws::after_joined))]
 
 ghost use Rattle.std.specs.Prelude.{◌≡◌, [], Some, IfOk, OnOk};
-ghost use Rattle.ob_known.specs.Scopes.{around_of};
+ghost use Rattle.ob_cdecl_scopes.specs.Scopes.{around_of};
 ghost use Rattle.ob_rules.specs.Books.{book_after};
 ghost use Rattle.ob_rules.specs.Declarations as spec;
 ghost use Rattle.ob_cdecl.specs.Order.{one_import, import_added};
 
 use crate::decls::declare_new;
-use ob_cname::is_out;
-use ob_known::{Imports, Scope, Stack};
+use ob_cdecl_scopes::{Imports, Scope, Stack};
+use ob_cexpr_name::is_out;
 use ob_rules::{Entity, Notebook};
 use ob_tree::{Ident, Import, List, Name};
 use std::alloc::{AllocError, Global};

@@ -3,7 +3,7 @@
 #![tactic(auto, using(ob_rules::proofs::BookLaws::after_none, ob_rules::proofs::BookLaws::after_joined))]
 
 ghost use Rattle.std.specs.Prelude.{◌≡◌, OnOk};
-ghost use Rattle.ob_known.specs.Scopes.{around_of};
+ghost use Rattle.ob_cdecl_scopes.specs.Scopes.{around_of};
 ghost use Rattle.ob_rules.specs.Books.{book_after};
 ghost use Rattle.ob_rules.specs.Judged.{no_notes};
 ghost use Rattle.ob_rules.specs.Declarations as spec;
@@ -15,7 +15,7 @@ use crate::contents::Contents;
 use crate::decls::constant_declared;
 use crate::types::type_declared;
 use crate::variables::variables_declared;
-use ob_known::{Imports, Scope};
+use ob_cdecl_scopes::{Imports, Scope};
 use ob_rules::Notebook;
 use ob_tree::Decl;
 use std::alloc::{AllocError, Global};

@@ -4,22 +4,22 @@
 
 ghost use Rattle.std.specs.Prelude.{◌≡◌, ◌++◌, IfOk, OnOk, false};
 ghost use Rattle.std.specs.Option.{option_map};
-ghost use Rattle.ob_known.specs.Scopes.{around_of};
+ghost use Rattle.ob_cdecl_scopes.specs.Scopes.{around_of};
 ghost use Rattle.ob_rules.specs.declared.entity.Entity.TheVariants as entity;
 ghost use Rattle.ob_rules.specs.Books.{book_after};
 ghost use Rattle.ob_rules.specs.Judged.{made, paired};
 ghost use Rattle.ob_rules.specs.Types.{written, with_types};
 ghost use Rattle.ob_rules.specs.Headings.{mark_or_hidden};
 ghost use Rattle.ob_rules.specs.Declarations as spec;
-ghost use Rattle.ob_cfield.specs.Makes.{typing_of};
+ghost use Rattle.ob_cdecl_field.specs.Makes.{typing_of};
 ghost use Rattle.ob_cdecl.specs.Seen.{contents_of, holds_types};
 ghost use Rattle.ob_cdecl.specs.Order.{type_around};
 
 use crate::contents::Contents;
 use crate::decls::declare_new;
-use ob_cfield::{Typed, add_types, name_of, typed_as};
-use ob_ctype::{check_mark, check_type};
-use ob_known::{Imports, Scope};
+use ob_cdecl_field::{Typed, add_types, name_of, typed_as};
+use ob_cdecl_scopes::{Imports, Scope};
+use ob_cdecl_type::{check_mark, check_type};
 use ob_rules::{Entity, Notebook, Surroundings};
 use ob_tree::{Ident, IdentDef, Mark, Name, ObjName, TypeNode};
 use ob_types::Desc;

@@ -4,24 +4,24 @@
 
 ghost use Rattle.std.specs.Prelude.{◌≡◌, ◌++◌, Some, IfOk, OnOk, codes, true};
 ghost use Rattle.std.specs.Option.{option_map, option_copied};
-ghost use Rattle.ob_known.specs.Scopes.{around_of};
+ghost use Rattle.ob_cdecl_scopes.specs.Scopes.{around_of};
 ghost use Rattle.ob_rules.specs.Books.{book_after};
 ghost use Rattle.ob_rules.specs.Types as types;
 ghost use Rattle.ob_rules.specs.Types.{written, marked, with_types};
 ghost use Rattle.ob_rules.specs.Declarations as spec;
-ghost use Rattle.ob_cfield.specs.Makes.{typing_of};
+ghost use Rattle.ob_cdecl_field.specs.Makes.{typing_of};
 ghost use Rattle.ob_cdecl.specs.Seen.{contents_of, holds_types};
 ghost use Rattle.ob_cdecl.specs.Order.{typing_only};
 
 use crate::contents::Contents;
 use crate::decls::declare_new;
-use ob_cfield::{Typed, add_types, first_name};
-use ob_ctype::{check_mark, check_type, is_module_level};
-use ob_known::{Imports, Scope};
+use ob_cdecl_field::{Typed, add_types, first_name};
+use ob_cdecl_scopes::{Imports, Scope};
+use ob_cdecl_type::{check_mark, check_type, is_module_level};
 use ob_rules::{Entity, Notebook, Surroundings};
 use ob_tree::{CompactName, Ident, IdentDef, Mark, Name, ObjName, TypeNode};
-use ob_trees::copy_type;
 use ob_types::{TypeRef, Variable};
+use ob_types_trees::copy_type;
 use std::alloc::{AllocError, Global};
 
 fn variable_of<E: Imports>(

@@ -11,7 +11,7 @@ use Rattle.ob_tree.specs.declared.expr.Selector.{Selector}
 use Rattle.ob_rules.specs.Names.{Around}
 use Rattle.ob_rules.specs.Phrases.{Phrase, Behind}
 use Rattle.ob_rules.specs.Expressions.{Named, Ranged, Tailed, expr_rule, selector_rule, designator_rule, element_rule, tail_rule, phrase_of}
-use Rattle.ob_cround.proofs.ArgumentLaws.{by_meant}
+use Rattle.ob_cexpr_arguments.proofs.ArgumentLaws.{by_meant}
 
 -- a designator's value is by what it comes to
 abbrev IsByMeant : Around → Phrase → Type 0

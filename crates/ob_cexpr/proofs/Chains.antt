@@ -19,7 +19,7 @@ use Rattle.ob_tree.specs.declared.expr.Expr.TheFolds.{fold_out-Tail}
 use Rattle.ob_rules.specs.Phrases.{Behind}
 use Rattle.ob_rules.specs.Expressions.{Tailed, Named, Ranged, expr_rule, selector_rule, designator_rule, element_rule, tail_rule, phrase_of, combine_all, tailed_of, relation_of, is_test, untestable, testable, test}
 use Rattle.ob_rules.proofs.BookLaws.{after_none, after_joined}
-use Rattle.ob_coperand.specs.Plain.{plain}
+use Rattle.ob_cexpr_operand.specs.Plain.{plain}
 
 -- two parts, and what stands behind them
 pub after_two : (b : Notebook) (x y o : Notes) → book_after b (joined (joined x y) o) ≡ book_after (book_after (book_after b x) y) o

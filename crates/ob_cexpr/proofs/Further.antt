@@ -17,9 +17,9 @@ use Rattle.ob_rules.specs.Phrases.{Phrase}
 use Rattle.ob_rules.specs.Calls.{misplaced}
 use Rattle.ob_rules.specs.Predeclared.{type_parameter, extreme_call, values}
 use Rattle.ob_rules.specs.Expressions.{phrase_of}
-use Rattle.ob_cround.specs.Arguments.{parameters_asked}
-use Rattle.ob_cround.proofs.ArgumentLaws.{values_asked}
-use Rattle.ob_cround.proofs.JudgedLaws.{then_node, then_noted}
+use Rattle.ob_cexpr_arguments.specs.Arguments.{parameters_asked}
+use Rattle.ob_cexpr_arguments.proofs.ArgumentLaws.{values_asked}
+use Rattle.ob_cexpr_arguments.proofs.JudgedLaws.{then_node, then_noted}
 use Rattle.ob_cexpr.specs.Plain.{further_of}
 
 -- with parameters that are sound

@@ -22,17 +22,17 @@ use Rattle.ob_rules.specs.Predeclared.{parameter, type_parameter, extreme_call, 
 use Rattle.ob_rules.specs.Designators.{as_call}
 use Rattle.ob_rules.specs.Expressions.{phrase_of}
 use Rattle.ob_rules.proofs.BookLaws.{after_none, after_joined}
-use Rattle.ob_coperand.specs.Plain.{onto, alone, first_of}
-use Rattle.ob_cround.specs.declared.arguments.Argument.{Argument}
-use Rattle.ob_cround.specs.declared.callables.Callable.{Callable}
-use Rattle.ob_cround.specs.declared.opening.Opened.{Opened}
-use Rattle.ob_cround.specs.declared.opening.Opened.TheVariants as opens
-use Rattle.ob_cround.specs.Arguments.{argument_of, argument_says, left_of, parameters_asked}
-use Rattle.ob_cround.specs.Rounds.{Leaves, finished, params_of, call_left, round_left}
-use Rattle.ob_cround.specs.Rows.{row_behind}
-use Rattle.ob_cround.proofs.ArgumentLaws.{parameter_by}
-use Rattle.ob_cround.proofs.JudgedLaws.{then_node, then_noted}
-use Rattle.ob_cround.proofs.RowLaws.{row_goes, row_ends_noted}
+use Rattle.ob_cexpr_operand.specs.Plain.{onto, alone, first_of}
+use Rattle.ob_cexpr_arguments.specs.declared.arguments.Argument.{Argument}
+use Rattle.ob_cexpr_arguments.specs.declared.callables.Callable.{Callable}
+use Rattle.ob_cexpr_arguments.specs.declared.opening.Opened.{Opened}
+use Rattle.ob_cexpr_arguments.specs.declared.opening.Opened.TheVariants as opens
+use Rattle.ob_cexpr_arguments.specs.Arguments.{argument_of, argument_says, left_of, parameters_asked}
+use Rattle.ob_cexpr_arguments.specs.Rounds.{Leaves, finished, params_of, call_left, round_left}
+use Rattle.ob_cexpr_arguments.specs.Rows.{row_behind}
+use Rattle.ob_cexpr_arguments.proofs.ArgumentLaws.{parameter_by}
+use Rattle.ob_cexpr_arguments.proofs.JudgedLaws.{then_node, then_noted}
+use Rattle.ob_cexpr_arguments.proofs.RowLaws.{row_goes, row_ends_noted}
 use Rattle.ob_cexpr.proofs.Arguments.{phrase_value}
 use Rattle.ob_cexpr.proofs.Chains.{map_from, map_over}
 use Rattle.ob_cexpr.proofs.Rows.{row_step}

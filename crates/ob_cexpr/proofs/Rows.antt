@@ -5,7 +5,7 @@ use Rattle.ob_rules.specs.declared.notes.Notebook.{Notebook}
 use Rattle.ob_rules.specs.Judged.{Judged, Notes, joined, no_notes, noted, if_sound, both, paired, made, each_sound, sound, ◌▷◌}
 use Rattle.ob_rules.specs.Books.{book_after}
 use Rattle.ob_rules.proofs.BookLaws.{after_none, after_joined}
-use Rattle.ob_coperand.specs.Plain.{onto, alone}
+use Rattle.ob_cexpr_operand.specs.Plain.{onto, alone}
 
 nothing : {A B : Type 0} (f : A → B) (b : Notebook) (o : Option A) → book_after b (if_sound o (λ x. sound (f x))).notes ≡ b
 nothing f b None = after_none b

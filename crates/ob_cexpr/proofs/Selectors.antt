@@ -25,9 +25,9 @@ use Rattle.ob_rules.specs.Values.{is_integer}
 use Rattle.ob_rules.specs.Phrases.{Phrase, Behind, Dot, Index, Up, Round}
 use Rattle.ob_rules.specs.Designators.{index, index_if, index_into, indexed, implicitly, step_index, all_visited, visited, visit, is_one_type, go_on_with, step, through, where_of, nothing_behind, behind, from_front, from_front_with, front, front_of, is_module, dot_of, designates}
 use Rattle.ob_rules.proofs.BookLaws.{after_none, after_joined}
-use Rattle.ob_cplace.specs.declared.front.Front.{Front}
-use Rattle.ob_cplace.specs.Fronts.{front_judged}
-use Rattle.ob_coperand.specs.Plain.{plain}
+use Rattle.ob_cexpr_designator.specs.declared.front.Front.{Front}
+use Rattle.ob_cexpr_designator.specs.Fronts.{front_judged}
+use Rattle.ob_cexpr_operand.specs.Plain.{plain}
 use Rattle.ob_cexpr.specs.Plain.{behind_front, goes_on, step_or, step_if, visited_one}
 
 -- what an index says goes before what is said of it

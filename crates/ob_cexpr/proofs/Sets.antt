@@ -15,7 +15,7 @@ use Rattle.ob_rules.specs.Names.{Around, map_of}
 use Rattle.ob_rules.specs.Operators.{element, set_of}
 use Rattle.ob_rules.specs.Phrases.{Phrase, Behind}
 use Rattle.ob_rules.specs.Expressions.{Named, Ranged, Tailed, expr_rule, selector_rule, designator_rule, element_rule, tail_rule, phrase_of, ranged_of, element_value, value_if}
-use Rattle.ob_coperand.specs.Plain.{onto, alone}
+use Rattle.ob_cexpr_operand.specs.Plain.{onto, alone}
 use Rattle.ob_cexpr.specs.Plain.{elements_judged, set_judged}
 use Rattle.ob_cexpr.proofs.Chains.{after_two, map_from, map_over}
 use Rattle.ob_cexpr.proofs.ExprViews.{value_set}

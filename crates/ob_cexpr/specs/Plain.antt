@@ -15,8 +15,8 @@ use Rattle.ob_rules.specs.Phrases.{Phrase, Behind, Dot, Index, Up, Round}
 use Rattle.ob_rules.specs.Calls.{misplaced}
 use Rattle.ob_rules.specs.Predeclared.{values}
 use Rattle.ob_rules.specs.Designators.{all_visited, visited, go_on_with, step, through, where_of, behind}
-use Rattle.ob_cplace.specs.declared.front.Front.{Front}
-use Rattle.ob_coperand.specs.Plain.{plain}
+use Rattle.ob_cexpr_designator.specs.declared.front.Front.{Front}
+use Rattle.ob_cexpr_operand.specs.Plain.{plain}
 
 -- the elements of a set
 abbrev pub elements_judged : Around → List Element → Judged (List ElementOf)

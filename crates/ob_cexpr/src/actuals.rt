@@ -4,17 +4,17 @@ ghost use Rattle.std.specs.Prelude.{◌≡◌, IfOk, OnOk, map};
 ghost use Rattle.ob_rules.specs.Books.{book_after};
 ghost use Rattle.ob_rules.specs.Calls as calls;
 ghost use Rattle.ob_rules.specs.Expressions as spec;
-ghost use Rattle.ob_ccall.specs.Rows.{row_seen};
-ghost use Rattle.ob_cround.specs.Arguments.{argument_of, argument_says};
+ghost use Rattle.ob_cexpr_call.specs.Rows.{row_seen};
+ghost use Rattle.ob_cexpr_arguments.specs.Arguments.{argument_of, argument_says};
 
 use crate::designators::check_designator;
 use crate::walk::check_expr;
-use ob_coperand::{formal_at, start_of};
-use ob_cround::{Argument, with_actual};
+use ob_cexpr_arguments::{Argument, with_actual};
+use ob_cexpr_operand::{formal_at, start_of};
 use ob_rules::{Notebook, Surroundings, Where};
 use ob_tree::Expr;
-use ob_trees::ActualTrees;
 use ob_types::{Mode, TypeRef};
+use ob_types_trees::ActualTrees;
 use std::alloc::{AllocError, Global};
 
 /// An argument, judged by itself.

@@ -4,13 +4,13 @@ ghost use Rattle.std.specs.Prelude.{◌≡◌, IfOk, OnOk, map};
 ghost use Rattle.ob_rules.specs.Books.{book_after};
 ghost use Rattle.ob_rules.specs.Designators as designators;
 ghost use Rattle.ob_rules.specs.Expressions as spec;
-ghost use Rattle.ob_cround.specs.Rounds.{call_left};
+ghost use Rattle.ob_cexpr_arguments.specs.Rounds.{call_left};
 
 use crate::actuals::check_actuals;
 use crate::designators::visit_arguments;
 use crate::predeclared::{check_extreme, check_parameters};
-use ob_cpre::{asked_first, asked_second, call_fit};
-use ob_cround::{Callable, Opened, called, open_round, params};
+use ob_cexpr_arguments::{Callable, Opened, called, open_round, params};
+use ob_cexpr_predeclared::{asked_first, asked_second, call_fit};
 use ob_rules::{Meant, Notebook, Surroundings, Where};
 use ob_tree::{Expr, Pos};
 use std::alloc::{AllocError, Global};

@@ -10,8 +10,8 @@ ghost use Rattle.ob_cexpr.specs.Plain.{behind_front, step_if, visited_one};
 
 use crate::calls::check_round;
 use crate::walk::check_expr;
-use ob_coperand::{index_step, is_one_type, name_behind, select_step, up_step, where_behind};
-use ob_cplace::{Front, front_named};
+use ob_cexpr_designator::{Front, front_named};
+use ob_cexpr_operand::{index_step, is_one_type, name_behind, select_step, up_step, where_behind};
 use ob_rules::{Meant, Notebook, Surroundings, Where};
 use ob_tree::{Designator, Expr, Pos, Selector};
 use std::alloc::{AllocError, Global};

@@ -9,5 +9,5 @@ mod predeclared;
 mod walk;
 
 pub use designators::check_designator;
-pub use ob_coperand::{name_in, start_of};
+pub use ob_cexpr_operand::{name_in, start_of};
 pub use walk::{check_constant, check_expr};

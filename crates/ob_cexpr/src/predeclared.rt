@@ -6,14 +6,14 @@ ghost use Rattle.ob_rules.specs.Books.{book_after};
 ghost use Rattle.ob_rules.specs.Judged as judged;
 ghost use Rattle.ob_rules.specs.Predeclared as predeclared;
 ghost use Rattle.ob_rules.specs.Expressions as spec;
-ghost use Rattle.ob_cround.specs.Arguments.{parameters_asked};
+ghost use Rattle.ob_cexpr_arguments.specs.Arguments.{parameters_asked};
 ghost use Rattle.ob_cexpr.specs.Plain.{further_of};
 
 use crate::actuals::check_argument;
 use crate::walk::check_expr;
-use ob_coperand::{name_in, no_type, row_with, start_of, type_parameter};
-use ob_cpre::extreme;
-use ob_cround::{further, parameter};
+use ob_cexpr_arguments::{further, parameter};
+use ob_cexpr_operand::{name_in, no_type, row_with, start_of, type_parameter};
+use ob_cexpr_predeclared::extreme;
 use ob_rules::{Asked, Meant, Notebook, Surroundings, Valued, Where};
 use ob_tree::{Expr, Pos};
 use ob_types::TypeRef;

@@ -9,11 +9,11 @@ ghost use Rattle.ob_rules.specs.Judged.{sound, ◌▷◌};
 ghost use Rattle.ob_rules.specs.Names.{map_of};
 ghost use Rattle.ob_rules.specs.Operators.{opposite, signed};
 ghost use Rattle.ob_rules.specs.declared.meant.Where.TheVariants.{InExpression};
-ghost use Rattle.ob_coperand.specs.Plain.{plain};
+ghost use Rattle.ob_cexpr_operand.specs.Plain.{plain};
 ghost use Rattle.ob_cexpr.specs.Plain.{elements_judged, set_judged};
 
 use crate::designators::check_designator;
-use ob_coperand::{
+use ob_cexpr_operand::{
     bracketed, character, combined_if, constant_if, element_if, integer, name_in, name_value,
     opposite_if, other_test, related_if, row_with, set_if, signed_if, start_of, string, there,
     type_test, value_if,

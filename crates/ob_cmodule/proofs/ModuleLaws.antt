@@ -21,11 +21,11 @@ use Rattle.ob_rules.specs.Types.{is_module_level, nothing}
 use Rattle.ob_rules.specs.Declarations.{Part, if_unbroken, Contents, together, no_contents, name_judged, imports_declared, import_entity, is_system, target_of, declare_if, checked, first_break, deep_of, declaration, module_part, typed_module, imported, all_described}
 use Rattle.ob_rules.specs.Depth.{is_deep}
 use Rattle.ob_rules.proofs.BookLaws.{quiet_if, loud_if, after_joined}
-use Rattle.ob_known.specs.Scopes.{at_start, at_module}
-use Rattle.ob_known.proofs.Predeclaring.{predeclared_are}
+use Rattle.ob_cdecl_scopes.specs.Scopes.{at_start, at_module}
+use Rattle.ob_cdecl_scopes.proofs.Predeclaring.{predeclared_are}
 use Rattle.ob_cdecl.specs.Order.{coming_within, one_import}
 use Rattle.ob_cdecl.proofs.ImportLaws.{imports_nothing}
-use Rattle.ob_cblock.specs.Blocks.{block_of, unbound}
+use Rattle.ob_cdecl_block.specs.Blocks.{block_of, unbound}
 use Rattle.ob_cmodule.specs.Wholes.{around_start, module_within, module_parts, checked_as, described_types, tree_from}
 
 start_with : (QName → Option Desc) → Module → List Known → Around

@@ -4,7 +4,7 @@
 
 ghost use Rattle.std.specs.Prelude.{◌≡◌, [], true, IfOk, OnOk, map};
 ghost use Rattle.std.specs.Option.{option_map};
-ghost use Rattle.ob_known.specs.Scopes.{around_of};
+ghost use Rattle.ob_cdecl_scopes.specs.Scopes.{around_of};
 ghost use Rattle.ob_rules.specs.Books.{book_after};
 ghost use Rattle.ob_rules.specs.Types.{is_module_level};
 ghost use Rattle.ob_rules.specs.Judged.{least};
@@ -12,17 +12,17 @@ ghost use Rattle.ob_rules.specs.Depth as depth;
 ghost use Rattle.ob_rules.specs.Declarations as spec;
 ghost use Rattle.ob_rules.specs.Declarations.{first_break, checked, deep_of, declaration, module_part};
 ghost use Rattle.ob_cdecl.specs.Seen.{contents_of};
-ghost use Rattle.ob_cblock.specs.Blocks.{unbound};
+ghost use Rattle.ob_cdecl_block.specs.Blocks.{unbound};
 ghost use Rattle.ob_cmodule.specs.Wholes.{module_within, module_parts, around_start, checked_as, described_types};
 
 use crate::tree::tree_of;
-use ob_cblock::block;
-use ob_cbound::is_deep;
 use ob_cdecl::{Contents, all_described, coming_within, imports_declared, name_judged};
-use ob_known::{Imports, Scope};
+use ob_cdecl_block::block;
+use ob_cdecl_bound::is_deep;
+use ob_cdecl_scopes::{Imports, Scope};
 use ob_rules::{Broken, Notebook};
 use ob_tree::{Decl, Ident, Import, Module, Stmt};
-use ob_trees::ModuleTree;
+use ob_types_trees::ModuleTree;
 use std::alloc::{AllocError, Global};
 
 /// What a module comes to: the checked module, there exactly where no rule is broken; else the broken

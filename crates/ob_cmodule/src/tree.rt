@@ -7,14 +7,14 @@ ghost use Rattle.ob_rules.specs.Books.{book_after, empty_book};
 ghost use Rattle.ob_rules.specs.Judged.{least};
 ghost use Rattle.ob_rules.specs.Declarations as spec;
 ghost use Rattle.ob_cdecl.specs.Seen.{contents_of};
-ghost use Rattle.ob_cblock.specs.Blocks.{unbound};
+ghost use Rattle.ob_cdecl_block.specs.Blocks.{unbound};
 ghost use Rattle.ob_cmodule.specs.Wholes.{checked_as, described_types, tree_from};
 
 use ob_cdecl::{Contents, imported};
 use ob_rules::{Broken, Notebook};
 use ob_tree::{List, Module, Name};
-use ob_trees::ModuleTree;
 use ob_types::TypedType;
+use ob_types_trees::ModuleTree;
 use std::alloc::{AllocError, Global};
 
 // The tree of a module of that name, with these imports, these types and what else it has; what it

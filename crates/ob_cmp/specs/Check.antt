@@ -14,7 +14,7 @@ use Rattle.ob_obj.specs.Grammar.{file as object_form}
 use Rattle.ob_obj.specs.declared.file.ObjFile.{ObjFile}
 use Rattle.ob_cmp.specs.declared.verdict.Stale.{Stale}
 use Rattle.ob_env.specs.Faces.{Wanted, Face, object_named, wanted_of, face_of}
-use Rattle.ob_walk.specs.Walk.{file_limit, symbol_name}
+use Rattle.ob_env_walk.specs.Walk.{file_limit, symbol_name}
 use Rattle.ob_sym.specs.Grammar.{face as face_form}
 use Rattle.ob_types.specs.declared.face.Interface.{Interface}
 use Rattle.ob_env.specs.Stale.{Found, AsWanted, IsAbsent, IsChanged, compared, prints_agree}

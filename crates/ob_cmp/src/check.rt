@@ -13,8 +13,8 @@ use crate::present::{find_face, find_file};
 use crate::verdict::Stale;
 use ob_io::Shelf;
 use ob_tree::{List, Name, ObjName, Print};
-use ob_trees::copy_name;
 use ob_types::{Aspect, Interface, Object, Use};
+use ob_types_trees::copy_name;
 use std::alloc::{AllocError, Global};
 
 /// Why the uses of a module were not checked.

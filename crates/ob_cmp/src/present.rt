@@ -4,7 +4,7 @@ ghost use Rattle.std.specs.Prelude.{◌≡◌, Some, true, IfOk, IsErrOf};
 ghost use Rattle.ob_format.specs.Format.{whole};
 ghost use Rattle.ob_obj.specs.Grammar.{file as object_form};
 ghost use Rattle.ob_sym.specs.Grammar.{face as face_form};
-ghost use Rattle.ob_walk.specs.Walk.{symbol_name};
+ghost use Rattle.ob_env_walk.specs.Walk.{symbol_name};
 ghost use Rattle.ob_cmp.specs.Check.{symbols_of, object_of, object_name, face_found, uses_found};
 ghost use Rattle.ob_cmp.specs.Checking.{CheckHasCause, SeesFace, SeesUses, FaceFits, IsOf};
 

@@ -4,9 +4,9 @@ use Rattle.std.specs.Prelude.{IsErrOf}
 use Rattle.ob_tree.specs.declared.print.Print.{Print}
 use Rattle.ob_sym.specs.Grammar.{face as face_form}
 use Rattle.ob_compile.specs.declared.shape.Built.{Built}
-use Rattle.ob_compiling.specs.declared.fault.CompileFault.{CompileFault}
-use Rattle.ob_compiling.specs.declared.fault.CompileFault.TheVariants as fault
-use Rattle.ob_compiling.specs.Compiling.{Refusal, Compiled}
+use Rattle.ob_compile_model.specs.declared.fault.CompileFault.{CompileFault}
+use Rattle.ob_compile_model.specs.declared.fault.CompileFault.TheVariants as fault
+use Rattle.ob_compile_model.specs.Compiling.{Refusal, Compiled}
 use Rattle.ob_compile.specs.Contract.{AreFile, Compiles, Makes}
 
 -- it is answered as it is

@@ -15,8 +15,8 @@ use Rattle.ob_env.specs.Faces.{faces_of, described, print_in, interface_of, obje
 use Rattle.ob_env.specs.Fit.{count_of}
 use Rattle.ob_uses.specs.Objects.{HasOwnTypes}
 use Rattle.ob_uses.specs.Made.{face_over}
-use Rattle.ob_spelled.specs.Prints.{HasPrints, AllHavePrints}
-use Rattle.ob_compiling.specs.Compiling.{Compiled, interface_by, prints}
+use Rattle.ob_obj_spelling.specs.Prints.{HasPrints, AllHavePrints}
+use Rattle.ob_compile_model.specs.Compiling.{Compiled, interface_by, prints}
 use Rattle.ob_compile.specs.Steps.{compiled_of}
 use Rattle.ob_compile.specs.Showing.{IsShown}
 

@@ -8,15 +8,15 @@ use Rattle.ob_types.specs.declared.face.Interface.{Interface}
 use Rattle.ob_obj.specs.declared.file.ObjFile.{ObjFile}
 use Rattle.ob_layout.specs.LaidOut.{viewed}
 use Rattle.ob_env.specs.Faces.{described}
-use Rattle.ob_code.specs.Numbers.{nothing_named}
-use Rattle.ob_code.specs.Procedures.{module_code}
-use Rattle.ob_code.specs.Object.{own_words}
-use Rattle.ob_code.proofs.Appends.{instrs_length}
+use Rattle.ob_scheme.specs.Numbers.{nothing_named}
+use Rattle.ob_scheme.specs.Procedures.{module_code}
+use Rattle.ob_scheme.specs.Object.{own_words}
+use Rattle.ob_scheme.proofs.Appends.{instrs_length}
 use Rattle.ob_compile.specs.declared.shape.Built.{Built}
-use Rattle.ob_compiling.specs.declared.fault.CompileRefusal.TheVariants as refusal
-use Rattle.ob_compiling.specs.declared.fault.CompileFault.{CompileFault}
-use Rattle.ob_compiling.specs.declared.fault.CompileFault.TheVariants as fault
-use Rattle.ob_compiling.specs.Compiling.{Compiled, within, or_first, exceeded, most_code, limit_of_code, limit_of_files, object_by, object_with, object_bytes, symbol_bytes, interface_by, prints}
+use Rattle.ob_compile_model.specs.declared.fault.CompileRefusal.TheVariants as refusal
+use Rattle.ob_compile_model.specs.declared.fault.CompileFault.{CompileFault}
+use Rattle.ob_compile_model.specs.declared.fault.CompileFault.TheVariants as fault
+use Rattle.ob_compile_model.specs.Compiling.{Compiled, within, or_first, exceeded, most_code, limit_of_code, limit_of_files, object_by, object_with, object_bytes, symbol_bytes, interface_by, prints}
 use Rattle.ob_compile.specs.Contract.{Makes}
 use Rattle.ob_compile.specs.Steps.{short_code}
 

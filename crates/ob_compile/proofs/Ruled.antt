@@ -16,8 +16,8 @@ use Rattle.ob_env.specs.Answer.{Stands}
 use Rattle.ob_env.specs.Shown.{shown}
 use Rattle.ob_env.specs.Building.{stands_as}
 use Rattle.ob_compile.specs.declared.shape.Built.{Built}
-use Rattle.ob_compiling.specs.declared.fault.CompileFault.{CompileFault}
-use Rattle.ob_compiling.specs.Compiling.{of_standing, of_faces, unless_deep, is_deep, and_limits, of_break, within, exceeds, made, prints}
+use Rattle.ob_compile_model.specs.declared.fault.CompileFault.{CompileFault}
+use Rattle.ob_compile_model.specs.Compiling.{of_standing, of_faces, unless_deep, is_deep, and_limits, of_break, within, exceeds, made, prints}
 use Rattle.ob_compile.specs.Contract.{Makes}
 use Rattle.ob_compile.specs.Ruled.{IsChecked}
 

@@ -6,16 +6,16 @@ use Rattle.ob_tree.specs.declared.print.Print.{Print}
 use Rattle.ob_tree.specs.declared.which.Which.TheVariants as which
 use Rattle.ob_tree.specs.declared.decl.Module.{Module as Tree}
 use Rattle.ob_types.specs.declared.face.Interface.{Interface}
-use Rattle.ob_reading.specs.Reading.{NoModule}
+use Rattle.ob_parse_text.specs.Reading.{NoModule}
 use Rattle.ob_env.specs.Faces.{faces_of}
 use Rattle.ob_env.specs.Building.{stands_as}
-use Rattle.ob_walk.specs.Walk.{Entry, Walked, Left, walk}
-use Rattle.ob_walk.specs.Answer.{after_walk}
+use Rattle.ob_env_walk.specs.Walk.{Entry, Walked, Left, walk}
+use Rattle.ob_env_walk.specs.Answer.{after_walk}
 use Rattle.ob_compile.specs.declared.shape.Built.{Built}
-use Rattle.ob_compiling.specs.declared.fault.CompileRefusal.TheVariants as refusal
-use Rattle.ob_compiling.specs.declared.fault.CompileFault.{CompileFault}
-use Rattle.ob_compiling.specs.declared.fault.CompileFault.TheVariants as fault
-use Rattle.ob_compiling.specs.Compiling.{Refusal, Compiled, of_few, of_tree, of_reading, of_reached, of_standing, prints}
+use Rattle.ob_compile_model.specs.declared.fault.CompileRefusal.TheVariants as refusal
+use Rattle.ob_compile_model.specs.declared.fault.CompileFault.{CompileFault}
+use Rattle.ob_compile_model.specs.declared.fault.CompileFault.TheVariants as fault
+use Rattle.ob_compile_model.specs.Compiling.{Refusal, Compiled, of_few, of_tree, of_reading, of_reached, of_standing, prints}
 use Rattle.ob_compile.specs.Contract.{Compiles, Makes}
 use Rattle.ob_compile.specs.Steps.{stood}
 use Rattle.ob_compile.proofs.Answered.{made_compiles}

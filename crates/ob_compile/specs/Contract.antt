@@ -3,21 +3,21 @@ use Rattle.std.specs.Prelude.{◌≡◌, ℕ, ◌≤◌, List, Option, Some, Non
 use Rattle.ob_tree.specs.declared.print.Print.{Print}
 use Rattle.ob_io.specs.Io.{Rose}
 use Rattle.ob_scan.specs.declared.fault.ScanFault.TheVariants as scanning
-use Rattle.ob_pexpr.specs.declared.fault.ParseFault.TheVariants as parsing
+use Rattle.ob_parse_expr.specs.declared.fault.ParseFault.TheVariants as parsing
 use Rattle.ob_tree.specs.declared.which.Which.TheVariants as which
 use Rattle.ob_env.specs.Stale.{Found, StaleUse, AsWanted, IsAbsent, IsChanged}
-use Rattle.ob_walk.specs.Walk.{Walked, Left, NoInterface, Damaged, Cycle, TooMany}
-use Rattle.ob_reading.specs.Reading.{NoModule, Scan, Parse}
+use Rattle.ob_env_walk.specs.Walk.{Walked, Left, NoInterface, Damaged, Cycle, TooMany}
+use Rattle.ob_parse_text.specs.Reading.{NoModule, Scan, Parse}
 use Rattle.ob_sym.specs.Grammar.{face as face_form}
 use Rattle.ob_obj.specs.declared.file.ObjFile.{ObjFile}
 use Rattle.ob_obj.specs.Grammar.{file as file_form}
 use Rattle.ob_compile.specs.declared.shape.Built.{Built}
-use Rattle.ob_compiling.specs.declared.fault.CompileRefusal.{CompileRefusal}
-use Rattle.ob_compiling.specs.declared.fault.CompileRefusal.TheVariants as refusal
-use Rattle.ob_compiling.specs.declared.fault.CompileFault.{CompileFault}
-use Rattle.ob_compiling.specs.declared.fault.CompileFault.TheVariants as fault
-use Rattle.ob_compiling.specs.Compiling as c
-use Rattle.ob_compiling.specs.Compiling.{Refusal, Compiled, prints, interface_by, object_bytes, symbol_bytes}
+use Rattle.ob_compile_model.specs.declared.fault.CompileRefusal.{CompileRefusal}
+use Rattle.ob_compile_model.specs.declared.fault.CompileRefusal.TheVariants as refusal
+use Rattle.ob_compile_model.specs.declared.fault.CompileFault.{CompileFault}
+use Rattle.ob_compile_model.specs.declared.fault.CompileFault.TheVariants as fault
+use Rattle.ob_compile_model.specs.Compiling as c
+use Rattle.ob_compile_model.specs.Compiling.{Refusal, Compiled, prints, interface_by, object_bytes, symbol_bytes}
 
 -- a refusal as it is answered; no reading of a text is a want of memory, and no walk that ended early left all
 abbrev pub unread : NoModule → Option CompileRefusal

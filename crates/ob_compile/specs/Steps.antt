@@ -5,15 +5,15 @@ use Rattle.ob_tree.specs.declared.print.Print.{Print}
 use Rattle.ob_types.specs.declared.face.Interface.{Interface}
 use Rattle.ob_types.specs.declared.typed.TypedModule.{TypedModule}
 use Rattle.ob_types.specs.TypedView.{module_view}
-use Rattle.ob_reading.specs.Reading.{reading}
+use Rattle.ob_parse_text.specs.Reading.{reading}
 use Rattle.ob_layout.specs.LaidOut.{viewed}
-use Rattle.ob_code.specs.Needs.{has_short_code}
+use Rattle.ob_scheme.specs.Needs.{has_short_code}
 use Rattle.ob_env.specs.Faces.{Face, faces_of, described, print_in}
 use Rattle.ob_env.specs.Stale.{prints_agree}
 use Rattle.ob_env.specs.Answer.{Standing, standing}
-use Rattle.ob_walk.specs.Walk.{Entry}
-use Rattle.ob_compiling.specs.declared.fault.CompileFault.{CompileFault}
-use Rattle.ob_compiling.specs.Compiling.{Compiled, compiled, of_reading, made, prints}
+use Rattle.ob_env_walk.specs.Walk.{Entry}
+use Rattle.ob_compile_model.specs.declared.fault.CompileFault.{CompileFault}
+use Rattle.ob_compile_model.specs.Compiling.{Compiled, compiled, of_reading, made, prints}
 use Rattle.ob_compile.specs.Contract.{Compiles}
 
 -- a source that may be read whole

@@ -5,21 +5,21 @@ ghost use Rattle.ob_tree.specs.declared.print.Print.{Print as PrintValue};
 ghost use Rattle.ob_tree.specs.declared.decl.Module.{Module as Tree};
 ghost use Rattle.ob_env.specs.Answer.{Standing};
 ghost use Rattle.ob_env.specs.Building.{Named, fault_of};
-ghost use Rattle.ob_reading.specs.Reading.{NoModule, Scan, Parse, IsReading};
-ghost use Rattle.ob_walk.specs.Walk.{Walked, Entry};
-ghost use Rattle.ob_walk.specs.Walking.{StopsAs};
-ghost use Rattle.ob_walk.specs.Answer.{after_walk};
-ghost use Rattle.ob_compiling.specs.Compiling.{Unread, of_reading, of_reached, of_standing, prints};
+ghost use Rattle.ob_parse_text.specs.Reading.{NoModule, Scan, Parse, IsReading};
+ghost use Rattle.ob_env_walk.specs.Walk.{Walked, Entry};
+ghost use Rattle.ob_env_walk.specs.Walking.{StopsAs};
+ghost use Rattle.ob_env_walk.specs.Answer.{after_walk};
+ghost use Rattle.ob_compile_model.specs.Compiling.{Unread, of_reading, of_reached, of_standing, prints};
 ghost use Rattle.ob_compile.specs.Contract.{Compiles, Makes};
 ghost use Rattle.ob_compile.specs.Steps.{stood};
 
-use ob_compiling::{CompileFault, CompileRefusal};
+use ob_compile_model::{CompileFault, CompileRefusal};
 use ob_env::EnvFault;
-use ob_pexpr::ParseFault;
+use ob_env_walk::WalkStop;
+use ob_parse_expr::ParseFault;
+use ob_parse_text::TextFault;
 use ob_scan::ScanFault;
-use ob_text::TextFault;
 use ob_tree::Which;
-use ob_walk::WalkStop;
 
 /// A limit is exceeded.
 pub fn over_limit(which: Which) -> CompileFault

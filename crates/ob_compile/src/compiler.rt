@@ -1,8 +1,8 @@
 //! What one compile leaves for the next.
 
-use ob_cache::{SymbolCache, SymbolFile};
-use ob_coherent::CoherentEnv;
-use ob_shown::BlankRecords;
+use ob_env_coherent::CoherentEnv;
+use ob_env_files::{SymbolCache, SymbolFile};
+use ob_env_shown::BlankRecords;
 use std::alloc::Global;
 
 /// What compiles leave for those behind them: the symbol files that were read, and the environment

@@ -3,15 +3,15 @@
 ghost use Rattle.std.specs.Prelude.{◌≡◌, true, IfOk};
 ghost use Rattle.ob_sym.specs.Grammar.{face as face_form};
 ghost use Rattle.ob_io.specs.Io.{SameFiles};
-ghost use Rattle.ob_walk.specs.Walk.{symbol_entry};
-ghost use Rattle.ob_compiling.specs.Compiling.{compiled, prints};
+ghost use Rattle.ob_env_walk.specs.Walk.{symbol_entry};
+ghost use Rattle.ob_compile_model.specs.Compiling.{compiled, prints};
 ghost use Rattle.ob_compile.specs.Contract.{AreFile, Compiles, CompileHasCause};
 
 use crate::compiler::Compiler;
 use crate::faces::compile_text;
 use crate::shape::Built;
 use crate::source::read_source;
-use ob_compiling::CompileFault;
+use ob_compile_model::CompileFault;
 use ob_io::Shelf;
 use std::alloc::Global;
 

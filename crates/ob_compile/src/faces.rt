@@ -3,13 +3,13 @@
 ghost use Rattle.std.specs.Prelude.{◌≡◌, ◌≤◌, true, length, map as each, IfOk};
 ghost use Rattle.ob_io.specs.Io.{SameFiles};
 ghost use Rattle.ob_sym.specs.Grammar.{face as face_form};
-ghost use Rattle.ob_reading.specs.Reading.{reading};
+ghost use Rattle.ob_parse_text.specs.Reading.{reading};
 ghost use Rattle.ob_env.specs.Building.{Builds, stands_as};
 ghost use Rattle.ob_env.specs.Found.{CarryPrints};
-ghost use Rattle.ob_walk.specs.Walk.{symbol_entry, walk as walking};
-ghost use Rattle.ob_walk.specs.Answer.{after_walk};
+ghost use Rattle.ob_env_walk.specs.Walk.{symbol_entry, walk as walking};
+ghost use Rattle.ob_env_walk.specs.Answer.{after_walk};
 ghost use Rattle.ob_env.specs.Faces.{faces_of};
-ghost use Rattle.ob_compiling.specs.Compiling.{of_reading, of_tree, of_reached, of_standing, of_faces, prints, imported};
+ghost use Rattle.ob_compile_model.specs.Compiling.{of_reading, of_tree, of_reached, of_standing, of_faces, prints, imported};
 ghost use Rattle.ob_compile.specs.Contract.{AreFile, Compiles, Makes, CompileHasCause};
 ghost use Rattle.ob_compile.specs.Steps.{stood};
 
@@ -18,15 +18,15 @@ use crate::compiler::Compiler;
 use crate::held::SourceTree;
 use crate::rules::judged;
 use crate::shape::Built;
-use ob_cache::SymbolFile;
-use ob_coherent::CoherentEnv;
-use ob_compiling::CompileFault;
+use ob_compile_model::CompileFault;
 use ob_env::{Env, EnvFault};
+use ob_env_coherent::CoherentEnv;
+use ob_env_files::SymbolFile;
+use ob_env_shown::BlankRecords;
+use ob_env_walk::walk;
 use ob_io::Shelf;
-use ob_reading::read_module;
-use ob_shown::BlankRecords;
+use ob_parse_text::read_module;
 use ob_tree::{Import, List, Module, Name, Which};
-use ob_walk::walk;
 use std::alloc::{AllocError, Global};
 
 /// The most imports of a module.

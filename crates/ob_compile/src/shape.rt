@@ -1,6 +1,6 @@
 //! What a compile gives.
 
-use ob_cache::SymbolFile;
+use ob_env_files::SymbolFile;
 use ob_tree::Text;
 
 /// What the compile of a module gives: its symbol file, which contracts see as its interface, and the

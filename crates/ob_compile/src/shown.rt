@@ -2,18 +2,18 @@
 
 ghost use Rattle.std.specs.Prelude.{◌≡◌, [], ◌∷◌, ◌++◌, IfOk, OnOk};
 ghost use Rattle.std.specs.List.{flat_map};
-ghost use Rattle.ob_compiling.specs.Compiling.{object_exports, layout_export};
+ghost use Rattle.ob_compile_model.specs.Compiling.{object_exports, layout_export};
 ghost use Rattle.ob_compile.specs.Showing.{IsShown};
 
 use crate::held::ShownFace;
 use crate::prints::EnvPrints;
 use ob_env::View;
-use ob_interface::interface_of;
 use ob_obj::Export;
 use ob_tree::{List, ObjName, Print};
-use ob_trees::copy_name;
 use ob_types::{Aspect, Object, Use};
+use ob_types_trees::copy_name;
 use ob_uses::view_is_held;
+use ob_uses_interface::interface_of;
 use std::alloc::{AllocError, Global};
 
 /// The interface of a module that is laid out.

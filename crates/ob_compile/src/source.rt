@@ -5,7 +5,7 @@ ghost use Rattle.ob_io.specs.Io.{SameFiles};
 ghost use Rattle.ob_compile.specs.Contract.{CompileHasCause};
 ghost use Rattle.ob_compile.specs.Steps.{Sources, IsShort};
 
-use ob_compiling::{CompileFault, CompileRefusal};
+use ob_compile_model::{CompileFault, CompileRefusal};
 use ob_io::{FolderFault, Shelf};
 use std::alloc::Global;
 

@@ -12,8 +12,8 @@ use Rattle.ob_rules.specs.Judged.{Judged, Notes, if_sound, joined, no_notes, not
 use Rattle.ob_rules.specs.Books.{book_after}
 use Rattle.ob_rules.specs.Names.{Around}
 use Rattle.ob_rules.specs.Calls as calls
-use Rattle.ob_trees.specs.declared.stmt.StmtTree.{StmtTree}
-use Rattle.ob_cparts.specs.Seen.{stmt_in}
+use Rattle.ob_types_trees.specs.declared.stmt.StmtTree.{StmtTree}
+use Rattle.ob_cstmt_parts.specs.Seen.{stmt_in}
 use Rattle.ob_rules.specs.Designators.{as_call, call_meant}
 use Rattle.ob_rules.specs.Predeclared.{is_function}
 use Rattle.ob_rules.specs.Statements.{done, call_value}

@@ -25,9 +25,9 @@ use Rattle.ob_rules.specs.Expressions.{Ranged}
 use Rattle.ob_rules.specs.Statements as spec
 use Rattle.ob_rules.proofs.BookLaws.{after_none, after_joined}
 use Rattle.ob_rules.proofs.RowLaws.{made_noted, both_noted}
-use Rattle.ob_trees.specs.declared.stmt.StmtTrees.{StmtTrees}
-use Rattle.ob_cparts.specs.Seen.{stmts_in, rejoined, singly, branch_of, case_of, for_parts_node}
-use Rattle.ob_cparts.proofs.RowSteps.{row_made, part_made, row_noted, branch_made, case_made, ends}
+use Rattle.ob_types_trees.specs.declared.stmt.StmtTrees.{StmtTrees}
+use Rattle.ob_cstmt_parts.specs.Seen.{stmts_in, rejoined, singly, branch_of, case_of, for_parts_node}
+use Rattle.ob_cstmt_parts.proofs.RowSteps.{row_made, part_made, row_noted, branch_made, case_made, ends}
 
 -- an element of a row, and those behind it
 pub map_from : {A B : Type 0} (f : A → B) (xs : List A) (i : ℕ) (d : A) → i < length xs → map f (drop i xs) ≡ f (get_or xs i d) ∷ map f (drop (i + 1) xs)

@@ -6,14 +6,14 @@ ghost use Rattle.ob_rules.specs.Expressions as exprs;
 ghost use Rattle.ob_rules.specs.Judged.{◌▷◌};
 ghost use Rattle.ob_rules.specs.Statements as spec;
 ghost use Rattle.ob_rules.specs.declared.meant.Where.TheVariants.{Elsewhere};
-ghost use Rattle.ob_cparts.specs.Seen.{stmt_in};
+ghost use Rattle.ob_cstmt_parts.specs.Seen.{stmt_in};
 
 use ob_cexpr::{check_designator, check_expr};
-use ob_cname::types;
-use ob_cparts::{assigns_if, name_target, target_if};
+use ob_cexpr_name::types;
+use ob_cstmt_parts::{assigns_if, name_target, target_if};
 use ob_rules::{Notebook, Place, Surroundings, Where};
 use ob_tree::{Designator, Expr, Pos};
-use ob_trees::StmtTree;
+use ob_types_trees::StmtTree;
 use std::alloc::{AllocError, Global};
 
 fn selected_place<S: Surroundings>(

@@ -2,7 +2,7 @@
 
 ghost use Rattle.std.specs.Prelude.{◌≡◌, [], Some, true, IfOk, OnOk};
 ghost use Rattle.std.specs.Option.{option_copied};
-ghost use Rattle.ob_ccall.specs.Rows.{row_seen};
+ghost use Rattle.ob_cexpr_call.specs.Rows.{row_seen};
 ghost use Rattle.ob_rules.specs.Books.{book_after};
 ghost use Rattle.ob_rules.specs.Calls as calls;
 ghost use Rattle.ob_rules.specs.Designators as designators;
@@ -13,19 +13,19 @@ ghost use Rattle.ob_rules.specs.Shapes as shapes;
 ghost use Rattle.ob_rules.specs.Statements as spec;
 ghost use Rattle.ob_rules.specs.declared.meant.Meant.TheVariants as means;
 ghost use Rattle.ob_rules.specs.declared.meant.Where.TheVariants.{AsStatement};
-ghost use Rattle.ob_cparts.specs.Seen.{stmt_in};
+ghost use Rattle.ob_cstmt_parts.specs.Seen.{stmt_in};
 
-use ob_ccall::{
+use ob_cexpr::check_designator;
+use ob_cexpr_call::{
     call_bound, call_out, call_procedure, call_variable, is_nearest_sound, is_receiver_read_only,
     unless_broken,
 };
-use ob_cexpr::check_designator;
-use ob_cname::{tree_of, types};
-use ob_cpre::is_function;
+use ob_cexpr_name::{tree_of, types};
+use ob_cexpr_predeclared::is_function;
 use ob_rules::{Chosen, Meant, Notebook, Place, Predeclared, Surroundings, Valued, Where};
 use ob_tree::{Designator, Pos, QName, Selector};
-use ob_trees::{ActualTrees, StmtTree, copy_type};
 use ob_types::{OutProcedure, Signature, signature_within};
+use ob_types_trees::{ActualTrees, StmtTree, copy_type};
 use std::alloc::{AllocError, Global};
 
 // The name of a constant, of its module behind a dot.

@@ -4,14 +4,14 @@ ghost use Rattle.std.specs.Prelude.{◌≡◌, IfOk, OnOk};
 ghost use Rattle.ob_rules.specs.Books.{book_after};
 ghost use Rattle.ob_rules.specs.Expressions as exprs;
 ghost use Rattle.ob_rules.specs.Statements as spec;
-ghost use Rattle.ob_cparts.specs.Seen.{expr_in};
+ghost use Rattle.ob_cstmt_parts.specs.Seen.{expr_in};
 
 use ob_cexpr::{check_expr, start_of};
-use ob_cname::types;
-use ob_cparts::truth;
+use ob_cexpr_name::types;
+use ob_cstmt_parts::truth;
 use ob_rules::{Notebook, Surroundings};
 use ob_tree::Expr;
-use ob_trees::ExprTree;
+use ob_types_trees::ExprTree;
 use std::alloc::{AllocError, Global};
 
 /// A condition. Rule 32, and those of the expression.

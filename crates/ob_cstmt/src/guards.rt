@@ -7,11 +7,11 @@ ghost use Rattle.ob_rules.specs.Statements as spec;
 ghost use Rattle.ob_rules.specs.Designators as designators;
 ghost use Rattle.ob_rules.specs.Phrases.{Dot};
 ghost use Rattle.ob_rules.specs.declared.meant.Where.TheVariants.{InExpression};
-ghost use Rattle.ob_cparts.specs.Seen.{test_in};
+ghost use Rattle.ob_cstmt_parts.specs.Seen.{test_in};
 
 use ob_cexpr::check_designator;
-use ob_cname::{named, type_named, types};
-use ob_cparts::{Test, first_of, guarded_if, tested_if};
+use ob_cexpr_name::{named, type_named, types};
+use ob_cstmt_parts::{Test, first_of, guarded_if, tested_if};
 use ob_rules::{Entity, Meant, Notebook, Place, Surroundings, Where};
 use ob_tree::{Designator, Guard, Ident, List, Mention, Qualident, Selector};
 use std::alloc::{AllocError, Global};

@@ -6,8 +6,8 @@ ghost use Rattle.ob_rules.specs.Expressions as exprs;
 ghost use Rattle.ob_rules.specs.Statements as spec;
 
 use ob_cexpr::{check_constant, check_expr, start_of};
-use ob_cname::types;
-use ob_cparts::{add_label, case_value_if, label_if, selects_if, with_label};
+use ob_cexpr_name::types;
+use ob_cstmt_parts::{add_label, case_value_if, label_if, selects_if, with_label};
 use ob_rules::{Notebook, Selects, Surroundings, Valued};
 use ob_tree::{Boxed, Element, Expr, List};
 use ob_types::{Label, Types, Value};

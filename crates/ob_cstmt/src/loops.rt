@@ -6,14 +6,14 @@ ghost use Rattle.ob_rules.specs.Books.{book_after};
 ghost use Rattle.ob_rules.specs.Expressions as exprs;
 ghost use Rattle.ob_rules.specs.Names as names;
 ghost use Rattle.ob_rules.specs.Statements as spec;
-ghost use Rattle.ob_cparts.specs.Seen.{expr_in};
+ghost use Rattle.ob_cstmt_parts.specs.Seen.{expr_in};
 
 use ob_cexpr::{check_constant, check_expr};
-use ob_cname::types;
-use ob_cparts::{for_bound, step_value};
+use ob_cexpr_name::types;
+use ob_cstmt_parts::{for_bound, step_value};
 use ob_rules::{Notebook, Place, Surroundings};
 use ob_tree::{Boxed, Expr, Pos};
-use ob_trees::ExprTree;
+use ob_types_trees::ExprTree;
 use std::alloc::{AllocError, Global};
 
 /// A bound of FOR. Rule 34, and those of the expression.

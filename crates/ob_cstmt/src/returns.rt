@@ -4,14 +4,14 @@ ghost use Rattle.std.specs.Prelude.{◌≡◌, IfOk, OnOk};
 ghost use Rattle.ob_rules.specs.Books.{book_after};
 ghost use Rattle.ob_rules.specs.Expressions as exprs;
 ghost use Rattle.ob_rules.specs.Statements as spec;
-ghost use Rattle.ob_cparts.specs.Seen.{stmt_in};
+ghost use Rattle.ob_cstmt_parts.specs.Seen.{stmt_in};
 
 use ob_cexpr::check_expr;
-use ob_cname::types;
-use ob_cparts::{return_alone, returned};
+use ob_cexpr_name::types;
+use ob_cstmt_parts::{return_alone, returned};
 use ob_rules::{Notebook, Surroundings};
 use ob_tree::{Expr, Pos};
-use ob_trees::StmtTree;
+use ob_types_trees::StmtTree;
 use std::alloc::{AllocError, Global};
 
 /// RETURN with a value. Rule 36, and those of the value.

@@ -8,16 +8,16 @@ ghost use Rattle.ob_rules.specs.Expressions as exprs;
 ghost use Rattle.ob_rules.specs.Judged.{if_sound, paired};
 ghost use Rattle.ob_rules.specs.Statements as spec;
 ghost use Rattle.ob_rules.specs.Values.{tree};
-ghost use Rattle.ob_cparts.specs.Seen.{branches_in, cases_in, else_in, stmts_in};
+ghost use Rattle.ob_cstmt_parts.specs.Seen.{branches_in, cases_in, else_in, stmts_in};
 
 use crate::assign::assignment;
 use crate::calls::call_statement;
 use crate::labels::unboxed;
 use crate::returns::check_return;
-use ob_cparts::{alone, case_made, exit, if_made, with_made};
+use ob_cstmt_parts::{alone, case_made, exit, if_made, with_made};
 use ob_rules::{Notebook, Surroundings, Valued};
 use ob_tree::{Boxed, Designator, Expr, Pos};
-use ob_trees::{BranchTrees, CaseTrees, StmtTrees};
+use ob_types_trees::{BranchTrees, CaseTrees, StmtTrees};
 use std::alloc::{AllocError, Global};
 
 /// A call. The rules are those of `call_statement`.

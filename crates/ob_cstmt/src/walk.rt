@@ -6,7 +6,7 @@ ghost use Rattle.std.specs.Option.{option_map};
 ghost use Rattle.ob_rules.specs.Books.{book_after};
 ghost use Rattle.ob_rules.specs.Expressions as exprs;
 ghost use Rattle.ob_rules.specs.Statements as spec;
-ghost use Rattle.ob_cparts.specs.Seen.{branches_in, cases_in, else_in, stmts_in};
+ghost use Rattle.ob_cstmt_parts.specs.Seen.{branches_in, cases_in, else_in, stmts_in};
 
 use crate::conditions::condition;
 use crate::guards::check_guard;
@@ -15,15 +15,15 @@ use crate::loops::{check_bound, check_step_if};
 use crate::single::{
     assignment_alone, call_alone, case_alone, exit_alone, if_alone, return_alone, with_alone,
 };
-use ob_cname::types;
-use ob_cparts::{
+use ob_cexpr_name::types;
+use ob_cstmt_parts::{
     alone, for_if, for_variable, loop_made, repeat_made, some_stmts, test_tree, tested_type,
     variable_meant, while_made, with_branch, with_case, with_stmts,
 };
 use ob_rules::{Notebook, Selects, Surroundings};
 use ob_tree::{Boxed, Branch, Case, Expr, GuardedBranch, Ident, List, Pos, Stmt};
-use ob_trees::{BranchTrees, CaseTrees, StmtTrees};
 use ob_types::{TypeRef, Variable};
+use ob_types_trees::{BranchTrees, CaseTrees, StmtTrees};
 use std::alloc::{AllocError, Global};
 
 /// Statements in turn: none where one breaks a rule, or a declaration that it names does. What is

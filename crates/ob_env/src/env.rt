@@ -6,7 +6,7 @@ ghost use Rattle.ob_env.specs.Found.{place_of};
 ghost use Rattle.ob_layout.specs.Index.{IsIndexOf};
 
 use crate::found::{modules_of, placed, position_placed};
-use ob_cache::SymbolFile;
+use ob_env_files::SymbolFile;
 use ob_layout::NameIndex;
 use ob_tree::{List, Print, QName};
 use ob_types::{Aspect, Object};

@@ -4,7 +4,7 @@ ghost use Rattle.ob_layout.specs.Index.{IsIndexOf};
 ghost use Rattle.ob_env.specs.Found.{place_in};
 ghost use Rattle.ob_env.specs.Found.{module_names, object_placed};
 
-use ob_cache::SymbolFile;
+use ob_env_files::SymbolFile;
 use ob_layout::{NameIndex, item_at};
 use ob_types::Object;
 use std::alloc::{AllocError, Global};

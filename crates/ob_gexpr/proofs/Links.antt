@@ -15,15 +15,15 @@ use Rattle.ob_types.specs.TypedView.{designator_view, expr_view}
 use Rattle.ob_types.proofs.TypedViews.{view_variable, view_field, view_index, view_deref, view_guard}
 use Rattle.ob_types.specs.TypedSyntax.{Desig, OfVariable, Field, Index, Deref, Guard, Expr, Constant, ValueOf, ProcedureValue, Monadic, Dyadic, Logical, CompareTexts, IsPointer, IsRecord, Length, Call, CallVariable}
 use Rattle.ob_instr.specs.declared.opcode.Opcode.TheVariants as op
-use Rattle.ob_code.specs.declared.want.Want.{Want}
-use Rattle.ob_code.specs.declared.want.Want.TheVariants as want
-use Rattle.ob_code.specs.Numbers.{instr}
-use Rattle.ob_code.specs.Lines.{plain, count, jump, jump_if_false}
-use Rattle.ob_code.specs.Context.{Context}
-use Rattle.ob_code.specs.Coded.{Coded, appended, place_in, with_instr}
-use Rattle.ob_code.specs.Expressions.{index_want, guard_want, end_desig, end_expr, desig_code, expr_code}
-use Rattle.ob_code.proofs.Ends.{desig_ends, expr_ends}
-use Rattle.ob_code.proofs.Appends.{appended_length, appended_two, appended_none, put_two, next_place, put_aimed}
+use Rattle.ob_scheme.specs.declared.want.Want.{Want}
+use Rattle.ob_scheme.specs.declared.want.Want.TheVariants as want
+use Rattle.ob_scheme.specs.Numbers.{instr}
+use Rattle.ob_scheme.specs.Lines.{plain, count, jump, jump_if_false}
+use Rattle.ob_scheme.specs.Context.{Context}
+use Rattle.ob_scheme.specs.Coded.{Coded, appended, place_in, with_instr}
+use Rattle.ob_scheme.specs.Expressions.{index_want, guard_want, end_desig, end_expr, desig_code, expr_code}
+use Rattle.ob_scheme.proofs.Ends.{desig_ends, expr_ends}
+use Rattle.ob_scheme.proofs.Appends.{appended_length, appended_two, appended_none, put_two, next_place, put_aimed}
 use Rattle.ob_gexpr.specs.Chains.{left_of, selector_code, operator_code, with_selector, with_operator, outward}
 
 -- ---- the way in, and the way out

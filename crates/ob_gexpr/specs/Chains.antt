@@ -4,14 +4,14 @@ use Rattle.std.specs.Prelude.{ℕ, suc, List, [], ◌∷◌, ◌++◌, Option, S
 use Rattle.ob_types.specs.declared.typed.Connective.TheVariants as connective
 use Rattle.ob_types.specs.TypedSyntax.{Desig, OfVariable, Field, Index, Deref, Guard, Expr, Dyadic, Logical}
 use Rattle.ob_instr.specs.declared.opcode.Opcode.TheVariants as op
-use Rattle.ob_code.specs.declared.want.Want.{Want}
-use Rattle.ob_code.specs.declared.want.Want.TheVariants as want
-use Rattle.ob_code.specs.Lines.{Line, plain, count, jump, jump_if_false}
-use Rattle.ob_code.specs.Context.{Context}
-use Rattle.ob_code.specs.Descriptions.{field_place}
-use Rattle.ob_code.specs.Operations.{binary_line}
-use Rattle.ob_code.specs.Coded.{Coded, appended, place_in}
-use Rattle.ob_code.specs.Expressions.{from_place, from_pointer, from_guard, guard_line, index_line, variable_code, end_expr, expr_code}
+use Rattle.ob_scheme.specs.declared.want.Want.{Want}
+use Rattle.ob_scheme.specs.declared.want.Want.TheVariants as want
+use Rattle.ob_scheme.specs.Lines.{Line, plain, count, jump, jump_if_false}
+use Rattle.ob_scheme.specs.Context.{Context}
+use Rattle.ob_scheme.specs.Descriptions.{field_place}
+use Rattle.ob_scheme.specs.Operations.{binary_line}
+use Rattle.ob_scheme.specs.Coded.{Coded, appended, place_in}
+use Rattle.ob_scheme.specs.Expressions.{from_place, from_pointer, from_guard, guard_line, index_line, variable_code, end_expr, expr_code}
 
 -- the left operand of an operator that may stand in a chain
 abbrev pub left_of : Expr → Option Expr

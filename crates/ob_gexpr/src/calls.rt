@@ -1,14 +1,14 @@
 ghost use Rattle.std.specs.Prelude.{◌≡◌, ◌+◌, ◌∷◌, [], ◌<◌, ◌^◌, pos, OnOk, IfOk};
 ghost use Rattle.ob_types.specs.TypedView.{actuals_view};
-ghost use Rattle.ob_code.specs.Lines.{Number, placed, placed_two, count};
+ghost use Rattle.ob_scheme.specs.Lines.{Number, placed, placed_two, count};
 ghost use Rattle.ob_layout.specs.Room.{slots};
-ghost use Rattle.ob_code.specs.Context.{Context};
-ghost use Rattle.ob_code.specs.Operations.{out_number};
-ghost use Rattle.ob_code.specs.Coded.{Coded, appended};
-ghost use Rattle.ob_code.specs.Expressions.{words_of_actuals, words_behind_receiver, call_line};
+ghost use Rattle.ob_scheme.specs.Context.{Context};
+ghost use Rattle.ob_scheme.specs.Operations.{out_number};
+ghost use Rattle.ob_scheme.specs.Coded.{Coded, appended};
+ghost use Rattle.ob_scheme.specs.Expressions.{words_of_actuals, words_behind_receiver, call_line};
 
 use crate::types::put_declared;
-use ob_gcode::{Code, GenFault, Scope, put_placed, put_typed_and};
+use ob_gexpr_code::{Code, GenFault, Scope, put_placed, put_typed_and};
 use ob_instr::Opcode;
 use ob_tree::{Pos, Which};
 use ob_types::{Actual, Callee, OutProcedure, Passing, Receiver};
@@ -36,7 +36,7 @@ fn add_words(words: u32, more: u32) -> Result<u32, GenFault>
 }
 
 /// How many words the actual parameters have.
-#[tactic(auto, using(ob_code::proofs::Actuals::words_turn))]
+#[tactic(auto, using(ob_scheme::proofs::Actuals::words_turn))]
 pub fn count_words(actuals: &[Actual]) -> Result<u32, GenFault>
     ensures is { IfOk result (λ n. n ≡ words_of_actuals (actuals_view actuals.now)) }
     ensures within { IfOk result (λ n. n < 2 ^ 30) }

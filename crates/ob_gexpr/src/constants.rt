@@ -1,12 +1,12 @@
 ghost use Rattle.std.specs.Prelude.{◌≡◌, ◌+◌, ◌<◌, ◌^◌, ◌∷◌, [], suc, pos, length, OnOk, IfOk};
-ghost use Rattle.ob_code.specs.Lines.{Number, plain, count};
-ghost use Rattle.ob_code.specs.Operations.{truth_word, set_word};
-ghost use Rattle.ob_code.specs.Coded.{Coded, appended};
-ghost use Rattle.ob_code.specs.Expressions.{string_line, text_code, constant_code};
+ghost use Rattle.ob_scheme.specs.Lines.{Number, plain, count};
+ghost use Rattle.ob_scheme.specs.Operations.{truth_word, set_word};
+ghost use Rattle.ob_scheme.specs.Coded.{Coded, appended};
+ghost use Rattle.ob_scheme.specs.Expressions.{string_line, text_code, constant_code};
 
-use ob_code::Want;
-use ob_gcode::{Code, GenFault, put_count, put_plain};
+use ob_gexpr_code::{Code, GenFault, put_count, put_plain};
 use ob_instr::Opcode;
+use ob_scheme::Want;
 use ob_tree::{Text, Which};
 use ob_types::Value;
 
@@ -51,7 +51,7 @@ fn put_text_length(code: &mut Code, text: &Text) -> Result<(), GenFault>
     put_count(code, Opcode::Int, words)
 }
 
-#[tactic(auto, using(ob_code::proofs::Appends::put_more))]
+#[tactic(auto, using(ob_scheme::proofs::Appends::put_more))]
 fn put_measured(code: &mut Code, text: &Text) -> Result<(), GenFault>
     ensures { OnOk result (code.new ≡ appended code.old (string_line text.now (suc (length text.now)) ∷ plain Opcode.Int (count (suc (length text.now))) ∷ [])) }
 {

@@ -4,10 +4,10 @@ ghost use Rattle.std.specs.List.{All};
 ghost use Rattle.ob_types.specs.declared.typed.Designator.{size-Designator};
 ghost use Rattle.ob_types.specs.declared.typed.TypedExpr.{size-TypedExpr};
 ghost use Rattle.ob_types.specs.TypedView.{designator_view, expr_view, actual_view, actuals_view};
-ghost use Rattle.ob_code.specs.Lines.{plain, none, line_of, count};
-ghost use Rattle.ob_code.specs.Context.{Context, words, type_operand};
-ghost use Rattle.ob_code.specs.Coded.{Coded, appended, place_in};
-ghost use Rattle.ob_code.specs.Expressions.{wanted, desig_code, expr_code, actuals_code};
+ghost use Rattle.ob_scheme.specs.Lines.{plain, none, line_of, count};
+ghost use Rattle.ob_scheme.specs.Context.{Context, words, type_operand};
+ghost use Rattle.ob_scheme.specs.Coded.{Coded, appended, place_in};
+ghost use Rattle.ob_scheme.specs.Expressions.{wanted, desig_code, expr_code, actuals_code};
 ghost use Rattle.ob_gexpr.specs.Chains.{left_of, with_selector, with_operator, outward};
 
 use crate::calls::{put_call, put_held_call};
@@ -16,9 +16,9 @@ use crate::pieces::{put_binary, put_unary};
 use crate::places::{put_field, put_from_pointer, put_index, put_variable};
 use crate::relations::put_relation;
 use crate::types::{put_from_guard, put_procedure_value};
-use ob_code::{Want, want_for_guard, want_for_index};
-use ob_gcode::{Code, GenFault, Scope, put_count, put_typed, want_for};
+use ob_gexpr_code::{Code, GenFault, Scope, put_count, put_typed, want_for};
 use ob_instr::Opcode;
+use ob_scheme::{Want, want_for_guard, want_for_index};
 use ob_tree::Which;
 use ob_types::{Actual, Connective, Designator, TypedExpr};
 use std::alloc::{AllocError, Global};
@@ -124,7 +124,7 @@ pub fn put_designator<S: Scope>(
 
 // A variable; or a selector alone, behind the code of what it selects from.
 #[cycle(put_expr)]
-#[tactic(auto, using(ob_code::proofs::Appends::put_two, ob_types::proofs::TypedViews::view_variable, ob_types::proofs::TypedViews::view_field, ob_types::proofs::TypedViews::view_index, ob_types::proofs::TypedViews::view_deref, ob_types::proofs::TypedViews::view_guard))]
+#[tactic(auto, using(ob_scheme::proofs::Appends::put_two, ob_types::proofs::TypedViews::view_variable, ob_types::proofs::TypedViews::view_field, ob_types::proofs::TypedViews::view_index, ob_types::proofs::TypedViews::view_deref, ob_types::proofs::TypedViews::view_guard))]
 fn put_selector<S: Scope>(
     code: &mut Code,
     scope: &S,
@@ -183,7 +183,7 @@ pub fn put_expr<S: Scope>(
 
 // An operator and its right operand, behind the code of its left one; or any other expression.
 #[cycle(put_expr)]
-#[tactic(auto, using(ob_code::proofs::Appends::put_two, ob_code::proofs::Puts::two_exprs_and, ob_code::proofs::Puts::place_and_actuals, ob_types::proofs::TypedViews::view_constant, ob_types::proofs::TypedViews::view_value_of, ob_types::proofs::TypedViews::view_procedure_value, ob_types::proofs::TypedViews::view_monadic, ob_types::proofs::TypedViews::view_dyadic, ob_types::proofs::TypedViews::view_compare_texts, ob_types::proofs::TypedViews::view_is_pointer, ob_types::proofs::TypedViews::view_is_record, ob_types::proofs::TypedViews::view_length, ob_types::proofs::TypedViews::view_call, ob_types::proofs::TypedViews::view_call_variable))]
+#[tactic(auto, using(ob_scheme::proofs::Appends::put_two, ob_scheme::proofs::Puts::two_exprs_and, ob_scheme::proofs::Puts::place_and_actuals, ob_types::proofs::TypedViews::view_constant, ob_types::proofs::TypedViews::view_value_of, ob_types::proofs::TypedViews::view_procedure_value, ob_types::proofs::TypedViews::view_monadic, ob_types::proofs::TypedViews::view_dyadic, ob_types::proofs::TypedViews::view_compare_texts, ob_types::proofs::TypedViews::view_is_pointer, ob_types::proofs::TypedViews::view_is_record, ob_types::proofs::TypedViews::view_length, ob_types::proofs::TypedViews::view_call, ob_types::proofs::TypedViews::view_call_variable))]
 fn put_operator<S: Scope>(
     code: &mut Code,
     scope: &S,

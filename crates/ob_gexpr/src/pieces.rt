@@ -1,11 +1,11 @@
 ghost use Rattle.std.specs.Prelude.{◌≡◌, ◌++◌, ◌∷◌, [], ◌<◌, ◌^◌, pos, OnOk};
-ghost use Rattle.ob_code.specs.Coded.{Coded, appended};
-ghost use Rattle.ob_code.specs.Operations.{unary_code, binary_line, comparison_code};
-ghost use Rattle.ob_code.specs.Expressions.{first_word, both_words, second_word, pair_code, behind_guard};
+ghost use Rattle.ob_scheme.specs.Coded.{Coded, appended};
+ghost use Rattle.ob_scheme.specs.Operations.{unary_code, binary_line, comparison_code};
+ghost use Rattle.ob_scheme.specs.Expressions.{first_word, both_words, second_word, pair_code, behind_guard};
 
-use ob_code::Want;
-use ob_gcode::{Code, GenFault, bytes_of, put_bare, put_bare_at, put_count, put_placed};
+use ob_gexpr_code::{Code, GenFault, bytes_of, put_bare, put_bare_at, put_count, put_placed};
 use ob_instr::Opcode;
+use ob_scheme::Want;
 use ob_tree::Pos;
 use ob_types::{Binary, Comparison, Unary};
 
@@ -23,7 +23,7 @@ fn comparison_opcode(comparison: Comparison) -> Opcode
 }
 
 /// A sign, ~ or a predeclared function of one value.
-#[tactic(auto, using(ob_code::proofs::Appends::appended_none))]
+#[tactic(auto, using(ob_scheme::proofs::Appends::appended_none))]
 pub fn put_unary(code: &mut Code, op: Unary, at: Pos) -> Result<(), GenFault>
     ensures { OnOk result (code.new ≡ appended code.old (unary_code op at)) }
 {
@@ -64,7 +64,7 @@ pub fn put_binary(code: &mut Code, op: Binary, at: Pos) -> Result<(), GenFault>
 }
 
 // The value or the address that the first word of a parameter has.
-#[tactic(auto, using(ob_code::proofs::Appends::put_more, ob_code::proofs::Appends::put_two))]
+#[tactic(auto, using(ob_scheme::proofs::Appends::put_more, ob_scheme::proofs::Appends::put_two))]
 fn put_first(code: &mut Code, slot: u32) -> Result<(), GenFault>
     requires { slot < 2 ^ 30 }
     ensures { OnOk result (code.new ≡ appended code.old (first_word slot)) }
@@ -73,7 +73,7 @@ fn put_first(code: &mut Code, slot: u32) -> Result<(), GenFault>
     put_bare(code, Opcode::Load)
 }
 
-#[tactic(auto, using(ob_code::proofs::Appends::put_more, ob_code::proofs::Appends::put_two))]
+#[tactic(auto, using(ob_scheme::proofs::Appends::put_more, ob_scheme::proofs::Appends::put_two))]
 fn put_second(code: &mut Code, slot: u32) -> Result<(), GenFault>
     requires { slot < 2 ^ 30 }
     ensures { OnOk result (code.new ≡ appended code.old (second_word slot)) }
@@ -82,7 +82,7 @@ fn put_second(code: &mut Code, slot: u32) -> Result<(), GenFault>
     put_bare(code, Opcode::Load)
 }
 
-#[tactic(auto, using(ob_code::proofs::Appends::put_more, ob_code::proofs::Appends::put_two))]
+#[tactic(auto, using(ob_scheme::proofs::Appends::put_more, ob_scheme::proofs::Appends::put_two))]
 fn put_both(code: &mut Code, slot: u32) -> Result<(), GenFault>
     requires { slot < 2 ^ 30 }
     ensures { OnOk result (code.new ≡ appended code.old (both_words slot)) }
@@ -104,7 +104,7 @@ pub fn put_pair(code: &mut Code, slot: u32, want: Want) -> Result<(), GenFault>
 }
 
 /// Behind the guard of a VAR record.
-#[tactic(auto, using(ob_code::proofs::Appends::appended_none))]
+#[tactic(auto, using(ob_scheme::proofs::Appends::appended_none))]
 pub fn put_behind_guard(code: &mut Code, want: Want) -> Result<(), GenFault>
     ensures { OnOk result (code.new ≡ appended code.old (behind_guard want)) }
 {

@@ -1,15 +1,15 @@
 ghost use Rattle.std.specs.Prelude.{◌≡◌, ◌++◌, ◌∷◌, [], ◌<◌, ◌^◌, pos, negsuc, OnOk};
-ghost use Rattle.ob_code.specs.Lines.{Number, plain, placed, placed_two, bare, bare_at, count};
-ghost use Rattle.ob_code.specs.Context.{Context, words};
-ghost use Rattle.ob_code.specs.Coded.{Coded, appended};
-ghost use Rattle.ob_code.specs.Descriptions.{elements_of, field_place};
-ghost use Rattle.ob_code.specs.Expressions.{index_line, measured_behind, length_operand, from_place, from_pointer, own_place, held_place, module_line, parameter_code, variable_code};
+ghost use Rattle.ob_scheme.specs.Lines.{Number, plain, placed, placed_two, bare, bare_at, count};
+ghost use Rattle.ob_scheme.specs.Context.{Context, words};
+ghost use Rattle.ob_scheme.specs.Coded.{Coded, appended};
+ghost use Rattle.ob_scheme.specs.Descriptions.{elements_of, field_place};
+ghost use Rattle.ob_scheme.specs.Expressions.{index_line, measured_behind, length_operand, from_place, from_pointer, own_place, held_place, module_line, parameter_code, variable_code};
 
 use crate::pieces::put_pair;
 use crate::types::put_tag;
-use ob_code::Want;
-use ob_gcode::{Code, GenFault, Scope, put_bare, put_bare_at, put_count, put_plain};
+use ob_gexpr_code::{Code, GenFault, Scope, put_bare, put_bare_at, put_count, put_plain};
 use ob_instr::Opcode;
+use ob_scheme::Want;
 use ob_tree::{CompactName, Name, Pos, QName, Which};
 use ob_types::{Passing, TypeRef, Variable};
 
@@ -24,7 +24,7 @@ fn put_length<S: Scope>(code: &mut Code, scope: &S, of: &TypeRef) -> Result<(), 
 }
 
 /// What is wanted of a variable whose place was put.
-#[tactic(auto, using(ob_code::proofs::Appends::appended_none))]
+#[tactic(auto, using(ob_scheme::proofs::Appends::appended_none))]
 pub fn put_from_place<S: Scope>(
     code: &mut Code,
     scope: &S,
@@ -41,7 +41,7 @@ pub fn put_from_place<S: Scope>(
     }
 }
 
-#[tactic(auto, using(ob_code::proofs::Appends::put_more))]
+#[tactic(auto, using(ob_scheme::proofs::Appends::put_more))]
 fn put_measured<S: Scope>(code: &mut Code, scope: &S, of: &TypeRef, at: Pos) -> Result<(), GenFault>
     ensures { OnOk result (code.new ≡ appended code.old (measured_behind (elements_of (S.context scope.now).types of.now) at)) }
 {
@@ -54,7 +54,7 @@ fn put_measured<S: Scope>(code: &mut Code, scope: &S, of: &TypeRef, at: Pos) -> 
     }
 }
 
-#[tactic(auto, using(ob_code::proofs::Appends::put_more))]
+#[tactic(auto, using(ob_scheme::proofs::Appends::put_more))]
 fn put_pointee_value(code: &mut Code, at: Pos) -> Result<(), GenFault>
     ensures { OnOk result (code.new ≡ appended code.old (bare_at Opcode.Deref at ∷ bare Opcode.Load ∷ [])) }
 {
@@ -62,7 +62,7 @@ fn put_pointee_value(code: &mut Code, at: Pos) -> Result<(), GenFault>
     put_bare(code, Opcode::Load)
 }
 
-#[tactic(auto, using(ob_code::proofs::Appends::put_more))]
+#[tactic(auto, using(ob_scheme::proofs::Appends::put_more))]
 fn put_open_length(code: &mut Code, at: Pos) -> Result<(), GenFault>
     ensures { OnOk result (code.new ≡ appended code.old (bare_at Opcode.Deref at ∷ plain Opcode.Offset (Number (negsuc 0)) ∷ bare Opcode.Load ∷ [])) }
 {
@@ -72,7 +72,7 @@ fn put_open_length(code: &mut Code, at: Pos) -> Result<(), GenFault>
 }
 
 /// What is wanted of a variable to which a pointer points whose value was put.
-#[tactic(auto, using(ob_code::proofs::Appends::appended_none))]
+#[tactic(auto, using(ob_scheme::proofs::Appends::appended_none))]
 pub fn put_from_pointer<S: Scope>(
     code: &mut Code,
     scope: &S,
@@ -92,7 +92,7 @@ pub fn put_from_pointer<S: Scope>(
     }
 }
 
-#[tactic(auto, using(ob_code::proofs::Appends::put_more))]
+#[tactic(auto, using(ob_scheme::proofs::Appends::put_more))]
 fn put_own<S: Scope>(
     code: &mut Code,
     scope: &S,
@@ -106,7 +106,7 @@ fn put_own<S: Scope>(
     put_from_place(code, scope, want, of)
 }
 
-#[tactic(auto, using(ob_code::proofs::Appends::put_more))]
+#[tactic(auto, using(ob_scheme::proofs::Appends::put_more))]
 fn put_held<S: Scope>(
     code: &mut Code,
     scope: &S,
@@ -122,7 +122,7 @@ fn put_held<S: Scope>(
     put_from_place(code, scope, want, of)
 }
 
-#[tactic(auto, using(ob_code::proofs::Appends::put_more))]
+#[tactic(auto, using(ob_scheme::proofs::Appends::put_more))]
 fn put_slot<S: Scope>(
     code: &mut Code,
     scope: &S,
@@ -157,7 +157,7 @@ fn put_parameter<S: Scope>(
     }
 }
 
-#[tactic(auto, using(ob_code::proofs::Appends::put_more))]
+#[tactic(auto, using(ob_scheme::proofs::Appends::put_more))]
 fn put_global<S: Scope>(
     code: &mut Code,
     scope: &S,
@@ -245,7 +245,7 @@ fn put_any_index<S: Scope>(
 }
 
 /// What is wanted of an element of an array, whose place, length where it is open, and index were put.
-#[tactic(auto, using(ob_code::proofs::Appends::put_more))]
+#[tactic(auto, using(ob_scheme::proofs::Appends::put_more))]
 pub fn put_index<S: Scope>(
     code: &mut Code,
     scope: &S,
@@ -261,7 +261,7 @@ pub fn put_index<S: Scope>(
 }
 
 /// What is wanted of a field of a record whose place was put.
-#[tactic(auto, using(ob_code::proofs::Appends::put_more))]
+#[tactic(auto, using(ob_scheme::proofs::Appends::put_more))]
 pub fn put_field<S: Scope>(
     code: &mut Code,
     scope: &S,

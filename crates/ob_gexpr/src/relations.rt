@@ -1,9 +1,9 @@
 ghost use Rattle.std.specs.Prelude.{◌≡◌, ◌∷◌, [], pos, OnOk};
-ghost use Rattle.ob_code.specs.Lines.{placed, count};
-ghost use Rattle.ob_code.specs.Operations.{relation_number};
-ghost use Rattle.ob_code.specs.Coded.{Coded, appended};
+ghost use Rattle.ob_scheme.specs.Lines.{placed, count};
+ghost use Rattle.ob_scheme.specs.Operations.{relation_number};
+ghost use Rattle.ob_scheme.specs.Coded.{Coded, appended};
 
-use ob_gcode::{Code, GenFault, put_placed};
+use ob_gexpr_code::{Code, GenFault, put_placed};
 use ob_instr::Opcode;
 use ob_tree::Pos;
 use ob_types::Comparison;

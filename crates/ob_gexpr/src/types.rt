@@ -1,14 +1,14 @@
 ghost use Rattle.std.specs.Prelude.{◌≡◌, ◌∷◌, [], Some, None, OnOk, IfOk};
-ghost use Rattle.ob_code.specs.Lines.{plain};
-ghost use Rattle.ob_code.specs.Context.{Context, record_operand};
-ghost use Rattle.ob_code.specs.Coded.{Coded, appended};
-ghost use Rattle.ob_code.specs.Expressions.{guard_line, from_guard, procedure_line, declared_line};
+ghost use Rattle.ob_scheme.specs.Lines.{plain};
+ghost use Rattle.ob_scheme.specs.Context.{Context, record_operand};
+ghost use Rattle.ob_scheme.specs.Coded.{Coded, appended};
+ghost use Rattle.ob_scheme.specs.Expressions.{guard_line, from_guard, procedure_line, declared_line};
 
 use crate::pieces::put_behind_guard;
 use crate::places::put_from_place;
-use ob_code::Want;
-use ob_gcode::{Code, GenFault, Scope, put_typed};
+use ob_gexpr_code::{Code, GenFault, Scope, put_typed};
 use ob_instr::Opcode;
+use ob_scheme::Want;
 use ob_tree::{Name, Pos, QName, Which};
 use ob_types::{Guarded, TypeRef};
 
@@ -102,7 +102,7 @@ fn put_after_guard<S: Scope>(
 }
 
 /// A guard, and what is wanted behind it.
-#[tactic(auto, using(ob_code::proofs::Appends::put_more))]
+#[tactic(auto, using(ob_scheme::proofs::Appends::put_more))]
 pub fn put_from_guard<S: Scope>(
     code: &mut Code,
     scope: &S,

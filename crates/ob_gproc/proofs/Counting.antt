@@ -9,17 +9,17 @@ use Rattle.ob_types.specs.declared.typed.Passing.TheVariants as passing
 use Rattle.ob_types.specs.declared.typed.TypedParameter.{TypedParameter}
 use Rattle.ob_types.specs.declared.typed.TypedProcedure.{TypedProcedure}
 use Rattle.ob_types.specs.TypedView.{procedure_view}
-use Rattle.ob_code.specs.Coded.{Coded, appended, place_in}
-use Rattle.ob_code.proofs.Ends.{stmts_end}
-use Rattle.ob_code.proofs.Appends.{put_two, next_place, appended_none}
+use Rattle.ob_scheme.specs.Coded.{Coded, appended, place_in}
+use Rattle.ob_scheme.proofs.Ends.{stmts_end}
+use Rattle.ob_scheme.proofs.Appends.{put_two, next_place, appended_none}
 use Rattle.ob_types.specs.declared.types.TypeRef.{TypeRef}
 use Rattle.ob_instr.specs.declared.procedure.Param.{Param}
 use Rattle.ob_instr.specs.declared.procedure.Procedure.{Procedure as Row}
 use Rattle.ob_types.specs.TypedSyntax.{Stmt, Assign, CallProper, Updated, Copy, New, NewOpenArray, Assert, Halt, If, Case, While, Repeat, For, Loop, Exit, Return, With, Stmts, Nothing, Then, Branches, NoBranch, Branch, Cases, NoCase, OneCase, Otherwise, NoElse, Else, Procedure, Module}
-use Rattle.ob_code.specs.Context.{Context, local_words, first_hidden}
-use Rattle.ob_code.specs.Procedures.{has_result, closing, within, body_of, all_procedures, param_for, end_procedure, procedure_code, procedures_code, row_of, rows_of, module_code, module_rows}
+use Rattle.ob_scheme.specs.Context.{Context, local_words, first_hidden}
+use Rattle.ob_scheme.specs.Procedures.{has_result, closing, within, body_of, all_procedures, param_for, end_procedure, procedure_code, procedures_code, row_of, rows_of, module_code, module_rows}
 use Rattle.ob_gproc.specs.Parts.{param_in, params_in, parts_row}
-use Rattle.ob_code.specs.Statements.{next_stmt, next_stmts, next_branches, next_cases, next_else, stmts_code}
+use Rattle.ob_scheme.specs.Statements.{next_stmt, next_stmts, next_branches, next_cases, next_else, stmts_code}
 
 one_more : (k t : ℕ) → suc (k + t) ≡ k + suc t
 one_more k t = omega arith

@@ -13,10 +13,10 @@ use Rattle.ob_obj.specs.declared.parts.Command.{Command}
 use Rattle.ob_obj.specs.declared.parts.Definition.{Definition}
 use Rattle.ob_obj.specs.declared.parts.RecordType.{RecordType}
 use Rattle.ob_types.specs.declared.typed.TypedType.{TypedType}
-use Rattle.ob_code.specs.Lines.{Line}
-use Rattle.ob_code.specs.Numbers.{nothing_named, instrs_in, positions_at, with_lines}
-use Rattle.ob_code.specs.Coded.{Coded, nothing_coded, appended}
-use Rattle.ob_code.specs.Object.{is_seen, is_full, is_free, seen_variables, commands_among, is_bound_to, definitions_among, record_in, records_in}
+use Rattle.ob_scheme.specs.Lines.{Line}
+use Rattle.ob_scheme.specs.Numbers.{nothing_named, instrs_in, positions_at, with_lines}
+use Rattle.ob_scheme.specs.Coded.{Coded, nothing_coded, appended}
+use Rattle.ob_scheme.specs.Object.{is_seen, is_full, is_free, seen_variables, commands_among, is_bound_to, definitions_among, record_in, records_in}
 
 one_or_none : {A : Type 0} (b : Bool) (x : A) (l : List A) → (if b then x ∷ l else l) ≡ (if b then x ∷ [] else []) ++ l
 one_or_none true x l = refl

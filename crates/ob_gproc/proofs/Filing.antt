@@ -9,12 +9,12 @@ use Rattle.ob_obj.specs.declared.parts.Export.{Export}
 use Rattle.ob_obj.specs.declared.parts.Variable.{Variable}
 use Rattle.ob_obj.specs.declared.parts.Command.{Command}
 use Rattle.ob_obj.specs.declared.parts.RecordType.{RecordType}
-use Rattle.ob_gcode.specs.declared.code.CodeParts.{CodeParts}
-use Rattle.ob_gcode.specs.Parts.{parts_of}
+use Rattle.ob_gexpr_code.specs.declared.code.CodeParts.{CodeParts}
+use Rattle.ob_gexpr_code.specs.Parts.{parts_of}
 use Rattle.ob_gproc.specs.Filed.{file_with}
-use Rattle.ob_code.specs.Coded.{Coded, nothing_coded, appended}
-use Rattle.ob_code.specs.Procedures.{module_code, module_rows}
-use Rattle.ob_code.specs.Object.{own_words, type_links, with_bases, variables, commands, records_in, object_file}
+use Rattle.ob_scheme.specs.Coded.{Coded, nothing_coded, appended}
+use Rattle.ob_scheme.specs.Procedures.{module_code, module_rows}
+use Rattle.ob_scheme.specs.Object.{own_words, type_links, with_bases, variables, commands, records_in, object_file}
 use Rattle.ob_gproc.specs.Named.{with_types}
 use Rattle.ob_gproc.specs.Whole.{module_coded}
 use Rattle.ob_gproc.proofs.Exporting.{whole_code}

@@ -11,7 +11,7 @@ use Rattle.ob_layout.specs.Words.{limited}
 use Rattle.ob_gproc.specs.Scoped.{procedures_before, types_before, types_count}
 use Rattle.ob_layout.specs.Index.{Positions, at_name, Notes}
 use Rattle.ob_layout.specs.Lists.{sum_of}
-use Rattle.ob_code.specs.Context.{before, is_record, records_among}
+use Rattle.ob_scheme.specs.Context.{before, is_record, records_among}
 use Rattle.ob_gproc.specs.Placed.{place_of, ArePlaces}
 
 -- what is placed so far, and a rest behind it, is a whole

@@ -8,7 +8,7 @@ use Rattle.ob_obj.specs.declared.parts.Command.{Command}
 use Rattle.ob_obj.specs.declared.parts.RecordType.{RecordType}
 use Rattle.ob_obj.specs.declared.file.Head.{Head}
 use Rattle.ob_obj.specs.declared.file.ObjFile.{ObjFile}
-use Rattle.ob_gcode.specs.declared.code.CodeParts.{CodeParts}
+use Rattle.ob_gexpr_code.specs.declared.code.CodeParts.{CodeParts}
 
 abbrev pub file_with : Head → CodeParts → ℕ → List Variable → List RecordType → List Row → List Command → ObjFile
 file_with head p words vs records rows cs = record {

@@ -12,11 +12,11 @@ use Rattle.ob_instr.specs.declared.procedure.Param.{Param}
 use Rattle.ob_instr.specs.declared.procedure.Param.TheVariants as param
 use Rattle.ob_instr.specs.declared.procedure.Procedure.{Procedure as Row}
 use Rattle.ob_layout.specs.Words.{words_of}
-use Rattle.ob_code.specs.Descriptions.{open_words}
-use Rattle.ob_code.specs.Lines.{Line}
-use Rattle.ob_code.specs.Context.{Context, first_hidden, local_words}
-use Rattle.ob_code.specs.Statements.{next_stmts, stmts_code}
-use Rattle.ob_code.specs.Procedures.{closing, has_result}
+use Rattle.ob_scheme.specs.Descriptions.{open_words}
+use Rattle.ob_scheme.specs.Lines.{Line}
+use Rattle.ob_scheme.specs.Context.{Context, first_hidden, local_words}
+use Rattle.ob_scheme.specs.Statements.{next_stmts, stmts_code}
+use Rattle.ob_scheme.specs.Procedures.{closing, has_result}
 
 -- its statements, and what stands at its end
 abbrev pub parts_code : Context → Stmts → Option TypeRef → Pos → ℕ → List Line

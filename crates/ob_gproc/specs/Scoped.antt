@@ -11,7 +11,7 @@ use Rattle.ob_types.specs.TypedView.{module_view}
 use Rattle.ob_layout.specs.Lists.{sum_of}
 use Rattle.ob_layout.specs.Words.{words_of}
 use Rattle.ob_layout.specs.Room.{slots}
-use Rattle.ob_code.specs.Context.{Context, before, records_among}
+use Rattle.ob_scheme.specs.Context.{Context, before, records_among}
 
 abbrev pub variables_before : (QName → Option Desc) → List TypedVariable → List ℕ → ℕ
 variables_before types vs x = before (λ v. v.name) (λ v. words_of types v.of) vs x

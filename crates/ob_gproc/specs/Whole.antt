@@ -3,10 +3,10 @@ use Rattle.std.specs.Prelude.{Option}
 use Rattle.ob_tree.specs.declared.names.QName.{QName}
 use Rattle.ob_types.specs.declared.desc.Desc.{Desc}
 use Rattle.ob_types.specs.TypedSyntax.{Module}
-use Rattle.ob_code.specs.Numbers.{nothing_named, instrs_in, positions_at}
-use Rattle.ob_code.specs.Coded.{Coded}
-use Rattle.ob_code.specs.Procedures.{module_code}
-use Rattle.ob_code.specs.Object.{own_words, all_named, type_links}
+use Rattle.ob_scheme.specs.Numbers.{nothing_named, instrs_in, positions_at}
+use Rattle.ob_scheme.specs.Coded.{Coded}
+use Rattle.ob_scheme.specs.Procedures.{module_code}
+use Rattle.ob_scheme.specs.Object.{own_words, all_named, type_links}
 
 unfoldable pub module_coded : (QName → Option Desc) → Module → Coded
 module_coded types m = record {

@@ -1,13 +1,13 @@
 ghost use Rattle.std.specs.Prelude.{◌≡◌, Some, bytes_eq, OnOk, IfOk};
 ghost use Rattle.std.specs.Option.{option_copied};
-ghost use Rattle.ob_code.specs.Descriptions.{own_name};
+ghost use Rattle.ob_scheme.specs.Descriptions.{own_name};
 ghost use Rattle.ob_types.specs.TypedView.{module_view};
-ghost use Rattle.ob_code.specs.Object.{base_type, base_in, with_base, with_record, with_bases};
-ghost use Rattle.ob_code.specs.Coded.{Coded};
+ghost use Rattle.ob_scheme.specs.Object.{base_type, base_in, with_base, with_record, with_bases};
+ghost use Rattle.ob_scheme.specs.Coded.{Coded};
 ghost use Rattle.ob_gproc.specs.Named.{with_types};
 
 use crate::module_scope::ModuleScope;
-use ob_gcode::{Code, GenFault};
+use ob_gexpr_code::{Code, GenFault};
 use ob_obj::Base;
 use ob_tree::QName;
 use ob_types::{Desc, TypeRef, TypedModule, TypedType, Types, target_within};

@@ -1,8 +1,8 @@
 ghost use Rattle.std.specs.Prelude.{◌≡◌, ◌∷◌, ◌++◌, [], length, map, OnOk, IfOk};
 ghost use Rattle.ob_types.specs.TypedView.{stmts_view, procedure_view, module_view};
-ghost use Rattle.ob_code.specs.Coded.{Coded, appended, place_in};
-ghost use Rattle.ob_code.specs.Statements.{stmts_code, next_stmts};
-ghost use Rattle.ob_code.specs.Procedures.{closing, body_of, procedure_code, procedures_code, row_of, rows_of, module_code, module_rows};
+ghost use Rattle.ob_scheme.specs.Coded.{Coded, appended, place_in};
+ghost use Rattle.ob_scheme.specs.Statements.{stmts_code, next_stmts};
+ghost use Rattle.ob_scheme.specs.Procedures.{closing, body_of, procedure_code, procedures_code, row_of, rows_of, module_code, module_rows};
 ghost use Rattle.ob_gproc.specs.Parts.{parts_code, parts_row};
 ghost use Rattle.ob_gproc.specs.Scoped.{context_of};
 
@@ -10,7 +10,7 @@ use crate::module_scope::ModuleScope;
 use crate::rows::{has_result, params_of};
 use crate::scope::ProcedureScope;
 use crate::tables::{places_of_parameters, places_of_variables};
-use ob_gcode::{Code, GenFault, Scope};
+use ob_gexpr_code::{Code, GenFault, Scope};
 use ob_gstmt::put_stmts;
 use ob_instr::{Opcode, Procedure};
 use ob_tree::{List, Pos};
@@ -27,7 +27,7 @@ fn put_closing(code: &mut Code, outcome: &Option<TypeRef>, pos: Pos) -> Result<(
 }
 
 // Statements, and what stands at the end of the procedure; the word behind those of FOR and CASE.
-#[tactic(auto, using(ob_code::proofs::Appends::put_two))]
+#[tactic(auto, using(ob_scheme::proofs::Appends::put_two))]
 fn put_parts<S: Scope>(
     code: &mut Code,
     scope: &S,

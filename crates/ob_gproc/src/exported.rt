@@ -1,10 +1,10 @@
 ghost use Rattle.std.specs.Prelude.{◌≡◌, ◌+◌, ◌++◌, ◌∷◌, [], map, OnOk, IfOk};
 ghost use Rattle.ob_types.specs.TypedView.{module_view, procedure_view};
-ghost use Rattle.ob_code.specs.Object.{is_seen, is_full, is_free, seen_variables, commands_among, variables, commands};
+ghost use Rattle.ob_scheme.specs.Object.{is_seen, is_full, is_free, seen_variables, commands_among, variables, commands};
 
 use crate::module_scope::ModuleScope;
-use ob_gcode::GenFault;
-use ob_gorder::{commands_in_order, variables_in_order};
+use ob_gexpr_code::GenFault;
+use ob_gproc_tables::{commands_in_order, variables_in_order};
 use ob_obj::{Command, Variable};
 use ob_tree::{List, Mark, Name, ObjName};
 use ob_types::{Binding, TypedProcedure, TypedVariable, Types};

@@ -1,8 +1,8 @@
 ghost use Rattle.std.specs.Prelude.{◌≡◌, IfOk};
 ghost use Rattle.ob_types.specs.TypedView.{module_view};
-ghost use Rattle.ob_code.specs.Procedures.{module_rows};
-ghost use Rattle.ob_code.specs.Object.{variables, commands, records_in, type_links};
-ghost use Rattle.ob_gcode.specs.Parts.{parts_of};
+ghost use Rattle.ob_scheme.specs.Procedures.{module_rows};
+ghost use Rattle.ob_scheme.specs.Object.{variables, commands, records_in, type_links};
+ghost use Rattle.ob_gexpr_code.specs.Parts.{parts_of};
 ghost use Rattle.ob_gproc.specs.Whole.{module_coded};
 ghost use Rattle.ob_gproc.specs.Filed.{file_with};
 
@@ -11,7 +11,7 @@ use crate::code::put_module;
 use crate::exported::{exported_procedures, exported_variables};
 use crate::module_scope::ModuleScope;
 use crate::records::records_in;
-use ob_gcode::{Code, CodeParts, GenFault};
+use ob_gexpr_code::{Code, CodeParts, GenFault};
 use ob_instr::Procedure;
 use ob_obj::{Body, Command, Globals, Head, Links, ObjFile, RecordType, Variable};
 use ob_tree::List;

@@ -2,7 +2,7 @@ ghost use Rattle.std.specs.Prelude.{◌≡◌, ◌+◌, ◌<◌, ◌^◌, ℕ, L
 ghost use Rattle.ob_layout.specs.Index.{at_name, Notes};
 ghost use Rattle.ob_gproc.specs.Placed.{place_of};
 
-use ob_gcode::GenFault;
+use ob_gexpr_code::GenFault;
 use ob_layout::NameIndex;
 use std::alloc::Global;
 

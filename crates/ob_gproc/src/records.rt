@@ -1,13 +1,13 @@
 ghost use Rattle.std.specs.Prelude.{◌≡◌, ◌++◌, ◌∷◌, [], map, Some, OnOk, IfOk};
 ghost use Rattle.ob_types.specs.declared.desc.Desc.TheVariants as desc;
 ghost use Rattle.ob_types.specs.TypedView.{module_view, procedure_view};
-ghost use Rattle.ob_code.specs.Object.{bound_number, definitions_among, definitions, record_in, records_in};
+ghost use Rattle.ob_scheme.specs.Object.{bound_number, definitions_among, definitions, record_in, records_in};
 
 use crate::bases::base_in;
 use crate::exported::next_index;
 use crate::module_scope::ModuleScope;
-use ob_gcode::{Code, GenFault};
-use ob_gorder::definitions_in_order;
+use ob_gexpr_code::{Code, GenFault};
+use ob_gproc_tables::definitions_in_order;
 use ob_layout::method_number;
 use ob_obj::{Definition, RecordType};
 use ob_tree::{List, ObjName};
@@ -15,7 +15,7 @@ use ob_types::{Binding, Desc, RecordDesc, TypedProcedure, TypedType, Types};
 use std::alloc::Global;
 
 // The number of the family that a procedure is bound to.
-#[tactic(auto, using(ob_code::proofs::Descriptions::method_number_is))]
+#[tactic(auto, using(ob_scheme::proofs::Descriptions::method_number_is))]
 fn number_of<T: Types>(scope: &ModuleScope<'_, T>, binding: &Binding) -> u32
     ensures { result ≡ bound_number (T.types scope.now.types.now) (module_view scope.now.unit.now) (Some binding.now) }
 {

@@ -1,10 +1,10 @@
 ghost use Rattle.std.specs.Prelude.{◌≡◌, IfOk};
 ghost use Rattle.ob_layout.specs.Words.{words_of as words_in_map};
-ghost use Rattle.ob_code.specs.Descriptions.{open_words};
-ghost use Rattle.ob_code.specs.Procedures.{has_result};
+ghost use Rattle.ob_scheme.specs.Descriptions.{open_words};
+ghost use Rattle.ob_scheme.specs.Procedures.{has_result};
 ghost use Rattle.ob_gproc.specs.Parts.{param_in, params_in};
 
-use ob_gcode::GenFault;
+use ob_gexpr_code::GenFault;
 use ob_instr::Param;
 use ob_layout::words_of;
 use ob_tree::List;

@@ -4,7 +4,7 @@ ghost use Rattle.ob_gproc.specs.Placed.{ArePlaces};
 ghost use Rattle.ob_gproc.specs.Scoped.{variables_before, variables_words, parameters_before, parameters_slots, procedures_before, types_before, types_count};
 
 use crate::places::Places;
-use ob_gcode::{GenFault, Scope};
+use ob_gexpr_code::{GenFault, Scope};
 use ob_layout::{field_place, method_number, words_of};
 use ob_tree::{Name, ObjName, QName, Which};
 use ob_types::{

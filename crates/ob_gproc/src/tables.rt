@@ -1,12 +1,12 @@
 ghost use Rattle.std.specs.Prelude.{◌≡◌, ◌<◌, IfOk};
 ghost use Rattle.ob_layout.specs.Room.{slots};
 ghost use Rattle.ob_layout.specs.Words.{words_of};
-ghost use Rattle.ob_code.specs.Context.{is_record};
+ghost use Rattle.ob_scheme.specs.Context.{is_record};
 ghost use Rattle.ob_gproc.specs.Placed.{ArePlaces};
 ghost use Rattle.ob_gproc.specs.Scoped.{variables_before, variables_words, parameters_before, parameters_slots, procedures_before, types_before, types_count};
 
 use crate::places::Places;
-use ob_gcode::GenFault;
+use ob_gexpr_code::GenFault;
 use ob_layout::words_of;
 use ob_types::{
     Desc, Passing, TypeRef, TypedParameter, TypedProcedure, TypedType, TypedVariable, Types,

@@ -1,15 +1,15 @@
 ghost use Rattle.std.specs.Prelude.{◌≡◌, IfOk};
 ghost use Rattle.ob_types.specs.TypedView.{module_view};
-ghost use Rattle.ob_code.specs.Procedures.{module_rows};
-ghost use Rattle.ob_code.specs.Object.{own_words, variables, commands, records_in, type_links};
-ghost use Rattle.ob_gcode.specs.Parts.{parts_of};
+ghost use Rattle.ob_scheme.specs.Procedures.{module_rows};
+ghost use Rattle.ob_scheme.specs.Object.{own_words, variables, commands, records_in, type_links};
+ghost use Rattle.ob_gexpr_code.specs.Parts.{parts_of};
 ghost use Rattle.ob_gproc.specs.Whole.{module_coded};
 ghost use Rattle.ob_gproc.specs.Filed.{file_with};
 
 use crate::made::{Made, Shown, find_shown, make_parts};
 use crate::module_scope::ModuleScope;
 use crate::tables::{places_of_procedures, places_of_types, places_of_variables};
-use ob_gcode::GenFault;
+use ob_gexpr_code::GenFault;
 use ob_obj::{Export, Head, ObjFile};
 use ob_tree::{List, Name};
 use ob_types::{TypedModule, Types, Use};

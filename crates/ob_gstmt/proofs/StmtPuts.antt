@@ -11,18 +11,18 @@ use Rattle.ob_types.specs.declared.typed.TypedCase.{TypedCase}
 use Rattle.ob_types.specs.TypedSyntax.{Desig, Expr, If, Case, Repeat, For, Loop, With, Stmts, Branches, NoBranch, Branch, Cases, NoCase, OneCase, Otherwise}
 use Rattle.ob_types.specs.TypedView.{expr_view, stmts_view, branches_view, cases_view}
 use Rattle.ob_instr.specs.declared.opcode.Opcode.TheVariants as op
-use Rattle.ob_code.specs.declared.want.Want.{Want}
-use Rattle.ob_code.specs.declared.want.Want.TheVariants as want
-use Rattle.ob_code.specs.Lines.{Line, Number, plain, placed, count, bare, jump, jump_if_false, jump_back, jump_back_if_false, behind}
-use Rattle.ob_code.specs.Operations.{bytes_of}
-use Rattle.ob_code.specs.Numbers.{instr}
-use Rattle.ob_code.specs.Context.{Context}
-use Rattle.ob_code.specs.Expressions.{end_expr, desig_code, expr_code}
-use Rattle.ob_code.specs.Statements.{for_place, for_value, within, end_for_test, end_for_step, end_label, label_code, end_labels, labels_code, end_stmts, end_branches, end_cases, end_else, next_stmts, next_branches, next_cases, stmt_code, stmts_code, branches_code, cases_code, else_code}
-use Rattle.ob_code.specs.Coded.{Coded, appended, place_in, with_instr}
-use Rattle.ob_code.proofs.Ends.{behind_is, expr_ends, labels_end, stmts_end, branches_end, cases_end}
-use Rattle.ob_code.proofs.Appends.{put_two, put_three, next_place, put_aimed, appended_none}
-use Rattle.ob_code.proofs.Views.{view_branches, view_cases}
+use Rattle.ob_scheme.specs.declared.want.Want.{Want}
+use Rattle.ob_scheme.specs.declared.want.Want.TheVariants as want
+use Rattle.ob_scheme.specs.Lines.{Line, Number, plain, placed, count, bare, jump, jump_if_false, jump_back, jump_back_if_false, behind}
+use Rattle.ob_scheme.specs.Operations.{bytes_of}
+use Rattle.ob_scheme.specs.Numbers.{instr}
+use Rattle.ob_scheme.specs.Context.{Context}
+use Rattle.ob_scheme.specs.Expressions.{end_expr, desig_code, expr_code}
+use Rattle.ob_scheme.specs.Statements.{for_place, for_value, within, end_for_test, end_for_step, end_label, label_code, end_labels, labels_code, end_stmts, end_branches, end_cases, end_else, next_stmts, next_branches, next_cases, stmt_code, stmts_code, branches_code, cases_code, else_code}
+use Rattle.ob_scheme.specs.Coded.{Coded, appended, place_in, with_instr}
+use Rattle.ob_scheme.proofs.Ends.{behind_is, expr_ends, labels_end, stmts_end, branches_end, cases_end}
+use Rattle.ob_scheme.proofs.Appends.{put_two, put_three, next_place, put_aimed, appended_none}
+use Rattle.ob_scheme.proofs.Views.{view_branches, view_cases}
 
 -- an expression, a designator, and lines
 pub expr_and_place : (c : Context) (w v : Want) (e : Expr) (d : Desig) (c0 c1 c2 c3 : Coded) (r : List Line) → c1 ≡ appended c0 (expr_code c w e (place_in c0)) → c2 ≡ appended c1 (desig_code c v d (place_in c1)) → c3 ≡ appended c2 r → c3 ≡ appended c0 (expr_code c w e (place_in c0) ++ (desig_code c v d (end_expr c w e (place_in c0)) ++ r))

@@ -3,14 +3,14 @@ use Rattle.std.proofs.Common.{◌≡◌, ℕ, suc, [], ◌∷◌, ◌++◌, arit
 use Rattle.ob_types.specs.declared.typed.Variable.{Variable}
 use Rattle.ob_types.specs.TypedSyntax.{Expr}
 use Rattle.ob_instr.specs.declared.opcode.Opcode.TheVariants as op
-use Rattle.ob_code.specs.declared.want.Want.TheVariants as want
-use Rattle.ob_code.specs.Lines.{plain, count, bare, behind}
-use Rattle.ob_code.specs.Context.{Context}
-use Rattle.ob_code.specs.Expressions.{expr_code}
-use Rattle.ob_code.specs.Statements.{for_place}
-use Rattle.ob_code.specs.Coded.{Coded, appended, place_in}
-use Rattle.ob_code.proofs.Ends.{behind_is}
-use Rattle.ob_code.proofs.Appends.{put_two, next_place}
+use Rattle.ob_scheme.specs.declared.want.Want.TheVariants as want
+use Rattle.ob_scheme.specs.Lines.{plain, count, bare, behind}
+use Rattle.ob_scheme.specs.Context.{Context}
+use Rattle.ob_scheme.specs.Expressions.{expr_code}
+use Rattle.ob_scheme.specs.Statements.{for_place}
+use Rattle.ob_scheme.specs.Coded.{Coded, appended, place_in}
+use Rattle.ob_scheme.proofs.Ends.{behind_is}
+use Rattle.ob_scheme.proofs.Appends.{put_two, next_place}
 
 -- a word's place, and a value with its store
 pub stored_put : (c : Context) (k : ℕ) (e : Expr) (c0 c1 c2 : Coded) → c1 ≡ appended c0 (plain op.Local (count k) ∷ []) → c2 ≡ appended c1 (expr_code c want.Value e (place_in c1) ++ bare op.Store ∷ []) → c2 ≡ appended c0 (plain op.Local (count k) ∷ (expr_code c want.Value e (suc (place_in c0)) ++ bare op.Store ∷ []))

@@ -1,16 +1,16 @@
 ghost use Rattle.std.specs.Prelude.{◌≡◌, ◌∷◌, [], ◌<◌, ◌≤◌, ◌^◌, ◌+◌, ◌*◌, OnOk, IfOk};
-ghost use Rattle.ob_code.specs.Lines.{Number, plain, placed, bare, count, jump_if_false};
-ghost use Rattle.ob_code.specs.Context.{Context};
-ghost use Rattle.ob_code.specs.Coded.{Coded, appended, place_in};
-ghost use Rattle.ob_code.specs.Statements.{label_code, labels_code};
+ghost use Rattle.ob_scheme.specs.Lines.{Number, plain, placed, bare, count, jump_if_false};
+ghost use Rattle.ob_scheme.specs.Context.{Context};
+ghost use Rattle.ob_scheme.specs.Coded.{Coded, appended, place_in};
+ghost use Rattle.ob_scheme.specs.Statements.{label_code, labels_code};
 
 use crate::loops::put_word;
-use ob_gcode::{Code, GenFault, Scope, put_bare, put_jump, put_placed, put_plain};
+use ob_gexpr_code::{Code, GenFault, Scope, put_bare, put_jump, put_placed, put_plain};
 use ob_instr::Opcode;
 use ob_tree::{Pos, Which};
 use ob_types::Label;
 
-#[tactic(auto, using(ob_code::proofs::Appends::put_more))]
+#[tactic(auto, using(ob_scheme::proofs::Appends::put_more))]
 fn put_compared(code: &mut Code, bound: &i32, op: Opcode, next: usize) -> Result<(), GenFault>
     ensures { OnOk result (code.new ≡ appended code.old (plain Opcode.Int (Number bound.now) ∷ bare op ∷ jump_if_false next ∷ [])) }
 {
@@ -20,7 +20,7 @@ fn put_compared(code: &mut Code, bound: &i32, op: Opcode, next: usize) -> Result
 }
 
 // A test of the word against a bound, on to the next where it fails.
-#[tactic(auto, using(ob_code::proofs::Appends::put_two))]
+#[tactic(auto, using(ob_scheme::proofs::Appends::put_two))]
 fn put_bound(
     code: &mut Code,
     word: u32,

@@ -1,24 +1,24 @@
 ghost use Rattle.std.specs.Prelude.{◌≡◌, ◌++◌, ◌∷◌, [], ◌<◌, ◌^◌, suc, OnOk};
 ghost use Rattle.ob_types.specs.TypedView.{expr_view};
-ghost use Rattle.ob_code.specs.declared.want.Want.TheVariants as want;
-ghost use Rattle.ob_code.specs.Lines.{Number, plain, placed, bare, count, jump_back, behind};
-ghost use Rattle.ob_code.specs.Operations.{bytes_of};
-ghost use Rattle.ob_code.specs.Context.{Context};
-ghost use Rattle.ob_code.specs.Coded.{Coded, appended, place_in};
-ghost use Rattle.ob_code.specs.Expressions.{expr_code};
-ghost use Rattle.ob_code.specs.Statements.{word_at, for_place, for_value, within};
+ghost use Rattle.ob_scheme.specs.declared.want.Want.TheVariants as want;
+ghost use Rattle.ob_scheme.specs.Lines.{Number, plain, placed, bare, count, jump_back, behind};
+ghost use Rattle.ob_scheme.specs.Operations.{bytes_of};
+ghost use Rattle.ob_scheme.specs.Context.{Context};
+ghost use Rattle.ob_scheme.specs.Coded.{Coded, appended, place_in};
+ghost use Rattle.ob_scheme.specs.Expressions.{expr_code};
+ghost use Rattle.ob_scheme.specs.Statements.{word_at, for_place, for_value, within};
 
-use ob_code::Want;
-use ob_gcode::{
+use ob_gexpr::{put_expr, put_variable};
+use ob_gexpr_code::{
     Code, GenFault, Scope, bytes_of, put_bare, put_count, put_jump_back, put_placed, put_plain,
 };
-use ob_gexpr::{put_expr, put_variable};
 use ob_instr::Opcode;
+use ob_scheme::Want;
 use ob_tree::Pos;
 use ob_types::{Basic, TypeRef, TypedExpr, Variable, Width};
 
 /// The value of a word of FOR or CASE.
-#[tactic(auto, using(ob_code::proofs::Appends::put_more))]
+#[tactic(auto, using(ob_scheme::proofs::Appends::put_more))]
 pub fn put_word(code: &mut Code, word: u32) -> Result<(), GenFault>
     requires { word < 2 ^ 30 }
     ensures { OnOk result (code.new ≡ appended code.old (word_at word)) }
@@ -28,7 +28,7 @@ pub fn put_word(code: &mut Code, word: u32) -> Result<(), GenFault>
 }
 
 // A value and its store.
-#[tactic(auto, using(ob_code::proofs::Appends::put_two))]
+#[tactic(auto, using(ob_scheme::proofs::Appends::put_two))]
 fn put_value_stored<S: Scope>(code: &mut Code, scope: &S, value: &TypedExpr) -> Result<(), GenFault>
     ensures { OnOk result (code.new ≡ appended code.old (expr_code (S.context scope.now) want.Value (expr_view value.now) (place_in code.old) ++ bare Opcode.Store ∷ [])) }
 {
@@ -90,7 +90,7 @@ fn put_within<S: Scope>(code: &mut Code, scope: &S, step: &i32) -> Result<(), Ge
     }
 }
 
-#[tactic(auto, using(ob_code::proofs::Appends::put_two))]
+#[tactic(auto, using(ob_scheme::proofs::Appends::put_two))]
 fn put_word_within<S: Scope>(
     code: &mut Code,
     scope: &S,
@@ -105,7 +105,7 @@ fn put_word_within<S: Scope>(
 }
 
 /// The test of FOR.
-#[tactic(auto, using(ob_code::proofs::Appends::put_two))]
+#[tactic(auto, using(ob_scheme::proofs::Appends::put_two))]
 pub fn put_for_test<S: Scope>(
     code: &mut Code,
     scope: &S,
@@ -120,7 +120,7 @@ pub fn put_for_test<S: Scope>(
     put_word_within(code, scope, word, step)
 }
 
-#[tactic(auto, using(ob_code::proofs::Appends::put_more))]
+#[tactic(auto, using(ob_scheme::proofs::Appends::put_more))]
 fn put_step_back(
     code: &mut Code,
     width: Width,
@@ -136,7 +136,7 @@ fn put_step_back(
 }
 
 /// The addition of FOR's step, and the jump back to its test.
-#[tactic(auto, using(ob_code::proofs::Appends::put_two))]
+#[tactic(auto, using(ob_scheme::proofs::Appends::put_two))]
 pub fn put_for_step<S: Scope>(
     code: &mut Code,
     scope: &S,

@@ -1,20 +1,20 @@
 ghost use Rattle.std.specs.Prelude.{◌≡◌, ◌<◌, ◌^◌, suc, OnOk, IfOk};
 ghost use Rattle.ob_types.specs.TypedSyntax.{NoBranch, Branch, NoCase, OneCase};
 ghost use Rattle.ob_types.specs.TypedView.{expr_view, stmt_view, stmts_view, branches_view, cases_view};
-ghost use Rattle.ob_code.specs.Context.{Context};
-ghost use Rattle.ob_code.specs.Coded.{Coded, appended, place_in};
-ghost use Rattle.ob_code.specs.Statements.{stmt_code, stmts_code, branches_code, cases_code, next_stmt, next_stmts, next_branches, next_cases};
+ghost use Rattle.ob_scheme.specs.Context.{Context};
+ghost use Rattle.ob_scheme.specs.Coded.{Coded, appended, place_in};
+ghost use Rattle.ob_scheme.specs.Statements.{stmt_code, stmts_code, branches_code, cases_code, next_stmt, next_stmts, next_branches, next_cases};
 
 use crate::choices::{body_behind, put_labels, put_none_taken};
 use crate::loops::{put_for_step, put_for_test, put_start, put_stored};
 use crate::straight::{
     put_assert, put_assignment, put_copy, put_halt, put_new, put_new_open, put_return, put_update,
 };
-use ob_code::Want;
-use ob_ends::end_stmt;
-use ob_gcode::{Code, GenFault, Scope, put_jump, put_jump_back};
 use ob_gexpr::put_expr;
+use ob_gexpr_code::{Code, GenFault, Scope, put_jump, put_jump_back};
+use ob_gstmt_labels::end_stmt;
 use ob_instr::Opcode;
+use ob_scheme::Want;
 use ob_tree::Which;
 use ob_types::{TypedBranch, TypedCase, TypedStmt};
 

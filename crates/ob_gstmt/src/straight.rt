@@ -4,20 +4,20 @@ ghost use Rattle.ob_types.specs.declared.types.TypeRef.TheVariants as ref;
 ghost use Rattle.ob_types.specs.TypedKinds.{variable_type};
 ghost use Rattle.ob_types.specs.TypedSyntax.{Assign, Updated, Copy as Copied, New, NewOpenArray, Assert, Halt, Return};
 ghost use Rattle.ob_types.specs.TypedView.{designator_view, expr_view};
-ghost use Rattle.ob_code.specs.Lines.{plain, placed, count};
-ghost use Rattle.ob_code.specs.Operations.{update_line};
-ghost use Rattle.ob_code.specs.Context.{Context, words};
-ghost use Rattle.ob_code.specs.Coded.{Coded, appended, place_in};
-ghost use Rattle.ob_code.specs.Statements.{text_words_of, text_words, copy_record, assign_line, new_line};
+ghost use Rattle.ob_scheme.specs.Lines.{plain, placed, count};
+ghost use Rattle.ob_scheme.specs.Operations.{update_line};
+ghost use Rattle.ob_scheme.specs.Context.{Context, words};
+ghost use Rattle.ob_scheme.specs.Coded.{Coded, appended, place_in};
+ghost use Rattle.ob_scheme.specs.Statements.{text_words_of, text_words, copy_record, assign_line, new_line};
 ghost use Rattle.ob_gstmt.specs.Straight.{straight_code};
 
-use ob_code::{Want, has_tag, want_for_source, want_for_target};
-use ob_gcode::{
+use ob_gexpr::{put_designator, put_expr};
+use ob_gexpr_code::{
     Code, GenFault, Scope, bytes_of, put_bare, put_bare_at, put_count, put_placed, put_typed,
     put_typed_behind,
 };
-use ob_gexpr::{put_designator, put_expr};
 use ob_instr::Opcode;
+use ob_scheme::{Want, has_tag, want_for_source, want_for_target};
 use ob_tree::{Pos, QName, Which};
 use ob_types::{Assigned, Designator, Made, TypeRef, TypedExpr, Update, Value};
 
@@ -141,7 +141,7 @@ fn put_assign_line<S: Scope>(
 }
 
 /// An assignment.
-#[tactic(auto, using(ob_code::proofs::Puts::place_and_expr))]
+#[tactic(auto, using(ob_scheme::proofs::Puts::place_and_expr))]
 pub fn put_assignment<S: Scope>(
     code: &mut Code,
     scope: &S,
@@ -169,7 +169,7 @@ fn put_update_line(code: &mut Code, op: Update, at: Pos) -> Result<(), GenFault>
 }
 
 /// INC, DEC, INCL or EXCL.
-#[tactic(auto, using(ob_code::proofs::Puts::place_and_expr))]
+#[tactic(auto, using(ob_scheme::proofs::Puts::place_and_expr))]
 pub fn put_update<S: Scope>(
     code: &mut Code,
     scope: &S,
@@ -225,7 +225,7 @@ fn put_new_line<S: Scope>(code: &mut Code, scope: &S, made: &Made, at: Pos) -> R
 }
 
 /// NEW of a record or of an array of a fixed length.
-#[tactic(auto, using(ob_code::proofs::Appends::put_two))]
+#[tactic(auto, using(ob_scheme::proofs::Appends::put_two))]
 pub fn put_new<S: Scope>(
     code: &mut Code,
     scope: &S,
@@ -240,7 +240,7 @@ pub fn put_new<S: Scope>(
 }
 
 /// NEW of an open array.
-#[tactic(auto, using(ob_code::proofs::Puts::place_and_expr))]
+#[tactic(auto, using(ob_scheme::proofs::Puts::place_and_expr))]
 pub fn put_new_open<S: Scope>(
     code: &mut Code,
     scope: &S,
@@ -257,7 +257,7 @@ pub fn put_new_open<S: Scope>(
 }
 
 /// ASSERT
-#[tactic(auto, using(ob_code::proofs::Appends::put_two))]
+#[tactic(auto, using(ob_scheme::proofs::Appends::put_two))]
 pub fn put_assert<S: Scope>(
     code: &mut Code,
     scope: &S,
@@ -280,7 +280,7 @@ pub fn put_halt<S: Scope>(code: &mut Code, scope: &S, number: &i32, at: Pos) -> 
 }
 
 /// RETURN
-#[tactic(auto, using(ob_code::proofs::Appends::put_two))]
+#[tactic(auto, using(ob_scheme::proofs::Appends::put_two))]
 pub fn put_return<S: Scope>(
     code: &mut Code,
     scope: &S,

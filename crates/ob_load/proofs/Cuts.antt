@@ -8,8 +8,8 @@ use Rattle.ob_instr.specs.Image.{Image, ModuleImage, Room}
 use Rattle.ob_obj.specs.declared.parts.RecordType.{RecordType}
 use Rattle.ob_obj.specs.declared.file.ObjFile.{ObjFile}
 use Rattle.ob_obj.specs.Images.{same, module_from, type_links, descriptor_of, with_types, module_of, entered, image_of, global_words, IsEnterable, AreEnterable}
-use Rattle.ob_image.specs.Cut.{has, types_of, first_of, cut_to}
-use Rattle.ob_image.proofs.Whole.{entered_whole}
+use Rattle.ob_machine_image.specs.Cut.{has, types_of, first_of, cut_to}
+use Rattle.ob_machine_image.proofs.Whole.{entered_whole}
 use Rattle.ob_link.specs.Members.{empty_image}
 use Rattle.ob_link.proofs.Made.{made_loaded, alike_length}
 

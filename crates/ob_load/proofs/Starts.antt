@@ -11,7 +11,7 @@ use Rattle.ob_instr.specs.Rows.{procedure_of}
 use Rattle.ob_obj.specs.declared.file.ObjFile.{ObjFile}
 use Rattle.ob_obj.specs.Grammar.{file, begins_with_body}
 use Rattle.ob_obj.specs.Images.{image_of, words_with, entered, module_of, AreEnterable}
-use Rattle.ob_image.specs.Cut.{cut_to}
+use Rattle.ob_machine_image.specs.Cut.{cut_to}
 use Rattle.ob_machine.specs.declared.outcome.Outcome.{Outcome}
 use Rattle.ob_machine.specs.declared.outcome.Outcome.TheVariants as outcome
 use Rattle.ob_machine.specs.Machine.{Held, IsEntry, world_of}

@@ -11,18 +11,18 @@ use Rattle.ob_instr.specs.Image as image
 use Rattle.ob_instr.specs.Image.{Image, ModuleImage, World, Act, End, Point, Go, Over}
 use Rattle.ob_instr.specs.Table as table
 use Rattle.ob_instr.specs.Table.{row, position_at, checked, come_to, act, act_in, run}
-use Rattle.ob_image.specs.Room.{room}
-use Rattle.ob_values.specs.declared.state.State.{State}
-use Rattle.ob_values.specs.Effects.{ops_of, world_of}
-use Rattle.ob_effect.specs.declared.acting.Place as effect_place
-use Rattle.ob_run.specs.declared.pause.Pause.TheVariants as pause
-use Rattle.ob_several.specs.Points.{IsHere, Comes, point_of}
-use Rattle.ob_run.specs.Turns.{Begins, TurnDoes, Spends}
-use Rattle.ob_calls.specs.declared.calls.Place.{Place}
-use Rattle.ob_calls.specs.declared.calling.Called.{Called}
-use Rattle.ob_calls.specs.declared.calling.Called.TheVariants as called
-use Rattle.ob_calls.specs.Reached as reaching
-use Rattle.ob_calls.specs.Reached.{at_place, reached}
+use Rattle.ob_machine_image.specs.Room.{room}
+use Rattle.ob_machine_operands.specs.declared.state.State.{State}
+use Rattle.ob_machine_operands.specs.Effects.{ops_of, world_of}
+use Rattle.ob_machine_step.specs.declared.acting.Place as effect_place
+use Rattle.ob_machine_loop.specs.declared.pause.Pause.TheVariants as pause
+use Rattle.ob_machine_fused.specs.Points.{IsHere, Comes, point_of}
+use Rattle.ob_machine_loop.specs.Turns.{Begins, TurnDoes, Spends}
+use Rattle.ob_machine_calls.specs.declared.calls.Place.{Place}
+use Rattle.ob_machine_calls.specs.declared.calling.Called.{Called}
+use Rattle.ob_machine_calls.specs.declared.calling.Called.TheVariants as called
+use Rattle.ob_machine_calls.specs.Reached as reaching
+use Rattle.ob_machine_calls.specs.Reached.{at_place, reached}
 use Rattle.ob_machine.specs.declared.outcome.Outcome.{Outcome}
 use Rattle.ob_machine.specs.declared.outcome.Outcome.TheVariants as outcome
 use Rattle.ob_machine.specs.Machine.{name_of, name_in, outcome_of}

@@ -11,12 +11,12 @@ use Rattle.ob_instr.specs.Image.{Image, Act, Go}
 use Rattle.ob_instr.specs.Parts.{slots}
 use Rattle.ob_instr.specs.Rows.{entered, with_copies, procedure_of}
 use Rattle.ob_instr.specs.Table.{begins, begun, start, run}
-use Rattle.ob_image.specs.Room.{room}
-use Rattle.ob_image.specs.WordLaws.{cleared_as}
-use Rattle.ob_values.specs.declared.state.State.{State}
-use Rattle.ob_values.specs.Effects.{world_of}
-use Rattle.ob_calls.specs.declared.calls.Place.{Place}
-use Rattle.ob_calls.specs.Reached.{at_place}
+use Rattle.ob_machine_image.specs.Room.{room}
+use Rattle.ob_machine_image.specs.WordLaws.{cleared_as}
+use Rattle.ob_machine_operands.specs.declared.state.State.{State}
+use Rattle.ob_machine_operands.specs.Effects.{world_of}
+use Rattle.ob_machine_calls.specs.declared.calls.Place.{Place}
+use Rattle.ob_machine_calls.specs.Reached.{at_place}
 use Rattle.ob_machine.specs.declared.outcome.Outcome.{Outcome}
 use Rattle.ob_machine.specs.declared.outcome.Outcome.TheVariants as outcome
 use Rattle.ob_machine.specs.Machine as machine

@@ -7,12 +7,12 @@ use Rattle.ob_instr.specs.Image.{Image, ModuleImage, World, Act, End, Point, Ove
 use Rattle.ob_instr.specs.Parts.{slots}
 use Rattle.ob_instr.specs.Rows.{entered}
 use Rattle.ob_instr.specs.Table.{run, position_at}
-use Rattle.ob_values.specs.declared.state.State.{State}
-use Rattle.ob_values.specs.Effects.{world_of}
-use Rattle.ob_several.specs.Points.{Comes}
-use Rattle.ob_run.specs.Turns.{Begins}
-use Rattle.ob_calls.specs.declared.calls.Place.{Place}
-use Rattle.ob_calls.specs.Reached.{at_place}
+use Rattle.ob_machine_operands.specs.declared.state.State.{State}
+use Rattle.ob_machine_operands.specs.Effects.{world_of}
+use Rattle.ob_machine_fused.specs.Points.{Comes}
+use Rattle.ob_machine_loop.specs.Turns.{Begins}
+use Rattle.ob_machine_calls.specs.declared.calls.Place.{Place}
+use Rattle.ob_machine_calls.specs.Reached.{at_place}
 use Rattle.ob_machine.specs.declared.outcome.Outcome.{Outcome}
 use Rattle.ob_machine.specs.declared.outcome.Outcome.TheVariants as outcome
 use Rattle.ob_machine.specs.declared.running.Ending.{Ending}

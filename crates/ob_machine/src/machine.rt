@@ -1,17 +1,17 @@
 ghost use Rattle.std.specs.Prelude.{◌≡◌, ◌≤◌, length, IfOk};
 ghost use Rattle.ob_obj.specs.Images.{AreEnterable};
-ghost use Rattle.ob_image.specs.Cut.{cut_to};
+ghost use Rattle.ob_machine_image.specs.Cut.{cut_to};
 ghost use Rattle.ob_machine.specs.Machine.{made, Enters, IsEntry, Runs, RunHasCause};
 
 use crate::Outcome;
 use crate::running::{begin, entry_procedure, run_calls};
-use ob_calls::{Calls, Place};
-use ob_image::Image;
 use ob_io::Sink;
+use ob_machine_calls::{Calls, Place};
+use ob_machine_image::Image;
+use ob_machine_operands::State;
 use ob_mem::Memory;
 use ob_obj::ObjFile;
 use ob_tree::{List, ProcRef};
-use ob_values::State;
 use std::alloc::{AllocError, Global};
 use std::marker::Model;
 

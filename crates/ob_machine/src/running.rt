@@ -1,22 +1,22 @@
 ghost use Rattle.std.specs.Prelude.{◌≡◌, ◌≤◌, ◌<◌, ◌^◌, [], length, vec_len, vec_capacity, slice_get, true, None, Some, option_map};
 ghost use Rattle.ob_instr.specs.Rows.{procedure_of};
 ghost use Rattle.ob_instr.specs.Table.{position_at};
-ghost use Rattle.ob_image.specs.Room.{room};
-ghost use Rattle.ob_effect.specs.Bases.{AreBelow};
-ghost use Rattle.ob_effect.specs.Places.{is_call};
-ghost use Rattle.ob_several.specs.Points.{IsHere};
+ghost use Rattle.ob_machine_image.specs.Room.{room};
+ghost use Rattle.ob_machine_step.specs.Bases.{AreBelow};
+ghost use Rattle.ob_machine_step.specs.Places.{is_call};
+ghost use Rattle.ob_machine_fused.specs.Points.{IsHere};
 ghost use Rattle.ob_machine.specs.Machine.{IsEntry};
 ghost use Rattle.ob_machine.specs.Legs.{LegDoes, LegHasCause, CallDoes, CanRun, IsBegun, left_of, outcome_in};
 
 use crate::Outcome;
-use ob_calls::{Called, Calls, Place, call_or_return};
-use ob_groups::Code;
-use ob_image::{Callable, Image, Module};
 use ob_instr::{Instr, Position};
 use ob_io::Sink;
-use ob_run::{Pause, go};
+use ob_machine_calls::{Called, Calls, Place, call_or_return};
+use ob_machine_fusion::Code;
+use ob_machine_image::{Callable, Image, Module};
+use ob_machine_loop::{Pause, go};
+use ob_machine_operands::State;
 use ob_tree::{Pos, ProcRef};
-use ob_values::State;
 
 // The position of an instruction, where the list has it.
 fn position_at(positions: &[Position], pc: u32) -> Pos
@@ -93,7 +93,7 @@ fn read_place<'a>(
     unit: &'a Module,
     number: u32,
     first: u32,
-) -> ob_effect::Place<'a>
+) -> ob_machine_step::Place<'a>
     requires at { slice_get image.now.modules number ≡ Some unit.now }
     requires room { image.now.room ≡ room }
     ensures here { IsHere result unit.now.code image.now unit.now }
@@ -104,7 +104,7 @@ fn read_place<'a>(
     ensures bases { AreBelow result.descriptors.now.list }
 {
     let types = image.types();
-    ob_effect::Place {
+    ob_machine_step::Place {
         module: number,
         frame: first,
         first: unit.first,
@@ -168,7 +168,7 @@ fn leg<S: Sink>(
     image: &Image,
     unit: &Module,
     code: &Code,
-    place: &ob_effect::Place<'_>,
+    place: &ob_machine_step::Place<'_>,
     here: &mut Place,
     calls: &mut Calls,
     state: &mut State,

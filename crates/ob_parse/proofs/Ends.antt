@@ -3,14 +3,14 @@ use Rattle.std.proofs.Common.{◌≡◌, refl, sym, ap, subst, ◌∙◌, [], �
 use Rattle.ob_tree.specs.declared.symbol.Symbol.TheVariants as s
 use Rattle.ob_tree.specs.declared.token.Token.{Token}
 use Rattle.ob_tree.specs.declared.decl.Module.{Module}
-use Rattle.ob_grammar.specs.Phrase.{Tokens, Nest, Tree, Phrase, both, word, made, Spelling, spells_as}
-use Rattle.ob_grammar.specs.Reading.{Found}
-use Rattle.ob_grammar.specs.Declarations.{«module»}
-use Rattle.ob_grammar.specs.Grammar.{reads, spells}
-use Rattle.ob_grammar.proofs.Whole.{good_phrase, module_fine}
-use Rattle.ob_pexpr.specs.declared.fault.ParseFault.{ParseFault}
-use Rattle.ob_pexpr.specs.declared.fault.ParseFault.TheVariants as fault
-use Rattle.ob_pexpr.specs.Contract.{Reads}
+use Rattle.ob_parse_grammar.specs.Phrase.{Tokens, Nest, Tree, Phrase, both, word, made, Spelling, spells_as}
+use Rattle.ob_parse_grammar.specs.Reading.{Found}
+use Rattle.ob_parse_grammar.specs.Declarations.{«module»}
+use Rattle.ob_parse_grammar.specs.Grammar.{reads, spells}
+use Rattle.ob_parse_grammar.proofs.Whole.{good_phrase, module_fine}
+use Rattle.ob_parse_expr.specs.declared.fault.ParseFault.{ParseFault}
+use Rattle.ob_parse_expr.specs.declared.fault.ParseFault.TheVariants as fault
+use Rattle.ob_parse_expr.specs.Contract.{Reads}
 use Rattle.ob_parse.specs.Parsed.{limit, EndsOnce, Says}
 
 -- the last of these is the end

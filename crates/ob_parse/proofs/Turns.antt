@@ -5,17 +5,17 @@ use Rattle.ob_tree.specs.declared.symbol.Symbol.{Symbol}
 use Rattle.ob_tree.specs.declared.token.Token.{Token}
 use Rattle.ob_tree.specs.declared.pos.Pos.{Pos}
 use Rattle.ob_tree.specs.declared.decl.Decl.{Decl}
-use Rattle.ob_grammar.specs.Phrase.{Tokens, same, Procedure, Phrase, many, fork}
-use Rattle.ob_grammar.proofs.Basics.{found_value}
-use Rattle.ob_pexpr.specs.Contract.{IsAt}
-use Rattle.ob_grammar.specs.Reading.{Read, Found, Fails, Wrong, Deep, ◌>>=◌, starts, take_word}
-use Rattle.ob_grammar.specs.Expressions.{next_of, separated}
-use Rattle.ob_grammar.specs.Types.{section, field_list}
-use Rattle.ob_grammar.specs.Declarations.{constant, named_type, variables, block, procedure_item, import_item, forward, procedure}
-use Rattle.ob_grammar.specs.Grammar.{reads, begins, is_full}
-use Rattle.ob_grammar.proofs.Fine.{every}
-use Rattle.ob_grammar.proofs.Local.{Takes}
-use Rattle.ob_grammar.proofs.Loops.{takes, after, JoinsOn, deeper, not_full}
+use Rattle.ob_parse_grammar.specs.Phrase.{Tokens, same, Procedure, Phrase, many, fork}
+use Rattle.ob_parse_grammar.proofs.Basics.{found_value}
+use Rattle.ob_parse_expr.specs.Contract.{IsAt}
+use Rattle.ob_parse_grammar.specs.Reading.{Read, Found, Fails, Wrong, Deep, ◌>>=◌, starts, take_word}
+use Rattle.ob_parse_grammar.specs.Expressions.{next_of, separated}
+use Rattle.ob_parse_grammar.specs.Types.{section, field_list}
+use Rattle.ob_parse_grammar.specs.Declarations.{constant, named_type, variables, block, procedure_item, import_item, forward, procedure}
+use Rattle.ob_parse_grammar.specs.Grammar.{reads, begins, is_full}
+use Rattle.ob_parse_grammar.proofs.Fine.{every}
+use Rattle.ob_parse_grammar.proofs.Local.{Takes}
+use Rattle.ob_parse_grammar.proofs.Loops.{takes, after, JoinsOn, deeper, not_full}
 
 pub takes_section : (d : ℕ) → Takes (begins (next_of s.Semicolon section)) (reads d (next_of s.Semicolon section))
 unfolding every

@@ -2,16 +2,16 @@
 
 ghost use Rattle.std.specs.Prelude.{◌≡◌};
 ghost use Rattle.ob_tree.specs.declared.symbol.Symbol.TheVariants as s;
-ghost use Rattle.ob_grammar.specs.Phrase.{many};
-ghost use Rattle.ob_grammar.specs.Expressions as expr;
-ghost use Rattle.ob_grammar.specs.Declarations as spec;
-ghost use Rattle.ob_grammar.specs.Grammar.{reads};
-ghost use Rattle.ob_pexpr.specs.Contract.{Reads};
+ghost use Rattle.ob_parse_grammar.specs.Phrase.{many};
+ghost use Rattle.ob_parse_grammar.specs.Expressions as expr;
+ghost use Rattle.ob_parse_grammar.specs.Declarations as spec;
+ghost use Rattle.ob_parse_grammar.specs.Grammar.{reads};
+ghost use Rattle.ob_parse_expr.specs.Contract.{Reads};
 
 use crate::heading::receiver;
 use crate::start::sees_block;
 use crate::type_node::{nested_type, parameters};
-use ob_pexpr::{Cursor, ParseFault, ident_def, ident_list, nested_expr};
+use ob_parse_expr::{Cursor, ParseFault, ident_def, ident_list, nested_expr};
 use ob_tree::{Decl, Heading, List, Symbol};
 use std::alloc::Global;
 

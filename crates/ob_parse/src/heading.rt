@@ -1,13 +1,13 @@
 //! Parts of types and headings that no type is nested in.
 
 ghost use Rattle.std.specs.Prelude.{◌≡◌};
-ghost use Rattle.ob_grammar.specs.Phrase.{maybe};
-ghost use Rattle.ob_grammar.specs.Types as spec;
-ghost use Rattle.ob_grammar.specs.Declarations as decl;
-ghost use Rattle.ob_grammar.specs.Grammar.{reads};
-ghost use Rattle.ob_pexpr.specs.Contract.{Reads};
+ghost use Rattle.ob_parse_grammar.specs.Phrase.{maybe};
+ghost use Rattle.ob_parse_grammar.specs.Types as spec;
+ghost use Rattle.ob_parse_grammar.specs.Declarations as decl;
+ghost use Rattle.ob_parse_grammar.specs.Grammar.{reads};
+ghost use Rattle.ob_parse_expr.specs.Contract.{Reads};
 
-use ob_pexpr::{Cursor, ParseFault, qualident};
+use ob_parse_expr::{Cursor, ParseFault, qualident};
 use ob_tree::{Qualident, Receiver, Symbol};
 
 /// Whether VAR is written.

@@ -2,13 +2,13 @@
 
 ghost use Rattle.std.specs.Prelude.{◌≡◌};
 ghost use Rattle.ob_tree.specs.declared.symbol.Symbol.TheVariants as s;
-ghost use Rattle.ob_grammar.specs.Phrase.{maybe};
-ghost use Rattle.ob_grammar.specs.Expressions as expr;
-ghost use Rattle.ob_grammar.specs.Declarations as spec;
-ghost use Rattle.ob_grammar.specs.Grammar.{reads};
-ghost use Rattle.ob_pexpr.specs.Contract.{Reads};
+ghost use Rattle.ob_parse_grammar.specs.Phrase.{maybe};
+ghost use Rattle.ob_parse_grammar.specs.Expressions as expr;
+ghost use Rattle.ob_parse_grammar.specs.Declarations as spec;
+ghost use Rattle.ob_parse_grammar.specs.Grammar.{reads};
+ghost use Rattle.ob_parse_expr.specs.Contract.{Reads};
 
-use ob_pexpr::{Cursor, ParseFault};
+use ob_parse_expr::{Cursor, ParseFault};
 use ob_tree::{Ident, Import, List, Symbol};
 use std::alloc::Global;
 

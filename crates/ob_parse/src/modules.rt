@@ -1,15 +1,15 @@
 //! Modules.
 
 ghost use Rattle.std.specs.Prelude.{◌≡◌, [], IfOk};
-ghost use Rattle.ob_grammar.specs.Declarations.{«module»};
-ghost use Rattle.ob_grammar.specs.Grammar.{reads};
-ghost use Rattle.ob_pexpr.specs.Contract.{Reads};
-ghost use Rattle.ob_pexpr.specs.Left.{NamesFit};
+ghost use Rattle.ob_parse_grammar.specs.Declarations.{«module»};
+ghost use Rattle.ob_parse_grammar.specs.Grammar.{reads};
+ghost use Rattle.ob_parse_expr.specs.Contract.{Reads};
+ghost use Rattle.ob_parse_expr.specs.Left.{NamesFit};
 ghost use Rattle.ob_parse.specs.Parsed.{limit, EndsOnce, Says};
 
 use crate::imports::imports;
 use crate::procedure::{body, declarations};
-use ob_pexpr::{Cursor, ParseFault};
+use ob_parse_expr::{Cursor, ParseFault};
 use ob_tree::{Module, Symbol, Token};
 use std::alloc::Global;
 

@@ -2,14 +2,14 @@
 
 ghost use Rattle.std.specs.Prelude.{◌≡◌};
 ghost use Rattle.ob_tree.specs.declared.symbol.Symbol.TheVariants as s;
-ghost use Rattle.ob_grammar.specs.Phrase.{Procedure, many, fork};
-ghost use Rattle.ob_grammar.specs.Declarations as spec;
-ghost use Rattle.ob_grammar.specs.Grammar.{reads};
-ghost use Rattle.ob_pexpr.specs.Contract.{Reads};
+ghost use Rattle.ob_parse_grammar.specs.Phrase.{Procedure, many, fork};
+ghost use Rattle.ob_parse_grammar.specs.Declarations as spec;
+ghost use Rattle.ob_parse_grammar.specs.Grammar.{reads};
+ghost use Rattle.ob_parse_expr.specs.Contract.{Reads};
 
 use crate::decl::{blocks, forward, heading};
-use ob_pexpr::{Cursor, ParseFault};
-use ob_pstmt::nested_statements;
+use ob_parse_expr::{Cursor, ParseFault};
+use ob_parse_stmt::nested_statements;
 use ob_tree::{Decl, List, Stmt, Symbol};
 use std::alloc::Global;
 

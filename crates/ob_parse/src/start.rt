@@ -1,14 +1,14 @@
 //! What begins where the next token stands.
 
 ghost use Rattle.std.specs.Prelude.{◌≡◌};
-ghost use Rattle.ob_grammar.specs.Phrase.{AType};
-ghost use Rattle.ob_grammar.specs.Reading.{starts};
-ghost use Rattle.ob_grammar.specs.Types as spec;
-ghost use Rattle.ob_grammar.specs.Declarations as decl;
-ghost use Rattle.ob_grammar.specs.Grammar.{begins, first_of, read};
-ghost use Rattle.ob_pexpr.specs.Contract.{FailsAs};
+ghost use Rattle.ob_parse_grammar.specs.Phrase.{AType};
+ghost use Rattle.ob_parse_grammar.specs.Reading.{starts};
+ghost use Rattle.ob_parse_grammar.specs.Types as spec;
+ghost use Rattle.ob_parse_grammar.specs.Declarations as decl;
+ghost use Rattle.ob_parse_grammar.specs.Grammar.{begins, first_of, read};
+ghost use Rattle.ob_parse_expr.specs.Contract.{FailsAs};
 
-use ob_pexpr::{Cursor, ParseFault};
+use ob_parse_expr::{Cursor, ParseFault};
 use ob_tree::Symbol;
 
 fn sees_type(tokens: &Cursor<'_>) -> bool

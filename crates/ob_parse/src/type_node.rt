@@ -2,15 +2,15 @@
 
 ghost use Rattle.std.specs.Prelude.{◌≡◌};
 ghost use Rattle.ob_tree.specs.declared.symbol.Symbol.TheVariants as s;
-ghost use Rattle.ob_grammar.specs.Phrase.{AType, many};
-ghost use Rattle.ob_grammar.specs.Expressions as expr;
-ghost use Rattle.ob_grammar.specs.Types as spec;
-ghost use Rattle.ob_grammar.specs.Grammar.{reads, read};
-ghost use Rattle.ob_pexpr.specs.Contract.{Reads};
+ghost use Rattle.ob_parse_grammar.specs.Phrase.{AType, many};
+ghost use Rattle.ob_parse_grammar.specs.Expressions as expr;
+ghost use Rattle.ob_parse_grammar.specs.Types as spec;
+ghost use Rattle.ob_parse_grammar.specs.Grammar.{reads, read};
+ghost use Rattle.ob_parse_expr.specs.Contract.{Reads};
 
 use crate::heading::{base, is_var, result_type};
 use crate::start::{fault_at_type, sees_section};
-use ob_pexpr::{Cursor, ParseFault, exprs, ident_list, idents, qualident};
+use ob_parse_expr::{Cursor, ParseFault, exprs, ident_list, idents, qualident};
 use ob_tree::{Boxed, FieldList, FormalPars, List, Section, Symbol, TypeNode};
 use std::alloc::Global;
 

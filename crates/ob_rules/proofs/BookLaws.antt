@@ -5,7 +5,7 @@ use Rattle.ob_tree.specs.declared.names.QName.{QName}
 use Rattle.ob_tree.specs.declared.pos.Pos.{Pos}
 use Rattle.ob_types.specs.declared.types.TypeRef.{TypeRef}
 use Rattle.ob_types.specs.declared.typed.Designator.{Designator}
-use Rattle.ob_trees.specs.declared.designator.DesignatorTrees.{DesignatorTrees}
+use Rattle.ob_types_trees.specs.declared.designator.DesignatorTrees.{DesignatorTrees}
 use Rattle.ob_rules.specs.declared.broken.Broken.{Broken}
 use Rattle.ob_rules.specs.declared.notes.Notebook.{Notebook}
 use Rattle.ob_rules.specs.declared.notes.Later.{Later}

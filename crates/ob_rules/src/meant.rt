@@ -3,8 +3,8 @@ ghost use Rattle.std.specs.Prelude.{◌≡◌, Some};
 use crate::broken::Predeclared;
 use crate::values::{Place, Valued};
 use ob_tree::{Pos, QName};
-use ob_trees::{ExprTree, StmtTree};
 use ob_types::{Method, OutProcedure, Signature, TypeRef, Value, Width};
+use ob_types_trees::{ExprTree, StmtTree};
 
 /// A bound procedure that is selected.
 pub struct Chosen {

@@ -5,8 +5,8 @@ ghost use Rattle.ob_rules.specs.Books as books;
 
 use crate::broken::{Broken, earlier};
 use ob_tree::{Ident, List, ObjName, Pos, QName};
-use ob_trees::{DesignatorTree, DesignatorTrees};
 use ob_types::TypeRef;
+use ob_types_trees::{DesignatorTree, DesignatorTrees};
 use std::alloc::{AllocError, Global};
 
 /// What can only be judged when more of the text is known.

@@ -1,7 +1,7 @@
 ghost use Rattle.std.specs.Prelude.{◌≡◌};
 
-use ob_trees::{DesignatorTree, ExprTree};
 use ob_types::{ExprType, TypeRef, Value, Variable};
+use ob_types_trees::{DesignatorTree, ExprTree};
 
 /// A variable where it is named, with what later rules ask of it.
 pub struct Place {

@@ -12,7 +12,7 @@ use Rattle.ob_desc.specs.Grammar.{same_object}
 use Rattle.ob_layout.specs.LaidOut.{type_named, is_own, viewed}
 use Rattle.ob_env.specs.Faces.{Face, object_named, face_named, described}
 use Rattle.ob_env.specs.Fit.{count_of}
-use Rattle.ob_counts.specs.Counts.{own_name}
+use Rattle.ob_uses_roots.specs.Counts.{own_name}
 use Rattle.ob_uses.specs.Closed.{is_among}
 use Rattle.ob_uses.specs.Held.{names_in, held_names}
 use Rattle.ob_uses.proofs.Searching.{in_front, in_back, left_of, right_of}

@@ -10,7 +10,7 @@ use Rattle.ob_types.specs.declared.desc.Field.{Field}
 use Rattle.ob_types.specs.declared.desc.Method.{Method}
 use Rattle.ob_types.specs.Maps.{signature_types}
 use Rattle.ob_desc.specs.Grammar.{is_shown}
-use Rattle.ob_counts.specs.Noted.{names_of}
+use Rattle.ob_uses_roots.specs.Noted.{names_of}
 use Rattle.ob_uses.specs.Ways.{is_of, type_names}
 
 names_join : (ts us : List TypeRef) → names_of (ts ++ us) ≡ names_of ts ++ names_of us

@@ -15,8 +15,8 @@ use Rattle.ob_desc.specs.Grammar.{is_shown, seen, same_object}
 use Rattle.ob_desc.specs.Laws.{object_decides}
 use Rattle.ob_layout.specs.LaidOut.{type_named, is_own}
 use Rattle.ob_env.specs.Shown.{is_visible}
-use Rattle.ob_counts.specs.Counts.{own_name}
-use Rattle.ob_counts.specs.Noted.{names_of}
+use Rattle.ob_uses_roots.specs.Counts.{own_name}
+use Rattle.ob_uses_roots.specs.Noted.{names_of}
 use Rattle.ob_uses.specs.declared.pair.Pair.{Pair}
 use Rattle.ob_uses.specs.declared.way.Way.TheVariants as way
 use Rattle.ob_uses.specs.Closed.{is_among, of_found, reached_from}

@@ -17,8 +17,8 @@ use Rattle.ob_types.specs.AssigningTests.{described as is_described}
 use Rattle.ob_desc.specs.Grammar.{same_object}
 use Rattle.ob_desc.specs.Laws.{object_decides}
 use Rattle.ob_layout.specs.Lists.{in_order}
-use Rattle.ob_counts.specs.Counts.{Count, counts_of_module}
-use Rattle.ob_counts.specs.Noted.{names_of, shape_starts, layout_starts}
+use Rattle.ob_uses_roots.specs.Counts.{Count, counts_of_module}
+use Rattle.ob_uses_roots.specs.Noted.{names_of, shape_starts, layout_starts}
 use Rattle.ob_uses.specs.declared.pair.Pair.{Pair}
 use Rattle.ob_uses.specs.declared.way.Way.{Way}
 use Rattle.ob_uses.specs.declared.way.Way.TheVariants as way

@@ -7,7 +7,7 @@ use Rattle.ob_types.specs.TypedSyntax.{Module}
 use Rattle.ob_layout.specs.LaidOut.{viewed}
 use Rattle.ob_env.specs.Faces.{Face, described}
 use Rattle.ob_env.specs.Fit.{count_of}
-use Rattle.ob_counts.specs.Counts.{own_name}
+use Rattle.ob_uses_roots.specs.Counts.{own_name}
 use Rattle.ob_uses.specs.Ways.{AreAllNames}
 
 abbrev pub names_in : Face Print → List QName

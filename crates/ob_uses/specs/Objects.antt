@@ -20,8 +20,8 @@ use Rattle.ob_desc.specs.Grammar.{is_shown, by_place, seen}
 use Rattle.ob_layout.specs.Lists.{in_order}
 use Rattle.ob_layout.specs.LaidOut.{type_named, is_own}
 use Rattle.ob_env.specs.Shown.{is_visible}
-use Rattle.ob_counts.specs.Counts.{mode_of, own_name}
-use Rattle.ob_counts.specs.Noted.{names_of}
+use Rattle.ob_uses_roots.specs.Counts.{mode_of, own_name}
+use Rattle.ob_uses_roots.specs.Noted.{names_of}
 use Rattle.ob_uses.specs.Closed.{is_among, of_found, reached_from}
 
 -- ---- procedures

@@ -18,8 +18,8 @@ use Rattle.ob_layout.specs.LaidOut.{is_own}
 use Rattle.ob_env.specs.Faces.{Wanted}
 use Rattle.ob_uses.specs.declared.pair.Pair.{Pair}
 use Rattle.ob_uses.specs.Order.{by_pair}
-use Rattle.ob_counts.specs.Counts.{Count, counts_of_module}
-use Rattle.ob_counts.specs.Noted.{names_of, shape_starts, layout_starts}
+use Rattle.ob_uses_roots.specs.Counts.{Count, counts_of_module}
+use Rattle.ob_uses_roots.specs.Noted.{names_of, shape_starts, layout_starts}
 use Rattle.ob_uses.specs.Closed.{of_found, reached_from}
 
 -- NEAR a type: an alias's target, a pointer's base, an array's element, a record's base, and the parameter and result types of a procedure type

@@ -6,7 +6,7 @@ use Rattle.ob_tree.specs.declared.names.QName.{QName}
 use Rattle.ob_types.specs.declared.types.TypeRef.{TypeRef}
 use Rattle.ob_types.specs.declared.desc.Desc.{Desc}
 use Rattle.ob_types.specs.declared.face.Aspect.{Aspect}
-use Rattle.ob_counts.specs.Noted.{names_of}
+use Rattle.ob_uses_roots.specs.Noted.{names_of}
 use Rattle.ob_uses.specs.declared.pair.Pair.{Pair}
 use Rattle.ob_uses.specs.declared.way.Way.{Way}
 use Rattle.ob_uses.specs.declared.way.Way.TheVariants as way

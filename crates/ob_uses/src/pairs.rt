@@ -14,9 +14,9 @@ use crate::pair::Pair;
 use crate::reach::search;
 use crate::sorted::sorted_pairs;
 use crate::way::Way;
-use ob_counts::count_module;
 use ob_tree::{Name, QName};
 use ob_types::{Aspect, Desc, TypedModule, Types};
+use ob_uses_roots::count_module;
 use std::alloc::{AllocError, Global};
 use std::collections::BTreeSet;
 

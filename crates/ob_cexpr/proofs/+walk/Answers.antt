@@ -15,8 +15,8 @@ use Rattle.ob_rules.specs.Operators.{opposite, signed}
 use Rattle.ob_rules.specs.Books.{book_after}
 use Rattle.ob_rules.specs.Expressions as spec
 use Rattle.ob_rules.proofs.BookLaws.{after_none}
-use Rattle.ob_coperand.specs.Plain.{plain}
-use Rattle.ob_cround.specs.declared.opening.Opened.TheVariants as opens
+use Rattle.ob_cexpr_operand.specs.Plain.{plain}
+use Rattle.ob_cexpr_arguments.specs.declared.opening.Opened.TheVariants as opens
 use Rattle.ob_cexpr.specs.Plain.{set_judged, goes_on, visited_one}
 use Rattle.ob_cexpr.proofs.Alone.{alone_made, alone_said}
 use Rattle.ob_cexpr.proofs.Further.{further_node, further_noted, too_many_node, too_many_noted, no_parameter_node, no_parameter_noted, most_rest}

@@ -5,9 +5,9 @@ use Rattle.ob_rules.specs.Judged as judged
 use Rattle.ob_rules.specs.Calls as calls
 use Rattle.ob_rules.specs.Designators as designators
 use Rattle.ob_rules.specs.Expressions as spec
-use Rattle.ob_ccall.specs.Rows.{row_seen}
-use Rattle.ob_coperand.specs.Plain.{plain, onto}
-use Rattle.ob_cround.specs.Arguments.{parameters_asked}
+use Rattle.ob_cexpr_call.specs.Rows.{row_seen}
+use Rattle.ob_cexpr_operand.specs.Plain.{plain, onto}
+use Rattle.ob_cexpr_arguments.specs.Arguments.{parameters_asked}
 use Rattle.ob_cexpr.specs.Plain.{elements_judged, goes_on}
 use Rattle.ob_cexpr.proofs.+walk.Given as goal
 

@@ -1,5 +1,5 @@
 use Rattle.std.specs.Option.{option_copied}
-use Rattle.ob_known.specs.Scopes.{around_of}
+use Rattle.ob_cdecl_scopes.specs.Scopes.{around_of}
 use Rattle.ob_cdecl.proofs.ImportLaws.{described_ok}
 use Rattle.ob_cdecl.proofs.described.described_now.Goals as goal
 

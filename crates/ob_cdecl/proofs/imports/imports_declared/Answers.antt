@@ -1,8 +1,8 @@
 use Rattle.std.proofs.Common.{◌+◌, drop, arith}
-use Rattle.ob_known.specs.Scopes.{around_of}
+use Rattle.ob_cdecl_scopes.specs.Scopes.{around_of}
 use Rattle.ob_rules.specs.Books.{book_after}
 use Rattle.ob_rules.specs.Declarations.{imports_declared}
-use Rattle.ob_cfield.proofs.LoopLaws.{step_at, end_at}
+use Rattle.ob_cdecl_field.proofs.LoopLaws.{step_at, end_at}
 use Rattle.ob_cdecl.proofs.ImportLaws.{more_imports_around, more_imports_notes, no_more_imports_around, no_more_imports_notes}
 use Rattle.ob_cdecl.proofs.imports.imports_declared.Goals as goal
 

@@ -1,4 +1,4 @@
-use Rattle.ob_known.specs.Scopes.{around_of}
+use Rattle.ob_cdecl_scopes.specs.Scopes.{around_of}
 use Rattle.ob_rules.specs.Types.{written}
 use Rattle.ob_rules.specs.Expressions.{phrase_of}
 use Rattle.ob_cdecl.proofs.Growing.{grows_not, constant_grows_ok, type_grows_ok, variables_grow_ok}

@@ -1,8 +1,8 @@
 use Rattle.std.proofs.Common.{◌+◌, drop, refl, arith}
-use Rattle.ob_known.specs.Scopes.{around_of}
+use Rattle.ob_cdecl_scopes.specs.Scopes.{around_of}
 use Rattle.ob_rules.specs.Books.{book_after}
 use Rattle.ob_rules.specs.Declarations.{together}
-use Rattle.ob_cfield.proofs.LoopLaws.{step_at, end_at}
+use Rattle.ob_cdecl_field.proofs.LoopLaws.{step_at, end_at}
 use Rattle.ob_cdecl.specs.Seen.{contents_of}
 use Rattle.ob_cdecl.specs.Order.{plain_in_order}
 use Rattle.ob_cdecl.proofs.Growing.{grows_not, grows_on}

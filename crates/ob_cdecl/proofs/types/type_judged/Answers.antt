@@ -1,8 +1,8 @@
 use Rattle.std.proofs.Common.{◌∙◌}
 use Rattle.std.specs.Option.{option_map}
-use Rattle.ob_known.specs.Scopes.{around_of}
+use Rattle.ob_cdecl_scopes.specs.Scopes.{around_of}
 use Rattle.ob_rules.specs.Types.{written}
-use Rattle.ob_cfield.specs.Makes.{typing_of}
+use Rattle.ob_cdecl_field.specs.Makes.{typing_of}
 use Rattle.ob_cdecl.proofs.OrderLaws.{type_around_is}
 use Rattle.ob_cdecl.proofs.types.type_judged.Goals as goal
 

@@ -1,5 +1,5 @@
-use Rattle.ob_known.specs.Scopes.{around_of}
-use Rattle.ob_cfield.specs.Makes.{typing_of}
+use Rattle.ob_cdecl_scopes.specs.Scopes.{around_of}
+use Rattle.ob_cdecl_field.specs.Makes.{typing_of}
 use Rattle.ob_cdecl.specs.Seen.{contents_of}
 use Rattle.ob_cdecl.proofs.OrderLaws.{sound_around, sound_notes, sound_contents}
 use Rattle.ob_cdecl.proofs.variables.variables_sound.Goals as goal

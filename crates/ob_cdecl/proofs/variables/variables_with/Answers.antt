@@ -1,9 +1,9 @@
 use Rattle.std.proofs.Common.{◌+◌, drop, refl, arith}
 use Rattle.std.specs.Option.{option_copied}
-use Rattle.ob_known.specs.Scopes.{around_of}
+use Rattle.ob_cdecl_scopes.specs.Scopes.{around_of}
 use Rattle.ob_rules.specs.Books.{book_after}
 use Rattle.ob_rules.specs.Declarations.{together, variables_with}
-use Rattle.ob_cfield.proofs.LoopLaws.{step_at, end_at}
+use Rattle.ob_cdecl_field.proofs.LoopLaws.{step_at, end_at}
 use Rattle.ob_cdecl.specs.Seen.{contents_of}
 use Rattle.ob_cdecl.specs.Order.{typing_only}
 use Rattle.ob_cdecl.proofs.OrderLaws.{more_variables_around, more_variables_notes, more_variables_contents, no_more_variables_around, no_more_variables_notes, no_more_variables_contents}

@@ -1,6 +1,6 @@
 use Rattle.std.proofs.Common.{◌≡◌, drop}
 use Rattle.std.specs.Option.{option_copied}
-use Rattle.ob_known.specs.Scopes.{around_of}
+use Rattle.ob_cdecl_scopes.specs.Scopes.{around_of}
 use Rattle.ob_rules.specs.Books.{book_after}
 use Rattle.ob_rules.specs.Declarations.{together, variables_with}
 use Rattle.ob_cdecl.specs.Seen.{contents_of}

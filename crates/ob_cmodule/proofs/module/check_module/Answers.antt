@@ -1,4 +1,4 @@
-use Rattle.ob_known.specs.Scopes.{around_of}
+use Rattle.ob_cdecl_scopes.specs.Scopes.{around_of}
 use Rattle.ob_cmodule.proofs.ModuleLaws.{level_at, unit_at, shown_at, tree_at, broken_at}
 use Rattle.ob_cmodule.proofs.module.check_module.Goals as goal
 

@@ -1,5 +1,5 @@
 use Rattle.std.proofs.Common.{sym, ◌∙◌}
-use Rattle.ob_known.specs.Scopes.{around_of}
+use Rattle.ob_cdecl_scopes.specs.Scopes.{around_of}
 use Rattle.ob_cdecl.specs.Seen.{contents_of}
 use Rattle.ob_cmodule.specs.Wholes.{module_within, described_types}
 use Rattle.ob_cmodule.proofs.ModuleLaws.{only_contents, described_all, only_book, least_in}

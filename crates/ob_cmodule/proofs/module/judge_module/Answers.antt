@@ -2,7 +2,7 @@ use Rattle.std.proofs.Common.{◌≡◌, List, OnOk, subst}
 use Rattle.ob_tree.specs.declared.ident.Import.{Import}
 use Rattle.ob_tree.specs.declared.decl.Decl.{Decl}
 use Rattle.ob_tree.specs.declared.stmt.Stmt.{Stmt}
-use Rattle.ob_known.specs.Scopes.{around_of}
+use Rattle.ob_cdecl_scopes.specs.Scopes.{around_of}
 use Rattle.ob_rules.specs.Books.{book_after}
 use Rattle.ob_cmodule.specs.Wholes.{module_parts}
 use Rattle.ob_cmodule.proofs.module.judge_module.Goals as goal

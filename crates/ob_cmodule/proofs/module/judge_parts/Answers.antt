@@ -1,4 +1,4 @@
-use Rattle.ob_known.specs.Scopes.{around_of}
+use Rattle.ob_cdecl_scopes.specs.Scopes.{around_of}
 use Rattle.ob_cdecl.specs.Seen.{contents_of}
 use Rattle.ob_cmodule.proofs.ModuleLaws.{within_added, within_own, within_noted, imports_level}
 use Rattle.ob_cmodule.proofs.module.judge_parts.Goals as goal

@@ -1,7 +1,7 @@
 use Rattle.std.proofs.Common.{◌≡◌, ℕ, List, refl, sym, ap, subst, ◌∙◌}
 use Rattle.ob_format.specs.Format.{whole}
 use Rattle.ob_sym.specs.Grammar.{face as form}
-use Rattle.ob_walk.specs.Walk.{symbol_name}
+use Rattle.ob_env_walk.specs.Walk.{symbol_name}
 use Rattle.ob_cmp.specs.Check.{symbols_of, face_found}
 use Rattle.ob_cmp.specs.Checking.{SeesFace}
 use Rattle.ob_cmp.proofs.Finding.{none_found, some_found, long_found}

@@ -1,5 +1,5 @@
 use Rattle.std.proofs.Common.{◌≡◌, ◌++◌, map, drop}
-use Rattle.ob_compiling.specs.Compiling.{imported}
+use Rattle.ob_compile_model.specs.Compiling.{imported}
 use Rattle.ob_compile.proofs.faces.all_imported.Given as goal
 
 abbrev pub invariant-imports : goal.invariant-imports

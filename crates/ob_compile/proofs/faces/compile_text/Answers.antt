@@ -1,7 +1,7 @@
 use Rattle.std.proofs.Common.{Err, arith}
-use Rattle.ob_reading.specs.Reading.{reading}
-use Rattle.ob_walk.specs.Walk.{Missing, symbol_entry}
-use Rattle.ob_compiling.specs.Compiling.{of_reading, prints}
+use Rattle.ob_parse_text.specs.Reading.{reading}
+use Rattle.ob_env_walk.specs.Walk.{Missing, symbol_entry}
+use Rattle.ob_compile_model.specs.Compiling.{of_reading, prints}
 use Rattle.ob_compile.proofs.Answered.{made_compiles, no_folder}
 use Rattle.ob_compile.proofs.Walked.{read_as}
 use Rattle.ob_compile.proofs.faces.compile_text.Goals as goal

@@ -1,7 +1,7 @@
 use Rattle.std.proofs.Common.{◌<◌, ◌≤◌, length, map, ap, subst, ◌∙◌}
-use Rattle.ob_walk.specs.Walk.{symbol_entry, walk}
-use Rattle.ob_walk.specs.Answer.{after_walk}
-use Rattle.ob_compiling.specs.Compiling.{imported, of_reached, prints}
+use Rattle.ob_env_walk.specs.Walk.{symbol_entry, walk}
+use Rattle.ob_env_walk.specs.Answer.{after_walk}
+use Rattle.ob_compile_model.specs.Compiling.{imported, of_reached, prints}
 use Rattle.ob_compile.specs.Steps.{stood}
 use Rattle.ob_compile.proofs.Walked.{many_imports, with_imports}
 use Rattle.ob_compile.proofs.faces.compile_tree.Goals as goal

@@ -1,8 +1,8 @@
 use Rattle.std.proofs.Common.{Err, ap}
 use Rattle.ob_env.specs.Building.{stands_as}
-use Rattle.ob_walk.specs.Walk.{symbol_entry, walk}
-use Rattle.ob_compiling.specs.declared.fault.CompileFault.TheVariants as fault
-use Rattle.ob_compiling.specs.Compiling.{of_standing, prints}
+use Rattle.ob_env_walk.specs.Walk.{symbol_entry, walk}
+use Rattle.ob_compile_model.specs.declared.fault.CompileFault.TheVariants as fault
+use Rattle.ob_compile_model.specs.Compiling.{of_standing, prints}
 use Rattle.ob_compile.proofs.Answered.{made_file, made_fits, no_folder}
 use Rattle.ob_compile.proofs.Walked.{whole, same_fault}
 use Rattle.ob_compile.proofs.faces.compile_with.Goals as goal

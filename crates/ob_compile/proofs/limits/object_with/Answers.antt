@@ -1,6 +1,6 @@
 use Rattle.std.proofs.Common.{true, false, ap, ◌∙◌}
 use Rattle.std.specs.List.{flat_map}
-use Rattle.ob_compiling.specs.Compiling.{object_exports}
+use Rattle.ob_compile_model.specs.Compiling.{object_exports}
 use Rattle.ob_compile.proofs.Limited.{same_err}
 use Rattle.ob_compile.proofs.Sized.{object_made, short_made}
 use Rattle.ob_compile.proofs.limits.object_with.Goals as goal

@@ -1,6 +1,6 @@
 use Rattle.std.proofs.Common.{◌≡◌, ◌++◌, drop}
 use Rattle.std.specs.List.{flat_map}
-use Rattle.ob_compiling.specs.Compiling.{object_exports}
+use Rattle.ob_compile_model.specs.Compiling.{object_exports}
 use Rattle.ob_compile.proofs.shown.exports_of.Given as goal
 
 abbrev pub invariant-objects : goal.invariant-objects

@@ -4,8 +4,8 @@ use Rattle.ob_rules.specs.Books.{book_after}
 use Rattle.ob_rules.specs.Expressions as exprs
 use Rattle.ob_rules.specs.Statements as spec
 use Rattle.ob_rules.proofs.BookLaws.{after_none}
-use Rattle.ob_cparts.specs.Seen.{rejoined}
-use Rattle.ob_cparts.proofs.RowSteps.{begins, ends}
+use Rattle.ob_cstmt_parts.specs.Seen.{rejoined}
+use Rattle.ob_cstmt_parts.proofs.RowSteps.{begins, ends}
 use Rattle.ob_cstmt.proofs.Steps.{map_from, map_over, labels_step}
 use Rattle.ob_cstmt.proofs.labels.check_labels.Goals as goal
 

@@ -2,7 +2,7 @@ use Rattle.std.proofs.Common.{◌≡◌, drop, map}
 use Rattle.ob_rules.specs.Books.{book_after}
 use Rattle.ob_rules.specs.Expressions as exprs
 use Rattle.ob_rules.specs.Statements as spec
-use Rattle.ob_cparts.specs.Seen.{rejoined}
+use Rattle.ob_cstmt_parts.specs.Seen.{rejoined}
 use Rattle.ob_cstmt.proofs.labels.check_labels.Given as goal
 
 abbrev pub invariant-labels : goal.invariant-labels

@@ -3,7 +3,7 @@ use Rattle.ob_types.specs.declared.typed.TypedStmt.TheVariants as typed
 use Rattle.ob_rules.specs.Judged.{if_sound, paired}
 use Rattle.ob_rules.specs.Statements as spec
 use Rattle.ob_rules.specs.Values.{tree}
-use Rattle.ob_cparts.specs.Seen.{cases_in, else_in}
+use Rattle.ob_cstmt_parts.specs.Seen.{cases_in, else_in}
 use Rattle.ob_cstmt.proofs.Steps.{alone_made}
 use Rattle.ob_cstmt.proofs.single.case_alone.Goals as goal
 

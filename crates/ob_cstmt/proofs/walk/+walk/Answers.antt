@@ -13,8 +13,8 @@ use Rattle.ob_rules.specs.Expressions as exprs
 use Rattle.ob_rules.specs.Statements as spec
 use Rattle.ob_rules.proofs.BookLaws.{after_none}
 use Rattle.ob_rules.proofs.RowLaws.{made_noted}
-use Rattle.ob_cparts.specs.Seen.{expr_in, test_in, stmts_in, branches_in, cases_in, else_in, rejoined}
-use Rattle.ob_cparts.proofs.RowSteps.{begins, ends}
+use Rattle.ob_cstmt_parts.specs.Seen.{expr_in, test_in, stmts_in, branches_in, cases_in, else_in, rejoined}
+use Rattle.ob_cstmt_parts.proofs.RowSteps.{begins, ends}
 use Rattle.ob_cstmt.proofs.Steps.{alone_made, noted_as, map_from, map_over, always, pair_made, pair_noted, some_made, stmts_step, branches_step, guarded_step, cases_step, unguarded, loop_made, loop_noted, left_loop, for_is, for_says, case_of_parts, case_says}
 use Rattle.ob_cstmt.proofs.StmtViews.{judging_empty, judging_call, judging_assign, judging_if, judging_case, judging_while, judging_repeat, judging_for, judging_loop, judging_exit, judging_return, judging_with, conditional_is, labelled_is, guarded_is}
 use Rattle.ob_cstmt.proofs.walk.+walk.Goals as goal

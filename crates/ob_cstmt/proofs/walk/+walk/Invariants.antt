@@ -1,7 +1,7 @@
 use Rattle.std.proofs.Common.{◌≡◌, drop, map, [], ◌+◌, ◌*◌}
 use Rattle.ob_rules.specs.Books.{book_after}
 use Rattle.ob_rules.specs.Statements as spec
-use Rattle.ob_cparts.specs.Seen.{stmts_in, branches_in, cases_in, rejoined}
+use Rattle.ob_cstmt_parts.specs.Seen.{stmts_in, branches_in, cases_in, rejoined}
 use Rattle.ob_cstmt.proofs.walk.+walk.Given as goal
 
 -- what came before, and the rest behind it, is the whole; what stands around is as it was

@@ -4,9 +4,9 @@ use Rattle.std.specs.List.{All}
 use Rattle.std.proofs.lemmas.List.Elements.{All-push}
 use Rattle.ob_types.specs.declared.typed.TypedExpr.{size-TypedExpr}
 use Rattle.ob_types.specs.TypedView.{expr_view}
-use Rattle.ob_code.specs.declared.want.Want.TheVariants as want
-use Rattle.ob_code.specs.Coded.{appended, place_in}
-use Rattle.ob_code.specs.Expressions.{expr_code}
+use Rattle.ob_scheme.specs.declared.want.Want.TheVariants as want
+use Rattle.ob_scheme.specs.Coded.{appended, place_in}
+use Rattle.ob_scheme.specs.Expressions.{expr_code}
 use Rattle.ob_gexpr.specs.Chains.{with_operator, outward}
 use Rattle.ob_gexpr.proofs.Links.{inward_turn, operator_more, operator_end}
 use Rattle.ob_gexpr.proofs.exprs.operators_of.Goals as goal

@@ -2,9 +2,9 @@ use Rattle.std.proofs.Common.{◌≡◌, ◌≤◌}
 use Rattle.std.specs.List.{All}
 use Rattle.ob_types.specs.declared.typed.TypedExpr.{size-TypedExpr}
 use Rattle.ob_types.specs.TypedView.{expr_view}
-use Rattle.ob_code.specs.Context.{Context}
-use Rattle.ob_code.specs.Coded.{Coded, appended, place_in}
-use Rattle.ob_code.specs.Expressions.{expr_code}
+use Rattle.ob_scheme.specs.Context.{Context}
+use Rattle.ob_scheme.specs.Coded.{Coded, appended, place_in}
+use Rattle.ob_scheme.specs.Expressions.{expr_code}
 use Rattle.ob_gexpr.specs.Chains.{with_operator, outward}
 use Rattle.ob_gexpr.proofs.exprs.operators_of.Given as goal
 

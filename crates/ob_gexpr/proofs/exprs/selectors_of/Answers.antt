@@ -4,9 +4,9 @@ use Rattle.std.proofs.lemmas.List.Elements.{All-push}
 use Rattle.ob_types.specs.declared.typed.Designator.{size-Designator}
 use Rattle.ob_types.specs.declared.typed.Designator.TheViews.{sized-Field, sized-Index, sized-Deref, sized-Guard}
 use Rattle.ob_types.specs.TypedView.{designator_view}
-use Rattle.ob_code.specs.declared.want.Want.TheVariants as want
-use Rattle.ob_code.specs.Coded.{appended, place_in}
-use Rattle.ob_code.specs.Expressions.{desig_code}
+use Rattle.ob_scheme.specs.declared.want.Want.TheVariants as want
+use Rattle.ob_scheme.specs.Coded.{appended, place_in}
+use Rattle.ob_scheme.specs.Expressions.{desig_code}
 use Rattle.ob_gexpr.specs.Chains.{with_selector, outward}
 use Rattle.ob_gexpr.proofs.Links.{inward_turn, field_step, index_step, deref_step, guard_step, variable_step}
 use Rattle.ob_gexpr.proofs.exprs.selectors_of.Goals as goal

@@ -2,9 +2,9 @@ use Rattle.std.proofs.Common.{◌≡◌, ◌≤◌}
 use Rattle.std.specs.List.{All}
 use Rattle.ob_types.specs.declared.typed.Designator.{size-Designator}
 use Rattle.ob_types.specs.TypedView.{designator_view}
-use Rattle.ob_code.specs.Context.{Context}
-use Rattle.ob_code.specs.Coded.{Coded, appended, place_in}
-use Rattle.ob_code.specs.Expressions.{desig_code}
+use Rattle.ob_scheme.specs.Context.{Context}
+use Rattle.ob_scheme.specs.Coded.{Coded, appended, place_in}
+use Rattle.ob_scheme.specs.Expressions.{desig_code}
 use Rattle.ob_gexpr.specs.Chains.{with_selector, outward}
 use Rattle.ob_gexpr.proofs.exprs.selectors_of.Given as goal
 

@@ -1,6 +1,6 @@
 use Rattle.std.proofs.Common.{◌≡◌, drop}
 use Rattle.ob_types.specs.TypedView.{module_view}
-use Rattle.ob_code.specs.Object.{with_bases}
+use Rattle.ob_scheme.specs.Object.{with_bases}
 use Rattle.ob_gproc.specs.Named.{with_types}
 use Rattle.ob_gproc.proofs.bases.name_bases.Given as goal
 

@@ -1,8 +1,8 @@
 use Rattle.std.specs.Prelude.{map}
 use Rattle.std.proofs.Common.{◌≡◌, ◌++◌, ◌∙◌, ap}
 use Rattle.ob_types.specs.TypedView.{procedure_view, module_view}
-use Rattle.ob_code.specs.Coded.{appended, place_in}
-use Rattle.ob_code.specs.Procedures.{procedures_code, rows_of}
+use Rattle.ob_scheme.specs.Coded.{appended, place_in}
+use Rattle.ob_scheme.specs.Procedures.{procedures_code, rows_of}
 use Rattle.ob_gproc.proofs.Counting.{module_put, module_rows_put}
 use Rattle.ob_gproc.proofs.code.put_module.Goals as goal
 

@@ -1,7 +1,7 @@
 use Rattle.std.proofs.Common.{◌≡◌, subst}
 use Rattle.ob_types.specs.TypedView.{procedure_view, module_view}
-use Rattle.ob_code.specs.Coded.{appended, place_in}
-use Rattle.ob_code.specs.Procedures.{procedure_code, row_of}
+use Rattle.ob_scheme.specs.Coded.{appended, place_in}
+use Rattle.ob_scheme.specs.Procedures.{procedure_code, row_of}
 use Rattle.ob_gproc.proofs.Counting.{procedures_turn, rows_turn, procedures_over}
 use Rattle.ob_gproc.proofs.code.put_procedures.Goals as goal
 

@@ -1,6 +1,6 @@
 use Rattle.std.proofs.Common.{◌≡◌, ◌∷◌, [], ◌++◌, subst}
 use Rattle.ob_types.specs.TypedView.{procedure_view, module_view}
-use Rattle.ob_code.specs.Object.{commands_among}
+use Rattle.ob_scheme.specs.Object.{commands_among}
 use Rattle.ob_gproc.proofs.Exporting.{commands_turn, commands_over}
 use Rattle.ob_gproc.proofs.exported.commands_in.Goals as goal
 

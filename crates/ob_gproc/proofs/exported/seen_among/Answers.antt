@@ -1,6 +1,6 @@
 use Rattle.std.proofs.Common.{◌≡◌, ◌∷◌, [], ◌++◌, subst}
 use Rattle.ob_types.specs.TypedView.{module_view}
-use Rattle.ob_code.specs.Object.{seen_variables}
+use Rattle.ob_scheme.specs.Object.{seen_variables}
 use Rattle.ob_gproc.proofs.Exporting.{seen_turn}
 use Rattle.ob_gproc.proofs.exported.seen_among.Goals as goal
 

@@ -1,6 +1,6 @@
 use Rattle.std.proofs.Common.{◌≡◌, ◌++◌, drop}
 use Rattle.ob_types.specs.TypedView.{module_view}
-use Rattle.ob_code.specs.Object.{seen_variables}
+use Rattle.ob_scheme.specs.Object.{seen_variables}
 use Rattle.ob_gproc.proofs.exported.seen_among.Given as goal
 
 -- those so far, and those of the rest

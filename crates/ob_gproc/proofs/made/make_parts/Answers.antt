@@ -1,7 +1,7 @@
 use Rattle.std.proofs.Common.{◌≡◌, ◌∙◌, ap}
 use Rattle.ob_types.specs.TypedView.{module_view}
-use Rattle.ob_code.specs.Object.{records_in, type_links}
-use Rattle.ob_gcode.specs.Parts.{parts_of}
+use Rattle.ob_scheme.specs.Object.{records_in, type_links}
+use Rattle.ob_gexpr_code.specs.Parts.{parts_of}
 use Rattle.ob_gproc.proofs.Filing.{coded_types}
 use Rattle.ob_gproc.specs.declared.made.Made.{Made}
 use Rattle.ob_gproc.proofs.made.make_parts.Goals as goal

@@ -1,6 +1,6 @@
 use Rattle.std.proofs.Common.{◌≡◌, ◌∷◌, [], ◌++◌, subst}
 use Rattle.ob_types.specs.TypedView.{procedure_view, module_view}
-use Rattle.ob_code.specs.Object.{definitions_among}
+use Rattle.ob_scheme.specs.Object.{definitions_among}
 use Rattle.ob_gproc.proofs.Exporting.{definitions_turn, definitions_over}
 use Rattle.ob_gproc.proofs.records.definitions_in.Goals as goal
 

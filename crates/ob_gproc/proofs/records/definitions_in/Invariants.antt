@@ -1,7 +1,7 @@
 use Rattle.std.specs.Prelude.{map}
 use Rattle.std.proofs.Common.{◌≡◌, ◌++◌, drop}
 use Rattle.ob_types.specs.TypedView.{procedure_view, module_view}
-use Rattle.ob_code.specs.Object.{definitions_among}
+use Rattle.ob_scheme.specs.Object.{definitions_among}
 use Rattle.ob_gproc.proofs.records.definitions_in.Given as goal
 
 -- those so far, and those of the rest

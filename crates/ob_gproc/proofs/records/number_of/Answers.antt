@@ -1,7 +1,7 @@
 use Rattle.std.proofs.Common.{sym, ap, ◌∙◌}
 use Rattle.std.specs.Prelude.{unwrap_or}
 use Rattle.ob_layout.specs.Members.{method_number_in}
-use Rattle.ob_code.proofs.Descriptions.{method_number_is}
+use Rattle.ob_scheme.proofs.Descriptions.{method_number_is}
 use Rattle.ob_gproc.proofs.records.number_of.Goals as goal
 
 pub returns : goal.returns

@@ -1,6 +1,6 @@
 use Rattle.std.proofs.Common.{◌≡◌, ◌++◌, subst}
 use Rattle.ob_types.specs.TypedView.{module_view}
-use Rattle.ob_code.specs.Object.{record_in}
+use Rattle.ob_scheme.specs.Object.{record_in}
 use Rattle.ob_gproc.proofs.Exporting.{records_turn}
 use Rattle.ob_gproc.proofs.records.records_in.Goals as goal
 

@@ -1,6 +1,6 @@
 use Rattle.std.proofs.Common.{◌≡◌, ◌++◌, drop}
 use Rattle.ob_types.specs.TypedView.{module_view}
-use Rattle.ob_code.specs.Object.{records_in}
+use Rattle.ob_scheme.specs.Object.{records_in}
 use Rattle.ob_gproc.proofs.records.records_in.Given as goal
 
 -- those so far, and those of the rest

@@ -1,6 +1,6 @@
 use Rattle.std.proofs.Common.{ap, sym, ◌∙◌}
 use Rattle.ob_types.specs.declared.typed.TypedType.{TypedType}
-use Rattle.ob_code.specs.Context.{is_record}
+use Rattle.ob_scheme.specs.Context.{is_record}
 use Rattle.ob_gproc.proofs.Placing.{types_turn, types_past}
 use Rattle.ob_gproc.proofs.tables.places_of_types.Goals as goal
 use Rattle.ob_gproc.proofs.tables.places_of_types.Goals.{then-is_record+in_ok-places, else-is_record}

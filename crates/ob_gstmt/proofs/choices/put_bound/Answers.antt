@@ -1,9 +1,9 @@
 use Rattle.std.proofs.Common.{[], ◌∷◌}
 use Rattle.std.proofs.lemmas.Result.{on_ok_weaker}
 use Rattle.ob_instr.specs.declared.opcode.Opcode.TheVariants as op
-use Rattle.ob_code.specs.Lines.{Number, plain, bare, jump_if_false}
-use Rattle.ob_code.specs.Statements.{word_at}
-use Rattle.ob_code.proofs.Appends.{put_two}
+use Rattle.ob_scheme.specs.Lines.{Number, plain, bare, jump_if_false}
+use Rattle.ob_scheme.specs.Statements.{word_at}
+use Rattle.ob_scheme.proofs.Appends.{put_two}
 use Rattle.ob_gstmt.proofs.choices.put_bound.Goals as goal
 
 pub returns : goal.returns

@@ -1,10 +1,10 @@
 use Rattle.std.proofs.Common.{◌≡◌, ℕ, List, [], ◌∷◌, arith, ap, ◌∙◌}
 use Rattle.std.proofs.lemmas.Result.{on_ok_weaker}
 use Rattle.ob_instr.specs.declared.opcode.Opcode.TheVariants as op
-use Rattle.ob_code.specs.Lines.{Line, Number, plain, bare, count, jump, jump_if_false}
-use Rattle.ob_code.specs.Coded.{appended, place_in}
-use Rattle.ob_code.specs.Statements.{end_label}
-use Rattle.ob_code.proofs.Appends.{put_three}
+use Rattle.ob_scheme.specs.Lines.{Line, Number, plain, bare, count, jump, jump_if_false}
+use Rattle.ob_scheme.specs.Coded.{appended, place_in}
+use Rattle.ob_scheme.specs.Statements.{end_label}
+use Rattle.ob_scheme.proofs.Appends.{put_three}
 use Rattle.ob_gstmt.proofs.choices.put_label.Goals as goal
 
 pub returns : goal.returns

@@ -1,6 +1,6 @@
 use Rattle.std.proofs.Common.{◌≡◌, drop}
-use Rattle.ob_code.specs.Coded.{appended, place_in}
-use Rattle.ob_code.specs.Statements.{labels_code}
+use Rattle.ob_scheme.specs.Coded.{appended, place_in}
+use Rattle.ob_scheme.specs.Statements.{labels_code}
 use Rattle.ob_gstmt.proofs.choices.put_labels.Given as goal
 
 -- what was put, and the rest after it, is the whole

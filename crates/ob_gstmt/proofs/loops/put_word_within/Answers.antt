@@ -1,8 +1,8 @@
 use Rattle.std.proofs.Common.{[], ◌∷◌}
 use Rattle.std.proofs.lemmas.Result.{on_ok_weaker}
-use Rattle.ob_code.specs.Lines.{bare}
-use Rattle.ob_code.specs.Statements.{word_at, within}
-use Rattle.ob_code.proofs.Appends.{put_two}
+use Rattle.ob_scheme.specs.Lines.{bare}
+use Rattle.ob_scheme.specs.Statements.{word_at, within}
+use Rattle.ob_scheme.proofs.Appends.{put_two}
 use Rattle.ob_gstmt.proofs.loops.put_word_within.Goals as goal
 
 pub returns : goal.returns

@@ -3,11 +3,11 @@ use Rattle.std.proofs.lemmas.Result.{on_ok_weaker, IfOk-weaker}
 use Rattle.ob_types.specs.TypedSyntax.{If, Case, Loop, With, Branch, NoBranch, OneCase, NoCase}
 use Rattle.ob_types.specs.TypedView.{expr_view, stmt_view, stmts_view, branches_view, cases_view, otherwise_view}
 use Rattle.ob_types.proofs.TypedViews.{view_assign, view_call_proper, view_updated, view_copy, view_new, view_new_open_array, view_assert, view_halt, view_if, view_while, view_repeat, view_for, view_loop, view_exit, view_return}
-use Rattle.ob_code.specs.Coded.{appended, place_in}
-use Rattle.ob_code.specs.Statements.{stmt_code, stmts_code, branches_code, cases_code, labels_code, end_labels, end_stmt, next_stmt, next_stmts, next_branches, next_cases, next_else, else_code}
-use Rattle.ob_code.proofs.Views.{view_case, view_with}
-use Rattle.ob_code.proofs.Puts.{while_put, stmts_turn, stmts_over, hidden_turn, hidden_over}
-use Rattle.ob_ends.proofs.Behinds.{labels_behind}
+use Rattle.ob_scheme.specs.Coded.{appended, place_in}
+use Rattle.ob_scheme.specs.Statements.{stmt_code, stmts_code, branches_code, cases_code, labels_code, end_labels, end_stmt, next_stmt, next_stmts, next_branches, next_cases, next_else, else_code}
+use Rattle.ob_scheme.proofs.Views.{view_case, view_with}
+use Rattle.ob_scheme.proofs.Puts.{while_put, stmts_turn, stmts_over, hidden_turn, hidden_over}
+use Rattle.ob_gstmt_labels.proofs.Behinds.{labels_behind}
 use Rattle.ob_gstmt.proofs.StmtPuts.{repeat_put, loop_put, if_put, with_put, case_put, for_put, branch_put, branches_turn, branches_next, branches_over, branches_next_over, case_one_put, cases_turn, cases_next, cases_over, cases_next_over}
 use Rattle.ob_gstmt.proofs.stmts.+put_stmt.Goals as goal
 

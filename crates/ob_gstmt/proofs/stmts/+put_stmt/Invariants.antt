@@ -1,7 +1,7 @@
 use Rattle.std.proofs.Common.{◌≡◌, drop}
 use Rattle.ob_types.specs.TypedView.{stmts_view, branches_view, cases_view}
-use Rattle.ob_code.specs.Coded.{appended, place_in}
-use Rattle.ob_code.specs.Statements.{stmts_code, branches_code, cases_code, next_stmts, next_branches, next_cases}
+use Rattle.ob_scheme.specs.Coded.{appended, place_in}
+use Rattle.ob_scheme.specs.Statements.{stmts_code, branches_code, cases_code, next_stmts, next_branches, next_cases}
 use Rattle.ob_gstmt.proofs.stmts.+put_stmt.Given as goal
 
 -- what was put, and the rest after it, is the whole; so are the words of FOR and CASE

@@ -1,7 +1,7 @@
 use Rattle.std.proofs.Common.{◌≡◌, ap, ◌∙◌}
 use Rattle.std.proofs.lemmas.Result.{IfOk-weaker}
 use Rattle.ob_types.specs.declared.types.TypeRef.TheVariants as ref
-use Rattle.ob_code.specs.Context.{words}
+use Rattle.ob_scheme.specs.Context.{words}
 use Rattle.ob_gstmt.proofs.straight.record_words.Goals as goal
 
 pub returns-clause-is : goal.returns-clause-is

@@ -1,6 +1,6 @@
 use Rattle.std.proofs.Common.{◌≡◌, ◌≤◌, ◌<◌, ◌^◌, length, None}
-use Rattle.ob_effect.specs.Bases.{AreBelow}
-use Rattle.ob_several.specs.Points.{IsHere}
+use Rattle.ob_machine_step.specs.Bases.{AreBelow}
+use Rattle.ob_machine_fused.specs.Points.{IsHere}
 use Rattle.ob_machine.specs.Legs.{LegDoes, CanRun, left_of}
 use Rattle.ob_machine.proofs.running.run_in_module.Given as goal
 

@@ -1,8 +1,8 @@
 use Rattle.std.proofs.Common.{length}
-use Rattle.ob_grammar.specs.Phrase.{many}
-use Rattle.ob_grammar.specs.Declarations as spec
-use Rattle.ob_grammar.specs.Grammar.{reads}
-use Rattle.ob_grammar.proofs.Loops.{GoesOn}
+use Rattle.ob_parse_grammar.specs.Phrase.{many}
+use Rattle.ob_parse_grammar.specs.Declarations as spec
+use Rattle.ob_parse_grammar.specs.Grammar.{reads}
+use Rattle.ob_parse_grammar.proofs.Loops.{GoesOn}
 use Rattle.ob_parse.proofs.decl.more_constants.Given as goal
 
 abbrev pub invariant-more : goal.invariant-more

@@ -1,8 +1,8 @@
 use Rattle.std.proofs.Common.{◌∙◌, sym}
-use Rattle.ob_grammar.specs.Phrase.{many}
-use Rattle.ob_grammar.specs.Declarations as spec
-use Rattle.ob_grammar.specs.Grammar.{reads}
-use Rattle.ob_grammar.proofs.Loops.{on_turn}
+use Rattle.ob_parse_grammar.specs.Phrase.{many}
+use Rattle.ob_parse_grammar.specs.Declarations as spec
+use Rattle.ob_parse_grammar.specs.Grammar.{reads}
+use Rattle.ob_parse_grammar.proofs.Loops.{on_turn}
 use Rattle.ob_parse.proofs.Turns.{takes_named_type, named_type_starts}
 use Rattle.ob_parse.proofs.decl.more_types.Goals as goal
 

@@ -1,9 +1,9 @@
 use Rattle.std.proofs.Common.{length}
 use Rattle.ob_tree.specs.declared.symbol.Symbol.TheVariants as s
-use Rattle.ob_grammar.specs.Expressions as expr
-use Rattle.ob_grammar.specs.Declarations as spec
-use Rattle.ob_grammar.specs.Grammar.{reads}
-use Rattle.ob_grammar.proofs.Loops.{GoesOn}
+use Rattle.ob_parse_grammar.specs.Expressions as expr
+use Rattle.ob_parse_grammar.specs.Declarations as spec
+use Rattle.ob_parse_grammar.specs.Grammar.{reads}
+use Rattle.ob_parse_grammar.proofs.Loops.{GoesOn}
 use Rattle.ob_parse.proofs.imports.import_items.Given as goal
 
 abbrev pub invariant-more : goal.invariant-more

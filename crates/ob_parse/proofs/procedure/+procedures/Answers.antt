@@ -1,8 +1,8 @@
 use Rattle.std.proofs.Common.{◌≡◌, ◌∙◌, ◌≤◌, sym, arith}
-use Rattle.ob_grammar.specs.Phrase.{many}
-use Rattle.ob_grammar.specs.Declarations as spec
-use Rattle.ob_grammar.specs.Grammar.{reads}
-use Rattle.ob_grammar.proofs.Loops.{on_turn}
+use Rattle.ob_parse_grammar.specs.Phrase.{many}
+use Rattle.ob_parse_grammar.specs.Declarations as spec
+use Rattle.ob_parse_grammar.specs.Grammar.{reads}
+use Rattle.ob_parse_grammar.proofs.Loops.{on_turn}
 use Rattle.ob_parse.proofs.Turns.{takes_procedure_item, procedure_item_starts, fork_deep, fork_on}
 use Rattle.ob_parse.proofs.procedure.+procedures.Goals as goal
 

@@ -1,8 +1,8 @@
 use Rattle.std.proofs.Common.{◌+◌, ◌*◌, length}
-use Rattle.ob_grammar.specs.Phrase.{many}
-use Rattle.ob_grammar.specs.Declarations as spec
-use Rattle.ob_grammar.specs.Grammar.{reads}
-use Rattle.ob_grammar.proofs.Loops.{GoesOn}
+use Rattle.ob_parse_grammar.specs.Phrase.{many}
+use Rattle.ob_parse_grammar.specs.Declarations as spec
+use Rattle.ob_parse_grammar.specs.Grammar.{reads}
+use Rattle.ob_parse_grammar.proofs.Loops.{GoesOn}
 use Rattle.ob_parse.proofs.procedure.+procedures.Given as goal
 
 abbrev pub decreases-forked : goal.decreases-forked

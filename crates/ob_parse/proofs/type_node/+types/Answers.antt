@@ -1,10 +1,10 @@
 use Rattle.std.proofs.Common.{◌∙◌, ◌≤◌, sym, arith}
 use Rattle.ob_tree.specs.declared.symbol.Symbol.TheVariants as s
-use Rattle.ob_grammar.specs.Phrase.{AType, many}
-use Rattle.ob_grammar.specs.Expressions as expr
-use Rattle.ob_grammar.specs.Types as types
-use Rattle.ob_grammar.specs.Grammar.{reads}
-use Rattle.ob_grammar.proofs.Loops.{on_turn, join_turn, deeper, next_starts}
+use Rattle.ob_parse_grammar.specs.Phrase.{AType, many}
+use Rattle.ob_parse_grammar.specs.Expressions as expr
+use Rattle.ob_parse_grammar.specs.Types as types
+use Rattle.ob_parse_grammar.specs.Grammar.{reads}
+use Rattle.ob_parse_grammar.proofs.Loops.{on_turn, join_turn, deeper, next_starts}
 use Rattle.ob_parse.proofs.Turns.{takes_section, takes_field_list, joins_first, separated_first}
 use Rattle.ob_parse.proofs.type_node.+types.Goals as goal
 

@@ -1,10 +1,10 @@
 use Rattle.std.proofs.Common.{◌+◌, ◌*◌, length}
 use Rattle.ob_tree.specs.declared.symbol.Symbol.TheVariants as s
-use Rattle.ob_grammar.specs.Phrase.{many}
-use Rattle.ob_grammar.specs.Expressions as expr
-use Rattle.ob_grammar.specs.Types as types
-use Rattle.ob_grammar.specs.Grammar.{reads}
-use Rattle.ob_grammar.proofs.Loops.{GoesOn, JoinsOn}
+use Rattle.ob_parse_grammar.specs.Phrase.{many}
+use Rattle.ob_parse_grammar.specs.Expressions as expr
+use Rattle.ob_parse_grammar.specs.Types as types
+use Rattle.ob_parse_grammar.specs.Grammar.{reads}
+use Rattle.ob_parse_grammar.proofs.Loops.{GoesOn, JoinsOn}
 use Rattle.ob_parse.proofs.type_node.+types.Given as goal
 
 abbrev pub decreases-nested_type : goal.decreases-nested_type

@@ -4,7 +4,7 @@ use Rattle.ob_types.specs.Relations.{is_record}
 use Rattle.ob_types.specs.AssigningTests.{described as is_described}
 use Rattle.ob_types.specs.TypedView.{module_view}
 use Rattle.ob_layout.specs.Lists.{in_order}
-use Rattle.ob_counts.specs.Noted.{noted}
+use Rattle.ob_uses_roots.specs.Noted.{noted}
 use Rattle.ob_uses.specs.Order.{by_pair}
 use Rattle.ob_uses.specs.Ways.{is_foreign}
 use Rattle.ob_uses.proofs.Pairing.{pairs_are}

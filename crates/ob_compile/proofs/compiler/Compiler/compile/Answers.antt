@@ -1,6 +1,6 @@
 use Rattle.std.proofs.Common.{Err, ap, ◌∙◌}
-use Rattle.ob_walk.specs.Walk.{symbol_entry}
-use Rattle.ob_compiling.specs.declared.fault.CompileFault.TheVariants as fault
+use Rattle.ob_env_walk.specs.Walk.{symbol_entry}
+use Rattle.ob_compile_model.specs.declared.fault.CompileFault.TheVariants as fault
 use Rattle.ob_compile.proofs.Sourced.{then_text}
 use Rattle.ob_compile.proofs.Walked.{same_fault}
 use Rattle.ob_compile.proofs.compiler.Compiler.compile.Goals as goal

@@ -2,7 +2,7 @@ use Rattle.std.proofs.Common.{◌≡◌, ◌∙◌, ap, sym, unwrap_or, arith}
 use Rattle.std.specs.Prelude.{pos}
 use Rattle.std.specs.Int.{w32}
 use Rattle.std.proofs.lemmas.Int.{to_z_pos}
-use Rattle.ob_code.proofs.Descriptions.{field_place_is}
+use Rattle.ob_scheme.proofs.Descriptions.{field_place_is}
 use Rattle.ob_gproc.proofs.scope.ProcedureScopeScope.field_place.Goals as goal
 
 pub returns : goal.returns

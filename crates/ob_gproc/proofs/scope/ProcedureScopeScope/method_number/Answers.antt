@@ -2,7 +2,7 @@ use Rattle.std.proofs.Common.{◌≡◌, ◌∙◌, ap, sym, unwrap_or, arith}
 use Rattle.std.specs.Prelude.{pos}
 use Rattle.std.specs.Int.{w32}
 use Rattle.std.proofs.lemmas.Int.{to_z_pos}
-use Rattle.ob_code.proofs.Descriptions.{method_number_is}
+use Rattle.ob_scheme.proofs.Descriptions.{method_number_is}
 use Rattle.ob_gproc.proofs.scope.ProcedureScopeScope.method_number.Goals as goal
 
 pub returns : goal.returns

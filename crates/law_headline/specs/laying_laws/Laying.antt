@@ -1,0 +1,8 @@
+-- Builds that are loaded together are laid out, each over those before it: the law.
+use Rattle.ob_shell_model.specs.Laws.{Locality, BuildsAreWritten}
+use Rattle.law_headline.specs.ruled_laws.Ruled.{BuildsAreRuled}
+use Rattle.law_headline.specs.Loaded.{LoadedAreLaid}
+
+-- So they are where valid builds are ruled, and the same against other interfaces that have the texts of their uses.
+abbrev pub LoadedLaid : Type 0
+LoadedLaid = BuildsAreWritten → BuildsAreRuled → Locality → LoadedAreLaid

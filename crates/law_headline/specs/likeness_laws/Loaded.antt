@@ -1,0 +1,10 @@
+-- The bound procedures of builds that are loaded together: the law.
+use Rattle.ob_shell_model.specs.Laws.{Locality, BuildsAreWritten}
+use Rattle.law_program_image.specs.Premises.{TypesDiffer, LoadedAreSound}
+use Rattle.law_headline.specs.Loaded.{LoadedAreWhole}
+use Rattle.law_headline.specs.inherited_laws.Laws.{LoadedAreLike}
+use Rattle.law_headline.specs.pointed_laws.Pointed.{LoadedShowBases}
+
+-- THE BOUND PROCEDURES of each module of builds that are loaded together are like the methods of their families.
+abbrev pub LoadedLike : Type 0
+LoadedLike = BuildsAreWritten → Locality → TypesDiffer → LoadedAreSound → LoadedAreWhole → LoadedShowBases → LoadedAreLike

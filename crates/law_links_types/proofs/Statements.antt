@@ -1,0 +1,336 @@
+-- Statements name record types.
+use Rattle.std.proofs.Common.{◌≡◌, Bool, true, false, List, [], ◌∷◌, ◌++◌, map, Option, Some, None, refl, sym, subst}
+use Rattle.std.specs.Prelude.{ℤ, ◌&&◌, is_some}
+use Rattle.std.specs.List.{AllByRecursion}
+use Rattle.ob_tree.specs.declared.pos.Pos.{Pos}
+use Rattle.ob_tree.specs.declared.names.QName.{QName}
+use Rattle.ob_tree.specs.declared.ident.Ident.{Ident}
+use Rattle.ob_tree.specs.declared.stmt.Guard.{Guard}
+use Rattle.ob_types.specs.declared.types.TypeRef.{TypeRef}
+use Rattle.ob_types.specs.declared.types.Signature.{Signature}
+use Rattle.ob_types.specs.declared.typed.Label.{Label}
+use Rattle.ob_types.specs.declared.typed.Variable.{Variable}
+use Rattle.ob_types.specs.declared.typed.Guarded.{Guarded}
+use Rattle.ob_types.specs.declared.typed.Guarded.TheVariants as guarded
+use Rattle.ob_types.specs.declared.typed.TypedExpr.{TypedExpr}
+use Rattle.ob_types.specs.declared.typed.TypedExpr.TheVariants as e
+use Rattle.ob_types.specs.declared.typed.TypedStmt.{TypedStmt}
+use Rattle.ob_types.specs.declared.typed.TypedStmt.TheVariants as stmt
+use Rattle.ob_types.specs.declared.typed.TypedStmt.TheFolds.{fold-roll-TypedBranch, fold-roll-TypedCase}
+use Rattle.ob_types.specs.declared.typed.TypedBranch.{TypedBranch}
+use Rattle.ob_types.specs.declared.typed.TypedCase.{TypedCase}
+use Rattle.ob_types.specs.TypedSyntax.{Desig, Stmt, Assign, CallProper, If, Case, While, Repeat, Loop, Exit, Return, With, NoElse, Else, ValueOf, IsPointer, IsRecord}
+use Rattle.ob_types.specs.TypedKinds.{variable_type}
+use Rattle.ob_types.specs.TypedView.{OneBranch, LabelledBody, stmt_layer, branch_layer, case_layer, designator_view, expr_view, branch_view, case_view, stmts_view, branches_view, cases_view}
+use Rattle.ob_types.proofs.TypedViews.{view_value_of, view_is_pointer, view_is_record, view_assign, view_call_proper, view_if, view_case_none, view_case_some, view_while, view_repeat, view_for, view_loop, view_exit, view_return, view_with_none, view_with_some}
+use Rattle.ob_rules.specs.declared.entity.Entity.{Entity}
+use Rattle.ob_rules.specs.declared.entity.Known.{Known}
+use Rattle.ob_rules.specs.declared.entity.Entity.TheVariants as entity
+use Rattle.ob_rules.specs.declared.values.Place.{Place}
+use Rattle.ob_rules.specs.declared.values.Valued.{Valued}
+use Rattle.ob_rules.specs.declared.meant.Meant.{Meant}
+use Rattle.ob_rules.specs.declared.meant.Meant.TheVariants as means
+use Rattle.ob_rules.specs.declared.meant.Selects.{Selects}
+use Rattle.ob_rules.specs.declared.meant.Where.TheVariants.{InExpression, AsStatement, Elsewhere}
+use Rattle.ob_rules.specs.Judged.{Judged, sound, both, made, ◌▷◌}
+use Rattle.ob_rules.specs.Shapes.{Map, signature_at, record_of, is_array}
+use Rattle.ob_rules.specs.Names.{Around, map_of, named, find_name, type_named}
+use Rattle.ob_rules.specs.Values.{text_of, tree, fits}
+use Rattle.ob_rules.specs.Phrases.{Phrase, Dot}
+use Rattle.ob_rules.specs.Calls.{call_variable}
+use Rattle.ob_rules.specs.Designators.{variable_named, call_meant, guard_of}
+use Rattle.ob_rules.specs.Expressions.{Named, meant_by}
+use Rattle.ob_rules.specs.Types.{first_of}
+use Rattle.ob_rules.specs.Statements as rules
+use Rattle.ob_rules.specs.Statements.{Judging, in_turn, in_turn_if, target, assigned_as, assignment_of, assigned_tree, assigns, assignment, call_value, done, place_called, called, condition, branch_of, empty_if_none, Labelled, labels, case_of, cases, selects_if, case_value, case_judged, for_variable, integer_place, for_bound, bound_if, for_with, for_step, returned, return_none, with_module, with_named, with_qualified_by, with_qualified, with_meant, with_place, with_guard, guard_test, variable_meant, guarded_around, type_if, guarded_body, GuardedBody, tested, with_variable, with_test, with_branch, Conditional, in_loop, conditional, conditionals, with_branches, if_statement, while_statement, repeat_statement, loop_statement, with_statement, call_statement}
+use Rattle.law_links_types.specs.Trees.{IsRecordType, StandsFor, StmtsRecorded, BranchesRecorded, CasesRecorded, ExprRecorded, AssignedRecorded}
+use Rattle.law_links_types.proofs.Setting.{Setting, E, S, Stands, record_stands, PlaceOk, ValuedOk, MeantOk, IfThere, Anything, Keeps, any_keeps, then_keeps, both_keep, made_keeps, unless_keeps, wants_keeps, named_e, tree_ok}
+use Rattle.law_links_types.proofs.Values.{text_tree_ok}
+use Rattle.law_links_types.proofs.Calls.{PhraseOk, call_variable_keeps}
+use Rattle.law_links_types.proofs.Functions.{named_s}
+use Rattle.law_links_types.proofs.Designators.{GuardOk, guard_ok, variable_keeps, call_meant_keeps, designates_keeps}
+use Rattle.law_links_types.proofs.Expressions.{NamedOk, meant_keeps}
+
+abbrev pub AreOk : Setting → List TypedStmt → Type 0
+AreOk k ss = AllByRecursion (S k) ss
+
+abbrev pub JudgingOk : Setting → Judging → Type 0
+JudgingOk k f = (u : Around) → Stands k u → Keeps k (AreOk k) (f u)
+
+abbrev pub AreJudging : Setting → List Judging → Type 0
+AreJudging k fs = AllByRecursion (JudgingOk k) fs
+
+all_both : {A : Type 0} (Q : A → Type 0) (xs ys : List A) → AllByRecursion Q xs → AllByRecursion Q ys → AllByRecursion Q (xs ++ ys)
+all_both Q [] ys h g = g
+all_both Q (x ∷ xs) ys h g = (h.0, all_both Q xs ys h.1 g)
+
+pub stmts_named : (k : Setting) (ss : List TypedStmt) → AreOk k ss → StmtsRecorded k.types k.unit (stmts_view ss)
+stmts_named k [] h = tt
+stmts_named k (s ∷ ss) h = (h.0, stmts_named k ss h.1)
+
+pub turn_keeps : (k : Setting) (u : Around) → Stands k u → (fs : List Judging) → AreJudging k fs → Keeps k (AreOk k) (in_turn fs u)
+turn_keeps k u s [] g = tt
+turn_keeps k u s (f ∷ fs) g =
+    then_keeps k (λ (p : List TypedStmt × List TypedStmt). AreOk k p.0 × AreOk k p.1) (AreOk k) (both (f u) (in_turn fs u)) (λ p. sound (p.0 ++ p.1)) (both_keep k (AreOk k) (AreOk k) (f u) (in_turn fs u) (g.0 u s) (turn_keeps k u s fs g.1)) (λ p h. all_both (S k) p.0 p.1 h.0 h.1)
+
+turn_if_keeps : (k : Setting) (u : Around) → Stands k u → (o : Option (List Judging)) → IfThere (AreJudging k) o → Keeps k (IfThere (AreOk k)) (in_turn_if o u)
+turn_if_keeps k u s None g = tt
+turn_if_keeps k u s (Some fs) g = made_keeps k (AreOk k) (IfThere (AreOk k)) (λ x. Some x) (in_turn fs u) (turn_keeps k u s fs g) (λ x h. h)
+
+-- ---- assignments and calls
+
+target_keeps : (k : Setting) (at : Pos) (m : Meant) → MeantOk k m → Keeps k (PlaceOk k) (target at m)
+target_keeps k at (means.Place p) h = unless_keeps k (PlaceOk k) p.read_only 26 at p h
+target_keeps k at m h = tt
+
+assigned_ok : (k : Setting) (b : Bool) (o : Option QName) (c : Bool) (d : Desig) → IfThere (StandsFor k.types k.unit (variable_type d)) o → AssignedRecorded k.types k.unit (assigned_as b o c) d
+assigned_ok k true o c d h = tt
+assigned_ok k false (Some q) c d h = h
+assigned_ok k false None true d h = tt
+assigned_ok k false None false d h = tt
+
+stands_if : (k : Setting) (u : Around) → Stands k u → (t : TypeRef) (o : Option QName) → record_of (map_of u) t ≡ o → IfThere (StandsFor k.types k.unit t) o
+stands_if k u s t None e = tt
+stands_if k u s t (Some q) e = record_stands k u s t q e
+
+assigned_tree_ok : (k : Setting) (b : Bool) (x : Valued) → ValuedOk k x → E k (assigned_tree b x)
+assigned_tree_ok k true x h = text_tree_ok k x h
+assigned_tree_ok k false x h = tree_ok k x h
+
+assigns_keep : (k : Setting) (u : Around) → Stands k u → (at : Pos) (p : Place) (x : Valued) → PlaceOk k p → ValuedOk k x → Keeps k (AreOk k) (assigns (map_of u) at p x)
+assigns_keep k u s at p x h g =
+    let map = map_of u in
+    let how = assignment_of map p x in
+    let t = assigned_tree (is_array map p.of) x in
+    let d = designator_view p.designator.inner in
+    let o = record_of map p.of in
+    let is : IfThere (StandsFor k.types k.unit (variable_type d)) o = subst (λ v. IfThere (StandsFor k.types k.unit v) o) (sym h.1) (stands_if k u s p.of o refl) in
+    wants_keeps k (AreOk k) (fits map p.of x) 31 at (stmt.Assign p.designator.inner how t at ∷ [])
+    (named_s k _ (Assign d how (expr_view t) at) (view_assign p.designator.inner how t at) (h.0, assigned_tree_ok k (is_array map p.of) x g, assigned_ok k (is_array map p.of && is_some (text_of x)) o (is_array map p.of) d is), tt)
+
+pub assignment_keeps : (k : Setting) (u : Around) → Stands k u → (n : Named) (at : Pos) (x : Phrase) → NamedOk k n → PhraseOk k x → Keeps k (AreOk k) (assignment u n at x)
+assignment_keeps k u s n at x g h =
+    let j = meant_by Elsewhere n u ▷ target n.ident.pos in
+    then_keeps k (λ (p : Place × Valued). PlaceOk k p.0 × ValuedOk k p.1) (AreOk k) (both j (x.value u)) (λ p. assigns (map_of u) at p.0 p.1)
+    (both_keep k (PlaceOk k) (ValuedOk k) j (x.value u) (then_keeps k (MeantOk k) (PlaceOk k) (meant_by Elsewhere n u) (target n.ident.pos) (meant_keeps k Elsewhere n g u s) (λ m q. target_keeps k n.ident.pos m q)) (h.0 u s))
+    (λ p q. assigns_keep k u s at p.0 p.1 q.0 q.1)
+
+call_ok : (k : Setting) (x : Valued) → ValuedOk k x → Keeps k (AreOk k) (call_value x)
+call_ok k x h = (named_s k _ (CallProper (expr_view (tree x))) (view_call_proper (tree x)) (tree_ok k x h), tt)
+
+done_keeps : (k : Setting) (m : Meant) → MeantOk k m → Keeps k (AreOk k) (done m)
+done_keeps k (means.Call x) h = call_ok k x h
+done_keeps k (means.Statement s) h = (h, tt)
+done_keeps k m h = tt
+
+place_called_keeps : (k : Setting) (u : Around) → Stands k u → (start : Pos) (p : Place) (o : Option Signature) → PlaceOk k p → Keeps k (AreOk k) (place_called u start p o)
+place_called_keeps k u s start p None h = tt
+place_called_keeps k u s start p (Some g) h = then_keeps k (ValuedOk k) (AreOk k) (call_variable u AsStatement start p g []) call_value (call_variable_keeps k u s AsStatement start p g [] tt h) (λ x q. call_ok k x q)
+
+called_keeps : (k : Setting) (u : Around) → Stands k u → (n : Named) (m : Meant) → MeantOk k m → Keeps k (AreOk k) (called u n m)
+called_keeps k u s n (means.Place p) h = place_called_keeps k u s n.ident.pos p (signature_at (map_of u) p.of) h
+called_keeps k u s n (means.Constant v) h = tt
+called_keeps k u s n (means.Call x) h = call_ok k x h
+called_keeps k u s n (means.Statement t) h = (h, tt)
+called_keeps k u s n m h = then_keeps k (MeantOk k) (AreOk k) (call_meant u AsStatement n.ident.pos m []) done (call_meant_keeps k u s AsStatement n.ident.pos m [] tt h) (λ x q. done_keeps k x q)
+
+pub call_keeps : (k : Setting) (n : Named) → NamedOk k n → JudgingOk k (call_statement n)
+call_keeps k n g u s = then_keeps k (MeantOk k) (AreOk k) (meant_by AsStatement n u) (called u n) (meant_keeps k AsStatement n g u s) (λ m h. called_keeps k u s n m h)
+
+-- ---- conditions and branches
+
+condition_keeps : (k : Setting) (u : Around) → Stands k u → (x : Phrase) → PhraseOk k x → Keeps k (E k) (condition u x)
+condition_keeps k u s x g = then_keeps k (ValuedOk k) (E k) (x.value u) _ (g.0 u s) (λ v h. wants_keeps k (E k) _ 32 x.start (tree v) (tree_ok k v h))
+
+abbrev BranchOk : Setting → TypedBranch → Type 0
+BranchOk k b = ExprRecorded k.types k.unit (branch_view b).test × StmtsRecorded k.types k.unit (branch_view b).body
+
+branch_keeps : (k : Setting) (c : Judged TypedExpr) (b : Judged (List TypedStmt)) → Keeps k (E k) c → Keeps k (AreOk k) b → Keeps k (BranchOk k) (branch_of c b)
+branch_keeps k c b h g =
+    made_keeps k (λ (p : TypedExpr × List TypedStmt). E k p.0 × AreOk k p.1) (BranchOk k) _ (both c b) (both_keep k (E k) (AreOk k) c b h g)
+    (λ p q. subst (λ (x : OneBranch). ExprRecorded k.types k.unit x.test × StmtsRecorded k.types k.unit x.body) (sym (fold-roll-TypedBranch Stmt OneBranch LabelledBody stmt_layer branch_layer case_layer (record { test = p.0; body = p.1 }))) (q.0, stmts_named k p.1 q.1))
+
+branches_named : (k : Setting) (bs : List TypedBranch) → AllByRecursion (BranchOk k) bs → BranchesRecorded k.types k.unit (branches_view bs)
+branches_named k [] h = tt
+branches_named k (b ∷ bs) h = (h.0.0, h.0.1, branches_named k bs h.1)
+
+abbrev pub ConditionalOk : Setting → Conditional → Type 0
+ConditionalOk k c = PhraseOk k c.test × AreJudging k c.body
+
+conditionals_keep : (k : Setting) (u : Around) → Stands k u → (cs : List Conditional) → AllByRecursion (ConditionalOk k) cs → Keeps k (AllByRecursion (BranchOk k)) (conditionals u cs)
+conditionals_keep k u s [] g = tt
+conditionals_keep k u s (c ∷ cs) g =
+    then_keeps k (λ (p : TypedBranch × List TypedBranch). BranchOk k p.0 × AllByRecursion (BranchOk k) p.1) (AllByRecursion (BranchOk k)) (both (conditional u c) (conditionals u cs)) (λ p. sound (p.0 ∷ p.1))
+    (both_keep k (BranchOk k) (AllByRecursion (BranchOk k)) (conditional u c) (conditionals u cs) (branch_keeps k (condition u c.test) (in_turn c.body u) (condition_keeps k u s c.test g.0.0) (turn_keeps k u s c.body g.0.1)) (conditionals_keep k u s cs g.1)) (λ p h. h)
+
+empty_ok : (k : Setting) (o : Option (List TypedStmt)) → IfThere (AreOk k) o → AreOk k (empty_if_none o)
+empty_ok k None h = tt
+empty_ok k (Some xs) h = h
+
+pub if_keeps : (k : Setting) (bs : List Conditional) (o : Option (List Judging)) → AllByRecursion (ConditionalOk k) bs → IfThere (AreJudging k) o → JudgingOk k (if_statement bs o)
+if_keeps k bs o g h u s =
+    then_keeps k (λ (p : List TypedBranch × Option (List TypedStmt)). AllByRecursion (BranchOk k) p.0 × IfThere (AreOk k) p.1) (AreOk k) (both (conditionals u bs) (in_turn_if o u)) _
+    (both_keep k (AllByRecursion (BranchOk k)) (IfThere (AreOk k)) (conditionals u bs) (in_turn_if o u) (conditionals_keep k u s bs g) (turn_if_keeps k u s o h))
+    (λ p q. (named_s k _ (If (branches_view p.0) (stmts_view (empty_if_none p.1))) (view_if p.0 (empty_if_none p.1)) (branches_named k p.0 q.0, stmts_named k (empty_if_none p.1) (empty_ok k p.1 q.1)), tt))
+
+pub while_keeps : (k : Setting) (at : Pos) (x : Phrase) (body : List Judging) → PhraseOk k x → AreJudging k body → JudgingOk k (while_statement at x body)
+while_keeps k at x body g h u s =
+    then_keeps k (λ (p : TypedExpr × List TypedStmt). E k p.0 × AreOk k p.1) (AreOk k) (both (condition u x) (in_turn body u)) _ (both_keep k (E k) (AreOk k) (condition u x) (in_turn body u) (condition_keeps k u s x g) (turn_keeps k u s body h))
+    (λ p q. (named_s k _ (While (expr_view p.0) (stmts_view p.1) at) (view_while p.0 p.1 at) (q.0, stmts_named k p.1 q.1), tt))
+
+pub repeat_keeps : (k : Setting) (at : Pos) (body : List Judging) (x : Phrase) → AreJudging k body → PhraseOk k x → JudgingOk k (repeat_statement at body x)
+repeat_keeps k at body x h g u s =
+    then_keeps k (λ (p : List TypedStmt × TypedExpr). AreOk k p.0 × E k p.1) (AreOk k) (both (in_turn body u) (condition u x)) _ (both_keep k (AreOk k) (E k) (in_turn body u) (condition u x) (turn_keeps k u s body h) (condition_keeps k u s x g))
+    (λ p q. (named_s k _ (Repeat (stmts_view p.0) (expr_view p.1) at) (view_repeat p.0 p.1 at) (stmts_named k p.0 q.0, q.1), tt))
+
+pub loop_keeps : (k : Setting) (at : Pos) (body : List Judging) → AreJudging k body → JudgingOk k (loop_statement at body)
+loop_keeps k at body h u s =
+    then_keeps k (AreOk k) (AreOk k) (in_turn body (in_loop u)) _ (turn_keeps k (in_loop u) (record { unit = s.unit; shown = s.shown; own = s.own; receiver = s.receiver }) body h)
+    (λ b q. (named_s k _ (Loop (stmts_view b) at) (view_loop b at) (stmts_named k b q), tt))
+
+-- ---- CASE
+
+abbrev CaseOk : Setting → TypedCase → Type 0
+CaseOk k c = StmtsRecorded k.types k.unit (case_view c).body
+
+case_of_keeps : (k : Setting) (ls : Judged (List Label)) (b : Judged (List TypedStmt)) → Keeps k (AreOk k) b → Keeps k (CaseOk k) (case_of ls b)
+case_of_keeps k ls b g =
+    made_keeps k (λ (p : List Label × List TypedStmt). Unit {0} × AreOk k p.1) (CaseOk k) _ (both ls b) (both_keep k Anything (AreOk k) ls b (any_keeps k ls) g)
+    (λ p q. subst (λ (x : LabelledBody). StmtsRecorded k.types k.unit x.body) (sym (fold-roll-TypedCase Stmt OneBranch LabelledBody stmt_layer branch_layer case_layer (record { labels = p.0; body = p.1 }))) (stmts_named k p.1 q.1))
+
+cases_named : (k : Setting) (cs : List TypedCase) → AllByRecursion (CaseOk k) cs → CasesRecorded k.types k.unit (cases_view cs)
+cases_named k [] h = tt
+cases_named k (c ∷ cs) h = (h.0, cases_named k cs h.1)
+
+cases_keep : (k : Setting) (u : Around) → Stands k u → (s : Option Selects) (before : List Label) (cs : List Labelled) → AllByRecursion (λ (c : Labelled). AreJudging k c.body) cs → Keeps k (AllByRecursion (CaseOk k)) (cases u s before cs)
+cases_keep k u st s before [] g = tt
+cases_keep k u st s before (c ∷ cs) g =
+    let ls = labels u s before c.labels in
+    then_keeps k (λ (p : TypedCase × List TypedCase). CaseOk k p.0 × AllByRecursion (CaseOk k) p.1) (AllByRecursion (CaseOk k)) (both (case_of ls.found (in_turn c.body u)) (cases u s ls.before cs)) (λ p. sound (p.0 ∷ p.1))
+    (both_keep k (CaseOk k) (AllByRecursion (CaseOk k)) (case_of ls.found (in_turn c.body u)) (cases u s ls.before cs) (case_of_keeps k ls.found (in_turn c.body u) (turn_keeps k u st c.body g.0)) (cases_keep k u st s ls.before cs g.1)) (λ p h. h)
+
+case_s : (k : Setting) (x : TypedExpr) (cs : List TypedCase) (o : Option (List TypedStmt)) (at : Pos) → E k x → AllByRecursion (CaseOk k) cs → IfThere (AreOk k) o → S k (stmt.Case x cs o at)
+case_s k x cs None at h g i = named_s k _ (Case (expr_view x) (cases_view cs) NoElse at) (view_case_none x cs at) (h, cases_named k cs g, tt)
+case_s k x cs (Some body) at h g i = named_s k _ (Case (expr_view x) (cases_view cs) (Else (stmts_view body)) at) (view_case_some x cs body at) (h, cases_named k cs g, stmts_named k body i)
+
+pub case_keeps : (k : Setting) (u : Around) → Stands k u → (at : Pos) (x : Phrase) (cs : List Labelled) (o : Option (List Judging)) → PhraseOk k x → AllByRecursion (λ (c : Labelled). AreJudging k c.body) cs → IfThere (AreJudging k) o → Keeps k (AreOk k) (rules.case u at x cs o)
+case_keeps k u s at x cs o g h i =
+    let j = case_judged u x in
+    let c = cases u (selects_if (map_of u) j.node) [] cs in
+    then_keeps k (λ (p : Valued × (List TypedCase × Option (List TypedStmt))). ValuedOk k p.0 × (AllByRecursion (CaseOk k) p.1.0 × IfThere (AreOk k) p.1.1)) (AreOk k) (both j (both c (in_turn_if o u))) _
+    (both_keep k (ValuedOk k) (λ (p : List TypedCase × Option (List TypedStmt)). AllByRecursion (CaseOk k) p.0 × IfThere (AreOk k) p.1) j (both c (in_turn_if o u))
+    (then_keeps k (ValuedOk k) (ValuedOk k) (x.value u) (case_value (map_of u) x.start) (g.0 u s) (λ v q. wants_keeps k (ValuedOk k) _ 33 x.start v q))
+    (both_keep k (AllByRecursion (CaseOk k)) (IfThere (AreOk k)) c (in_turn_if o u) (cases_keep k u s (selects_if (map_of u) j.node) [] cs h) (turn_if_keeps k u s o i)))
+    (λ p q. (case_s k (tree p.0) p.1.0 p.1.1 at (tree_ok k p.0 q.0) q.1.0 q.1.1, tt))
+
+-- ---- FOR
+
+for_variable_keeps : (k : Setting) (u : Around) → Stands k u → (at : Pos) (x : Ident) (e : Entity) → Keeps k (PlaceOk k) (for_variable u at x e)
+for_variable_keeps k u s at x (entity.Variable v t) = then_keeps k (PlaceOk k) (PlaceOk k) (variable_named u x.pos v t false) (λ p. integer_place (map_of u) at p) (variable_keeps k u s x.pos v t false) (λ p q. wants_keeps k (PlaceOk k) _ 34 at p q)
+for_variable_keeps k u s at x (entity.TypeName t) = tt
+for_variable_keeps k u s at x (entity.Module m) = tt
+for_variable_keeps k u s at x e = tt
+
+bound_keeps : (k : Setting) (map : Map) (at : Pos) (p : Place) (j : Judged Valued) → Keeps k (ValuedOk k) j → Keeps k (E k) (bound_if map at (Some p) j)
+bound_keeps k map at p j h = then_keeps k (ValuedOk k) (E k) j (for_bound map at p) h (λ x q. wants_keeps k (E k) (fits map p.of x) 34 at (tree x) (tree_ok k x q))
+
+for_with_keeps : (k : Setting) (map : Map) (at : Pos) (o : Option Place) (a b : Judged Valued) (step : Judged ℤ) (body : Judged (List TypedStmt)) → IfThere (PlaceOk k) o → Keeps k (ValuedOk k) a → Keeps k (ValuedOk k) b → Keeps k (AreOk k) body → Keeps k (AreOk k) (for_with map at o a b step body)
+for_with_keeps k map at None a b step body h x y z = tt
+for_with_keeps k map at (Some p) a b step body h x y z =
+    let bounds = both (bound_if map at (Some p) a) (bound_if map at (Some p) b) in
+    then_keeps k (λ (q : (TypedExpr × TypedExpr) × (ℤ × List TypedStmt)). (E k q.0.0 × E k q.0.1) × (Unit {0} × AreOk k q.1.1)) (AreOk k) (both bounds (both step body)) _
+    (both_keep k (λ (q : TypedExpr × TypedExpr). E k q.0 × E k q.1) (λ (q : ℤ × List TypedStmt). Unit {0} × AreOk k q.1) bounds (both step body) (both_keep k (E k) (E k) (bound_if map at (Some p) a) (bound_if map at (Some p) b) (bound_keeps k map at p a x) (bound_keeps k map at p b y)) (both_keep k Anything (AreOk k) step body (any_keeps k step) z))
+    (λ q r. (named_s k _ _ (view_for p.root _ q.0.0 q.0.1 q.1.0 q.1.1 at) (r.0.0, r.0.1, stmts_named k q.1.1 r.1.1), tt))
+
+pub for_keeps : (k : Setting) (u : Around) → Stands k u → (at : Pos) (x : Ident) (a b : Phrase) (step : Option Phrase) (body : List Judging) → PhraseOk k a → PhraseOk k b → AreJudging k body → Keeps k (AreOk k) (rules.for u at x a b step body)
+for_keeps k u s at x a b step body g h i =
+    let j = named u x ▷ for_variable u at x in
+    let p : IfThere (PlaceOk k) j.node = then_keeps k Anything (PlaceOk k) (named u x) (for_variable u at x) (any_keeps k (named u x)) (λ e q. for_variable_keeps k u s at x e) in
+    for_with_keeps k (map_of u) at j.node (a.value u) (b.value u) (for_step u at step) (in_turn body u) p (g.0 u s) (h.0 u s) (turn_keeps k u s body i)
+
+-- ---- EXIT and RETURN
+
+pub exit_keeps : (k : Setting) (u : Around) (at : Pos) → Keeps k (AreOk k) (rules.exit u at)
+exit_keeps k u at = wants_keeps k (AreOk k) u.in_loop 35 at (stmt.Exit ∷ []) (named_s k stmt.Exit Exit view_exit tt, tt)
+
+returned_keeps : (k : Setting) (map : Map) (at : Pos) (o : Option TypeRef) (x : Valued) → ValuedOk k x → Keeps k (AreOk k) (returned map at o x)
+returned_keeps k map at None x h = tt
+returned_keeps k map at (Some t) x h = wants_keeps k (AreOk k) (fits map t x) 36 at (stmt.Return (Some (tree x)) ∷ []) (named_s k _ (Return (Some (expr_view (tree x)))) (view_return (Some (tree x))) (tree_ok k x h), tt)
+
+none_keeps : (k : Setting) (at : Pos) (o : Option TypeRef) → Keeps k (AreOk k) (return_none at o)
+none_keeps k at None = (named_s k _ (Return None) (view_return None) tt, tt)
+none_keeps k at (Some t) = tt
+
+pub return_keeps : (k : Setting) (u : Around) → Stands k u → (at : Pos) (o : Option Phrase) → IfThere (PhraseOk k) o → Keeps k (AreOk k) (rules.return u at o)
+return_keeps k u s at None g = none_keeps k at u.result
+return_keeps k u s at (Some x) g = then_keeps k (ValuedOk k) (AreOk k) (x.value u) (returned (map_of u) at u.result) (g.0 u s) (λ v h. returned_keeps k (map_of u) at u.result v h)
+
+-- ---- WITH
+
+with_module_keeps : (k : Setting) (u : Around) → Stands k u → (m x : Ident) (e : Entity) → Keeps k (MeantOk k) (with_module u m x e)
+with_module_keeps k u s m x (entity.Module n) = designates_keeps k u s InExpression m (Dot x.pos x ∷ []) (tt, tt)
+with_module_keeps k u s m x e = tt
+
+with_named_keeps : (k : Setting) (u : Around) → Stands k u → (m x : Ident) → Keeps k (MeantOk k) (with_named u m x)
+with_named_keeps k u s m x = then_keeps k Anything (MeantOk k) (named u m) (with_module u m x) (any_keeps k (named u m)) (λ e h. with_module_keeps k u s m x e)
+
+qualified_by_keeps : (k : Setting) (u : Around) → Stands k u → (m x : Ident) (e : Entity) → Keeps k (MeantOk k) (with_qualified_by u m x e)
+qualified_by_keeps k u s m x (entity.Variable v t) = tt
+qualified_by_keeps k u s m x e = with_named_keeps k u s m x
+
+qualified_keeps : (k : Setting) (u : Around) → Stands k u → (m x : Ident) (o : Option Known) → Keeps k (MeantOk k) (with_qualified u m x o)
+qualified_keeps k u s m x None = tt
+qualified_keeps k u s m x (Some y) = qualified_by_keeps k u s m x y.what
+
+with_meant_keeps : (k : Setting) (u : Around) → Stands k u → (o : Option Ident) (x : Ident) → Keeps k (MeantOk k) (with_meant u o x)
+with_meant_keeps k u s None x = designates_keeps k u s InExpression x [] tt
+with_meant_keeps k u s (Some m) x = qualified_keeps k u s m x (find_name u.known m.name)
+
+with_place_keeps : (k : Setting) (map : Map) (at : Pos) (m : Meant) → MeantOk k m → Keeps k (PlaceOk k) (with_place map at m)
+with_place_keeps k map at (means.Place p) h = wants_keeps k (PlaceOk k) _ 37 at p h
+with_place_keeps k map at m h = tt
+
+-- a place that is tested, and its guard
+abbrev TestedOk : Setting → Place × (Guarded × QName) → Type 0
+TestedOk k q = PlaceOk k q.0 × GuardOk k q.0.of q.1
+
+guard_test_ok : (k : Setting) (p : Place) (g : Guarded) (q : QName) → PlaceOk k p → IsRecordType k.types k.unit q → E k (guard_test p g q)
+guard_test_ok k p guarded.Pointer q h i = named_e k _ (IsPointer (expr_view (e.Designator p.designator.inner)) q) (view_is_pointer (e.Designator p.designator.inner) q) (named_e k (e.Designator p.designator.inner) (ValueOf (designator_view p.designator.inner)) (view_value_of p.designator.inner) h.0, i)
+guard_test_ok k p guarded.Record q h i = named_e k _ (IsRecord (designator_view p.designator.inner) q) (view_is_record p.designator.inner q) (h.0, i)
+
+with_guard_keeps : (k : Setting) (at : Pos) (p : Place) (o : Option (Guarded × QName)) (t : TypeRef) → PlaceOk k p → IfThere (GuardOk k p.of) o → Keeps k (TestedOk k) (with_guard at p o t)
+with_guard_keeps k at p None t h i = tt
+with_guard_keeps k at p (Some g) t h i = (h, i)
+
+test_keeps : (k : Setting) (u : Around) → Stands k u → (g : Guard) → Keeps k (λ (p : TypedExpr × TypeRef). E k p.0) (with_test u g)
+test_keeps k u s g =
+    then_keeps k (λ (p : Place × TypeRef). PlaceOk k p.0 × Unit {0}) (λ (p : TypedExpr × TypeRef). E k p.0) (both (with_variable u g) (type_named u g.target)) (λ p. tested (map_of u) (first_of g.variable) p.0 p.1)
+    (both_keep k (PlaceOk k) Anything (with_variable u g) (type_named u g.target) (then_keeps k (MeantOk k) (PlaceOk k) (with_meant u g.variable.qualifier g.variable.ident) (with_place (map_of u) (first_of g.variable)) (with_meant_keeps k u s g.variable.qualifier g.variable.ident) (λ m h. with_place_keeps k (map_of u) (first_of g.variable) m h)) (any_keeps k (type_named u g.target)))
+    (λ p h. then_keeps k (TestedOk k) (λ (q : TypedExpr × TypeRef). E k q.0) (with_guard (first_of g.variable) p.0 (guard_of (map_of u) p.0 p.1) p.1) _ (with_guard_keeps k (first_of g.variable) p.0 (guard_of (map_of u) p.0 p.1) p.1 h.0 (guard_ok k u s p.0 p.1)) (λ q r. guard_test_ok k q.0 q.1.0 q.1.1 r.0 r.1.0))
+
+guarded_stands : (k : Setting) (u : Around) → Stands k u → (o : Option Variable) (t : Option TypeRef) → Stands k (guarded_around u o t)
+guarded_stands k u s None t = s
+guarded_stands k u s (Some v) t = record { unit = s.unit; shown = s.shown; own = s.own; receiver = s.receiver }
+
+with_branch_keeps : (k : Setting) (u : Around) → Stands k u → (b : GuardedBody) → AreJudging k b.body → Keeps k (BranchOk k) (with_branch u b)
+with_branch_keeps k u s b g =
+    let t = with_test u b.guard in
+    let v = guarded_body u b.guard t.node in
+    branch_keeps k (made (λ p. p.0) t) (in_turn b.body v) (made_keeps k (λ (p : TypedExpr × TypeRef). E k p.0) (E k) (λ p. p.0) t (test_keeps k u s b.guard) (λ p h. h))
+    (turn_keeps k v (guarded_stands k u s (variable_meant u b.guard.variable.qualifier b.guard.variable.ident) (type_if t.node)) b.body g)
+
+with_branches_keep : (k : Setting) (u : Around) → Stands k u → (bs : List GuardedBody) → AllByRecursion (λ (b : GuardedBody). AreJudging k b.body) bs → Keeps k (AllByRecursion (BranchOk k)) (with_branches u bs)
+with_branches_keep k u s [] g = tt
+with_branches_keep k u s (b ∷ bs) g =
+    then_keeps k (λ (p : TypedBranch × List TypedBranch). BranchOk k p.0 × AllByRecursion (BranchOk k) p.1) (AllByRecursion (BranchOk k)) (both (with_branch u b) (with_branches u bs)) (λ p. sound (p.0 ∷ p.1))
+    (both_keep k (BranchOk k) (AllByRecursion (BranchOk k)) (with_branch u b) (with_branches u bs) (with_branch_keeps k u s b g.0) (with_branches_keep k u s bs g.1)) (λ p h. h)
+
+with_s : (k : Setting) (bs : List TypedBranch) (o : Option (List TypedStmt)) (at : Pos) → AllByRecursion (BranchOk k) bs → IfThere (AreOk k) o → S k (stmt.With bs o at)
+with_s k bs None at g i = named_s k _ (With (branches_view bs) NoElse at) (view_with_none bs at) (branches_named k bs g, tt)
+with_s k bs (Some body) at g i = named_s k _ (With (branches_view bs) (Else (stmts_view body)) at) (view_with_some bs body at) (branches_named k bs g, stmts_named k body i)
+
+pub with_keeps : (k : Setting) (at : Pos) (bs : List GuardedBody) (o : Option (List Judging)) → AllByRecursion (λ (b : GuardedBody). AreJudging k b.body) bs → IfThere (AreJudging k) o → JudgingOk k (with_statement at bs o)
+with_keeps k at bs o g h u s =
+    then_keeps k (λ (p : List TypedBranch × Option (List TypedStmt)). AllByRecursion (BranchOk k) p.0 × IfThere (AreOk k) p.1) (AreOk k) (both (with_branches u bs) (in_turn_if o u)) _
+    (both_keep k (AllByRecursion (BranchOk k)) (IfThere (AreOk k)) (with_branches u bs) (in_turn_if o u) (with_branches_keep k u s bs g) (turn_if_keeps k u s o h))
+    (λ p q. (with_s k p.0 p.1 at q.0 q.1, tt))

@@ -1,0 +1,15 @@
+pub mod Steady
+pub mod Heads
+pub mod Bound
+pub mod Blocks
+pub mod Modules
+pub mod Leaves
+pub mod Operators
+pub mod Predeclared
+pub mod Calls
+pub mod Designators
+pub mod Expressions
+pub mod Typings
+pub mod Written
+pub mod Orders
+pub mod Texts

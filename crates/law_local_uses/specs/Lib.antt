@@ -1,0 +1,5 @@
+pub mod Settled
+pub mod Laws
+pub mod Held
+pub mod HeldLaws
+pub mod TyingLaws

@@ -1,0 +1,13 @@
+pub mod Typings
+pub mod Written
+pub mod Binding
+pub mod Heads
+pub mod Blocks
+pub mod Modules
+pub mod Introduced
+pub mod IntroducedModules
+pub mod Methods
+pub mod Early
+pub mod Matching
+pub mod Judged
+pub mod Procedures

@@ -1,0 +1,11 @@
+pub mod Grown
+pub mod Binding
+pub mod Heads
+pub mod Lists
+pub mod Order
+pub mod Blocks
+pub mod Exported
+pub mod Chains
+pub mod Families
+pub mod Counts
+pub mod Below

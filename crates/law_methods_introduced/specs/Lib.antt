@@ -1,0 +1,3 @@
+pub mod Laws
+pub mod Families
+pub mod NumberLaws

@@ -1,0 +1,68 @@
+-- What holds of what is judged, where nothing is broken in it.
+use Rattle.std.proofs.Common.{◌≡◌, ℕ, Bool, true, false, List, [], ◌∷◌, ◌++◌, Option, Some, None, refl}
+use Rattle.ob_tree.specs.declared.pos.Pos.{Pos}
+use Rattle.ob_rules.specs.declared.notes.Later.{Later}
+use Rattle.ob_rules.specs.declared.broken.Broken.{Broken}
+use Rattle.ob_rules.specs.Judged.{Judged, Notes, sound, if_sound, paired, both, made, unless, also, judge_later, noted, ◌▷◌}
+use Rattle.law_names_distinct.proofs.Fresh.{front_empty, back_empty}
+
+abbrev pub IfThere : {A : Type 0} → (A → Type 0) → Option A → Type 0
+IfThere P None = Unit {0}
+IfThere P (Some x) = P x
+
+abbrev pub Quiet : {A : Type 0} → (A → Type 0) → Judged A → Type 0
+Quiet P j = j.notes.broken ≡ [] → IfThere P j.node
+
+abbrev pub Any : {A : Type 0} → A → Type 0
+Any x = Unit {0}
+
+any_there : {A : Type 0} (o : Option A) → IfThere Any o
+any_there None = tt
+any_there (Some x) = tt
+
+pub any_quiet : {A : Type 0} (j : Judged A) → Quiet Any j
+any_quiet j = λ e. any_there j.node
+
+pub there_more : {A : Type 0} (P Q : A → Type 0) (o : Option A) → ((x : A) → P x → Q x) → IfThere P o → IfThere Q o
+there_more P Q None f h = tt
+there_more P Q (Some x) f h = f x h
+
+if_quiet : {A B : Type 0} (P : A → Type 0) (Q : B → Type 0) (o : Option A) (f : A → Judged B) → IfThere P o → ((x : A) → P x → Quiet Q (f x)) → Quiet Q (if_sound o f)
+if_quiet P Q None f h k = λ e. tt
+if_quiet P Q (Some x) f h k = k x h
+
+pub then_quiet : {A B : Type 0} (P : A → Type 0) (Q : B → Type 0) (j : Judged A) (f : A → Judged B) → Quiet P j → ((x : A) → P x → Quiet Q (f x)) → Quiet Q (j ▷ f)
+then_quiet P Q j f h k = λ e. if_quiet P Q j.node f (h (front_empty j.notes.broken (if_sound j.node f).notes.broken e)) k (back_empty j.notes.broken (if_sound j.node f).notes.broken e)
+
+-- what was judged first is quiet where all is
+pub first_quiet : {A B : Type 0} (j : Judged A) (f : A → Judged B) → (j ▷ f).notes.broken ≡ [] → j.notes.broken ≡ []
+first_quiet j f e = front_empty j.notes.broken (if_sound j.node f).notes.broken e
+
+paired_there : {A B : Type 0} (P : A → Type 0) (Q : B → Type 0) (a : Option A) (b : Option B) → IfThere P a → IfThere Q b → IfThere (λ (p : A × B). P p.0 × Q p.1) (paired a b)
+paired_there P Q None b h k = tt
+paired_there P Q (Some x) None h k = tt
+paired_there P Q (Some x) (Some y) h k = (h, k)
+
+pub both_quiet : {A B : Type 0} (P : A → Type 0) (Q : B → Type 0) (a : Judged A) (b : Judged B) → Quiet P a → Quiet Q b → Quiet (λ (p : A × B). P p.0 × Q p.1) (both a b)
+both_quiet P Q a b h k = λ e. paired_there P Q a.node b.node (h (front_empty a.notes.broken b.notes.broken e)) (k (back_empty a.notes.broken b.notes.broken e))
+
+pub unless_quiet : {A : Type 0} (P : A → Type 0) (b : Bool) (rule : ℕ) (at : Pos) (x : A) → P x → Quiet P (unless b rule at x)
+unless_quiet P true rule at x h = λ e. tt
+unless_quiet P false rule at x h = λ e. h
+
+pub also_quiet : {A : Type 0} (P : A → Type 0) (b : Bool) (rule : ℕ) (at : Pos) (j : Judged A) → Quiet P j → Quiet P (also b rule at j)
+also_quiet P true rule at j h = λ e. tt
+also_quiet P false rule at j h = h
+
+pub later_quiet : {A : Type 0} (P : A → Type 0) (ls : List Later) (j : Judged A) → Quiet P j → Quiet P (judge_later ls j)
+later_quiet P [] j h = h
+later_quiet P (l ∷ ls) j h = later_quiet P ls j h
+
+pub later_broken : {A : Type 0} (ls : List Later) (j : Judged A) → (judge_later ls j).notes.broken ≡ [] → j.notes.broken ≡ []
+later_broken [] j e = e
+later_broken (l ∷ ls) j e = later_broken ls j e
+
+-- with what is so besides
+pub and_there : {A : Type 0} (P : A → Type 0) (Q : Type 0) (o : Option A) → IfThere P o → Q → IfThere (λ x. P x × Q) o
+and_there P Q None h q = tt
+and_there P Q (Some x) h q = (h, q)

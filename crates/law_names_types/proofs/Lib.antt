@@ -1,0 +1,17 @@
+pub mod Behind
+pub mod Typings
+pub mod Written
+pub mod Sequences
+pub mod Heads
+pub mod Unbound
+pub mod Keys
+pub mod Plain
+pub mod Judged
+pub mod Meets
+pub mod Items
+pub mod Unique
+pub mod Steady
+pub mod DifferentHeads
+pub mod Once
+pub mod Order
+pub mod Blocks

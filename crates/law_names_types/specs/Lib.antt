@@ -1,0 +1,4 @@
+pub mod Nested
+pub mod Fields
+pub mod Once
+pub mod Unlike

@@ -1,0 +1,11 @@
+pub mod Standing
+pub mod Variables
+pub mod Receivers
+pub mod Introduced
+pub mod Names
+pub mod Fitting
+pub mod Shown
+pub mod Age
+pub mod Formed
+pub mod Typed
+pub mod Full

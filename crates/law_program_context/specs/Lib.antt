@@ -1,0 +1,5 @@
+pub mod Left
+pub mod Laws
+pub mod ShownLaws
+pub mod Judged
+pub mod JudgedLaws

@@ -1,0 +1,10 @@
+pub mod Ranks
+pub mod Bound
+pub mod Walk
+pub mod Descs
+pub mod Programs
+pub mod Whole
+pub mod Bodies
+pub mod Names
+pub mod Parameters
+pub mod Kept

@@ -1,0 +1,5 @@
+pub mod Once
+pub mod Steady
+pub mod Laws
+pub mod Accepted
+pub mod Kept

@@ -1,0 +1,12 @@
+pub mod Slice
+pub mod Calls
+pub mod Whole
+pub mod Nothing
+pub mod TryChoices
+pub mod TryTexts
+pub mod Forms
+pub mod Designators
+pub mod Statements
+pub mod TypedIsIn
+pub mod Sum
+pub mod Matching

@@ -1,0 +1,5 @@
+pub mod Slice
+pub mod Simulates
+pub mod Laws
+pub mod Sum
+pub mod Matching

@@ -1,0 +1,11 @@
+pub mod Marks
+pub mod Folds
+pub mod Trees
+pub mod Order
+pub mod Scanned
+pub mod Parts
+pub mod Sequences
+pub mod Modules
+pub mod Tokens
+pub mod PlacedFolds
+pub mod PlacedTrees

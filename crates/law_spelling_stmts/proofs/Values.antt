@@ -1,0 +1,196 @@
+-- Operators, relations and sets fit where their operands do.
+use Rattle.std.proofs.Common.{Bool, true, false, List, [], ◌∷◌, Option, Some, None, arith}
+use Rattle.std.specs.List.{AllByRecursion}
+use Rattle.ob_tree.specs.declared.pos.Pos.{Pos}
+use Rattle.ob_tree.specs.declared.expr.Operator.{Operator}
+use Rattle.ob_tree.specs.declared.expr.Operator.TheVariants as op
+use Rattle.ob_tree.specs.declared.expr.Relation.{Relation}
+use Rattle.ob_tree.specs.declared.expr.Sign.{Sign}
+use Rattle.ob_tree.specs.declared.expr.Sign.TheVariants as sign
+use Rattle.ob_types.specs.declared.value.Value.{Value}
+use Rattle.ob_types.specs.declared.value.Value.TheVariants as literal
+use Rattle.ob_types.specs.declared.typed.Width.{Width}
+use Rattle.ob_types.specs.declared.typed.Unary.{Unary}
+use Rattle.ob_types.specs.declared.typed.Unary.TheVariants as unary
+use Rattle.ob_types.specs.declared.typed.Binary.{Binary}
+use Rattle.ob_types.specs.declared.typed.Binary.TheVariants as binary
+use Rattle.ob_types.specs.declared.typed.Connective.{Connective}
+use Rattle.ob_types.specs.declared.typed.Connective.TheVariants as connective
+use Rattle.ob_types.specs.declared.typed.Comparison.{Comparison}
+use Rattle.ob_types.specs.declared.typed.Compared.{Compared}
+use Rattle.ob_types.specs.declared.typed.TypedExpr.{TypedExpr}
+use Rattle.ob_types.specs.declared.typed.TypedExpr.TheVariants as e
+use Rattle.ob_types.specs.TypedKinds.{of_basic, binary_type}
+use Rattle.ob_types.specs.declared.types.Basic.TheVariants as basic
+use Rattle.ob_types.specs.TypedSyntax.{Constant, ValueOf, Monadic, Dyadic, Logical, CompareTexts}
+use Rattle.ob_types.specs.TypedView.{expr_view, designator_view}
+use Rattle.ob_types.proofs.TypedViews.{view_constant, view_value_of, view_monadic, view_dyadic, view_logical, view_compare_texts}
+use Rattle.ob_rules.specs.declared.values.Valued.{Valued}
+use Rattle.ob_rules.specs.declared.values.Valued.TheVariants as valued
+use Rattle.ob_rules.specs.declared.meant.ElementOf.{ElementOf}
+use Rattle.ob_rules.specs.Judged.{Judged}
+use Rattle.ob_rules.specs.Shapes.{Map}
+use Rattle.ob_rules.specs.Constants.{fold_one, fold_two, fold_texts, fold_logical}
+use Rattle.ob_rules.specs.Values.{computed, is, width, is_integer, as_text, text_tree, tree, constant_in}
+use Rattle.ob_rules.specs.Operators.{folded, one_of, monadic, two_of, dyadic, logical, texts, if_fit, are, binary_of, connected, combined, negated, opposite, only_value, signed_as, signed, comparison_of, is_equality, compared_as, compare_as, contained, compare, related, element_folded, single, ranged, if_integer, if_integers, element, union_of, all_constant, and_so, set_from, set_of}
+use Rattle.law_spelling.specs.Coded.{PosFits}
+use Rattle.law_spelling_stmts.proofs.Setting.{Con, Setting, E, NodeOk, ValuedOk, IfThere, Keeps, node_e, constant_e, tree_ok}
+use Rattle.law_spelling_stmts.proofs.Folding.{one_con, two_con, texts_con, logical_con}
+
+folded_keeps : (k : Setting) (at : Pos) (o : Option Value) → IfThere Con o → Keeps (ValuedOk k) (folded at o)
+folded_keeps k at None h = tt
+folded_keeps k at (Some v) h = h
+
+constant_is : (k : Setting) (x : Valued) → ValuedOk k x → IfThere Con (constant_in x)
+constant_is k (valued.Constant v) h = h
+constant_is k (valued.Place p) h = tt
+constant_is k (valued.Node n) h = tt
+
+monadic_e : (k : Setting) (op : Unary) (x : TypedExpr) (at : Pos) → PosFits at → E k x → NodeOk k (e.Unary op x at)
+monadic_e k op x at f h = node_e k _ (Monadic op (expr_view x) at) (view_monadic op x at) (h, f) tt
+
+dyadic_e : (k : Setting) (op : Binary) (x y : TypedExpr) (at : Pos) → PosFits at → E k x → E k y → NodeOk k (e.Binary op x y at)
+dyadic_e k op x y at f h g = node_e k _ (Dyadic op (expr_view x) (expr_view y) at) (view_dyadic op x y at) (h, (g, f)) tt
+
+one_keeps : (k : Setting) (op : Unary) (at : Pos) → PosFits at → (x : Valued) (o : Option Value) → ValuedOk k x → IfThere Con o → Keeps (ValuedOk k) (one_of op at x o)
+one_keeps k op at f x None h c = monadic_e k op (tree x) at f (tree_ok k x h)
+one_keeps k op at f x (Some v) h c = folded_keeps k at (fold_one op v) (one_con op v c)
+
+pub monadic_keeps : (k : Setting) (op : Unary) (at : Pos) → PosFits at → (x : Valued) → ValuedOk k x → Keeps (ValuedOk k) (monadic op at x)
+monadic_keeps k op at f x h = one_keeps k op at f x (constant_in x) h (constant_is k x h)
+
+two_keeps : (k : Setting) (f : Value → Value → Option Value) → ((a b : Value) → Con a → Con b → IfThere Con (f a b)) → (at : Pos) (a b : Option Value) (x : Valued) → ValuedOk k x → IfThere Con a → IfThere Con b → Keeps (ValuedOk k) (two_of f at a b x)
+two_keeps k f g at (Some a) (Some b) x h c d = folded_keeps k at (f a b) (g a b c d)
+two_keeps k f g at (Some a) None x h c d = h
+two_keeps k f g at None b x h c d = h
+
+pub dyadic_keeps : (k : Setting) (op : Binary) (at : Pos) → PosFits at → (a b : Valued) → ValuedOk k a → ValuedOk k b → Keeps (ValuedOk k) (dyadic op at a b)
+dyadic_keeps k op at f a b h g = two_keeps k (fold_two op) (two_con op) at (constant_in a) (constant_in b) (computed (e.Binary op (tree a) (tree b) at) (binary_type op)) (dyadic_e k op (tree a) (tree b) at f (tree_ok k a h) (tree_ok k b g)) (constant_is k a h) (constant_is k b g)
+
+logical_keeps : (k : Setting) (op : Connective) (at : Pos) (a b : Valued) → ValuedOk k a → ValuedOk k b → Keeps (ValuedOk k) (logical op at a b)
+logical_keeps k op at a b h g = two_keeps k (fold_logical op) (logical_con op) at (constant_in a) (constant_in b) (computed (e.Logical op (tree a) (tree b)) (of_basic basic.Boolean)) (node_e k _ (Logical op (expr_view (tree a)) (expr_view (tree b))) (view_logical op (tree a) (tree b)) (tree_ok k a h, tree_ok k b g) tt) (constant_is k a h) (constant_is k b g)
+
+as_text_ok : (k : Setting) (o : Option Value) (t : TypedExpr) → E k t → E k (as_text o t)
+as_text_ok k (Some (literal.Char c)) t h = constant_e k (literal.Str (c ∷ [])) _ (view_constant (literal.Str (c ∷ []))) (omega arith)
+as_text_ok k (Some (literal.Bool b)) t h = h
+as_text_ok k (Some (literal.Int z)) t h = h
+as_text_ok k (Some (literal.Set n)) t h = h
+as_text_ok k (Some (literal.Str s)) t h = h
+as_text_ok k (Some literal.Nil) t h = h
+as_text_ok k None t h = h
+
+pub text_tree_ok : (k : Setting) (x : Valued) → ValuedOk k x → E k (text_tree x)
+text_tree_ok k x h = as_text_ok k (constant_in x) (tree x) (tree_ok k x h)
+
+texts_keep : (k : Setting) (r : Comparison) (at : Pos) → PosFits at → (a b : Valued) → ValuedOk k a → ValuedOk k b → Keeps (ValuedOk k) (texts r at a b)
+texts_keep k r at f a b h g = two_keeps k (fold_texts r) (texts_con r) at (constant_in a) (constant_in b) (computed (e.CompareTexts r (text_tree a) (text_tree b) at) (of_basic basic.Boolean)) (node_e k _ (CompareTexts r (expr_view (text_tree a)) (expr_view (text_tree b)) at) (view_compare_texts r (text_tree a) (text_tree b) at) (text_tree_ok k a h, (text_tree_ok k b g, f)) tt) (constant_is k a h) (constant_is k b g)
+
+fit_keeps : (k : Setting) {A : Type 0} (o : Option A) (at : Pos) (f : A → Judged Valued) → ((x : A) → Keeps (ValuedOk k) (f x)) → Keeps (ValuedOk k) (if_fit o at f)
+fit_keeps k None at f h = tt
+fit_keeps k (Some x) at f h = h x
+
+connected_keeps : (k : Setting) (b : Bool) (o : Connective) (at : Pos) (x y : Valued) → ValuedOk k x → ValuedOk k y → Keeps (ValuedOk k) (connected b o at x y)
+connected_keeps k true o at x y h g = logical_keeps k o at x y h g
+connected_keeps k false o at x y h g = tt
+
+pub combined_keeps : (k : Setting) (map : Map) (o : Operator) (at : Pos) → PosFits at → (x y : Valued) → ValuedOk k x → ValuedOk k y → Keeps (ValuedOk k) (combined map o at x y)
+combined_keeps k map op.Or at f x y h g = connected_keeps k (are map basic.Boolean x y) connective.Or at x y h g
+combined_keeps k map op.And at f x y h g = connected_keeps k (are map basic.Boolean x y) connective.And at x y h g
+combined_keeps k map op.Add at f x y h g = fit_keeps k (binary_of map op.Add x y) at (λ o. dyadic o at x y) (λ o. dyadic_keeps k o at f x y h g)
+combined_keeps k map op.Subtract at f x y h g = fit_keeps k (binary_of map op.Subtract x y) at (λ o. dyadic o at x y) (λ o. dyadic_keeps k o at f x y h g)
+combined_keeps k map op.Multiply at f x y h g = fit_keeps k (binary_of map op.Multiply x y) at (λ o. dyadic o at x y) (λ o. dyadic_keeps k o at f x y h g)
+combined_keeps k map op.Divide at f x y h g = fit_keeps k (binary_of map op.Divide x y) at (λ o. dyadic o at x y) (λ o. dyadic_keeps k o at f x y h g)
+combined_keeps k map op.Quotient at f x y h g = fit_keeps k (binary_of map op.Quotient x y) at (λ o. dyadic o at x y) (λ o. dyadic_keeps k o at f x y h g)
+combined_keeps k map op.Remainder at f x y h g = fit_keeps k (binary_of map op.Remainder x y) at (λ o. dyadic o at x y) (λ o. dyadic_keeps k o at f x y h g)
+
+negated_keeps : (k : Setting) (b : Bool) (at : Pos) → PosFits at → (x : Valued) → ValuedOk k x → Keeps (ValuedOk k) (negated b at x)
+negated_keeps k true at f x h = monadic_keeps k unary.Not at f x h
+negated_keeps k false at f x h = tt
+
+pub opposite_keeps : (k : Setting) (map : Map) (at : Pos) → PosFits at → (x : Valued) → ValuedOk k x → Keeps (ValuedOk k) (opposite map at x)
+opposite_keeps k map at f x h = negated_keeps k (is map basic.Boolean x) at f x h
+
+pub only_ok : (k : Setting) (x : Valued) → ValuedOk k x → ValuedOk k (only_value x)
+only_ok k (valued.Place p) h = node_e k _ (ValueOf (designator_view p.designator.inner)) (view_value_of p.designator.inner) h tt
+only_ok k (valued.Constant v) h = h
+only_ok k (valued.Node n) h = h
+
+signed_as_keeps : (k : Setting) (s : Sign) (w : Option Width) (b : Bool) (at : Pos) → PosFits at → (x : Valued) → ValuedOk k x → Keeps (ValuedOk k) (signed_as s w b at x)
+signed_as_keeps k sign.Plus (Some w) b at f x h = only_ok k x h
+signed_as_keeps k sign.Plus None b at f x h = tt
+signed_as_keeps k sign.Minus (Some w) b at f x h = monadic_keeps k (unary.Negate w) at f x h
+signed_as_keeps k sign.Minus None true at f x h = monadic_keeps k unary.Complement at f x h
+signed_as_keeps k sign.Minus None false at f x h = tt
+
+pub signed_keeps : (k : Setting) (map : Map) (s : Sign) (at : Pos) → PosFits at → (x : Valued) → ValuedOk k x → Keeps (ValuedOk k) (signed map s at x)
+signed_keeps k map s at f x h = signed_as_keeps k s (width map x) (is map basic.Set x) at f x h
+
+compare_as_keeps : (k : Setting) (o : Option Compared) (b : Bool) (r : Comparison) (at : Pos) → PosFits at → (x y : Valued) → ValuedOk k x → ValuedOk k y → Keeps (ValuedOk k) (compare_as o b r at x y)
+compare_as_keeps k (Some c) b r at f x y h g = dyadic_keeps k (binary.Compare r c) at f x y h g
+compare_as_keeps k None true r at f x y h g = texts_keep k r at f x y h g
+compare_as_keeps k None false r at f x y h g = tt
+
+contained_keeps : (k : Setting) (b : Bool) (at : Pos) → PosFits at → (x y : Valued) → ValuedOk k x → ValuedOk k y → Keeps (ValuedOk k) (contained b at x y)
+contained_keeps k true at f x y h g = dyadic_keeps k binary.In at f x y h g
+contained_keeps k false at f x y h g = tt
+
+compare_keeps : (k : Setting) (map : Map) (o : Option Comparison) (at : Pos) → PosFits at → (x y : Valued) → ValuedOk k x → ValuedOk k y → Keeps (ValuedOk k) (compare map o at x y)
+compare_keeps k map (Some r) at f x y h g = compare_as_keeps k (compared_as map (is_equality r) x y) _ r at f x y h g
+compare_keeps k map None at f x y h g = contained_keeps k _ at f x y h g
+
+pub related_keeps : (k : Setting) (map : Map) (r : Relation) (at : Pos) → PosFits at → (x y : Valued) → ValuedOk k x → ValuedOk k y → Keeps (ValuedOk k) (related map r at x y)
+related_keeps k map r at f x y h g = compare_keeps k map (comparison_of r) at f x y h g
+
+-- ---- sets
+
+pub record ElementOk (k : Setting) (x : ElementOf) : Type 0 where
+  pub at : PosFits x.at
+  pub node : E k x.node.inner
+  pub constant : IfThere Con x.constant
+
+element_folds : (k : Setting) (at : Pos) → PosFits at → (t : TypedExpr) (o : Option Value) → E k t → IfThere Con o → Keeps (ElementOk k) (element_folded at t o)
+element_folds k at f t None h c = tt
+element_folds k at f t (Some v) h c = record { at = f; node = h; constant = c }
+
+single_keeps : (k : Setting) (at : Pos) → PosFits at → (t : TypedExpr) (o : Option Value) → E k t → IfThere Con o → Keeps (ElementOk k) (single at t o)
+single_keeps k at f t None h c = record { at = f; node = h; constant = tt }
+single_keeps k at f t (Some v) h c = element_folds k at f t (fold_one unary.Element v) h (one_con unary.Element v c)
+
+ranged_keeps : (k : Setting) (at : Pos) → PosFits at → (t : TypedExpr) (a b : Option Value) → E k t → IfThere Con a → IfThere Con b → Keeps (ElementOk k) (ranged at t a b)
+ranged_keeps k at f t (Some a) (Some b) h c d = element_folds k at f t (fold_two binary.Range a b) h (two_con binary.Range a b c d)
+ranged_keeps k at f t (Some a) None h c d = record { at = f; node = h; constant = tt }
+ranged_keeps k at f t None b h c d = record { at = f; node = h; constant = tt }
+
+integer_keeps : (k : Setting) (b : Bool) (at : Pos) → PosFits at → (x : Valued) → ValuedOk k x → Keeps (ElementOk k) (if_integer b at x)
+integer_keeps k true at f x h = single_keeps k at f (e.Unary unary.Element (tree x) at) (constant_in x) (monadic_e k unary.Element (tree x) at f (tree_ok k x h)).0 (constant_is k x h)
+integer_keeps k false at f x h = tt
+
+integers_keep : (k : Setting) (b : Bool) (at : Pos) → PosFits at → (x y : Valued) → ValuedOk k x → ValuedOk k y → Keeps (ElementOk k) (if_integers b at x y)
+integers_keep k true at f x y h g = ranged_keeps k at f (e.Binary binary.Range (tree x) (tree y) at) (constant_in x) (constant_in y) (dyadic_e k binary.Range (tree x) (tree y) at f (tree_ok k x h) (tree_ok k y g)).0 (constant_is k x h) (constant_is k y g)
+integers_keep k false at f x y h g = tt
+
+pub element_keeps : (k : Setting) (map : Map) (at : Pos) → PosFits at → (x : Valued) (o : Option Valued) → ValuedOk k x → IfThere (ValuedOk k) o → Keeps (ElementOk k) (element map at x o)
+element_keeps k map at f x None h g = integer_keeps k (is_integer map x) at f x h
+element_keeps k map at f x (Some y) h g = integers_keep k _ at f x y h g
+
+union_ok : (k : Setting) (xs : List ElementOf) → AllByRecursion (ElementOk k) xs → (acc : TypedExpr) → NodeOk k acc → NodeOk k (union_of acc xs)
+union_ok k [] h acc g = g
+union_ok k (x ∷ xs) h acc g = union_ok k xs h.1 (e.Binary binary.Union acc x.node.inner x.at) (dyadic_e k binary.Union acc x.node.inner x.at h.0.at g.0 h.0.node)
+
+so_con : (o : Option Value) (f : Value → Option Value) → IfThere Con o → ((v : Value) → Con v → IfThere Con (f v)) → IfThere Con (and_so o f)
+so_con None f h g = tt
+so_con (Some v) f h g = g v h
+
+all_con : (k : Setting) (xs : List ElementOf) → AllByRecursion (ElementOk k) xs → (acc : Value) → Con acc → IfThere Con (all_constant acc xs)
+all_con k [] h acc c = c
+all_con k (x ∷ xs) h acc c = so_con x.constant _ h.0.constant (λ v d. so_con (fold_two binary.Union acc v) (λ w. all_constant w xs) (two_con binary.Union acc v c d) (λ w i. all_con k xs h.1 w i))
+
+set_ok : (k : Setting) (xs : List ElementOf) (o : Option Value) → AllByRecursion (ElementOk k) xs → IfThere Con o → ValuedOk k (set_from xs o)
+set_ok k xs (Some v) h c = c
+set_ok k xs None h c = union_ok k xs h (e.Constant (literal.Set 0)) (node_e k _ (Constant (literal.Set 0)) (view_constant (literal.Set 0)) (omega arith) tt)
+
+no_elements : Con (literal.Set 0)
+no_elements = (omega arith, tt)
+
+pub set_keeps : (k : Setting) (xs : List ElementOf) → AllByRecursion (ElementOk k) xs → ValuedOk k (set_of xs)
+set_keeps k xs h = set_ok k xs (all_constant (literal.Set 0) xs) h (all_con k xs h (literal.Set 0) no_elements)

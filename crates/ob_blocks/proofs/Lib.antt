@@ -1,5 +1,0 @@
-pub mod Steady
-pub mod Heads
-pub mod Bound
-pub mod Blocks
-pub mod Modules

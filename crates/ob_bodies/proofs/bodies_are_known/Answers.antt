@@ -1,9 +1,0 @@
--- Each body is judged where what is known is as the module has it.
-use Rattle.ob_bodies.proofs.Whole.{bodies_known, imports_are_others}
-use Rattle.ob_bodies.proofs.bodies_are_known.Goals as goal
-
-pub returns-clause-bodies : goal.returns-clause-bodies
-returns-clause-bodies c = bodies_known
-
-pub returns-clause-imports : goal.returns-clause-imports
-returns-clause-imports c = imports_are_others

@@ -1,6 +1,0 @@
-pub mod Spelled
-pub mod Knows
-pub mod Order
-pub mod Judged
-pub mod Around
-pub mod Laws

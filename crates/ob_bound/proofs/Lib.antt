@@ -1,6 +1,0 @@
-pub mod Typings
-pub mod Written
-pub mod Binding
-pub mod Heads
-pub mod Blocks
-pub mod Modules

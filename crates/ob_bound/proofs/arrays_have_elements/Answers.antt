@@ -1,6 +1,0 @@
--- Arrays.
-use Rattle.ob_bound.proofs.Modules.{arrays_have}
-use Rattle.ob_bound.proofs.arrays_have_elements.Goals as goal
-
-pub returns : goal.returns
-returns c = arrays_have

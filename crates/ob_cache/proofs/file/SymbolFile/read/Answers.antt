@@ -1,5 +1,0 @@
-use Rattle.ob_cache.proofs.Readings.{spelling_read}
-use Rattle.ob_cache.proofs.file.SymbolFile.read.Goals as goal
-
-pub of-requires : goal.of-requires
-of-requires c = spelling_read c.args.bytes.now c.in_ok-face.face c.in_ok-face.ensures.found.0 c.in_ok-face.ensures.found.1

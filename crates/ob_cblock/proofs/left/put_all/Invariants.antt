@@ -1,5 +1,0 @@
-use Rattle.std.proofs.Common.{◌≡◌, ◌++◌, take}
-use Rattle.ob_cblock.proofs.left.put_all.Given as goal
-
-abbrev pub invariant-all : goal.invariant-all
-invariant-all l = l.all ≡ l.fn.all ++ take l.left-index l.later

@@ -1,5 +1,0 @@
-use Rattle.std.proofs.Common.{◌≡◌, ◌++◌, drop, map}
-use Rattle.ob_cbound.proofs.parts.add_fields.Given as goal
-
-abbrev pub invariant-fields : goal.invariant-fields
-invariant-fields l = l.types ++ map (λ f. f.of) (drop l.field-index l.fields) ≡ l.fn.types ++ map (λ f. f.of) l.fields

@@ -1,0 +1,211 @@
+//! The parts of types that hold no other type.
+
+#![tactic(auto, using(ob_rules::proofs::BookLaws::after_none, ob_rules::proofs::BookLaws::after_joined))]
+
+ghost use Rattle.std.specs.Prelude.{◌≡◌, IfOk, OnOk, Some, None};
+ghost use Rattle.std.specs.Option.{option_map};
+ghost use Rattle.ob_cdecl_scopes.specs.Scopes.{around_of};
+ghost use Rattle.ob_rules.specs.Books.{book_after};
+ghost use Rattle.ob_rules.specs.Judged.{◌▷◌};
+ghost use Rattle.ob_rules.specs.Names.{map_of, type_named};
+ghost use Rattle.ob_rules.specs.Expressions.{phrase_of};
+ghost use Rattle.ob_rules.specs.Types as spec;
+ghost use Rattle.ob_cdecl_field.specs.Makes.{typing_of};
+
+use crate::made::Typed;
+use crate::nodes::first_of;
+use ob_cdecl_scopes::{Imports, Scope};
+use ob_cexpr::{check_constant, start_of as start_of_expression};
+use ob_cexpr_name::{is_array, is_open, is_record, record_of, type_named};
+use ob_rules::{Notebook, Surroundings};
+use ob_tree::{Expr, Ident, List, Pos, Qualident};
+use ob_types::{TypeRef, Value};
+use std::alloc::{AllocError, Global};
+
+// Rule 13.
+fn named_typing<E: Imports>(
+    alloc: Global,
+    scope: &Scope<'_, E>,
+    book: &mut Notebook,
+    at: Pos,
+    open_ok: bool,
+    of: TypeRef,
+) -> Option<Typed>
+    ensures made { option_map typing_of result ≡ (spec.named_typing (around_of E.types scope.now) at open_ok of).node }
+    ensures noted { book.new ≡ book_after book.old (spec.named_typing (around_of E.types scope.now) at open_ok of).notes }
+{
+    if !open_ok && is_open(scope, &of) {
+        book.breaks(13, at);
+        return None;
+    }
+    Some(Typed {
+        of,
+        made: List::new(alloc),
+    })
+}
+
+/// The type that a name stands for, where it names one.
+pub fn named_type<E: Imports>(
+    alloc: Global,
+    scope: &Scope<'_, E>,
+    book: &mut Notebook,
+    name: &Qualident,
+    open_ok: bool,
+) -> Result<Option<Typed>, AllocError>
+    ensures made { IfOk result (λ r. option_map typing_of r ≡ (type_named (around_of E.types scope.now) name.now ▷ spec.named_typing (around_of E.types scope.now) (spec.first_of name.now) open_ok).node) }
+    ensures noted { OnOk result (book.new ≡ book_after book.old (type_named (around_of E.types scope.now) name.now ▷ spec.named_typing (around_of E.types scope.now) (spec.first_of name.now) open_ok).notes) }
+{
+    match type_named(alloc, scope, book, name)? {
+        None => Ok(None),
+        Some(of) => Ok(named_typing(alloc, scope, book, first_of(name), open_ok, of)),
+    }
+}
+
+// Rule 12.
+fn length_of(book: &mut Notebook, at: Pos, value: &Value) -> Option<u32>
+    ensures made { result ≡ (spec.length_of at value.now).node }
+    ensures noted { book.new ≡ book_after book.old (spec.length_of at value.now).notes }
+{
+    match value {
+        Value::Int(n) => {
+            if *n >= 1 {
+                Some(n.cast_unsigned())
+            } else {
+                book.breaks(12, at);
+                None
+            }
+        }
+        Value::Bool(_) | Value::Char(_) | Value::Set(_) | Value::Str(_) | Value::Nil => {
+            book.breaks(12, at);
+            None
+        }
+    }
+}
+
+/// The length of an array.
+pub fn array_length<E: Imports>(
+    alloc: Global,
+    scope: &Scope<'_, E>,
+    book: &mut Notebook,
+    e: &Expr,
+) -> Result<Option<u32>, AllocError>
+    ensures made { IfOk result (λ r. r ≡ (spec.array_length (around_of E.types scope.now) (phrase_of e.now)).node) }
+    ensures noted { OnOk result (book.new ≡ book_after book.old (spec.array_length (around_of E.types scope.now) (phrase_of e.now)).notes) }
+{
+    match check_constant(alloc, scope, book, e)? {
+        None => Ok(None),
+        Some(value) => Ok(length_of(book, start_of_expression(e), &value)),
+    }
+}
+
+// Rule 14.
+fn base_of<E: Imports>(
+    scope: &Scope<'_, E>,
+    book: &mut Notebook,
+    at: Pos,
+    of: TypeRef,
+) -> Option<TypeRef>
+    ensures made { result ≡ (spec.base_of (map_of (around_of E.types scope.now)) at of).node }
+    ensures noted { book.new ≡ book_after book.old (spec.base_of (map_of (around_of E.types scope.now)) at of).notes }
+{
+    if is_record(scope, &of) {
+        Some(of)
+    } else {
+        book.breaks(14, at);
+        None
+    }
+}
+
+fn base_named<E: Imports>(
+    alloc: Global,
+    scope: &Scope<'_, E>,
+    book: &mut Notebook,
+    name: &Qualident,
+) -> Result<Option<TypeRef>, AllocError>
+    ensures made { IfOk result (λ r. r ≡ (type_named (around_of E.types scope.now) name.now ▷ spec.base_of (map_of (around_of E.types scope.now)) (spec.first_of name.now)).node) }
+    ensures noted { OnOk result (book.new ≡ book_after book.old (type_named (around_of E.types scope.now) name.now ▷ spec.base_of (map_of (around_of E.types scope.now)) (spec.first_of name.now)).notes) }
+{
+    match type_named(alloc, scope, book, name)? {
+        None => Ok(None),
+        Some(of) => Ok(base_of(scope, book, first_of(name), of)),
+    }
+}
+
+/// The base of a record, where it has one.
+pub fn base_if<E: Imports>(
+    alloc: Global,
+    scope: &Scope<'_, E>,
+    book: &mut Notebook,
+    name: &Option<Qualident>,
+) -> Result<Option<Option<TypeRef>>, AllocError>
+    ensures made { IfOk result (λ r. r ≡ (spec.base_if (around_of E.types scope.now) name.now).node) }
+    ensures noted { OnOk result (book.new ≡ book_after book.old (spec.base_if (around_of E.types scope.now) name.now).notes) }
+{
+    match name {
+        None => Ok(Some(None)),
+        Some(name) => match base_named(alloc, scope, book, name)? {
+            None => Ok(None),
+            Some(of) => Ok(Some(Some(of))),
+        },
+    }
+}
+
+// Rule 17.
+fn result_fits<E: Imports>(
+    scope: &Scope<'_, E>,
+    book: &mut Notebook,
+    at: Pos,
+    of: TypeRef,
+) -> Option<Option<TypeRef>>
+    ensures made { result ≡ (spec.result_fits (around_of E.types scope.now) at of).node }
+    ensures noted { book.new ≡ book_after book.old (spec.result_fits (around_of E.types scope.now) at of).notes }
+{
+    if is_array(scope, &of) || is_record(scope, &of) {
+        book.breaks(17, at);
+        None
+    } else {
+        Some(Some(of))
+    }
+}
+
+/// The result of a procedure, where it has one.
+pub fn result_of<E: Imports>(
+    alloc: Global,
+    scope: &Scope<'_, E>,
+    book: &mut Notebook,
+    name: &Option<Qualident>,
+) -> Result<Option<Option<TypeRef>>, AllocError>
+    ensures made { IfOk result (λ r. r ≡ (spec.result_of (around_of E.types scope.now) name.now).node) }
+    ensures noted { OnOk result (book.new ≡ book_after book.old (spec.result_of (around_of E.types scope.now) name.now).notes) }
+{
+    match name {
+        None => Ok(Some(None)),
+        Some(name) => match type_named(alloc, scope, book, name)? {
+            None => Ok(None),
+            Some(of) => Ok(result_fits(scope, book, first_of(name), of)),
+        },
+    }
+}
+
+fn later_alone<E: Imports>(scope: &Scope<'_, E>, x: &Ident) -> Option<Ident>
+    ensures { result ≡ spec.later_by (around_of E.types scope.now) None x.now }
+{
+    if scope.declares_type(&x.name) && !scope.is_declared(&x.name) {
+        Some(*x)
+    } else {
+        None
+    }
+}
+
+/// The name, where it is that of a type of the scope that is declared later.
+pub fn later_type<E: Imports>(scope: &Scope<'_, E>, name: &Option<Qualident>) -> Option<Ident>
+    ensures { result ≡ spec.is_later (around_of E.types scope.now) name.now }
+{
+    match name {
+        None => None,
+        Some(name) => match &name.qualifier {
+            None => later_alone(scope, &name.ident),
+            Some(_) => None,
+        },
+    }
+}

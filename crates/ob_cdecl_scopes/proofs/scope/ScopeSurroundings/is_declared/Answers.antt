@@ -1,0 +1,12 @@
+use Rattle.std.proofs.Common.{ap, ◌∙◌}
+use Rattle.std.specs.Prelude.{bytes_eq}
+use Rattle.std.specs.List.{find}
+use Rattle.std.specs.Option.{option_map}
+use Rattle.ob_cdecl_scopes.specs.Descending.{is_scope_from}
+use Rattle.ob_cdecl_scopes.proofs.Scoping.{declared_by}
+use Rattle.ob_cdecl_scopes.proofs.scope.ScopeSurroundings.is_declared.Goals as goal
+
+pub returns : goal.returns
+returns g c =
+    let s = c.args.self.now in
+    c.is_from.ensures ∙ ap (λ o. is_scope_from o s.level) (c.scope_in.ensures ∙ ap (option_map (λ k. k.scope)) c.find.ensures ∙ ap (λ x. option_map (λ k. k.scope) (find (λ k. bytes_eq k.name x) s.known)) c.as_bytes.ensures) ∙ declared_by s.scope s.level s.known c.args.name.now s.scopes_fall

@@ -1,0 +1,2 @@
+pub use Rattle.ob_cdecl_field.specs.Makes
+pub mod Nested

@@ -1,4 +1,0 @@
-use Rattle.ob_cname.proofs.here.types.Goals as goal
-
-pub returns-clause-map : goal.returns-clause-map
-returns-clause-map g c = g.met.S.Surroundings.all_types c.args.here.now

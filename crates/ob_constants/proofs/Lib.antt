@@ -1,4 +1,0 @@
-pub mod Folded
-pub mod Functions
-pub mod Phrased
-pub mod Expressions

@@ -1,2 +1,0 @@
-pub use Rattle.ob_cfield.specs.Makes
-pub mod Nested

@@ -1,6 +1,0 @@
--- The fields of each record of a checked module have different names.
-use Rattle.ob_distinct.proofs.FieldBlocks.{fields_differ}
-use Rattle.ob_distinct.proofs.fields_differ.Goals as goal
-
-pub returns : goal.returns
-returns c = fields_differ

@@ -1,6 +1,0 @@
--- No checked module is named Out.
-use Rattle.ob_distinct.proofs.Blocks.{not_out}
-use Rattle.ob_distinct.proofs.modules_are_not_out.Goals as goal
-
-pub returns : goal.returns
-returns c = not_out

@@ -1,4 +1,0 @@
-use Rattle.ob_effect.proofs.acting.effect.Goals as goal
-
-pub returns-in-Out-clause-moves : goal.returns-in-Out-clause-moves
-returns-in-Out-clause-moves c = λ e. c.write.ensures.moves c.args.pc

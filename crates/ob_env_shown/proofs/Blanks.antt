@@ -1,0 +1,57 @@
+-- What is seen at a name's place is what is shown of the name.
+use Rattle.std.proofs.Common.{◌≡◌, ℕ, List, Option, Some, None, refl, sym, ap, ◌∙◌}
+use Rattle.std.specs.Prelude.{map as each, slice_get}
+use Rattle.std.specs.Option.{option_map}
+use Rattle.ob_format.specs.Format.{◌>>=◌}
+use Rattle.ob_tree.specs.declared.names.QName.{QName}
+use Rattle.ob_types.specs.declared.desc.Desc.{Desc}
+use Rattle.ob_types.specs.declared.face.Object.{Object}
+use Rattle.ob_types.specs.declared.face.Interface.{Interface}
+use Rattle.ob_layout.specs.Index.{position_from}
+use Rattle.ob_layout.proofs.Names.{first_at, first_none}
+use Rattle.ob_env.specs.Faces.{face_of}
+use Rattle.ob_env.specs.Found.{object_by_name, object_names, module_names, object_found}
+use Rattle.ob_env.specs.Laws.{described_found}
+use Rattle.ob_env.specs.Found.{place_in, place_of}
+use Rattle.ob_env.specs.Shown.{blank, shown}
+use Rattle.ob_env_shown.specs.Faces.{seen_at}
+
+-- ---- of a name
+
+described_in : Option Object → Option Desc
+described_in o = option_map (λ (p : Object). p.desc) o
+
+blank_in : (o : Option Object) → option_map blank (described_in o) ≡ option_map (λ (p : Object). blank p.desc) o
+unfolding described_in
+blank_in None = refl
+blank_in (Some p) = refl
+
+at_face : (is : List Interface) (x : List ℕ) (k : ℕ) (g : Option Interface) → slice_get is k ≡ g → option_map blank (described_in (g >>= λ i. object_by_name i.objects x)) ≡ ((g >>= λ i. position_from 0 x (object_names i.objects)) >>= λ j. Some (k, j)) >>= seen_at is
+unfolding described_in
+at_face is x k None e = refl
+at_face is x k (Some i) e = go (position_from 0 x (object_names i.objects)) refl
+  where
+    go : (p : Option ℕ) → position_from 0 x (object_names i.objects) ≡ p → option_map blank (described_in (object_by_name i.objects x)) ≡ (p >>= λ j. Some (k, j)) >>= seen_at is
+    go None h = ap (λ r. option_map blank (described_in r)) (first_none (λ (o : Object). o.name) i.objects x h)
+    go (Some j) h =
+        ap (λ r. option_map blank (described_in r)) (first_at (λ (o : Object). o.name) i.objects x j h)
+        ∙ blank_in (slice_get i.objects j)
+        ∙ sym (ap (λ (g : Option Interface). g >>= λ i. option_map (λ o. blank o.desc) (slice_get i.objects j)) e)
+
+at_module : (is : List Interface) (q : QName) (o : Option ℕ) → position_from 0 q.«module» (module_names is) ≡ o → option_map blank (described_in (object_found is q)) ≡ (o >>= λ k. place_in is k q.object >>= λ j. Some (k, j)) >>= seen_at is
+unfolding described_in
+at_module is q None e = ap (λ (r : Option Interface). option_map blank (described_in (r >>= λ i. object_by_name i.objects q.object))) (first_none (λ (i : Interface). i.«module») is q.«module» e)
+at_module is q (Some k) e =
+    ap (λ (r : Option Interface). option_map blank (described_in (r >>= λ i. object_by_name i.objects q.object))) (first_at (λ (i : Interface). i.«module») is q.«module» k e)
+    ∙ at_face is q.object k (slice_get is k) refl
+
+pub is_shown : (is : List Interface) (q : QName) → place_of is q >>= seen_at is ≡ shown (each face_of is) q
+unfolding described_in
+is_shown is q = sym (ap (option_map blank) (described_found is q) ∙ at_module is q (position_from 0 q.«module» (module_names is)) refl)
+
+-- what was found by the bytes of a name
+pub shown_of : (is : List Interface) (m x : List ℕ) (q : QName) (o : Option Desc) → m ≡ q.«module» → x ≡ q.object → o ≡ shown (each face_of is) (record { «module» = m; object = x }) → o ≡ shown (each face_of is) q
+shown_of is m x q o e f h =
+    h
+    ∙ ap (λ (l : List ℕ). let r : QName = record { «module» = l; object = x } in shown (each face_of is) r) e
+    ∙ ap (λ (l : List ℕ). let r : QName = record { «module» = q.«module»; object = l } in shown (each face_of is) r) f

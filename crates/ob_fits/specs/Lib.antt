@@ -1,2 +1,0 @@
--- The law of statements of modules that are read.
-pub mod Laws

@@ -1,7 +1,0 @@
-use Rattle.std.proofs.Common.{◌≡◌, ◌++◌, map, drop}
-use Rattle.ob_gorder.specs.Ordered.{of_definition}
-use Rattle.ob_gorder.proofs.order.definitions_of.Given as goal
-
--- those so far, and those of the rest
-abbrev pub invariant-items : goal.invariant-items
-invariant-items l = l.items.items ++ map of_definition (drop l.item-index l.found) ≡ map of_definition l.found

@@ -1,9 +1,0 @@
-use Rattle.std.proofs.Common.{◌≡◌, length}
-use Rattle.ob_heights.specs.Marks.{is_below, rows_keep}
-use Rattle.ob_heights.proofs.ranked.faces_keep.Given as goal
-
-abbrev pub invariant-loop-rest : goal.invariant-loop-rest
-invariant-loop-rest l = rows_keep (is_below l.env l.heights) l.rest l.left ≡ rows_keep (is_below l.env l.heights) l.faces l.rows
-
-abbrev pub decreases-loop-rest : goal.decreases-loop-rest
-decreases-loop-rest l = length l.rest

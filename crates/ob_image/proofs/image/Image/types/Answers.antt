@@ -1,7 +1,0 @@
-use Rattle.std.proofs.Common.{subst}
-use Rattle.ob_image.specs.Whole.{IsImage}
-use Rattle.ob_image.proofs.Whole.{few_types}
-use Rattle.ob_image.proofs.image.Image.types.Goals as goal
-
-pub returns-clause-few : goal.returns-clause-few
-returns-clause-few c = few_types c.args.self.now (subst IsImage c.self.view_is c.self.invariant)

@@ -1,6 +1,0 @@
--- What the rules accept is well typed.
-use Rattle.ob_introduced.proofs.Bodies.{accepted_is_well_typed}
-use Rattle.ob_introduced.proofs.accepted_is_well_typed.Goals as goal
-
-pub returns : goal.returns
-returns c = accepted_is_well_typed

@@ -1,7 +1,0 @@
--- That all commands of a session run by the table as they are meant.
-use Rattle.ob_ages.specs.Laws.{Simulation}
-use Rattle.ob_joining.specs.Builds.{BuildsStand}
-
--- The law of simulation for all commands, from what is asked of builds.
-abbrev pub CommandsFollow : Type 0
-CommandsFollow = BuildsStand → Simulation

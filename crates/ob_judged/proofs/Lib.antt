@@ -1,4 +1,0 @@
-pub mod Age
-pub mod Formed
-pub mod Typed
-pub mod Full

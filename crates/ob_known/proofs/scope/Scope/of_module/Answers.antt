@@ -1,7 +1,0 @@
-use Rattle.std.proofs.Common.{◌≡◌, true, sym, subst}
-use Rattle.ob_known.specs.Descending.{are_within}
-use Rattle.ob_known.proofs.Predeclaring.{within_one}
-use Rattle.ob_known.proofs.scope.Scope.of_module.Goals as goal
-
-pub invariant_of-result-clause-scopes_fall : goal.invariant_of-result-clause-scopes_fall
-invariant_of-result-clause-scopes_fall g c = subst (λ l. are_within 1 l ≡ true) (sym c.in_ok-known.ensures) within_one

@@ -1,6 +1,0 @@
-use Rattle.std.proofs.Common.{◌≡◌, map, take}
-use Rattle.std.specs.Prelude.{reverse}
-use Rattle.ob_known.proofs.table.names_in.Given as goal
-
-abbrev pub invariant-items : goal.invariant-items
-invariant-items g l = l.names ≡ map g.T.Named.name (reverse (take l.item-index l.items))

@@ -1,4 +1,0 @@
-use Rattle.ob_laid.proofs.sums.+words_at.Given as goal
-
-abbrev pub decreases-words_at : goal.decreases-words_at
-decreases-words_at l = l.steps

@@ -1,9 +1,0 @@
-pub mod Leaves
-pub mod Operators
-pub mod Predeclared
-pub mod Calls
-pub mod Designators
-pub mod Expressions
-pub mod Typings
-pub mod Written
-pub mod Orders

@@ -1,5 +1,0 @@
-use Rattle.ob_levels.proofs.Modules.{wrong_inside}
-use Rattle.ob_levels.proofs.wrong_alone.Goals as goal
-
-pub returns : goal.returns
-returns c = λ d ts r h. wrong_inside d ts r h

@@ -1,9 +1,0 @@
--- The laws of procedures and of bodies are the theorems of Standing.
-use Rattle.ob_linking.proofs.Standing as standing
-use Rattle.ob_linking.proofs.procedures_stand.Goals as goal
-
-pub returns-clause-procedures : goal.returns-clause-procedures
-returns-clause-procedures c = standing.procedures_stand
-
-pub returns-clause-bodies : goal.returns-clause-bodies
-returns-clause-bodies c = standing.bodies_stand

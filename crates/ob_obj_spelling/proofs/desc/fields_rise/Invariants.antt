@@ -1,0 +1,10 @@
+use Rattle.std.proofs.Common.{◌≡◌, length}
+use Rattle.ob_format.specs.Order.{rises}
+use Rattle.ob_desc.specs.Grammar.{by_place}
+use Rattle.ob_obj_spelling.proofs.desc.fields_rise.Given as goal
+
+abbrev pub invariant-loop-rest : goal.invariant-loop-rest
+invariant-loop-rest l = rises by_place l.rest ≡ rises by_place l.fields
+
+abbrev pub decreases-loop-rest : goal.decreases-loop-rest
+decreases-loop-rest l = length l.rest

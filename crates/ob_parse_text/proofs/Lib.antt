@@ -1,0 +1,4 @@
+mod Bare
+mod One
+pub mod Tokens
+mod Exact

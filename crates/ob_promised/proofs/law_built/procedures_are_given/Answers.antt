@@ -1,7 +1,0 @@
--- Procedures.
-use Rattle.ob_promised.proofs.built_laws.Places.{places_are_those}
-use Rattle.ob_promised.proofs.built_laws.Procedures.{procedures_are_given}
-use Rattle.ob_promised.proofs.law_built.procedures_are_given.Goals as goal
-
-pub returns : goal.returns
-returns c = record { places = places_are_those; procedures = procedures_are_given }

@@ -1,7 +1,0 @@
--- What of the headline's premises is left.
-use Rattle.ob_ages.specs.Laws.{Simulation}
-use Rattle.ob_ages.specs.Holds.{Promises}
-
--- that commands by the machine's table are those of the meaning
-abbrev pub SimulationSuffices : Type 0
-SimulationSuffices = Simulation → Promises

@@ -1,6 +1,0 @@
--- Bodies of judged modules name variables that are there.
-use Rattle.ob_scoped.proofs.Modules.{modules_are_scoped, programs_are_scoped}
-use Rattle.ob_scoped.proofs.bodies_are_scoped.Goals as goal
-
-pub returns : goal.returns
-returns c = record { modules = modules_are_scoped; programs = programs_are_scoped }

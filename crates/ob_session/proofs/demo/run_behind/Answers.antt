@@ -1,6 +1,0 @@
-use Rattle.ob_io.specs.Kept.{file_in}
-use Rattle.ob_session.proofs.Demos.{opening_cut}
-use Rattle.ob_session.proofs.demo.run_behind.Goals as goal
-
-pub returns-in-Err-clause-does : goal.returns-in-Err-clause-does
-returns-in-Err-clause-does g c = λ w to. opening_cut (g.O.Sink.tells c.args.out.now) c.args.settings w c.args.count c.args.objects (file_in c.args.folder.now.pairs) (g.O.Sink.taken c.args.out.now) (g.O.Sink.taken c.put_demo.new.out) c.in-Err.stop to c.in-Err.ensures.does

@@ -1,6 +1,0 @@
--- How deep what is read is nested.
-use Rattle.ob_short_names.proofs.Reading.{readings_within}
-use Rattle.ob_short_names.proofs.readings_are_within.Goals as goal
-
-pub returns : goal.returns
-returns c = readings_within

@@ -1,6 +1,0 @@
--- The interfaces that a valid build was compiled against have a grounded map.
-use Rattle.ob_sized.proofs.Grounded.{against_is_grounded}
-use Rattle.ob_sized.proofs.against_is_grounded.Goals as goal
-
-pub returns : goal.returns
-returns c = against_is_grounded

@@ -1,4 +1,0 @@
-pub mod Forms
-pub mod Designators
-pub mod Statements
-pub mod Whole

@@ -1,6 +1,0 @@
-pub mod Standing
-pub mod Variables
-pub mod Receivers
-pub mod Introduced
-pub mod Names
-pub mod Fitting

@@ -1,6 +1,0 @@
--- The law is the theorem of Loaded.
-use Rattle.ob_tables.proofs.Loaded as loaded
-use Rattle.ob_tables.proofs.tables_from_files.Goals as goal
-
-pub returns : goal.returns
-returns c = loaded.tables_from_files

@@ -1,3 +1,0 @@
-mod Bare
-mod One
-pub mod Tokens

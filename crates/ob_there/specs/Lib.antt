@@ -1,4 +1,0 @@
-pub mod There
-pub mod Methods
-pub mod Matched
-pub mod Procedures

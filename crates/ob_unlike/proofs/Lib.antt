@@ -1,7 +1,0 @@
-pub mod Items
-pub mod Unique
-pub mod Steady
-pub mod Heads
-pub mod Once
-pub mod Order
-pub mod Blocks

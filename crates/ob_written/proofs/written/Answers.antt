@@ -1,9 +1,0 @@
-use Rattle.ob_written.proofs.written.Goals as goal
-use Rattle.ob_written.proofs.Interface.{interfaces_written}
-use Rattle.ob_written.proofs.File.{modules_written}
-
-pub returns-clause-interfaces : goal.returns-clause-interfaces
-returns-clause-interfaces c = interfaces_written
-
-pub returns-clause-modules : goal.returns-clause-modules
-returns-clause-modules c = modules_written
