@@ -2,11 +2,13 @@
 #![tactic(auto, using(ob_rules::proofs::BookLaws::after_none))]
 
 mod kinds;
+mod misfits;
 mod nodes;
 mod operators;
 mod relations;
 mod sets;
 
+pub use misfits::unfit;
 pub use nodes::{dyadic, monadic, only_value};
 pub use operators::{combined, opposite, signed};
 pub use relations::related;

@@ -1,4 +1,1 @@
-pub mod CalledLaws
 pub mod FewLaws
-pub mod LengthLaws
-pub mod NewLaws

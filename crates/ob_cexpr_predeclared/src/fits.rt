@@ -8,13 +8,14 @@ ghost use Rattle.ob_rules.specs.Names.{map_of};
 ghost use Rattle.ob_rules.specs.Predeclared as spec;
 ghost use Rattle.ob_cexpr_predeclared.specs.Few.{few_of, few_taken, fit_few};
 
-use crate::lengths::{len, len_first};
-use crate::news::{new_many, new_one};
-use crate::operations::{abs, ash, long, short, unary_if, unfit};
 use crate::parameters::is_function;
-use crate::updates::{assert, assert_with, copy, element_step, halt, number_of, place_of, step};
 use ob_cexpr_call::misplaced;
+use ob_cexpr_functions::{abs, ash, len, len_first, long, short, unary_if};
 use ob_cexpr_name::{is, is_integer, types};
+use ob_cexpr_operator::unfit;
+use ob_cexpr_procedures::{
+    assert, assert_with, copy, element_step, halt, new_many, new_one, number_of, place_of, step,
+};
 use ob_rules::{Meant, Notebook, Predeclared, Surroundings, Valued, Where};
 use ob_tree::Pos;
 use ob_types::{Basic, Types, Unary, Update, Value};

@@ -3,11 +3,7 @@
 
 mod extremes;
 mod fits;
-mod lengths;
-mod news;
-mod operations;
 mod parameters;
-mod updates;
 
 pub use extremes::{extreme, no_extreme};
 pub use fits::call_fit;

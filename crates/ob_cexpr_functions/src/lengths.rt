@@ -11,8 +11,8 @@ ghost use Rattle.ob_rules.specs.Operators.{and_so};
 ghost use Rattle.ob_rules.specs.Shapes as shapes;
 ghost use Rattle.ob_rules.specs.Predeclared as spec;
 
-use crate::operations::unfit;
 use ob_cexpr_name::array_of;
+use ob_cexpr_operator::unfit;
 use ob_rules::{Computed, Meant, Notebook, Place, Valued};
 use ob_tree::Pos;
 use ob_types::{Basic, ExprType, TypeRef, Types, Value};

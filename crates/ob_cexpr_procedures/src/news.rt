@@ -7,9 +7,9 @@ ghost use Rattle.ob_rules.specs.Shapes as shapes;
 ghost use Rattle.ob_rules.specs.Values as values;
 ghost use Rattle.ob_rules.specs.Predeclared as spec;
 
-use crate::operations::unfit;
 use crate::updates::place_of;
 use ob_cexpr_name::{array_of, is_held, pointed, record_of, tree_of, width};
+use ob_cexpr_operator::unfit;
 use ob_rules::{Meant, Notebook, Place, Valued};
 use ob_tree::{Pos, QName};
 use ob_types::{Made, TypeRef, Types, Width};

@@ -8,10 +8,10 @@ ghost use Rattle.ob_rules.specs.Judged as judged;
 ghost use Rattle.ob_rules.specs.Operators.{and_so};
 ghost use Rattle.ob_rules.specs.Values as values;
 ghost use Rattle.ob_rules.specs.Predeclared as spec;
-ghost use Rattle.ob_cexpr_predeclared.specs.Updates.{update_of};
+ghost use Rattle.ob_cexpr_procedures.specs.Updates.{update_of};
 
-use crate::operations::unfit;
 use ob_cexpr_name::{array_type, has_text, is, is_char_array, text_tree, tree_of, width};
+use ob_cexpr_operator::unfit;
 use ob_rules::{Meant, Notebook, Place, Valued};
 use ob_tree::Pos;
 use ob_types::{Basic, Types, Update, Value, Width};

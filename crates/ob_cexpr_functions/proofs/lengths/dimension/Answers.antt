@@ -2,8 +2,8 @@ use Rattle.std.proofs.Common.{◌≡◌, ◌-◌, None, Some, sym, ap, ◌∙◌
 use Rattle.std.specs.Option.{option_map}
 use Rattle.ob_rules.specs.Shapes.{array_of}
 use Rattle.ob_rules.specs.Predeclared.{dimension}
-use Rattle.ob_cexpr_predeclared.proofs.LengthLaws.{stops, goes, ends}
-use Rattle.ob_cexpr_predeclared.proofs.lengths.dimension.Goals as goal
+use Rattle.ob_cexpr_functions.proofs.LengthLaws.{stops, goes, ends}
+use Rattle.ob_cexpr_functions.proofs.lengths.dimension.Goals as goal
 
 pub returns-in-None : goal.returns-in-None
 returns-in-None g c =

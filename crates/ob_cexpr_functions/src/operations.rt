@@ -10,20 +10,11 @@ ghost use Rattle.ob_rules.specs.Values as values;
 ghost use Rattle.ob_rules.specs.Predeclared as spec;
 
 use ob_cexpr_name::{is_integer, width};
-use ob_cexpr_operator::{dyadic, monadic};
+use ob_cexpr_operator::{dyadic, monadic, unfit};
 use ob_rules::{Meant, Notebook, Valued};
 use ob_tree::Pos;
 use ob_types::{Binary, Types, Unary, Width};
 use std::alloc::{AllocError, Global};
-
-/// Rule 28: the parameters do not fit.
-pub fn unfit(book: &mut Notebook, at: Pos) -> Option<Meant>
-    ensures made { result ≡ (spec.if_fit at None).node }
-    ensures noted { book.new ≡ book_after book.old (spec.if_fit at None).notes }
-{
-    book.breaks(28, at);
-    None
-}
 
 fn monadic_value(
     alloc: Global,

@@ -1,0 +1,2 @@
+pub mod CalledLaws
+pub mod LengthLaws
