@@ -19,7 +19,7 @@ pub use marks::{check_mark, is_module_level};
 pub use naming::{base_name, element_name, field_name, section_name};
 pub use nodes::{first_of, is_open_array, name_of, start_of};
 pub use params::mode_of;
-pub use parts::{array_length, base_if, later_type, named_type, result_of};
+pub use parts::{base_if, later_type, named_type, result_of};
 pub use sections::{
     joined_parameters, no_parameters, number_behind, procedure_of, section_known, with_result,
 };

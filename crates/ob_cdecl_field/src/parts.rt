@@ -8,18 +8,16 @@ ghost use Rattle.ob_cdecl_scopes.specs.Scopes.{around_of};
 ghost use Rattle.ob_rules.specs.Books.{book_after};
 ghost use Rattle.ob_rules.specs.Judged.{◌▷◌};
 ghost use Rattle.ob_rules.specs.Names.{map_of, type_named};
-ghost use Rattle.ob_rules.specs.Expressions.{phrase_of};
 ghost use Rattle.ob_rules.specs.Types as spec;
 ghost use Rattle.ob_cdecl_field.specs.Makes.{typing_of};
 
 use crate::made::Typed;
 use crate::nodes::first_of;
 use ob_cdecl_scopes::{Imports, Scope};
-use ob_cexpr::{check_constant, start_of as start_of_expression};
 use ob_cexpr_name::{is_array, is_open, is_record, record_of, type_named};
 use ob_rules::{Notebook, Surroundings};
-use ob_tree::{Expr, Ident, List, Pos, Qualident};
-use ob_types::{TypeRef, Value};
+use ob_tree::{Ident, List, Pos, Qualident};
+use ob_types::TypeRef;
 use std::alloc::{AllocError, Global};
 
 // Rule 13.
@@ -58,43 +56,6 @@ pub fn named_type<E: Imports>(
     match type_named(alloc, scope, book, name)? {
         None => Ok(None),
         Some(of) => Ok(named_typing(alloc, scope, book, first_of(name), open_ok, of)),
-    }
-}
-
-// Rule 12.
-fn length_of(book: &mut Notebook, at: Pos, value: &Value) -> Option<u32>
-    ensures made { result ≡ (spec.length_of at value.now).node }
-    ensures noted { book.new ≡ book_after book.old (spec.length_of at value.now).notes }
-{
-    match value {
-        Value::Int(n) => {
-            if *n >= 1 {
-                Some(n.cast_unsigned())
-            } else {
-                book.breaks(12, at);
-                None
-            }
-        }
-        Value::Bool(_) | Value::Char(_) | Value::Set(_) | Value::Str(_) | Value::Nil => {
-            book.breaks(12, at);
-            None
-        }
-    }
-}
-
-/// The length of an array.
-pub fn array_length<E: Imports>(
-    alloc: Global,
-    scope: &Scope<'_, E>,
-    book: &mut Notebook,
-    e: &Expr,
-) -> Result<Option<u32>, AllocError>
-    ensures made { IfOk result (λ r. r ≡ (spec.array_length (around_of E.types scope.now) (phrase_of e.now)).node) }
-    ensures noted { OnOk result (book.new ≡ book_after book.old (spec.array_length (around_of E.types scope.now) (phrase_of e.now)).notes) }
-{
-    match check_constant(alloc, scope, book, e)? {
-        None => Ok(None),
-        Some(value) => Ok(length_of(book, start_of_expression(e), &value)),
     }
 }
 

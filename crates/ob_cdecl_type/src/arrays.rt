@@ -13,7 +13,8 @@ ghost use Rattle.ob_rules.specs.Types as spec;
 ghost use Rattle.ob_cdecl_field.specs.Makes.{typing_of};
 ghost use Rattle.ob_cdecl_type.specs.Nested.{array_judged, arrays, deep_name, lengths_in};
 
-use ob_cdecl_field::{Typed, array_length, element_name, typed_as};
+use crate::lengths::array_length;
+use ob_cdecl_field::{Typed, element_name, typed_as};
 use ob_cdecl_scopes::{Imports, Scope};
 use ob_rules::Notebook;
 use ob_tree::{Expr, Mark, ObjName};

@@ -2,6 +2,7 @@
 #![tactic(auto)]
 
 mod arrays;
+mod lengths;
 mod pointers;
 mod types;
 

@@ -17,13 +17,13 @@ ghost use Rattle.ob_cdecl_field.specs.ParameterMakes.{section_typing, behind_sec
 ghost use Rattle.ob_cdecl_type.specs.Nested.{open_judged, written_fields, fields_as, written_section, section_as};
 
 use crate::arrays::{array_of, arrays_of, inner_name, lengths_of};
+use crate::lengths::array_length;
 use crate::pointers::{later_pointer, pointer_base, pointer_to};
 use ob_cdecl_field::{
-    Fields, Parameters, Typed, array_length, base_if, base_name, element_name, field_name,
-    fields_of, fields_together, first_name, is_open_array, joined_fields, joined_parameters,
-    later_type, mode_of, name_of, named_type, no_fields, no_parameters, number_behind,
-    procedure_of, record_of, result_of, section_known, section_name, start_of, typed_as,
-    with_result,
+    Fields, Parameters, Typed, base_if, base_name, element_name, field_name, fields_of,
+    fields_together, first_name, is_open_array, joined_fields, joined_parameters, later_type,
+    mode_of, name_of, named_type, no_fields, no_parameters, number_behind, procedure_of, record_of,
+    result_of, section_known, section_name, start_of, typed_as, with_result,
 };
 use ob_cdecl_scopes::{Imports, Scope, Stack};
 use ob_rules::Notebook;
