@@ -1,3 +1,5 @@
+//! What is declared around a place of a text, looked up by name.
+
 ghost use Rattle.std.specs.Prelude.{◌≡◌, [], ◌∷◌, ◌++◌, ◌<◌, ◌≤◌, ◌-◌, ◌+◌, true, length, drop, List, Option, Some, None, is_some, bytes_eq, reverse, IsTrue, OnOk, IfOk};
 ghost use Rattle.std.specs.Option.{option_copied};
 ghost use Rattle.std.specs.Option.{option_map};

@@ -1,3 +1,5 @@
+//! Numbers by their names, of which the newest counts until it is taken off.
+
 ghost use Rattle.std.specs.Prelude.{◌≡◌, [], ◌∷◌, ◌<◌, ◌-◌, ◌+◌, length, Some, OnOk, OnErr, IsSome, drop};
 ghost use Rattle.ob_rules.specs.Names.{is_among};
 ghost use Rattle.ob_cdecl_scopes.specs.Stacks.{latest, before_at, place_at, Puts};

@@ -1,3 +1,5 @@
+//! The types that are known at a place.
+
 ghost use Rattle.std.specs.Prelude.{◌≡◌};
 ghost use Rattle.ob_rules.specs.Names.{map_of};
 

@@ -1,3 +1,5 @@
+//! The check of a client: which of its uses the interfaces of now do not meet.
+
 ghost use Rattle.std.specs.Prelude.{◌≡◌, ◌++◌, ◌∷◌, [], Some, true, map as each, IfOk, OnOk};
 ghost use Rattle.std.specs.Option.{option_copied};
 ghost use Rattle.ob_sym.specs.Grammar.{face as face_form};

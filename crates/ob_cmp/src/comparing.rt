@@ -1,3 +1,5 @@
+//! The comparison of two interfaces, object by object.
+
 ghost use Rattle.std.specs.Prelude.{◌≡◌, ◌+◌, ◌<◌, ◌++◌, ◌∷◌, [], Option, length, OnOk, IfOk, map as each};
 ghost use Rattle.ob_desc.specs.Grammar.{shape_text, layout_text, shape_fits};
 ghost use Rattle.ob_sym.specs.Grammar.{object_of, face as face_form};

@@ -1,3 +1,5 @@
+//! The text of an interface.
+
 ghost use Rattle.std.specs.Prelude.{◌≡◌, ◌≤◌, ◌++◌, ℕ, OnOk, IfOk, length, decimal, codes};
 ghost use Rattle.std.specs.List.{flat_map, AllByRecursion};
 ghost use Rattle.ob_format.specs.Format.{Adds};

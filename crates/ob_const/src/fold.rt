@@ -1,3 +1,5 @@
+//! Operations on constants, folded as the language says.
+
 ghost use Rattle.std.specs.Prelude.{◌≡◌};
 ghost use Rattle.ob_rules.specs.Constants as spec;
 

@@ -1,3 +1,5 @@
+//! The values of literals.
+
 ghost use Rattle.std.specs.Prelude.{◌≡◌, ◌≤◌, ◌-◌, pos, nat_le, length, IfOk};
 ghost use Rattle.ob_types.specs.declared.value.Value.TheVariants as literal;
 ghost use Rattle.ob_rules.specs.Constants.{text_value, when};

@@ -1,3 +1,5 @@
+//! Arithmetic on constants, within LONGINT.
+
 ghost use Rattle.std.specs.Prelude.{◌≡◌, ◌+ℤ◌, ◌-ℤ◌, ◌*ℤ◌, neg_ℤ, pos, unsigned_abs};
 ghost use Rattle.ob_types.specs.Numbers.{quotient, remainder, is_positive, is_odd, capital, element_in};
 ghost use Rattle.ob_types.specs.declared.value.Value.TheVariants as literal;

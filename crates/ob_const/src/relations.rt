@@ -1,3 +1,5 @@
+//! Relations of constants.
+
 ghost use Rattle.std.specs.Prelude.{◌≡◌};
 ghost use Rattle.ob_types.specs.Numbers.{holds};
 ghost use Rattle.ob_rules.specs.Constants as spec;

@@ -1,3 +1,5 @@
+//! Operations on sets that are constants.
+
 ghost use Rattle.std.specs.Prelude.{◌≡◌, ◌≤◌, ◌<◌, ◌^◌, ◌-◌, bit_or, bit_and, bit_xor, IfSome};
 ghost use Rattle.ob_types.specs.Numbers.{element_in, has_bit};
 ghost use Rattle.ob_rules.specs.Constants as spec;

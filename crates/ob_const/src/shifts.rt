@@ -1,3 +1,5 @@
+//! ASH of constants.
+
 ghost use Rattle.std.specs.Prelude.{◌≡◌, ◌≤◌, ◌<◌, ◌^◌, ◌*ℤ◌, pos, negsuc, nat_le};
 ghost use Rattle.ob_types.specs.Numbers.{shifted, quotient};
 ghost use Rattle.ob_rules.specs.Constants as spec;

@@ -1,3 +1,5 @@
+//! Relations of strings that are constants.
+
 ghost use Rattle.std.specs.Prelude.{◌≡◌, ◌∷◌, [], Option, Some, None, ◌≤◌, length};
 ghost use Rattle.std.specs.Option.{option_map};
 ghost use Rattle.ob_types.specs.Numbers.{holds, text_equal, text_less};

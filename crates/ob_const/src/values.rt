@@ -1,3 +1,5 @@
+//! Constants and the values of Rust that they stand for.
+
 ghost use Rattle.std.specs.Prelude.{◌≡◌};
 ghost use Rattle.std.specs.Option.{option_map};
 ghost use Rattle.ob_types.specs.declared.value.Value.TheVariants as literal;

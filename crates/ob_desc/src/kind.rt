@@ -1,3 +1,5 @@
+//! The keywords that descriptions begin with.
+
 /// The keyword that a shape text begins with.
 #[derive(Clone, Copy, PartialEq, Eq)]
 pub enum Kind {

@@ -1,3 +1,5 @@
+//! A description written as its two texts, shape and layout.
+
 ghost use Rattle.std.specs.Prelude.{◌≡◌, ◌++◌, ◌∷◌, ◌<◌, Some, OnOk, IfOk, IsSome, decimal, codes};
 ghost use Rattle.std.specs.List.{flat_map, filter};
 ghost use Rattle.std.specs.Fmt.{signed_decimal};

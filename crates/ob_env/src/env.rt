@@ -1,3 +1,5 @@
+//! The interfaces around a module, in which modules and objects are found by name.
+
 ghost use Rattle.std.specs.Prelude.{◌≡◌, IfOk};
 ghost use Rattle.std.specs.Option.{option_copied};
 ghost use Rattle.ob_env.specs.Faces.{print_in, faces_of};

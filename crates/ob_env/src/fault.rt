@@ -1,3 +1,5 @@
+//! Why interfaces do not stand together.
+
 use ob_tree::{Name, Print, QName};
 use ob_types::Aspect;
 use thiserror::Error;

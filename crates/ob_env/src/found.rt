@@ -1,3 +1,5 @@
+//! What stands at a position of the interfaces.
+
 ghost use Rattle.std.specs.Prelude.{◌≡◌, IfOk};
 ghost use Rattle.std.specs.Option.{option_copied};
 ghost use Rattle.ob_layout.specs.Index.{IsIndexOf};

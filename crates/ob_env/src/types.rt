@@ -1,3 +1,5 @@
+//! The types that the interfaces show.
+
 ghost use Rattle.std.specs.Prelude.{◌≡◌};
 ghost use Rattle.ob_env.specs.Faces.{described};
 ghost use Rattle.ob_env.specs.Faces.{faces_of};

@@ -1,3 +1,5 @@
+//! The types of a module together with those that its imports show.
+
 ghost use Rattle.std.specs.Prelude.{◌≡◌, IfOk};
 ghost use Rattle.std.specs.Option.{option_copied};
 ghost use Rattle.ob_layout.specs.Index.{IsIndexOf, position_from};

@@ -1,3 +1,5 @@
+//! Interfaces behind others that are known to stand together.
+
 ghost use Rattle.std.specs.Prelude.{◌≡◌, ◌++◌, true, None, Some, length, drop, IfOk, IfSome};
 ghost use Rattle.ob_env.specs.Faces.{faces_of};
 ghost use Rattle.ob_env.specs.Fit.{steps_of};

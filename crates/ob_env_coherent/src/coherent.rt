@@ -1,3 +1,5 @@
+//! Environments whose interfaces stand together, built or grown.
+
 ghost use Rattle.std.specs.Prelude.{◌≡◌, true, IfOk, IfErr, IfSome};
 ghost use Rattle.ob_env.specs.Found.{CarryPrints};
 ghost use Rattle.ob_env_ranks.specs.Marks.{are_ranked, AreRanks};

@@ -1,3 +1,5 @@
+//! The first object that does not fit.
+
 ghost use Rattle.std.specs.Prelude.{◌≡◌, IfOk, IfSome};
 ghost use Rattle.ob_env.specs.Stale.{first_among};
 ghost use Rattle.ob_env.specs.Fit.{is_sound_record, fits, steps_of, stands as stands_well};

@@ -1,3 +1,5 @@
+//! Whether the members of a record, with those of its bases, differ in name.
+
 ghost use Rattle.std.specs.Prelude.{◌≡◌, ◌++◌, map as each, OnOk, IfOk};
 ghost use Rattle.ob_env.specs.Mapped.{map_of};
 ghost use Rattle.ob_env.specs.Fit.{own_names, visible_names, are_distinct, has_distinct_names};

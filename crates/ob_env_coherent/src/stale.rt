@@ -1,3 +1,5 @@
+//! The first use that is not met.
+
 ghost use Rattle.std.specs.Prelude.{Some};
 ghost use Rattle.ob_env.specs.declared.fault.EnvFault.TheVariants as fault;
 ghost use Rattle.ob_env.specs.Stale.{first_among};

@@ -1,3 +1,5 @@
+//! What the types that an object names come to.
+
 ghost use Rattle.std.specs.Prelude.{◌≡◌};
 ghost use Rattle.std.specs.Option.{option_copied};
 ghost use Rattle.ob_types.specs.Relations.{is_record, is_structure, is_open};

@@ -1,3 +1,5 @@
+//! Symbol files that were read, kept by module and bytes.
+
 ghost use Rattle.std.specs.Prelude.{◌≡◌, Some, IfOk, IfSome, MatchResult};
 ghost use Rattle.ob_types.specs.declared.face.Interface.{Interface as Face};
 ghost use Rattle.ob_format.specs.Format.{whole};

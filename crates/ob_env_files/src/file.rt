@@ -1,3 +1,5 @@
+//! A symbol file that was read: its bytes, its interface, and where each object stands.
+
 ghost use Rattle.std.specs.Prelude.{◌≡◌, true, Some, IfOk, MatchResult};
 ghost use Rattle.std.specs.Option.{option_copied};
 ghost use Rattle.std.specs.Coded.{Coded-set, coded_option};

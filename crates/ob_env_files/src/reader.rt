@@ -1,3 +1,5 @@
+//! What reads symbol files.
+
 ghost use Rattle.std.specs.Prelude.{◌≡◌, MatchResult, IfOk};
 ghost use Rattle.ob_types.specs.declared.face.Interface.{Interface as Face};
 ghost use Rattle.ob_sym.specs.Grammar.{face as face_form};

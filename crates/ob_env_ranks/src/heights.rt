@@ -1,3 +1,5 @@
+//! A height for each type, above those of the types that it names.
+
 use crate::ranked::{CHAIN, height_placed};
 use ob_env::Env;
 use ob_env_files::SymbolFile;

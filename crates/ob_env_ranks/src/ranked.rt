@@ -1,3 +1,5 @@
+//! Whether each type stands above the types that it names.
+
 ghost use Rattle.std.specs.Prelude.{◌≡◌, slice_get};
 ghost use Rattle.ob_types.specs.declared.types.TypeRef.TheVariants as ref;
 ghost use Rattle.ob_env_ranks.specs.Marks.{height_at, is_below, keeps_height, row_keeps, rows_keep, are_ranked};

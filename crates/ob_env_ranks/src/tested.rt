@@ -1,3 +1,5 @@
+//! One test for all types that an object names.
+
 ghost use Rattle.std.specs.Prelude.{◌≡◌, map as each, Bool};
 ghost use Rattle.std.specs.List.{list_all, flat_map};
 ghost use Rattle.ob_types.specs.declared.types.TypeRef.{TypeRef};

@@ -1,3 +1,5 @@
+//! Types whose chains end within so many rounds, marked round by round.
+
 ghost use Rattle.std.specs.Prelude.{◌≡◌, IfOk, slice_get};
 ghost use Rattle.std.specs.List.{list_all};
 ghost use Rattle.ob_types.specs.declared.types.TypeRef.TheVariants as ref;

@@ -1,3 +1,5 @@
+//! Records of interfaces without their places.
+
 ghost use Rattle.std.specs.Prelude.{◌≡◌, ◌++◌, [], IfOk, OnOk, map};
 ghost use Rattle.ob_env.specs.Shown.{blank, unplaced, unnumbered};
 ghost use Rattle.ob_env_shown.specs.Faces.{blank_of, blanks_from, rows_of};

@@ -1,3 +1,5 @@
+//! The walk through the imports of a module, depth first.
+
 ghost use Rattle.std.specs.Prelude.{◌≡◌, ◌<◌, ◌∷◌, [], true, ◌||◌, OnOk, Option, reverse, bytes_eq, length, Some, IfOk, IsErrOf};
 ghost use Rattle.std.specs.List.{list_any};
 ghost use Rattle.ob_format.specs.Format.{whole};

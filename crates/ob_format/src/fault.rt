@@ -1,3 +1,5 @@
+//! Why bytes could not be read.
+
 ghost use Rattle.std.specs.Prelude.{◌≡◌};
 ghost use Rattle.ob_format.specs.declared.fault.Fault.TheVariants.{Memory};
 

@@ -1,3 +1,5 @@
+//! Values that have exactly one spelling as bytes, and the numbers and texts among them.
+
 ghost use Rattle.std.specs.Prelude.{◌≡◌, ◌++◌, ◌∷◌, [], ◌^◌, ◌<◌, OnOk, IfOk, not, length};
 ghost use Rattle.std.specs.Int.{w16, w32};
 ghost use Rattle.ob_format.specs.Format.{Format, IsExact, Adds, Gives, Finds, word16, word32, text32, list_of, optional, items_at, whole, byte, int, skip_at, rising, few, fixed_at};

@@ -1,3 +1,5 @@
+//! Words and numbers in texts.
+
 ghost use Rattle.std.specs.Prelude.{◌≡◌, ◌++◌, ◌∷◌, OnOk, decimal};
 ghost use Rattle.std.specs.Fmt.{signed_decimal};
 ghost use Rattle.ob_format.specs.Format.{Adds, Finds};

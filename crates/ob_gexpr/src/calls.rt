@@ -1,3 +1,5 @@
+//! Code that counts and passes actual parameters.
+
 ghost use Rattle.std.specs.Prelude.{◌≡◌, ◌+◌, ◌∷◌, [], ◌<◌, ◌^◌, pos, OnOk, IfOk};
 ghost use Rattle.ob_types.specs.TypedView.{actuals_view};
 ghost use Rattle.ob_scheme.specs.Lines.{Number, placed, placed_two, count};

@@ -1,3 +1,5 @@
+//! Code of constants.
+
 ghost use Rattle.std.specs.Prelude.{◌≡◌, ◌+◌, ◌<◌, ◌^◌, ◌∷◌, [], suc, pos, length, OnOk, IfOk};
 ghost use Rattle.ob_scheme.specs.Lines.{Number, plain, count};
 ghost use Rattle.ob_scheme.specs.Operations.{truth_word, set_word};

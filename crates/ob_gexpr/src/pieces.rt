@@ -1,3 +1,5 @@
+//! Code of operators, where that of their operands was put.
+
 ghost use Rattle.std.specs.Prelude.{◌≡◌, ◌++◌, ◌∷◌, [], ◌<◌, ◌^◌, pos, OnOk};
 ghost use Rattle.ob_scheme.specs.Coded.{Coded, appended};
 ghost use Rattle.ob_scheme.specs.Operations.{unary_code, binary_line, comparison_code};

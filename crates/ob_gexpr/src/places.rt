@@ -1,3 +1,5 @@
+//! Code that goes on from a place: indices, fields, lengths, pointers.
+
 ghost use Rattle.std.specs.Prelude.{◌≡◌, ◌++◌, ◌∷◌, [], ◌<◌, ◌^◌, pos, negsuc, OnOk};
 ghost use Rattle.ob_scheme.specs.Lines.{Number, plain, placed, placed_two, bare, bare_at, count};
 ghost use Rattle.ob_scheme.specs.Context.{Context, words};

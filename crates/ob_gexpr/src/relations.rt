@@ -1,3 +1,5 @@
+//! Code of relations of texts.
+
 ghost use Rattle.std.specs.Prelude.{◌≡◌, ◌∷◌, [], pos, OnOk};
 ghost use Rattle.ob_scheme.specs.Lines.{placed, count};
 ghost use Rattle.ob_scheme.specs.Operations.{relation_number};

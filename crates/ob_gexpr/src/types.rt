@@ -1,3 +1,5 @@
+//! Code that tests and guards types, and that names procedures.
+
 ghost use Rattle.std.specs.Prelude.{◌≡◌, ◌∷◌, [], Some, None, OnOk, IfOk};
 ghost use Rattle.ob_scheme.specs.Lines.{plain};
 ghost use Rattle.ob_scheme.specs.Context.{Context, record_operand};

@@ -1,3 +1,5 @@
+//! The code so far: instructions, positions and links.
+
 ghost use Rattle.std.specs.Prelude.{◌≡◌, ◌+◌, ◌≤◌, ◌<◌, ◌^◌, ◌∷◌, ◌++◌, [], length, pos, OnOk, IfOk, Some, None};
 ghost use Rattle.ob_scheme.specs.Lines.{Number, StringHere, OtherVariable, OtherProcedure, OtherType, none, count, line_of};
 ghost use Rattle.ob_scheme.specs.Numbers.{instr, same_type, number_among, with_position};

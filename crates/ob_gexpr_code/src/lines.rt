@@ -1,3 +1,5 @@
+//! Single lines of code, put by what they do.
+
 ghost use Rattle.std.specs.Prelude.{◌≡◌, ◌∷◌, [], ◌<◌, ◌^◌, pos, OnOk};
 ghost use Rattle.ob_scheme.specs.Lines.{Number, plain, placed, bare, bare_at, count};
 ghost use Rattle.ob_scheme.specs.Coded.{Coded, appended};

@@ -1,3 +1,5 @@
+//! Links to variables and procedures of other modules, each with its number.
+
 ghost use Rattle.std.specs.Prelude.{◌≡◌, ◌+◌, ◌≤◌, ◌<◌, ◌^◌, ◌∷◌, ◌++◌, [], length, OnOk, IfOk, List};
 ghost use Rattle.ob_scheme.specs.Numbers.{same_link, number_among, with_one, link_to};
 

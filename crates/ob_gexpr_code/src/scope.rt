@@ -1,3 +1,5 @@
+//! What the code of a procedure looks up.
+
 ghost use Rattle.std.specs.Prelude.{◌≡◌, ◌≤◌, ◌^◌, ◌<◌, pos, IfOk};
 ghost use Rattle.std.specs.Option.{option_map, option_copied};
 ghost use Rattle.ob_scheme.specs.Context.{Context, words, is_own, variable_place, parameter_slot, local_slot, procedure_index, type_index, records, own_types};

@@ -1,3 +1,5 @@
+//! Links to record types, each with its number.
+
 ghost use Rattle.std.specs.Prelude.{◌≡◌, ◌+◌, ◌≤◌, ◌<◌, ◌^◌, ◌∷◌, ◌++◌, [], length, OnOk, IfOk, List};
 ghost use Rattle.ob_scheme.specs.Numbers.{same_type, number_among, with_one};
 

@@ -1,3 +1,5 @@
+//! Instructions that name record types.
+
 ghost use Rattle.std.specs.Prelude.{◌≡◌, ◌∷◌, [], ◌<◌, ◌^◌, Some, OnOk};
 ghost use Rattle.ob_scheme.specs.Lines.{Number, count, none, line_of, placed_two};
 ghost use Rattle.ob_scheme.specs.Context.{Context, type_operand};

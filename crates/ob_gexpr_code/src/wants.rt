@@ -1,3 +1,5 @@
+//! How actual parameters are wanted on the operand stack.
+
 ghost use Rattle.std.specs.Prelude.{◌≡◌, IfOk};
 ghost use Rattle.ob_scheme.specs.Context.{Context, words};
 ghost use Rattle.ob_scheme.specs.Expressions.{wanted};

@@ -1,3 +1,5 @@
+//! The numbers of the bases of a module's record types.
+
 ghost use Rattle.std.specs.Prelude.{◌≡◌, Some, bytes_eq, OnOk, IfOk};
 ghost use Rattle.std.specs.Option.{option_copied};
 ghost use Rattle.ob_scheme.specs.Descriptions.{own_name};

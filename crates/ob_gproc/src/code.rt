@@ -1,3 +1,5 @@
+//! The code of all procedures and of the body.
+
 ghost use Rattle.std.specs.Prelude.{◌≡◌, ◌∷◌, ◌++◌, [], length, map, OnOk, IfOk};
 ghost use Rattle.ob_types.specs.TypedView.{stmts_view, procedure_view, module_view};
 ghost use Rattle.ob_scheme.specs.Coded.{Coded, appended, place_in};

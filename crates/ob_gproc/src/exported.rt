@@ -1,3 +1,5 @@
+//! The exported variables and procedures of an object file.
+
 ghost use Rattle.std.specs.Prelude.{◌≡◌, ◌+◌, ◌++◌, ◌∷◌, [], map, OnOk, IfOk};
 ghost use Rattle.ob_types.specs.TypedView.{module_view, procedure_view};
 ghost use Rattle.ob_scheme.specs.Object.{is_seen, is_full, is_free, seen_variables, commands_among, variables, commands};

@@ -1,3 +1,5 @@
+//! The object file of a checked module.
+
 ghost use Rattle.std.specs.Prelude.{◌≡◌, IfOk, OnOk, true, false};
 ghost use Rattle.std.specs.Result.{IsErrOf};
 ghost use Rattle.ob_tree.specs.declared.which.Which.TheVariants as which;

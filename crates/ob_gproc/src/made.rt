@@ -1,3 +1,5 @@
+//! What the generation of code hands on.
+
 ghost use Rattle.std.specs.Prelude.{◌≡◌, IfOk};
 ghost use Rattle.ob_types.specs.TypedView.{module_view};
 ghost use Rattle.ob_scheme.specs.Procedures.{module_rows};

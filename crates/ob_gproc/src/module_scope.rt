@@ -1,3 +1,5 @@
+//! What the code of a module looks up.
+
 ghost use Rattle.std.specs.Prelude.{◌≡◌};
 ghost use Rattle.ob_gproc.specs.Placed.{ArePlaces};
 ghost use Rattle.ob_gproc.specs.Scoped.{variables_before, variables_words, procedures_before, types_before, types_count};

@@ -1,3 +1,5 @@
+//! Places of variables, found by name.
+
 ghost use Rattle.std.specs.Prelude.{◌≡◌, ◌+◌, ◌<◌, ◌^◌, ℕ, List, None, IfOk};
 ghost use Rattle.ob_layout.specs.Index.{at_name, Notes};
 ghost use Rattle.ob_gproc.specs.Placed.{place_of};

@@ -1,3 +1,5 @@
+//! The rows of the record types of an object file.
+
 ghost use Rattle.std.specs.Prelude.{◌≡◌, ◌++◌, ◌∷◌, [], map, Some, OnOk, IfOk};
 ghost use Rattle.ob_types.specs.declared.desc.Desc.TheVariants as desc;
 ghost use Rattle.ob_types.specs.TypedView.{module_view, procedure_view};

@@ -1,3 +1,5 @@
+//! The rows of parameters and results.
+
 ghost use Rattle.std.specs.Prelude.{◌≡◌, IfOk};
 ghost use Rattle.ob_layout.specs.Words.{words_of as words_in_map};
 ghost use Rattle.ob_scheme.specs.Descriptions.{open_words};

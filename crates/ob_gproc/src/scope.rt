@@ -1,3 +1,5 @@
+//! What the code of one procedure looks up.
+
 ghost use Rattle.std.specs.Prelude.{◌≡◌};
 ghost use Rattle.ob_types.specs.TypedView.{module_view};
 ghost use Rattle.ob_gproc.specs.Placed.{ArePlaces};

@@ -1,3 +1,5 @@
+//! The tables in which a module's code looks up places and numbers.
+
 ghost use Rattle.std.specs.Prelude.{◌≡◌, ◌<◌, IfOk};
 ghost use Rattle.ob_layout.specs.Room.{slots};
 ghost use Rattle.ob_layout.specs.Words.{words_of};

@@ -1,3 +1,5 @@
+//! All parts of an object file, joined.
+
 ghost use Rattle.std.specs.Prelude.{◌≡◌, IfOk};
 ghost use Rattle.ob_types.specs.TypedView.{module_view};
 ghost use Rattle.ob_scheme.specs.Procedures.{module_rows};

@@ -1,3 +1,5 @@
+//! How many lines the code of an expression has.
+
 ghost use Rattle.std.specs.Prelude.{◌≡◌};
 ghost use Rattle.ob_types.specs.TypedView.{designator_view, expr_view, actuals_view};
 ghost use Rattle.ob_gproc_operands.specs.Nowhere.{passed};

@@ -1,3 +1,5 @@
+//! Whether a module's code is short enough.
+
 ghost use Rattle.std.specs.Prelude.{◌≡◌, ◌+◌, map};
 ghost use Rattle.ob_types.specs.TypedView.{stmts_view, procedure_view, module_view};
 ghost use Rattle.ob_scheme.specs.Needs.{has_short_code};

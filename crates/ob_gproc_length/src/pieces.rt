@@ -1,3 +1,5 @@
+//! How many lines the parts of a construct have.
+
 ghost use Rattle.std.specs.Prelude.{◌≡◌, ◌+◌, ◌*◌, ◌<◌, length};
 ghost use Rattle.ob_scheme.specs.Descriptions.{elements_of};
 ghost use Rattle.ob_gstmt_labels.specs.Sizes.{pointer_size};

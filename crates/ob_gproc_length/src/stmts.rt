@@ -1,3 +1,5 @@
+//! How many lines the code of statements has.
+
 ghost use Rattle.std.specs.Prelude.{◌≡◌, ◌+◌, ◌*◌, length};
 ghost use Rattle.std.specs.Option.{option_map};
 ghost use Rattle.ob_types.specs.TypedView.{expr_view, stmt_view, stmts_view, branches_view, cases_view};

@@ -1,3 +1,5 @@
+//! How many operands an expression needs.
+
 ghost use Rattle.std.specs.Prelude.{◌≡◌, ◌+◌, max};
 ghost use Rattle.ob_types.specs.TypedView.{designator_view, expr_view, actual_view, actuals_view};
 ghost use Rattle.ob_scheme.specs.Needs.{need_desig, need_expr, need_actuals};

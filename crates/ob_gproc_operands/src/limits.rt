@@ -1,3 +1,5 @@
+//! Whether a module needs few enough operands.
+
 ghost use Rattle.std.specs.Prelude.{◌≡◌, Option, map, nat_le};
 ghost use Rattle.ob_tree.specs.declared.names.QName.{QName};
 ghost use Rattle.ob_types.specs.declared.desc.Desc.{Desc};

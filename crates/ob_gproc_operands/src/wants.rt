@@ -1,3 +1,5 @@
+//! How many operands stand for each kind of want.
+
 ghost use Rattle.std.specs.Prelude.{◌≡◌, ◌+◌, max};
 ghost use Rattle.ob_scheme.specs.Needs.{operands_of, result_operands, label_operands};
 ghost use Rattle.ob_gproc_operands.specs.Capped.{capped};

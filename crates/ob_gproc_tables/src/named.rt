@@ -1,3 +1,5 @@
+//! Numbers in the order of their names.
+
 ghost use Rattle.std.specs.Prelude.{◌≡◌, Some, refl};
 ghost use Rattle.std.specs.Ordering.{eq_by_cmp};
 ghost use Rattle.std.specs.Cmp.{eq_by_cmp_equiv, partial_order_from_agreeing_total};

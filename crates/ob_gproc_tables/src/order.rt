@@ -1,3 +1,5 @@
+//! The rows of an object file's tables, in their order.
+
 ghost use Rattle.std.specs.Prelude.{◌≡◌, map, IfOk};
 ghost use Rattle.ob_obj.specs.Grammar.{by_variable, by_command, by_number};
 ghost use Rattle.ob_layout.specs.Lists.{in_order};

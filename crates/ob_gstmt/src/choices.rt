@@ -1,3 +1,5 @@
+//! Code of the labels of CASE.
+
 ghost use Rattle.std.specs.Prelude.{◌≡◌, ◌∷◌, [], ◌<◌, ◌≤◌, ◌^◌, ◌+◌, ◌*◌, OnOk, IfOk};
 ghost use Rattle.ob_scheme.specs.Lines.{Number, plain, placed, bare, count, jump_if_false};
 ghost use Rattle.ob_scheme.specs.Context.{Context};

@@ -1,3 +1,5 @@
+//! Code of the parts of FOR.
+
 ghost use Rattle.std.specs.Prelude.{◌≡◌, ◌++◌, ◌∷◌, [], ◌<◌, ◌^◌, suc, OnOk};
 ghost use Rattle.ob_types.specs.TypedView.{expr_view};
 ghost use Rattle.ob_scheme.specs.declared.want.Want.TheVariants as want;

@@ -1,3 +1,5 @@
+//! Code of statements.
+
 ghost use Rattle.std.specs.Prelude.{◌≡◌, ◌<◌, ◌^◌, suc, OnOk, IfOk};
 ghost use Rattle.ob_types.specs.TypedSyntax.{NoBranch, Branch, NoCase, OneCase};
 ghost use Rattle.ob_types.specs.TypedView.{expr_view, stmt_view, stmts_view, branches_view, cases_view};

@@ -1,3 +1,5 @@
+//! Code of assignments and of what else has no jumps.
+
 ghost use Rattle.std.specs.Prelude.{◌≡◌, ◌∷◌, [], ◌<◌, ◌^◌, OnOk, IfOk};
 ghost use Rattle.std.specs.Option.{option_map};
 ghost use Rattle.ob_types.specs.declared.types.TypeRef.TheVariants as ref;

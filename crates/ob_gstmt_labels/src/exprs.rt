@@ -1,3 +1,5 @@
+//! Where the code of an expression ends.
+
 ghost use Rattle.std.specs.Prelude.{◌≡◌, ◌+◌, IfOk};
 ghost use Rattle.ob_types.specs.TypedView.{designator_view, expr_view, actuals_view};
 ghost use Rattle.ob_scheme.specs.Context.{Context, words};

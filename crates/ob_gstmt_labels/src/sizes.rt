@@ -1,3 +1,5 @@
+//! How long the parts of a construct are.
+
 ghost use Rattle.std.specs.Prelude.{◌≡◌, ◌+◌, ◌*◌, ◌<◌, ◌≤◌, length, IfOk};
 ghost use Rattle.ob_scheme.specs.Context.{Context};
 ghost use Rattle.ob_scheme.specs.Descriptions.{elements_of};

@@ -1,3 +1,5 @@
+//! Where the code of statements ends.
+
 ghost use Rattle.std.specs.Prelude.{◌≡◌, ◌+◌, suc, IfOk};
 ghost use Rattle.std.specs.Option.{option_map};
 ghost use Rattle.ob_types.specs.TypedView.{expr_view, stmt_view, stmts_view, branches_view, cases_view};

@@ -1,3 +1,5 @@
+//! An instruction, and its bytes.
+
 ghost use Rattle.std.specs.Prelude.{◌≡◌, ◌++◌, IfSome, IfNone, OnOk, Some};
 ghost use Rattle.ob_format.specs.Format.{Gives, Finds, whole};
 ghost use Rattle.ob_instr.specs.Spelling.{number, spelling, IsInstr, names_all, opcode_at, opcode, instr};

@@ -1,3 +1,5 @@
+//! The 71 operations of the machine, and the operands that each names.
+
 ghost use Rattle.std.specs.Prelude.{◌≡◌};
 ghost use Rattle.ob_instr.specs.Spelling.{operands};
 

@@ -1,3 +1,5 @@
+//! The row of a procedure in an object file.
+
 ghost use Rattle.std.specs.Prelude.{◌≡◌, ◌+◌, OnOk, nat_le};
 ghost use Rattle.ob_format.specs.Format.{Adds, Gives, Finds};
 ghost use Rattle.ob_instr.specs.Parts.{most_words, slots, slots_of, param_form, param_of, param_pair, flag, procedure, position};

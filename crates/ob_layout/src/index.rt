@@ -1,3 +1,5 @@
+//! Positions found by names.
+
 ghost use Rattle.std.specs.Prelude.{◌≡◌, None, OnOk, IfOk, IsSome, slice_get};
 ghost use Rattle.std.specs.Option.{option_copied};
 ghost use Rattle.ob_layout.specs.Index.{at_name, Puts, Notes};

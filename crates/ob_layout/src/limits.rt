@@ -1,3 +1,5 @@
+//! The first limit that a module exceeds.
+
 ghost use Rattle.std.specs.Prelude.{◌≡◌, ◌+◌, ◌*◌, ◌≤◌, ◌||◌, suc, min, Some, IfOk, length, map as each};
 ghost use Rattle.std.specs.List.{list_any};
 ghost use Rattle.ob_types.specs.TypedView.{stmts_view, procedure_view, module_view};

@@ -1,3 +1,5 @@
+//! Items put in order.
+
 ghost use Rattle.std.specs.Prelude.{◌≡◌, IfOk};
 ghost use Rattle.ob_layout.specs.Lists.{in_order};
 

@@ -1,3 +1,5 @@
+//! Room for variables: slots, frames and globals.
+
 ghost use Rattle.std.specs.Prelude.{◌≡◌, ◌+◌, ◌<◌, min, Option, Some, None};
 ghost use Rattle.ob_types.specs.TypedView.{stmt_view, stmts_view, branches_view, cases_view, otherwise_view, procedure_view, module_view};
 ghost use Rattle.ob_layout.specs.Lists.{sum_of};

@@ -1,3 +1,5 @@
+//! Strings of expressions that are used as arrays.
+
 ghost use Rattle.std.specs.Prelude.{ℕ, ◌≡◌, ◌<◌, ◌≤◌, ◌+◌, ◌++◌, [], ◌∷◌, OnOk};
 ghost use Rattle.std.specs.Option.{option_copied};
 ghost use Rattle.ob_types.specs.declared.types.TypeRef.{TypeRef};

@@ -1,3 +1,5 @@
+//! Strings of statements that are used as arrays.
+
 ghost use Rattle.std.specs.Prelude.{◌≡◌, ◌++◌, OnOk, IfOk};
 ghost use Rattle.std.specs.List.{flat_map};
 ghost use Rattle.ob_types.specs.TypedView.{stmt_view, stmts_view, branches_view, cases_view, module_view};

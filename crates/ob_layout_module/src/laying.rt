@@ -1,3 +1,5 @@
+//! The records of a module, laid out.
+
 ghost use Rattle.std.specs.Prelude.{◌≡◌, OnOk, OnErr, IfOk, map};
 ghost use Rattle.ob_types.specs.TypedView.{module_view};
 ghost use Rattle.ob_layout.specs.LaidOut.{laid_out, laid_type};

@@ -1,3 +1,5 @@
+//! The machine: modules enter, commands run, modules go.
+
 ghost use Rattle.std.specs.Prelude.{◌≡◌, ◌≤◌, length, IfOk};
 ghost use Rattle.ob_obj.specs.Images.{AreEnterable};
 ghost use Rattle.ob_machine_image.specs.Cut.{cut_to};

@@ -1,3 +1,5 @@
+//! How a run ended.
+
 use ob_tree::{Name, Pos};
 
 /// How a run ended.

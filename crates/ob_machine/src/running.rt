@@ -1,3 +1,5 @@
+//! A run from call to call.
+
 ghost use Rattle.std.specs.Prelude.{◌≡◌, ◌≤◌, ◌<◌, ◌^◌, [], length, vec_len, vec_capacity, slice_get, true, None, Some, option_map};
 ghost use Rattle.ob_instr.specs.Rows.{procedure_of};
 ghost use Rattle.ob_instr.specs.Table.{position_at};

@@ -1,3 +1,5 @@
+//! Arrays that a call passes by value, copied.
+
 ghost use Rattle.std.specs.Prelude.{◌≡◌, ◌+◌, ◌≤◌, length, drop, IfSome};
 ghost use Rattle.ob_instr.specs.Parts.{slots, slots_of};
 ghost use Rattle.ob_instr.specs.Rows.{copy_words};

@@ -1,3 +1,5 @@
+//! Which procedure an instruction names.
+
 ghost use Rattle.std.specs.Prelude.{◌≡◌, ◌+◌, ◌≤◌, ◌<◌, length, reverse, slice_get, Some};
 ghost use Rattle.ob_instr.specs.Image.{Image as Modules, World};
 ghost use Rattle.ob_instr.specs.Parts.{slots, most_words};

@@ -1,3 +1,5 @@
+//! A call of a procedure that is known.
+
 ghost use Rattle.std.specs.Prelude.{◌≡◌, ◌+◌, ◌≤◌, ◌<◌, ◌^◌, length, take, drop, reverse, suc, nat_le, nat_lt, ◌&&◌, vec_len, vec_capacity, Some, IfSome};
 ghost use Rattle.std.specs.Option.{option_copied};
 ghost use Rattle.ob_instr.specs.Parts.{slots, most_words};

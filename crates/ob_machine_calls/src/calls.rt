@@ -1,3 +1,5 @@
+//! The calls that are under way.
+
 ghost use Rattle.std.specs.Prelude.{◌≡◌, ◌+◌, ◌-◌, ◌≤◌, ◌<◌, [], ◌∷◌, ◌++◌, length, take, drop, vec_len, vec_capacity, IfOk, IfSome, IfNone};
 ghost use Rattle.ob_machine_calls.specs.Waiting.{waiting_at};
 

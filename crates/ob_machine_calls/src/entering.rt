@@ -1,3 +1,5 @@
+//! The words of a new activation.
+
 ghost use Rattle.std.specs.Prelude.{◌≡◌, ◌+◌, ◌≤◌, ◌<◌, length, replicate, pos, Some};
 ghost use Rattle.ob_mem.specs.Words.{with_words};
 ghost use Rattle.ob_instr.specs.Parts.{slots};

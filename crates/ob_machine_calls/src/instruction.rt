@@ -1,3 +1,5 @@
+//! The instructions of calls and returns.
+
 ghost use Rattle.std.specs.Prelude.{◌≡◌, ◌+◌, ◌≤◌, ◌<◌, ◌⊎◌, ℕ, true, length, reverse, slice_get, Some, vec_len, vec_capacity};
 ghost use Rattle.std.specs.List.{AllByRecursion};
 ghost use Rattle.ob_instr.specs.Image.{World};

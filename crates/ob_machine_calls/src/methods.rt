@@ -1,3 +1,5 @@
+//! Which bound procedure a tag names.
+
 ghost use Rattle.std.specs.Prelude.{◌≡◌, ◌+◌, ◌≤◌, ◌<◌, suc, length, pos, ◌-ℤ◌, if◌then◌else◌, reverse, slice_get, IfSome, Some};
 ghost use Rattle.ob_mem.specs.Words.{word_at};
 ghost use Rattle.ob_instr.specs.Image.{Image as Modules, World};

@@ -1,3 +1,5 @@
+//! Returns from calls.
+
 ghost use Rattle.std.specs.Prelude.{◌≡◌, ◌≤◌, ◌<◌, [], ◌∷◌, vec_len, vec_capacity, slice_get, option_map, if◌then◌else◌, reverse, ℤ};
 ghost use Rattle.ob_instr.specs.Image.{Image as Modules};
 ghost use Rattle.ob_instr.specs.Rows.{Effect, Leave, Unable, on_found, on_one};

@@ -1,3 +1,5 @@
+//! Calls by the operands that stand.
+
 ghost use Rattle.std.specs.Prelude.{◌≡◌, ◌+◌, ◌≤◌, ◌<◌, length, take, drop, reverse, vec_len, vec_capacity, slice_get, Some};
 ghost use Rattle.ob_instr.specs.Parts.{slots, most_words};
 ghost use Rattle.ob_instr.specs.Rows.{on_found, below, calls, calls_with, procedure_of};

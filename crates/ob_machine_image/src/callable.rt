@@ -1,3 +1,5 @@
+//! What a call needs to know of a procedure.
+
 ghost use Rattle.std.specs.Prelude.{◌≡◌, ◌≤◌};
 ghost use Rattle.ob_instr.specs.Parts.{slots, most_words};
 ghost use Rattle.ob_machine_image.specs.Copies.{is_copied, has_copies};

@@ -1,3 +1,5 @@
+//! The descriptors of a module's record types.
+
 ghost use Rattle.std.specs.Prelude.{◌≡◌, ◌<◌, ◌^◌, IfOk, IfSome};
 ghost use Rattle.ob_obj.specs.Images.{base_number};
 ghost use Rattle.ob_machine_image.specs.Declaring.{own_methods, declaration_of};

@@ -1,3 +1,5 @@
+//! The words of a module's globals and strings.
+
 ghost use Rattle.std.specs.Prelude.{◌≡◌, ◌+◌, ◌-◌, ◌≤◌, ◌<◌, ◌++◌, ◌∷◌, [], length, map, replicate, pos};
 ghost use Rattle.std.specs.List.{AllByRecursion};
 ghost use Rattle.ob_mem.specs.Words.{with_words};

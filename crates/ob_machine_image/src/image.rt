@@ -1,3 +1,5 @@
+//! The modules in the machine.
+
 ghost use Rattle.std.specs.Prelude.{◌≡◌, ◌+◌, ◌≤◌, ◌<◌, ◌^◌, ◌++◌, [], length, take, slice_get, OnOk, OnErr, IfOk};
 ghost use Rattle.std.specs.Option.{option_copied};
 ghost use Rattle.ob_obj.specs.Images.{module_of, type_links, entered, image_of, words_with, numbers, IsEnterable, AreEnterable};

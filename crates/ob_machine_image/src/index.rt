@@ -1,3 +1,5 @@
+//! Numbers of types, found by name.
+
 ghost use Rattle.std.specs.Prelude.{◌≡◌, Some, None, OnOk, OnErr};
 ghost use Rattle.ob_machine_image.specs.Index.{number_of, Puts, PutsType, Notes, Forgets, IsAsBefore};
 

@@ -1,3 +1,5 @@
+//! The links of a module, resolved.
+
 ghost use Rattle.std.specs.Prelude.{◌≡◌, ◌≤◌, length};
 ghost use Rattle.std.specs.List.Sorted.{IsStrictlySortedBy};
 ghost use Rattle.ob_obj.specs.Grammar.{by_name};

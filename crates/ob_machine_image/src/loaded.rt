@@ -1,3 +1,5 @@
+//! A module in the machine.
+
 use crate::callable::Callable;
 use ob_instr::Position;
 use ob_machine_fusion::Code;

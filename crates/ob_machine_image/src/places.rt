@@ -1,3 +1,5 @@
+//! The places of a module's variables, strings and procedures.
+
 ghost use Rattle.std.specs.Prelude.{◌≡◌, ◌+◌, ◌≤◌, ◌<◌, ◌^◌, length, map, IfOk};
 ghost use Rattle.std.specs.List.{AllByRecursion};
 ghost use Rattle.ob_instr.specs.Parts.{slots, most_words};

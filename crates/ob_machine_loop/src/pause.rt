@@ -1,3 +1,5 @@
+//! Where the instructions of a call end.
+
 use ob_instr::Instr;
 
 /// Where the instructions of a call end, or are to go on in another one.

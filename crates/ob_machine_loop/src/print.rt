@@ -1,3 +1,5 @@
+//! What the instructions of output write.
+
 ghost use Rattle.std.specs.Prelude.{◌≡◌, ◌∷◌, [], true, length, replicate, take, drop};
 ghost use Rattle.ob_io.specs.Io.{HasCause, WritesAll};
 ghost use Rattle.ob_instr.specs.Rows.{columns, padded, low_byte, low_bytes};

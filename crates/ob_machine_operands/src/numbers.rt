@@ -1,3 +1,5 @@
+//! Arithmetic on words.
+
 ghost use Rattle.std.specs.Prelude.{◌≡◌, ℤ, ◌<◌, ◌≤◌, ◌^◌, ◌≤ℤ◌, negsuc, ◌+ℤ◌, ◌-ℤ◌, ◌*ℤ◌, neg_ℤ, pos, if◌then◌else◌, Some, None};
 ghost use Rattle.ob_instr.specs.Rows.{Effect, on_width, in_width, is_within, is_zero, magnitude, shifted, capital};
 ghost use Rattle.ob_machine_operands.specs.Effects.{holds_of, on_fit};

@@ -1,3 +1,5 @@
+//! The operand stack.
+
 ghost use Rattle.std.specs.Prelude.{◌≡◌, ◌≤◌, ◌<◌, ◌+◌, [], ◌∷◌, length, reverse, vec_len, vec_capacity, IfSome, IfNone};
 
 /// Puts a word on the operands, which have room for it.

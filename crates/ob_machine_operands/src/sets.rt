@@ -1,3 +1,5 @@
+//! Sets as words.
+
 ghost use Rattle.std.specs.Prelude.{◌≡◌, ◌≤◌, ◌<◌, ◌^◌, ℕ, ◌∷◌, pos, vec_len, vec_capacity, IfSome, IfNone};
 ghost use Rattle.std.specs.Int.{w32, int_bit_and, int_bit_or, int_bit_xor, int_bit_not};
 ghost use Rattle.ob_instr.specs.Image.{World};

@@ -1,3 +1,5 @@
+//! What the instructions change.
+
 use ob_mem::Memory;
 
 /// What the instructions change.

@@ -1,3 +1,5 @@
+//! Instructions that push, take and reckon with words.
+
 ghost use Rattle.std.specs.Prelude.{◌≡◌, ◌≤◌, ◌∷◌, ℤ, pos, ◌+ℤ◌, ◌-ℤ◌, ◌*ℤ◌, neg_ℤ, int_lt, vec_len, vec_capacity, if◌then◌else◌};
 ghost use Rattle.std.specs.Int.{int_div_euclid, int_rem_euclid};
 ghost use Rattle.ob_instr.specs.Rows.{Next, Traps, on_one, on_two, on_three, on_width, word, in_type, in_width, compared, truth, is_within, is_zero, magnitude, shifted, capital};

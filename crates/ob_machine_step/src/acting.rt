@@ -1,3 +1,5 @@
+//! What each instruction does.
+
 ghost use Rattle.std.specs.Prelude.{◌≡◌, ◌≤◌, ◌<◌, ◌^◌, ℕ, true, false, length, vec_len, vec_capacity};
 ghost use Rattle.ob_instr.specs.Image.{ModuleImage, Image};
 ghost use Rattle.ob_instr.specs.Table.{row};

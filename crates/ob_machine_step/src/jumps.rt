@@ -1,3 +1,5 @@
+//! Jumps and traps.
+
 ghost use Rattle.std.specs.Prelude.{◌≡◌, ◌≤◌, ◌∷◌, pos, vec_len, vec_capacity, if◌then◌else◌};
 ghost use Rattle.ob_instr.specs.Rows.{Next, Traps, on_one, on_found, below, up_to, is_zero, jumped};
 ghost use Rattle.ob_machine_operands.specs.Effects.{Does, Keeps, Moves};

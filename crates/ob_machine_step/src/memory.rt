@@ -1,3 +1,5 @@
+//! Instructions that load and store words.
+
 ghost use Rattle.std.specs.Int.{w32, int_bit_and, int_bit_or, int_bit_not};
 ghost use Rattle.std.specs.Prelude.{◌≡◌, ◌≤◌, ◌∷◌, ◌+ℤ◌, ◌-ℤ◌, pos, vec_len, vec_capacity, if◌then◌else◌};
 ghost use Rattle.ob_mem.specs.Words.{word_at, stored, copied};

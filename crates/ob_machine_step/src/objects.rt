@@ -1,3 +1,5 @@
+//! Instructions that make objects.
+
 ghost use Rattle.std.specs.Prelude.{◌≡◌, ◌≤◌, ◌<◌, ◌+◌, ◌*◌, ◌^◌, ◌∷◌, [], ℕ, pos, true, length, IfSome, slice_get, vec_len, vec_capacity};
 ghost use Rattle.ob_mem.specs.Words.{are_there};
 ghost use Rattle.ob_instr.specs.Rows.{Next, Traps, on_one, on_two, on_found, on_count, item, tag, made, made_many, where_there};

@@ -1,3 +1,5 @@
+//! The instruction that copies a record.
+
 ghost use Rattle.std.specs.Prelude.{◌≡◌, ◌≤◌, ◌∷◌, pos, is_some, vec_len, vec_capacity, if◌then◌else◌};
 ghost use Rattle.std.specs.Ordering.{int_eq};
 ghost use Rattle.ob_mem.specs.Words.{copied};

@@ -1,3 +1,5 @@
+//! The instruction that shifts.
+
 ghost use Rattle.std.specs.Prelude.{◌≡◌, ◌≤◌, ◌<◌, ◌^◌, ◌*ℤ◌, pos, Some, None, vec_len, vec_capacity, if◌then◌else◌};
 ghost use Rattle.std.specs.Int.{int_div_euclid};
 ghost use Rattle.ob_instr.specs.Rows.{on_two, in_type, in_width, shifted};

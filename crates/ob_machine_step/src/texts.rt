@@ -1,3 +1,5 @@
+//! Instructions on texts in arrays of characters.
+
 ghost use Rattle.std.specs.Prelude.{◌≡◌, ◌≤◌, ◌<◌, ◌+◌, ◌^◌, ◌++◌, ◌∷◌, [], List, ℤ, min, pos, length, take, drop, Some, slice_get, vec_len, vec_capacity};
 ghost use Rattle.ob_instr.specs.Rows.{Next, Traps, on_found, on_four, on_both, below, truth, chars_at, related, placed, copies_chars, with_memory};
 ghost use Rattle.ob_machine_operands.specs.Effects.{Does, Keeps};

@@ -1,3 +1,5 @@
+//! Instructions that test types.
+
 ghost use Rattle.std.specs.Prelude.{◌≡◌, ◌≤◌, ◌<◌, ◌^◌, ◌∷◌, ℕ, pos, length, vec_len, vec_capacity, if◌then◌else◌, IfSome, Some, slice_get};
 ghost use Rattle.ob_mem.specs.Words.{word_at};
 ghost use Rattle.ob_tdesc.specs.Bases.{is_or_has_base};

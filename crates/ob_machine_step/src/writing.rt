@@ -1,3 +1,5 @@
+//! What the instructions of output ask to be written.
+
 ghost use Rattle.std.specs.Prelude.{◌≡◌, ◌≤◌, ◌∷◌, [], ℕ, pos, vec_len, vec_capacity};
 ghost use Rattle.ob_instr.specs.Rows.{Next, on_one, on_two, on_turn, printed, padded, low_byte, written, written_chars, chars_at};
 ghost use Rattle.ob_machine_operands.specs.Effects.{Does, Moves};

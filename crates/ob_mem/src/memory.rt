@@ -1,3 +1,5 @@
+//! The machine's memory: globals, stack and heap, as words.
+
 ghost use Rattle.std.specs.Prelude.{◌≡◌, ◌+◌, ◌-◌, ◌≤◌, ◌<◌, ◌++◌, if◌then◌else◌, length, take, drop, replicate, pos, IfOk, is_some, unwrap_or, option_map, Some};
 ghost use Rattle.ob_mem.specs.Words.{word_at, are_there, before, with_words, stored, copied, cleared, heap_taken};
 

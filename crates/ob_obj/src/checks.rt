@@ -1,3 +1,5 @@
+//! What an object file has to keep beside its grammar.
+
 ghost use Rattle.std.specs.Prelude.{◌≡◌, ◌+◌, ◌≤◌, length, nat_lt, nat_le, IfOk};
 ghost use Rattle.std.specs.List.{list_all};
 ghost use Rattle.ob_format.specs.Order.{differ};

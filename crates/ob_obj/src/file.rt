@@ -1,3 +1,5 @@
+//! An object file.
+
 ghost use Rattle.std.specs.Prelude.{◌≡◌, IfOk, Some};
 ghost use Rattle.std.specs.Result.{IsErrOf};
 ghost use Rattle.ob_obj.specs.Given.{Reads};

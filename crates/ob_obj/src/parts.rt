@@ -1,3 +1,5 @@
+//! The rows of an object file.
+
 ghost use Rattle.std.specs.Prelude.{◌≡◌, nat_lt};
 ghost use Rattle.std.specs.List.{list_all};
 ghost use Rattle.ob_obj.specs.Grammar.{export, by_export, string, variable, by_variable, link, base_at, base_form, definition, by_number, is_record, record_parts, record_type, by_type, command, by_command};

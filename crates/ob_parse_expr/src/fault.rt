@@ -1,3 +1,5 @@
+//! Why tokens are no module.
+
 ghost use Rattle.std.specs.Prelude.{◌≡◌};
 ghost use Rattle.ob_parse_expr.specs.declared.fault.ParseFault.TheVariants.{Memory};
 

@@ -1,3 +1,5 @@
+//! Why a text is no module.
+
 use ob_parse_expr::ParseFault;
 use ob_scan::ScanFault;
 

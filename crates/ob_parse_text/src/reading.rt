@@ -1,3 +1,5 @@
+//! A text read as a module, as a function of its bytes.
+
 ghost use Rattle.std.specs.Prelude.{◌+◌, ◌<◌, ◌^◌, length};
 ghost use Rattle.ob_parse_text.specs.Reading.{reading, IsReading};
 

@@ -1,3 +1,5 @@
+//! A broken rule and its place, and the names of the predeclared procedures.
+
 ghost use Rattle.std.specs.Prelude.{◌≡◌};
 ghost use Rattle.ob_rules.specs.Judged as spec;
 

@@ -1,3 +1,5 @@
+//! What a name stands for.
+
 use crate::broken::Predeclared;
 use ob_tree::{Name, Pos, QName};
 use ob_types::{Receiver, Signature, TypeRef, Value, Variable};

@@ -1,3 +1,5 @@
+//! What a designator means.
+
 ghost use Rattle.std.specs.Prelude.{◌≡◌, Some};
 
 use crate::broken::Predeclared;

@@ -1,3 +1,5 @@
+//! The notes of a checker: what is broken, and what is named.
+
 ghost use Rattle.std.specs.Prelude.{◌≡◌, None, OnOk, List as Listed};
 ghost use Rattle.ob_rules.specs.declared.broken.Broken.{Broken as Mistake};
 ghost use Rattle.ob_rules.specs.Judged as spec;

@@ -1,3 +1,5 @@
+//! What stands around a part of a text.
+
 ghost use Rattle.std.specs.Prelude.{◌≡◌, ◌++◌, ◌∷◌, [], List, Option, is_some, OnOk};
 ghost use Rattle.std.specs.Option.{option_copied};
 ghost use Rattle.ob_types.specs.declared.types.TypeRef.{TypeRef as AType};

@@ -1,3 +1,5 @@
+//! What an expression comes to: a place, a constant or a value.
+
 ghost use Rattle.std.specs.Prelude.{◌≡◌};
 
 use ob_types::{ExprType, TypeRef, Value, Variable};

@@ -1,3 +1,5 @@
+//! The next line, or why there is none.
+
 /// Why there is no next line.
 #[derive(Clone, Copy, PartialEq, Eq, Drop)]
 pub enum NextFault {

@@ -1,3 +1,5 @@
+//! Lines of a script that comes by pieces.
+
 ghost use Rattle.std.specs.Prelude.{◌≡◌, ◌≤◌, ◌<◌, ◌++◌, ◌+◌, true, [], ℕ, IfOk, length, Err};
 ghost use Rattle.ob_shell_input.specs.Reading.{Fills, NextCause, NextDoes, Takes, TakesFirst, TakesMore};
 

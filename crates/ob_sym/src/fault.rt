@@ -1,3 +1,5 @@
+//! Why a symbol file could not be read.
+
 use thiserror::Error;
 
 /// Why a symbol file could not be read.

@@ -1,3 +1,5 @@
+//! The objects of a symbol file.
+
 ghost use Rattle.std.specs.Prelude.{◌≡◌, OnOk};
 ghost use Rattle.std.specs.Option.{option_copied};
 ghost use Rattle.ob_format.specs.Format.{Adds, Finds, Gives, optional, text32, items_at, list_of, rising};

@@ -1,3 +1,5 @@
+//! A symbol file, read and written.
+
 ghost use Rattle.std.specs.Prelude.{◌≡◌, MatchResult, OnOk, IfOk};
 ghost use Rattle.std.specs.List.{list_all};
 ghost use Rattle.ob_format.specs.Format.{Adds, Gives, whole};

@@ -1,3 +1,5 @@
+//! What a record type declares to the machine.
+
 use ob_tree::{List, Name, ObjName, ProcRef};
 
 /// A bound procedure that a record type defines.

@@ -1,3 +1,5 @@
+//! What the machine knows of a record type.
+
 use ob_tree::{List, Name, ObjName, ProcRef};
 
 /// What the machine knows of a record type, in the contracts. Its procedure table is kept as what the type

@@ -1,3 +1,5 @@
+//! The descriptors of all record types, with tests of types and procedure tables.
+
 ghost use Rattle.std.specs.Prelude.{◌≡◌, ◌+◌, ◌-◌, ◌≤◌, ◌<◌, ◌^◌, ◌∷◌, ◌++◌, [], max, length, take, drop, sum, slice_get, IfOk, IfSome, OnOk, OnErr, Some, if◌then◌else◌};
 ghost use Rattle.std.specs.List.Sorted.{IsStrictlySortedBy};
 ghost use Rattle.ob_tdesc.specs.Bases.{is_or_has_base, level_of, method_of};

@@ -1,3 +1,5 @@
+//! Steps that were taken, counted.
+
 ghost use Rattle.std.specs.Prelude.{◌≡◌, ◌+◌, ◌<◌};
 
 use std::marker::Model;

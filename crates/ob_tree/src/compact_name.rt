@@ -1,3 +1,5 @@
+//! A name in little memory.
+
 ghost use Rattle.std.specs.Prelude.{◌≡◌, ◌≤◌, length, IfOk};
 
 use crate::name::Name;

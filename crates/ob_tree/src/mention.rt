@@ -1,3 +1,5 @@
+//! A name where it is used.
+
 ghost use Rattle.std.specs.Prelude.{◌≡◌, ◌≤◌, length, IfOk};
 
 use crate::compact_name::CompactName;

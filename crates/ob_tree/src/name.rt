@@ -1,3 +1,5 @@
+//! An identifier.
+
 ghost use Rattle.std.specs.Prelude.{◌≡◌, ◌≤◌, ◌-◌, ◌++◌, length, replicate};
 
 use std::marker::Model;

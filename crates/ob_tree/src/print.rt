@@ -1,3 +1,5 @@
+//! The print of a text.
+
 ghost use Rattle.std.specs.Prelude.{◌≡◌, ◌↔◌, IsTrue};
 
 /// The fingerprint of a text: eight bytes of its digest.

@@ -1,3 +1,5 @@
+//! Bytes, of which a few need no block of their own.
+
 ghost use Rattle.std.specs.Prelude.{◌≡◌, ◌≤◌, ◌-◌, ◌++◌, length, replicate, IfOk};
 
 use crate::list::List;

@@ -1,3 +1,5 @@
+//! The symbols of the vocabulary.
+
 /// A symbol of the vocabulary: a reserved word, a mark, or one of the kinds that have many
 /// texts.
 #[derive(Clone, Copy, Debug, PartialEq, Eq, Drop)]

@@ -1,3 +1,5 @@
+//! Bytes as a list.
+
 use crate::list::List;
 
 /// Bytes, which contracts see as their list.

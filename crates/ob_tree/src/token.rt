@@ -1,3 +1,5 @@
+//! A symbol where it stands.
+
 use crate::pos::Pos;
 use crate::symbol::Symbol;
 

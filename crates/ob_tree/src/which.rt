@@ -1,3 +1,5 @@
+//! The limits of a module, by name.
+
 /// A limit that a module can exceed, by the word that a refusal prints.
 #[derive(Clone, Copy, PartialEq, Eq, Drop)]
 pub enum Which {

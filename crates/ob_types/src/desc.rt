@@ -1,3 +1,5 @@
+//! Descriptions of objects.
+
 ghost use Rattle.std.specs.Prelude.{◌≡◌};
 
 use crate::types::{Signature, TypeRef};

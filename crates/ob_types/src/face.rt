@@ -1,3 +1,5 @@
+//! Interfaces: objects, and uses of objects.
+
 use crate::desc::Desc;
 use ob_tree::{List, Name, ObjName, Print, QName};
 

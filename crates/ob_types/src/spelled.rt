@@ -1,3 +1,5 @@
+//! Prints, aspects and uses as bytes.
+
 ghost use Rattle.std.specs.Prelude.{◌≡◌, OnOk};
 ghost use Rattle.std.specs.Result.{IfErr};
 ghost use Rattle.ob_format.specs.Format.{Adds, Gives};

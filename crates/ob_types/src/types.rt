@@ -1,3 +1,5 @@
+//! Types as they are named.
+
 ghost use Rattle.std.specs.Prelude.{◌≡◌, ◌↔◌, Option, IsTrue};
 ghost use Rattle.std.specs.Option.{option_copied};
 ghost use Rattle.ob_tree.specs.declared.names.QName.{QName};

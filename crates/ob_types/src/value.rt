@@ -1,3 +1,5 @@
+//! Values of constants.
+
 use ob_tree::Text;
 
 /// The value of a constant.

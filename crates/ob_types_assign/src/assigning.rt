@@ -1,3 +1,5 @@
+//! Which values may be assigned to which types.
+
 ghost use Rattle.std.specs.Prelude.{◌≡◌, ◌↔◌, IsTrue, Option, Some};
 ghost use Rattle.std.specs.Option.{option_copied};
 ghost use Rattle.ob_types.specs.declared.types.TypeRef.TheVariants as ref;

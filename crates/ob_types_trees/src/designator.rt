@@ -1,3 +1,5 @@
+//! Designators of checked trees.
+
 ghost use Rattle.std.specs.Prelude.{◌≡◌, [], ◌∷◌, ◌++◌, IfOk, OnOk, OnErr};
 ghost use Rattle.ob_types.specs.declared.typed.Designator.TheVariants as d;
 

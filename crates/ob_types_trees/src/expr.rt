@@ -1,3 +1,5 @@
+//! Expressions of checked trees.
+
 ghost use Rattle.std.specs.Prelude.{◌≡◌, [], ◌∷◌, ◌++◌, IfOk, OnOk, OnErr};
 ghost use Rattle.ob_types.specs.declared.typed.TypedExpr.TheVariants as e;
 ghost use Rattle.ob_types.specs.declared.typed.Actual.{roll-Actual};

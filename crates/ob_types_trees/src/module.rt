@@ -1,3 +1,5 @@
+//! Procedures and modules of checked trees.
+
 ghost use Rattle.std.specs.Prelude.{◌≡◌, [], ◌∷◌, ◌++◌, OnOk, OnErr};
 
 use crate::designator::DesignatorTrees;

@@ -1,3 +1,5 @@
+//! Statements of checked trees.
+
 ghost use Rattle.std.specs.Prelude.{◌≡◌, [], ◌∷◌, ◌++◌, IfOk, OnOk, OnErr};
 ghost use Rattle.std.specs.Option.{option_map};
 ghost use Rattle.ob_types.specs.declared.typed.TypedStmt.TheVariants as s;

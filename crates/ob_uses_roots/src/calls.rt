@@ -1,3 +1,5 @@
+//! What a call uses.
+
 ghost use Rattle.std.specs.Prelude.{◌≡◌, ◌++◌, OnOk, Option};
 ghost use Rattle.ob_types.specs.TypedView.{actuals_view};
 ghost use Rattle.ob_uses_roots.specs.Counts.{formals, has_receiver, behind_first, without_receiver, counts_of_call, counts_of_held_call};

@@ -1,3 +1,5 @@
+//! What a designator and an expression use.
+
 ghost use Rattle.std.specs.Prelude.{◌≡◌, ◌<◌, ◌+◌, ◌∷◌, [], ◌++◌, OnOk};
 ghost use Rattle.ob_types.specs.TypedView.{designator_view, expr_view, actuals_view};
 ghost use Rattle.ob_layout.specs.Sizes.{size_of_designator, size_of_expr, size_of_actuals};

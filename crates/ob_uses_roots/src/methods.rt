@@ -1,3 +1,5 @@
+//! The bound procedure of a name in a chain of bases.
+
 ghost use Rattle.std.specs.Prelude.{◌≡◌, Option};
 ghost use Rattle.std.specs.Option.{option_copied};
 ghost use Rattle.ob_types.specs.declared.types.TypeRef.TheVariants as ref;

@@ -1,3 +1,5 @@
+//! The types whose shape or layout counts.
+
 use ob_tree::{List, QName};
 
 /// The names of types that count, in the order of the walk and as often as they came up; basic

@@ -1,3 +1,5 @@
+//! Notes of what counts.
+
 ghost use Rattle.std.specs.Prelude.{◌≡◌, ◌∷◌, [], ◌++◌, OnOk, map as each};
 ghost use Rattle.std.specs.List.{flat_map};
 ghost use Rattle.ob_types.specs.declared.types.TypeRef.TheVariants as ref;

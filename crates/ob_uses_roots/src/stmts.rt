@@ -1,3 +1,5 @@
+//! What a statement uses.
+
 ghost use Rattle.std.specs.Prelude.{◌≡◌, ◌∷◌, [], ◌++◌, OnOk};
 ghost use Rattle.std.specs.Option.{option_map};
 ghost use Rattle.ob_types.specs.TypedKinds.{variable_type};

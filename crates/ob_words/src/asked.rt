@@ -1,3 +1,5 @@
+//! What the words of the command line ask for.
+
 use thiserror::Error;
 
 /// The settings of the program.

@@ -1,3 +1,5 @@
+//! Numbers among the words.
+
 ghost use Rattle.std.specs.Prelude.{◌≡◌, ◌≤◌, ◌<◌, IfSome, None};
 ghost use Rattle.std.specs.List.{list_all};
 ghost use Rattle.ob_words.specs.Numbers.{is_digit, is_number, value_from, up_to, number_of};

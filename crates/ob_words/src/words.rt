@@ -1,3 +1,5 @@
+//! The words of the command line, read.
+
 ghost use Rattle.std.specs.Prelude.{◌≡◌, ◌≤◌, ◌⊎◌, ◌↔◌, IsTrue, IfOk, IfErr, map, [], option_map};
 ghost use Rattle.clap.specs.Words.{IsAmong, fault_of, found_of, kind_of, matches_of, rows_of};
 ghost use Rattle.ob_words.specs.Settings.{chosen, number_or, oberon, settings_of, SettingsAre};

@@ -1,3 +1,5 @@
+//! Object files that stand alone.
+
 ghost use Rattle.std.specs.Prelude.{◌≡◌, ◌≤◌, ◌↔◌, true, IfOk};
 ghost use Rattle.ob_obj.specs.Grammar.{file as file_form};
 ghost use Rattle.ob_machine.specs.Machine.{IsEntry};

@@ -1,3 +1,5 @@
+//! Object files written in words.
+
 use ob_instr::Param;
 use std::alloc::{AllocError, AllocFailed, Global};
 use std::num::{ParseIntError, TryFromIntError};
