@@ -34,8 +34,9 @@ pub struct RecordDesc {
     pub mark: Mark,
     /// The type that it extends.
     pub base: Option<TypeRef>,
-    /// Its own fields, ascending by place, and at one place by name. Those with the mark `Hidden`
-    /// stand in no text, and are there for a record of the module at hand alone.
+    /// Its own fields: of the module at hand in the order of their text, of an interface ascending by
+    /// place, and at one place by name. Those with the mark `Hidden` stand in no text, and are there
+    /// for a record of the module at hand alone.
     pub fields: List<Field>,
     /// The bound procedures that it introduces, ascending by number. Those with the mark `Hidden`
     /// stand in no text, and are there for a record of the module at hand alone.
