@@ -1,5 +1,5 @@
 ghost use Rattle.std.specs.Prelude.{◌≡◌};
-ghost use Rattle.ob_parse_expr.specs.declared.fault.ParseFault.TheVariants.{Memory};
+ghost use Rattle.ob_parse_grammar.specs.declared.fault.ParseFault.TheVariants.{Memory};
 
 use ob_tree::Pos;
 use std::alloc::{AllocError, AllocFailed};
