@@ -18,7 +18,7 @@ use Rattle.ob_env.specs.Answer.{Standing, Stands, Stale, Unfit}
 use Rattle.ob_env.specs.Shown.{shown}
 use Rattle.ob_env_walk.specs.Walk.{Entry}
 use Rattle.ob_env_walk.specs.Answer.{Reached, Stopped, Whole, env_answer}
-use Rattle.ob_parse_text.specs.Reading.{NoModule, reading}
+use Rattle.ob_parse_grammar.specs.TextReading.{NoModule, reading}
 use Rattle.ob_scheme.specs.Lines.{Operand, Number, StringHere, OtherVariable, OtherProcedure, OtherType, Line}
 use Rattle.ob_scheme.specs.Numbers.{Named, nothing_named, same_link, link_to, with_operand, with_line, with_lines}
 use Rattle.ob_scheme.specs.Context.{Context, first_hidden}

@@ -25,7 +25,7 @@ use Rattle.ob_env.specs.Answer.{if_fit, if_coherent, standing}
 use Rattle.ob_env.specs.Shown.{blank, shown}
 use Rattle.ob_env_walk.specs.Walk.{Entry, Walked, Left, NoInterface, Damaged, Cycle, TooMany, walk}
 use Rattle.ob_env_walk.specs.Answer.{after_walk}
-use Rattle.ob_parse_text.specs.Reading.{NoModule, reading}
+use Rattle.ob_parse_grammar.specs.TextReading.{NoModule, reading}
 use Rattle.ob_uses_roots.specs.Counts.{own_name as counted_name, both, shapes, counts_of_mentioned, counts_of_desc, counts_of_type, counts_of_variable, counts_of_parameter, counts_of_binding, counts_of_procedure, counts_of_all}
 use Rattle.ob_scheme.specs.Descriptions.{name_in, own_name}
 use Rattle.ob_scheme.specs.Object.{base_type}

@@ -26,7 +26,7 @@ use Rattle.ob_env.specs.Answer.{Standing, Stands, Stale, Unfit}
 use Rattle.ob_env.specs.Shown.{shown}
 use Rattle.ob_env_walk.specs.Walk.{Entry}
 use Rattle.ob_env_walk.specs.Answer.{Reached, Stopped, Whole, env_answer}
-use Rattle.ob_parse_text.specs.Reading.{NoModule, reading}
+use Rattle.ob_parse_grammar.specs.TextReading.{NoModule, reading}
 use Rattle.ob_scheme.specs.Object.{is_full}
 use Rattle.ob_compile_model.specs.Compiling.{texts, Refusal, Compiled, exceeds, within, made, of_checked, of_break, by_rules, and_limits, is_deep, unless_deep, of_standing, of_reached, most_imports, of_few, imported, of_reading, most_source, of_short, compiled}
 use Rattle.law_methods_described.specs.Described.{AreTypes, is_whole, AreWhole}

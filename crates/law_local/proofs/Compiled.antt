@@ -26,7 +26,7 @@ use Rattle.ob_env.specs.Answer.{if_fit, if_coherent, standing}
 use Rattle.ob_env_walk.specs.Walk as walk
 use Rattle.ob_env_walk.specs.Walk.{Walked, Left, NoInterface, Damaged, Cycle, TooMany, walk as walked_from}
 use Rattle.ob_env_walk.specs.Answer.{after_walk}
-use Rattle.ob_parse_text.specs.Reading.{reading}
+use Rattle.ob_parse_grammar.specs.TextReading.{reading}
 use Rattle.ob_compile_model.specs.Compiling as c
 use Rattle.ob_compile_model.specs.Compiling.{Refusal, Compiled, compiled, texts, made, within, exceeds, of_break, by_rules, and_limits, unless_deep, is_deep, of_faces, of_standing, of_reached, of_few, of_tree, of_reading, of_short, most_imports, most_source, imported}
 use Rattle.ob_shell_model.specs.Builds.{Text, Build, IsValid, entry_of}

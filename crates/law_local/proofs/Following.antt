@@ -16,7 +16,7 @@ use Rattle.ob_env.specs.Faces.{Face, described, text_in, printed, interface_of, 
 use Rattle.ob_env.specs.Shown.{blank, shown}
 use Rattle.ob_uses.specs.Made.{face_from}
 use Rattle.ob_scheme.specs.Object.{object_file}
-use Rattle.ob_parse_text.specs.Reading.{reading}
+use Rattle.ob_parse_grammar.specs.TextReading.{reading}
 use Rattle.ob_compile_model.specs.Compiling.{Compiled, texts, made, of_break, by_rules, object_by, exports_of}
 use Rattle.ob_shell_model.specs.Builds.{Text, Build, IsValid, IsSpelled}
 use Rattle.ob_shell_model.specs.Laws.{AreAsWanted, IsSame, AreAround, Locality}

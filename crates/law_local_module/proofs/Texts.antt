@@ -21,9 +21,9 @@ use Rattle.ob_parse_grammar.specs.Declarations.{constant, named_type, variables,
 use Rattle.ob_parse_grammar.specs.Reading.{Read, Found, Fails, Wrong, Deep}
 use Rattle.ob_parse_grammar.specs.Grammar.{reads, spells}
 use Rattle.ob_parse_grammar.proofs.Verdicts.{verdict}
-use Rattle.ob_parse.specs.Parsed.{limit}
-use Rattle.ob_parse_expr.specs.Left.{tokens_of}
-use Rattle.ob_parse_text.specs.Reading.{NoModule, fault_of, parsed, by_fault, reading}
+use Rattle.ob_parse_grammar.specs.Depth.{limit}
+use Rattle.ob_parse_grammar.specs.Texts.{tokens_of}
+use Rattle.ob_parse_grammar.specs.TextReading.{NoModule, fault_of, parsed, by_fault, reading}
 use Rattle.law_names_procedures.specs.Procedures.{all_true}
 use Rattle.law_local_module.specs.Laws.{is_there, variables_layer, declares_variables}
 use Rattle.law_local_module.specs.ReadingLaws.{ReadingsDeclare}

@@ -1,7 +1,7 @@
 -- Declarations of variables in a text that is read.
 use Rattle.std.specs.Prelude.{◌≡◌, ℕ, true, List, map, Ok}
 use Rattle.ob_tree.specs.declared.decl.Module.{Module as Tree}
-use Rattle.ob_parse_text.specs.Reading.{reading}
+use Rattle.ob_parse_grammar.specs.TextReading.{reading}
 use Rattle.law_names_procedures.specs.Procedures.{all_true}
 use Rattle.law_local_module.specs.Laws.{declares_variables}
 

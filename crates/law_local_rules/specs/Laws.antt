@@ -12,7 +12,7 @@ use Rattle.ob_env.specs.Fit.{first_unfit}
 use Rattle.ob_env.specs.Shown.{shown}
 use Rattle.ob_rules.specs.Declarations.{checked}
 use Rattle.law_names_distinct.specs.Distinct.{AreDistinct}
-use Rattle.ob_parse_text.specs.Reading.{reading}
+use Rattle.ob_parse_grammar.specs.TextReading.{reading}
 use Rattle.law_local_files.specs.Agreeing.{IsNear}
 use Rattle.law_local_files.specs.Laws.{Text, HaveNoOut, over, view}
 use Rattle.law_local_module.specs.Laws.{AreOthers, IsSameThere}

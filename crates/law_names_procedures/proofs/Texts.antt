@@ -26,10 +26,10 @@ use Rattle.ob_parse_grammar.specs.Declarations.{constant, named_type, variables,
 use Rattle.ob_parse_grammar.specs.Reading.{Read, Found, Fails, Wrong, Deep}
 use Rattle.ob_parse_grammar.specs.Grammar.{reads, spells}
 use Rattle.ob_parse_grammar.proofs.Verdicts.{verdict}
-use Rattle.ob_parse.specs.Parsed.{limit}
-use Rattle.ob_parse_expr.specs.Left.{tokens_of}
-use Rattle.ob_parse_text.specs.Reading.{NoModule, fault_of, parsed, by_fault, reading}
-use Rattle.ob_shell_lines.specs.Lines.{is_letter, is_letter_or_digit, is_identifier}
+use Rattle.ob_parse_grammar.specs.Depth.{limit}
+use Rattle.ob_parse_grammar.specs.Texts.{tokens_of}
+use Rattle.ob_parse_grammar.specs.TextReading.{NoModule, fault_of, parsed, by_fault, reading}
+use Rattle.ob_parse_grammar.specs.Identifiers.{is_letter, is_letter_or_digit, is_identifier}
 use Rattle.law_names_procedures.specs.Procedures.{is_plain, all_true, heading_layer, is_named_plainly}
 use Rattle.law_names_procedures.specs.Named.{HeadingsAreNamed}
 use Rattle.law_names_procedures.proofs.Tokens.{is_name, IsNamed, tokens_named}

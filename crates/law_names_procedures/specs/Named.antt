@@ -5,7 +5,7 @@ use Rattle.ob_tree.specs.declared.decl.Module.{Module as Tree}
 use Rattle.ob_env.specs.Faces.{Face}
 use Rattle.ob_env_walk.specs.Walk.{Entry, Holds}
 use Rattle.ob_rules.specs.Names.{is_out}
-use Rattle.ob_parse_text.specs.Reading.{reading}
+use Rattle.ob_parse_grammar.specs.TextReading.{reading}
 use Rattle.ob_compile_model.specs.Compiling.{Compiled, compiled, texts}
 use Rattle.law_names_procedures.specs.Procedures.{all_true, is_named_plainly}
 

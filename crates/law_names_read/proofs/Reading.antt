@@ -34,9 +34,9 @@ use Rattle.ob_parse_grammar.specs.Declarations.{constant, named_type, variables,
 use Rattle.ob_parse_grammar.specs.Reading.{Read, Found, Fails, Wrong, Deep}
 use Rattle.ob_parse_grammar.specs.Grammar.{rule, IsVoid, reads, spells}
 use Rattle.ob_parse_grammar.proofs.Verdicts.{verdict}
-use Rattle.ob_parse.specs.Parsed.{limit}
-use Rattle.ob_parse_expr.specs.Left.{listed, tokens_in, tokens_of}
-use Rattle.ob_parse_text.specs.Reading.{NoModule, fault_of, parsed, by_fault, reading}
+use Rattle.ob_parse_grammar.specs.Depth.{limit}
+use Rattle.ob_parse_grammar.specs.Texts.{listed, tokens_in, tokens_of}
+use Rattle.ob_parse_grammar.specs.TextReading.{NoModule, fault_of, parsed, by_fault, reading}
 use Rattle.ob_layout.specs.Lists.{sum_of}
 use Rattle.law_names_distinct.specs.Named.{is_word, all_true, are_words, node_layer, fields_layer, parameters_layer, section_layer, type_named, fields_named, parameters_named, section_named, decl_layer, decl_named, tree_named}
 use Rattle.law_spelling.proofs.Tokens.{is_name, IsNamedToken, tokens_named}

@@ -1,7 +1,7 @@
 -- Texts whose declarations are named by words.
 use Rattle.std.specs.Prelude.{◌≡◌, ℕ, ◌<◌, true, List, length, Ok}
 use Rattle.ob_tree.specs.declared.decl.Module.{Module as Tree}
-use Rattle.ob_parse_text.specs.Reading.{reading}
+use Rattle.ob_parse_grammar.specs.TextReading.{reading}
 use Rattle.law_names_distinct.specs.Named.{tree_named}
 
 -- What a text declares is named by words, where 32 bits count its bytes.

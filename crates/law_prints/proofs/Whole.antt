@@ -9,7 +9,7 @@ use Rattle.ob_env.specs.Stale.{prints_agree}
 use Rattle.ob_env.specs.Answer.{Standing, Stands, Stale, Unfit, standing}
 use Rattle.ob_env_walk.specs.Walk.{Entry, Walked, Left, NoInterface, Damaged, Cycle, TooMany, walk}
 use Rattle.ob_env_walk.specs.Answer.{Reached, Stopped, Whole, after_walk, env_answer}
-use Rattle.ob_parse_text.specs.Reading.{NoModule, reading}
+use Rattle.ob_parse_grammar.specs.TextReading.{NoModule, reading}
 use Rattle.ob_compile_model.specs.Compiling.{Refusal, Compiled, compiled, prints, texts, imported, most_imports, of_standing, of_reached, of_few, of_tree, of_reading, most_source, of_short}
 use Rattle.law_prints.specs.Printed.{Text, walked_printed, standing_printed, reached_printed, result_printed}
 use Rattle.law_prints.specs.Alike.{Apart}

@@ -8,7 +8,7 @@ use Rattle.ob_types.specs.declared.face.Aspect.{Aspect}
 use Rattle.ob_fprint.specs.Print.{print_from}
 use Rattle.ob_env.specs.Faces.{Wanted, Face, text_in, printed}
 use Rattle.ob_env_walk.specs.Walk.{Entry, Holds}
-use Rattle.ob_parse_text.specs.Reading.{reading}
+use Rattle.ob_parse_grammar.specs.TextReading.{reading}
 use Rattle.ob_compile_model.specs.Compiling.{Refusal, Compiled, compiled, texts, prints, imported, object_bytes, symbol_bytes}
 use Rattle.law_prints.specs.Printed.{Text, entry_printed, refusal_printed}
 

@@ -34,9 +34,9 @@ use Rattle.ob_parse_grammar.specs.Declarations.{constant, named_type, variables,
 use Rattle.ob_parse_grammar.specs.Reading.{Read, Found, Fails, Wrong, Deep}
 use Rattle.ob_parse_grammar.specs.Grammar.{rule, IsVoid, reads, spells}
 use Rattle.ob_parse_grammar.proofs.Verdicts.{verdict}
-use Rattle.ob_parse.specs.Parsed.{limit}
-use Rattle.ob_parse_expr.specs.Left.{tokens_of}
-use Rattle.ob_parse_text.specs.Reading.{NoModule, fault_of, parsed, by_fault, reading}
+use Rattle.ob_parse_grammar.specs.Depth.{limit}
+use Rattle.ob_parse_grammar.specs.Texts.{tokens_of}
+use Rattle.ob_parse_grammar.specs.TextReading.{NoModule, fault_of, parsed, by_fault, reading}
 use Rattle.ob_format.specs.Names.{is_identifier}
 use Rattle.ob_compile_model.specs.Compiling.{target_of, imported}
 use Rattle.law_spelling.specs.Raw.{all_true, is_named, all_named, are_named, node_layer, fields_layer, parameters_layer, section_layer, type_named, fields_named, parameters_named, section_named, heading_named, decl_layer, decl_named, IsNamedTree, ReadingsAreNamed}

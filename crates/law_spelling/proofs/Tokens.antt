@@ -12,7 +12,7 @@ use Rattle.ob_scan.specs.declared.fault.ScanFault.TheVariants as fault
 use Rattle.ob_scan.specs.Vocabulary.{Bytes, all_are, is_word, is_letter, is_letter_or_digit, is_decimal, is_hex, is_string, mark_of, mark_of_one, mark_of_two, word_symbol, symbol_of}
 use Rattle.ob_scan.specs.Scanning.{Input, Gap, Behind, Unfinished, Step, Gives, Faults, or_shorter, longest, known, is_too_long, is_real, taken, token_in, after_gap, behind, step}
 use Rattle.ob_parse_grammar.specs.Phrase.{Tokens, same}
-use Rattle.ob_parse_expr.specs.Left.{listed, tokens_in}
+use Rattle.ob_parse_grammar.specs.Texts.{listed, tokens_in}
 use Rattle.std.specs.Char.{is_ascii_alphabetic, is_ascii_alphanumeric}
 use Rattle.std.specs.Int.{is_in_range}
 use Rattle.ob_format.specs.Names.{is_letters, is_identifier}

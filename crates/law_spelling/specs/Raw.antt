@@ -14,7 +14,7 @@ use Rattle.ob_tree.specs.declared.decl.Decl.TheOpen.{Decl-F}
 use Rattle.ob_tree.specs.declared.decl.Decl.TheFolds.{fold-Decl}
 use Rattle.ob_tree.specs.declared.decl.Module.{Module as Tree}
 use Rattle.ob_format.specs.Names.{is_identifier}
-use Rattle.ob_parse_text.specs.Reading.{reading}
+use Rattle.ob_parse_grammar.specs.TextReading.{reading}
 use Rattle.ob_compile_model.specs.Compiling.{imported}
 
 abbrev pub all_true : List Bool → Bool

@@ -34,9 +34,9 @@ use Rattle.ob_parse_grammar.specs.Declarations.{constant, named_type, variables,
 use Rattle.ob_parse_grammar.specs.Reading.{Read, Found, Fails, Wrong, Deep}
 use Rattle.ob_parse_grammar.specs.Grammar.{rule, IsVoid, reads, spells}
 use Rattle.ob_parse_grammar.proofs.Verdicts.{verdict}
-use Rattle.ob_parse.specs.Parsed.{limit}
-use Rattle.ob_parse_expr.specs.Left.{tokens_of}
-use Rattle.ob_parse_text.specs.Reading.{NoModule, fault_of, parsed, by_fault, reading}
+use Rattle.ob_parse_grammar.specs.Depth.{limit}
+use Rattle.ob_parse_grammar.specs.Texts.{tokens_of}
+use Rattle.ob_parse_grammar.specs.TextReading.{NoModule, fault_of, parsed, by_fault, reading}
 use Rattle.ob_format.specs.Names.{is_letters}
 use Rattle.law_spelling.proofs.Phrases.{Holds, holds}
 use Rattle.law_spelling.proofs.Tokens.{is_name, IsNamedToken, tokens_named}

@@ -6,7 +6,7 @@ use Rattle.ob_tree.specs.declared.decl.Module.{Module as Tree}
 use Rattle.ob_types.specs.declared.desc.Desc.{Desc}
 use Rattle.ob_types.specs.declared.typed.TypedModule.{TypedModule}
 use Rattle.ob_types.specs.Relations.{IsGrounded}
-use Rattle.ob_parse_text.specs.Reading.{reading}
+use Rattle.ob_parse_grammar.specs.TextReading.{reading}
 use Rattle.ob_rules.specs.Names.{map_of}
 use Rattle.ob_rules.specs.Depth.{is_within}
 use Rattle.ob_rules.specs.Declarations.{declaration, around_module, module_part, checked}

@@ -13,7 +13,7 @@ use Rattle.ob_scan.specs.Vocabulary.{Bytes, is_text, is_word, is_decimal, is_hex
 use Rattle.ob_scan.specs.Scanning.{Input, Gap, Behind, Unfinished, Step, Gives, Faults, or_shorter, longest, known, is_too_long, is_real, taken, token_in, after_gap, behind, step}
 use Rattle.ob_parse_grammar.specs.Phrase.{Tokens, same}
 use Rattle.ob_parse_grammar.specs.Expressions.{between_marks}
-use Rattle.ob_parse_expr.specs.Left.{listed, tokens_in}
+use Rattle.ob_parse_grammar.specs.Texts.{listed, tokens_in}
 use Rattle.law_typing.specs.Spelled.{are_bytes}
 
 -- whether a symbol is that of a string

@@ -14,9 +14,9 @@ use Rattle.ob_parse_grammar.specs.Declarations as de
 use Rattle.ob_parse_grammar.specs.Reading.{Read, Found, Fails, Wrong, Deep}
 use Rattle.ob_parse_grammar.specs.Grammar.{rule, IsVoid, reads, spells}
 use Rattle.ob_parse_grammar.proofs.Verdicts.{verdict}
-use Rattle.ob_parse.specs.Parsed.{limit}
-use Rattle.ob_parse_expr.specs.Left.{tokens_of}
-use Rattle.ob_parse_text.specs.Reading.{NoModule, fault_of, parsed, by_fault, reading}
+use Rattle.ob_parse_grammar.specs.Depth.{limit}
+use Rattle.ob_parse_grammar.specs.Texts.{tokens_of}
+use Rattle.ob_parse_grammar.specs.TextReading.{NoModule, fault_of, parsed, by_fault, reading}
 use Rattle.law_typing.specs.Spelled.{all_true}
 use Rattle.law_spelling_read.specs.Placed.{are_rising, places_of, decl_placed, tree_placed, PlacesRise}
 use Rattle.law_spelling_read.proofs.Order.{Before, Rise, rise_left, rise_right, Among, among_rising, both_true}

@@ -10,7 +10,7 @@ use Rattle.ob_scan.specs.declared.fault.ScanFault.TheVariants as fault
 use Rattle.ob_scan.specs.Vocabulary.{Bytes, is_blank, symbol_of}
 use Rattle.ob_scan.specs.Scanning.{Input, next_pos, further, Gap, Behind, Unfinished, opens, closes, behind, Step, Gives, Faults, or_shorter, longest, known, is_too_long, is_real, taken, token_in, after_gap, step}
 use Rattle.ob_parse_grammar.specs.Phrase.{Tokens, same}
-use Rattle.ob_parse_expr.specs.Left.{listed, tokens_in}
+use Rattle.ob_parse_grammar.specs.Texts.{listed, tokens_in}
 use Rattle.law_spelling_read.proofs.Order.{Before, AtMost, at_same, at_then, before_at, Rise}
 
 -- ---- blanks and comments

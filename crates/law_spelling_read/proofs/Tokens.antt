@@ -13,7 +13,7 @@ use Rattle.ob_scan.specs.Vocabulary.{Bytes, is_blank, symbol_of}
 use Rattle.ob_scan.specs.Scanning.{Input, next_pos, further, Gap, Behind, Unfinished, opens, closes, behind, Step, Gives, Faults, or_shorter, longest, known, is_too_long, is_real, taken, token_in, after_gap, step}
 use Rattle.ob_parse_grammar.specs.Phrase.{Tokens, same}
 use Rattle.ob_parse_grammar.specs.Expressions.{between_marks}
-use Rattle.ob_parse_expr.specs.Left.{listed, tokens_in}
+use Rattle.ob_parse_grammar.specs.Texts.{listed, tokens_in}
 use Rattle.law_spelling_read.proofs.Folds.{both_true}
 use Rattle.law_spelling_read.proofs.Marks.{is_str, IsSpelledToken}
 use Rattle.law_spelling_read.specs.ReadPlaces.{pos_fits, text_fits}

@@ -16,7 +16,7 @@ use Rattle.ob_layout.specs.LaidOut.{laid_out, viewed}
 use Rattle.ob_env.specs.Faces.{Face, described}
 use Rattle.ob_env.specs.Fit.{first_unfit, is_within}
 use Rattle.ob_env.specs.Shown.{shown}
-use Rattle.ob_parse_text.specs.Reading.{reading}
+use Rattle.ob_parse_grammar.specs.TextReading.{reading}
 use Rattle.ob_rules.specs.Declarations.{checked}
 use Rattle.law_names_distinct.specs.Distinct.{AreDistinct}
 use Rattle.law_typing.specs.Known.{ConstantIs}

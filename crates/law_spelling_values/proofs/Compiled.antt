@@ -29,7 +29,7 @@ use Rattle.ob_env.specs.Answer.{if_fit, if_coherent, standing}
 use Rattle.ob_env.specs.Shown.{shown}
 use Rattle.ob_env_walk.specs.Walk.{Entry, Walked, Left, NoInterface, Damaged, Cycle, TooMany, walk}
 use Rattle.ob_env_walk.specs.Answer.{after_walk, env_answer}
-use Rattle.ob_parse_text.specs.Reading.{NoModule, reading}
+use Rattle.ob_parse_grammar.specs.TextReading.{NoModule, reading}
 use Rattle.ob_compile_model.specs.Compiling.{texts, Compiled, exceeds, within, of_checked, of_break, by_rules, and_limits, is_deep, unless_deep, of_standing, of_reached, most_imports, of_few, of_reading, most_source, of_short, compiled, imported as imported_name}
 use Rattle.law_body_context.specs.Laws.{AreOthers}
 use Rattle.law_spelling.specs.Laws.{Text, IsSpelled, compiled_from}

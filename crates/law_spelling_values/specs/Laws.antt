@@ -8,7 +8,7 @@ use Rattle.ob_env.specs.Faces.{Face}
 use Rattle.ob_env.specs.Fit.{first_unfit}
 use Rattle.ob_env.specs.Shown.{shown}
 use Rattle.ob_env_walk.specs.Walk.{Entry}
-use Rattle.ob_parse_text.specs.Reading.{reading}
+use Rattle.ob_parse_grammar.specs.TextReading.{reading}
 use Rattle.ob_compile_model.specs.Compiling.{Compiled, texts, compiled}
 use Rattle.ob_rules.specs.Declarations.{checked}
 use Rattle.law_body_context.specs.Laws.{AreOthers}

@@ -7,7 +7,7 @@ use Rattle.ob_tree.specs.declared.print.Print.{Print}
 use Rattle.ob_io.specs.Io.{Finds}
 use Rattle.ob_io.specs.declared.traits.FolderFault.{FolderFault}
 use Rattle.ob_io.specs.declared.traits.FolderFault.TheVariants as folder
-use Rattle.ob_parse_text.specs.Reading.{reading}
+use Rattle.ob_parse_grammar.specs.TextReading.{reading}
 use Rattle.ob_env_walk.specs.Walk.{symbol_entry}
 use Rattle.ob_compile.specs.declared.shape.Built.{Built}
 use Rattle.ob_compile_model.specs.declared.fault.CompileRefusal.TheVariants as refusal

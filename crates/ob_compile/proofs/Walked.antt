@@ -6,7 +6,7 @@ use Rattle.ob_tree.specs.declared.print.Print.{Print}
 use Rattle.ob_tree.specs.declared.which.Which.TheVariants as which
 use Rattle.ob_tree.specs.declared.decl.Module.{Module as Tree}
 use Rattle.ob_types.specs.declared.face.Interface.{Interface}
-use Rattle.ob_parse_text.specs.Reading.{NoModule}
+use Rattle.ob_parse_grammar.specs.TextReading.{NoModule}
 use Rattle.ob_env.specs.Faces.{faces_of}
 use Rattle.ob_env.specs.Building.{stands_as}
 use Rattle.ob_env_walk.specs.Walk.{Entry, Walked, Left, walk}

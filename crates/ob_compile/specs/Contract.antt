@@ -3,11 +3,11 @@ use Rattle.std.specs.Prelude.{◌≡◌, ℕ, ◌≤◌, List, Option, Some, Non
 use Rattle.ob_tree.specs.declared.print.Print.{Print}
 use Rattle.ob_io.specs.Io.{Rose}
 use Rattle.ob_scan.specs.declared.fault.ScanFault.TheVariants as scanning
-use Rattle.ob_parse_expr.specs.declared.fault.ParseFault.TheVariants as parsing
+use Rattle.ob_parse_grammar.specs.declared.fault.ParseFault.TheVariants as parsing
 use Rattle.ob_tree.specs.declared.which.Which.TheVariants as which
 use Rattle.ob_env.specs.Stale.{Found, StaleUse, AsWanted, IsAbsent, IsChanged}
 use Rattle.ob_env_walk.specs.Walk.{Walked, Left, NoInterface, Damaged, Cycle, TooMany}
-use Rattle.ob_parse_text.specs.Reading.{NoModule, Scan, Parse}
+use Rattle.ob_parse_grammar.specs.TextReading.{NoModule, Scan, Parse}
 use Rattle.ob_sym.specs.Grammar.{face as face_form}
 use Rattle.ob_obj.specs.declared.file.ObjFile.{ObjFile}
 use Rattle.ob_obj.specs.Grammar.{file as file_form}

@@ -5,7 +5,7 @@ use Rattle.ob_tree.specs.declared.print.Print.{Print}
 use Rattle.ob_types.specs.declared.face.Interface.{Interface}
 use Rattle.ob_types.specs.declared.typed.TypedModule.{TypedModule}
 use Rattle.ob_types.specs.TypedView.{module_view}
-use Rattle.ob_parse_text.specs.Reading.{reading}
+use Rattle.ob_parse_grammar.specs.TextReading.{reading}
 use Rattle.ob_layout.specs.LaidOut.{viewed}
 use Rattle.ob_scheme.specs.Needs.{has_short_code}
 use Rattle.ob_env.specs.Faces.{Face, faces_of, described, print_in}

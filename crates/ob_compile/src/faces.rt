@@ -3,7 +3,7 @@
 ghost use Rattle.std.specs.Prelude.{◌≡◌, ◌≤◌, true, length, map as each, IfOk};
 ghost use Rattle.ob_io.specs.Io.{SameFiles};
 ghost use Rattle.ob_sym.specs.Grammar.{face as face_form};
-ghost use Rattle.ob_parse_text.specs.Reading.{reading};
+ghost use Rattle.ob_parse_grammar.specs.TextReading.{reading};
 ghost use Rattle.ob_env.specs.Building.{Builds, stands_as};
 ghost use Rattle.ob_env.specs.Found.{CarryPrints};
 ghost use Rattle.ob_env_walk.specs.Walk.{symbol_entry, walk as walking};

@@ -32,7 +32,7 @@ use Rattle.ob_env_walk.specs.Answer.{Reached, Stopped, Whole, env_answer}
 use Rattle.ob_uses.specs.Made.{face_of_laid}
 use Rattle.ob_scheme.specs.Needs.{has_few_operands}
 use Rattle.ob_scheme.specs.Object.{object_file}
-use Rattle.ob_parse_text.specs.Reading.{NoModule, reading}
+use Rattle.ob_parse_grammar.specs.TextReading.{NoModule, reading}
 use Rattle.std.specs.Prelude.{bytes_eq}
 
 -- How uses are kept: whether two that are kept agree, what an object has to keep, and how an interface is written.

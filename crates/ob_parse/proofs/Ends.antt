@@ -8,10 +8,11 @@ use Rattle.ob_parse_grammar.specs.Reading.{Found}
 use Rattle.ob_parse_grammar.specs.Declarations.{«module»}
 use Rattle.ob_parse_grammar.specs.Grammar.{reads, spells}
 use Rattle.ob_parse_grammar.proofs.Whole.{good_phrase, module_fine}
-use Rattle.ob_parse_expr.specs.declared.fault.ParseFault.{ParseFault}
-use Rattle.ob_parse_expr.specs.declared.fault.ParseFault.TheVariants as fault
+use Rattle.ob_parse_grammar.specs.declared.fault.ParseFault.{ParseFault}
+use Rattle.ob_parse_grammar.specs.declared.fault.ParseFault.TheVariants as fault
 use Rattle.ob_parse_expr.specs.Contract.{Reads}
-use Rattle.ob_parse.specs.Parsed.{limit, EndsOnce, Says}
+use Rattle.ob_parse_grammar.specs.Depth.{limit}
+use Rattle.ob_parse.specs.Parsed.{EndsOnce, Says}
 
 -- the last of these is the end
 abbrev EndsSo : Tokens → Type 0

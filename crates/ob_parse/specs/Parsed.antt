@@ -1,17 +1,14 @@
 -- What an answer of the parser says of the tokens.
-use Rattle.std.specs.Prelude.{◌≡◌, ℕ, [], ◌∷◌, Result, Ok, Err}
+use Rattle.std.specs.Prelude.{◌≡◌, [], ◌∷◌, Result, Ok, Err}
 use Rattle.ob_tree.specs.declared.symbol.Symbol.TheVariants as s
 use Rattle.ob_tree.specs.declared.decl.Module.{Module}
 use Rattle.ob_parse_grammar.specs.Phrase.{Tokens}
 use Rattle.ob_parse_grammar.specs.Reading.{Found}
 use Rattle.ob_parse_grammar.specs.Declarations.{«module»}
 use Rattle.ob_parse_grammar.specs.Grammar.{reads}
-use Rattle.ob_parse_expr.specs.declared.fault.ParseFault.{ParseFault}
+use Rattle.ob_parse_grammar.specs.Depth.{limit}
+use Rattle.ob_parse_grammar.specs.declared.fault.ParseFault.{ParseFault}
 use Rattle.ob_parse_expr.specs.Contract.{FailsAs}
-
--- how many levels of nesting there are
-unfoldable pub limit : ℕ
-limit = 200
 
 -- the last is the end, and no other is
 abbrev pub EndsOnce : Tokens → Type 0

@@ -11,7 +11,8 @@ ghost use Rattle.ob_parse_expr.specs.Contract.{Reads};
 use crate::heading::receiver;
 use crate::start::sees_block;
 use crate::type_node::{nested_type, parameters};
-use ob_parse_expr::{Cursor, ParseFault, ident_def, ident_list, nested_expr};
+use ob_parse_expr::{Cursor, ident_def, ident_list, nested_expr};
+use ob_parse_grammar::ParseFault;
 use ob_tree::{Decl, Heading, List, Symbol};
 use std::alloc::Global;
 

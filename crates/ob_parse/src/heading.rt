@@ -7,7 +7,8 @@ ghost use Rattle.ob_parse_grammar.specs.Declarations as decl;
 ghost use Rattle.ob_parse_grammar.specs.Grammar.{reads};
 ghost use Rattle.ob_parse_expr.specs.Contract.{Reads};
 
-use ob_parse_expr::{Cursor, ParseFault, qualident};
+use ob_parse_expr::{Cursor, qualident};
+use ob_parse_grammar::ParseFault;
 use ob_tree::{Qualident, Receiver, Symbol};
 
 /// Whether VAR is written.

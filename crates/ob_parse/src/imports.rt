@@ -8,7 +8,8 @@ ghost use Rattle.ob_parse_grammar.specs.Declarations as spec;
 ghost use Rattle.ob_parse_grammar.specs.Grammar.{reads};
 ghost use Rattle.ob_parse_expr.specs.Contract.{Reads};
 
-use ob_parse_expr::{Cursor, ParseFault};
+use ob_parse_expr::Cursor;
+use ob_parse_grammar::ParseFault;
 use ob_tree::{Ident, Import, List, Symbol};
 use std::alloc::Global;
 

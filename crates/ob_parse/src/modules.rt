@@ -5,11 +5,13 @@ ghost use Rattle.ob_parse_grammar.specs.Declarations.{«module»};
 ghost use Rattle.ob_parse_grammar.specs.Grammar.{reads};
 ghost use Rattle.ob_parse_expr.specs.Contract.{Reads};
 ghost use Rattle.ob_parse_expr.specs.Left.{NamesFit};
-ghost use Rattle.ob_parse.specs.Parsed.{limit, EndsOnce, Says};
+ghost use Rattle.ob_parse_grammar.specs.Depth.{limit};
+ghost use Rattle.ob_parse.specs.Parsed.{EndsOnce, Says};
 
 use crate::imports::imports;
 use crate::procedure::{body, declarations};
-use ob_parse_expr::{Cursor, ParseFault};
+use ob_parse_expr::Cursor;
+use ob_parse_grammar::ParseFault;
 use ob_tree::{Module, Symbol, Token};
 use std::alloc::Global;
 

@@ -8,7 +8,8 @@ ghost use Rattle.ob_parse_grammar.specs.Grammar.{reads};
 ghost use Rattle.ob_parse_expr.specs.Contract.{Reads};
 
 use crate::decl::{blocks, forward, heading};
-use ob_parse_expr::{Cursor, ParseFault};
+use ob_parse_expr::Cursor;
+use ob_parse_grammar::ParseFault;
 use ob_parse_stmt::nested_statements;
 use ob_tree::{Decl, List, Stmt, Symbol};
 use std::alloc::Global;

@@ -8,7 +8,8 @@ ghost use Rattle.ob_parse_grammar.specs.Declarations as decl;
 ghost use Rattle.ob_parse_grammar.specs.Grammar.{begins, first_of, read};
 ghost use Rattle.ob_parse_expr.specs.Contract.{FailsAs};
 
-use ob_parse_expr::{Cursor, ParseFault};
+use ob_parse_expr::Cursor;
+use ob_parse_grammar::ParseFault;
 use ob_tree::Symbol;
 
 fn sees_type(tokens: &Cursor<'_>) -> bool

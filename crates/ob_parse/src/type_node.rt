@@ -10,7 +10,8 @@ ghost use Rattle.ob_parse_expr.specs.Contract.{Reads};
 
 use crate::heading::{base, is_var, result_type};
 use crate::start::{fault_at_type, sees_section};
-use ob_parse_expr::{Cursor, ParseFault, exprs, ident_list, idents, qualident};
+use ob_parse_expr::{Cursor, exprs, ident_list, idents, qualident};
+use ob_parse_grammar::ParseFault;
 use ob_tree::{Boxed, FieldList, FormalPars, List, Section, Symbol, TypeNode};
 use std::alloc::Global;
 

@@ -7,8 +7,9 @@ use Rattle.ob_parse_grammar.specs.Phrase.{Tokens, same}
 use Rattle.ob_parse_grammar.specs.Reading.{Found, take_word}
 use Rattle.ob_parse_expr.specs.declared.source.Source.{Source}
 use Rattle.ob_parse_expr.specs.declared.source.Source.TheVariants as source
-use Rattle.ob_parse_expr.specs.declared.fault.ParseFault.TheVariants as fault
-use Rattle.ob_parse_expr.specs.Left.{left, behind, token_of}
+use Rattle.ob_parse_grammar.specs.declared.fault.ParseFault.TheVariants as fault
+use Rattle.ob_parse_grammar.specs.Texts.{token_of}
+use Rattle.ob_parse_expr.specs.Left.{left, behind}
 use Rattle.ob_parse_expr.specs.Contract.{Gives, Takes, FailsAs}
 
 pub took : (x : Symbol) (o : Option Token) (t : Token) (from : Source) (rest : Tokens) → o ≡ Some t → same t.symbol x ≡ true → rest ≡ behind t.symbol from → Gives (take_word x (left o from)) (Ok t) rest

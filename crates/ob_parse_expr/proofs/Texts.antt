@@ -14,7 +14,8 @@ use Rattle.ob_parse_grammar.specs.Phrase.{Tokens, same}
 use denote.Enum.Bare.{same_true, true_same}
 use Rattle.ob_tree.specs.contracts.symbol.Symbol.{the_type}
 use Rattle.ob_parse_grammar.proofs.Basics.{chosen, false_not_true}
-use Rattle.ob_parse_expr.specs.Left.{token_of, listed, tokens_in, tokens_of, left, name_fits, NamesFit}
+use Rattle.ob_parse_grammar.specs.Texts.{token_of, listed, tokens_in, tokens_of}
+use Rattle.ob_parse_expr.specs.Left.{left, name_fits, NamesFit}
 use Rattle.ob_parse_expr.specs.declared.source.Source.TheVariants as source
 
 -- ---- what stands in a step

@@ -9,8 +9,8 @@ use Rattle.ob_parse_grammar.specs.Grammar.{reads, begins}
 use Rattle.ob_parse_grammar.proofs.Fine.{every}
 use Rattle.ob_parse_grammar.proofs.Local.{Takes}
 use Rattle.ob_parse_grammar.proofs.Loops.{takes, many_ends}
-use Rattle.ob_parse_expr.specs.declared.fault.ParseFault.{ParseFault}
-use Rattle.ob_parse_expr.specs.declared.fault.ParseFault.TheVariants as fault
+use Rattle.ob_parse_grammar.specs.declared.fault.ParseFault.{ParseFault}
+use Rattle.ob_parse_grammar.specs.declared.fault.ParseFault.TheVariants as fault
 use Rattle.ob_parse_expr.specs.Contract.{FailsAs, Reads}
 use Rattle.ob_parse_expr.specs.Chains.{related, expr_behind}
 

@@ -5,8 +5,8 @@ use Rattle.ob_tree.specs.declared.token.Token.{Token}
 use Rattle.ob_tree.specs.declared.pos.Pos.{Pos}
 use Rattle.ob_parse_grammar.specs.Phrase.{Tokens}
 use Rattle.ob_parse_grammar.specs.Reading.{Fault, Wrong, Deep, Read, Found, Fails, take_word}
-use Rattle.ob_parse_expr.specs.declared.fault.ParseFault.{ParseFault}
-use Rattle.ob_parse_expr.specs.declared.fault.ParseFault.TheVariants as fault
+use Rattle.ob_parse_grammar.specs.declared.fault.ParseFault.{ParseFault}
+use Rattle.ob_parse_grammar.specs.declared.fault.ParseFault.TheVariants as fault
 
 -- the place of the next token
 abbrev pub IsAt : Tokens → Pos → Type 0

@@ -2,7 +2,8 @@
 
 ghost use Rattle.std.specs.Prelude.{◌≡◌};
 ghost use Rattle.ob_scan.specs.Scanning.{Input};
-ghost use Rattle.ob_parse_expr.specs.Left.{behind, left, tokens_of};
+ghost use Rattle.ob_parse_grammar.specs.Texts.{tokens_of};
+ghost use Rattle.ob_parse_expr.specs.Left.{behind, left};
 ghost use Rattle.ob_parse_expr.specs.declared.source.Source.TheVariants as source;
 
 use crate::source::Source;

@@ -6,12 +6,13 @@ ghost use Rattle.ob_parse_grammar.specs.Reading.{Wrong, Deep, starts, take_word}
 ghost use Rattle.ob_parse_grammar.specs.Expressions as spec;
 ghost use Rattle.ob_parse_grammar.specs.Grammar.{reads, read, begins, first_of};
 ghost use Rattle.ob_scan.specs.Scanning.{start_of};
-ghost use Rattle.ob_parse_expr.specs.Left.{NamesFit, name_fits, tokens_of};
+ghost use Rattle.ob_parse_grammar.specs.Texts.{tokens_of};
+ghost use Rattle.ob_parse_expr.specs.Left.{NamesFit, name_fits};
 ghost use Rattle.ob_parse_expr.specs.Contract.{IsAt, IsFault, FailsAs, Gives, Reads, Takes};
 
 use crate::behind::{go_on, next_behind, scanned};
-use crate::fault::ParseFault;
 use crate::source::Source;
+use ob_parse_grammar::ParseFault;
 use ob_scan::Scanner;
 use ob_tree::{Ident, Mention, Name, Pos, Symbol, Token};
 use std::alloc::Global;

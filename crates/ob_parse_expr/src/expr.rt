@@ -13,10 +13,10 @@ ghost use Rattle.ob_parse_expr.specs.Contract.{Adds, Reads};
 ghost use Rattle.ob_parse_expr.specs.Chains.{chained, related, with_sign, unnamed, expr_behind};
 
 use crate::cursor::Cursor;
-use crate::fault::ParseFault;
 use crate::plain::{
     chain, char, deref, field, int, nil, operator_of, relation_of, sign_of, string,
 };
+use ob_parse_grammar::ParseFault;
 use ob_tree::{Boxed, Designator, Element, Expr, List, Selector, Symbol, Tail};
 use std::alloc::Global;
 

@@ -4,12 +4,10 @@
 mod behind;
 mod cursor;
 mod expr;
-mod fault;
 mod names;
 mod plain;
 mod source;
 
 pub use cursor::Cursor;
 pub use expr::{designator, elements, exprs, nested_expr};
-pub use fault::ParseFault;
 pub use names::{ident_def, ident_list, idents, qualident};

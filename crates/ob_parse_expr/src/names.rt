@@ -9,7 +9,7 @@ ghost use Rattle.ob_parse_grammar.specs.Grammar.{reads, begins};
 ghost use Rattle.ob_parse_expr.specs.Contract.{Gives, Reads};
 
 use crate::cursor::Cursor;
-use crate::fault::ParseFault;
+use ob_parse_grammar::ParseFault;
 use ob_tree::{Ident, IdentDef, List, Mark, Qualident, Symbol, Token};
 use std::alloc::Global;
 

@@ -7,7 +7,7 @@ ghost use Rattle.ob_parse_grammar.specs.Grammar.{reads};
 ghost use Rattle.ob_parse_expr.specs.Contract.{Adds, Reads};
 
 use crate::cursor::Cursor;
-use crate::fault::ParseFault;
+use ob_parse_grammar::ParseFault;
 use ob_tree::{Boxed, Expr, List, Operator, Relation, Selector, Sign, Spelling, Symbol, Tail};
 use std::alloc::{AllocError, Global};
 

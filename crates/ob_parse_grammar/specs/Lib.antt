@@ -6,3 +6,7 @@ pub mod Statements
 pub mod Declarations
 pub mod Grammar
 pub mod Laws
+pub mod Depth
+pub mod Texts
+pub mod TextReading
+pub mod Identifiers

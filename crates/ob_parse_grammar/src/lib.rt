@@ -1,4 +1,5 @@
-//! The grammar as a datum, and what holds of its reading. There is nothing to run here.
+//! The grammar as a datum, what a text is read as by it, and what holds of that reading. There is
+//! nothing to run here but what makes a fault.
 #![tactic(auto)]
 
 ghost use Rattle.std.specs.Prelude.{ℕ};
@@ -6,6 +7,10 @@ ghost use Rattle.ob_parse_grammar.specs.Phrase.{Tokens};
 ghost use Rattle.ob_parse_grammar.specs.Grammar.{reads};
 ghost use Rattle.ob_parse_grammar.specs.Declarations.{«module»};
 ghost use Rattle.ob_parse_grammar.specs.Laws.{IsVerdict, IsReadWhole};
+
+mod fault;
+
+pub use fault::ParseFault;
 
 /// A law, with nothing to run: what the reading of a module within any number of levels says of
 /// any tokens. What it finds is spelled by the front that it took. A token that it finds wrong

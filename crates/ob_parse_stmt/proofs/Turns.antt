@@ -10,8 +10,8 @@ use Rattle.ob_parse_grammar.specs.Grammar.{reads, begins}
 use Rattle.ob_parse_grammar.proofs.Fine.{every}
 use Rattle.ob_parse_grammar.proofs.Local.{Takes}
 use Rattle.ob_parse_grammar.proofs.Loops.{takes, many_fails, GoesOn, after}
-use Rattle.ob_parse_expr.specs.declared.fault.ParseFault.{ParseFault}
-use Rattle.ob_parse_expr.specs.declared.fault.ParseFault.TheVariants as fault
+use Rattle.ob_parse_grammar.specs.declared.fault.ParseFault.{ParseFault}
+use Rattle.ob_parse_grammar.specs.declared.fault.ParseFault.TheVariants as fault
 use Rattle.ob_parse_expr.specs.Contract.{FailsAs, Reads}
 
 pub takes_statement : (d : ℕ) → Takes (begins (next_of s.Semicolon spec.statement)) (reads d (next_of s.Semicolon spec.statement))

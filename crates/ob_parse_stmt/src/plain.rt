@@ -5,7 +5,8 @@ ghost use Rattle.ob_parse_grammar.specs.Statements as spec;
 ghost use Rattle.ob_parse_grammar.specs.Grammar.{reads};
 ghost use Rattle.ob_parse_expr.specs.Contract.{Puts, Reads};
 
-use ob_parse_expr::{Cursor, ParseFault, designator, nested_expr, qualident};
+use ob_parse_expr::{Cursor, designator, nested_expr, qualident};
+use ob_parse_grammar::ParseFault;
 use ob_tree::{Boxed, Expr, Guard, List, Stmt, Symbol};
 use std::alloc::Global;
 

@@ -7,7 +7,8 @@ ghost use Rattle.ob_parse_grammar.specs.Statements as spec;
 ghost use Rattle.ob_parse_grammar.specs.Grammar.{begins, first_of, read};
 ghost use Rattle.ob_parse_expr.specs.Contract.{Reads};
 
-use ob_parse_expr::{Cursor, ParseFault};
+use ob_parse_expr::Cursor;
+use ob_parse_grammar::ParseFault;
 use ob_tree::{List, Stmt, Symbol};
 use std::alloc::Global;
 

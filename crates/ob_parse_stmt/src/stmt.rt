@@ -11,7 +11,8 @@ ghost use Rattle.ob_parse_expr.specs.Contract.{Puts, Reads};
 
 use crate::plain::{exit_statement, guard, plain, return_statement, step};
 use crate::start::{no_statements, sees_statement};
-use ob_parse_expr::{Cursor, ParseFault, elements, nested_expr};
+use ob_parse_expr::{Cursor, elements, nested_expr};
+use ob_parse_grammar::ParseFault;
 use ob_tree::{Boxed, Branch, Case, GuardedBranch, List, Stmt, Symbol};
 use std::alloc::Global;
 

@@ -14,15 +14,17 @@ use Rattle.ob_parse_grammar.specs.Reading.{Wrong, Deep, Read, Found, Fails}
 use Rattle.ob_parse_grammar.specs.Declarations.{«module»}
 use Rattle.ob_parse_grammar.specs.Grammar.{reads}
 use Rattle.ob_parse_expr.specs.Contract.{IsAt}
-use Rattle.ob_parse_expr.specs.Left.{tokens_of}
+use Rattle.ob_parse_grammar.specs.Texts.{tokens_of}
 use Rattle.ob_parse_expr.proofs.Texts.{scans_these, step_whole}
-use Rattle.ob_parse_expr.specs.declared.fault.ParseFault.{ParseFault}
-use Rattle.ob_parse_expr.specs.declared.fault.ParseFault.TheVariants as parsing
-use Rattle.ob_parse.specs.Parsed.{Says, limit}
+use Rattle.ob_parse_grammar.specs.declared.fault.ParseFault.{ParseFault}
+use Rattle.ob_parse_grammar.specs.declared.fault.ParseFault.TheVariants as parsing
+use Rattle.ob_parse_grammar.specs.Depth.{limit}
+use Rattle.ob_parse.specs.Parsed.{Says}
 use Rattle.ob_parse_text.specs.declared.fault.TextFault.{TextFault}
 use Rattle.ob_parse_text.specs.declared.fault.TextFault.TheVariants as fault
 use Rattle.ob_parse_text.specs.Answers.{Answers, Parses}
-use Rattle.ob_parse_text.specs.Reading.{NoModule, Scan, Parse, unless_end, fault_behind, fault_within, fault_of, place_of, parsed, by_fault, reading, IsReading}
+use Rattle.ob_parse_grammar.specs.TextReading.{NoModule, Scan, Parse, unless_end, fault_behind, fault_within, fault_of, place_of, parsed, by_fault, reading}
+use Rattle.ob_parse_text.specs.Reading.{IsReading}
 
 -- ---- symbols
 

@@ -12,9 +12,10 @@ use Rattle.ob_parse_grammar.specs.Reading.{Wrong, Deep, Read, Found, Fails}
 use Rattle.ob_parse_grammar.specs.Declarations.{«module»}
 use Rattle.ob_parse_grammar.specs.Grammar.{reads}
 use Rattle.ob_parse_expr.specs.Contract.{IsAt}
-use Rattle.ob_parse_expr.specs.declared.fault.ParseFault.{ParseFault}
-use Rattle.ob_parse_expr.specs.declared.fault.ParseFault.TheVariants as parsing
-use Rattle.ob_parse.specs.Parsed.{Says, limit}
+use Rattle.ob_parse_grammar.specs.declared.fault.ParseFault.{ParseFault}
+use Rattle.ob_parse_grammar.specs.declared.fault.ParseFault.TheVariants as parsing
+use Rattle.ob_parse_grammar.specs.Depth.{limit}
+use Rattle.ob_parse.specs.Parsed.{Says}
 use Rattle.ob_parse_text.specs.declared.fault.TextFault.{TextFault}
 use Rattle.ob_parse_text.specs.declared.fault.TextFault.TheVariants as fault
 use Rattle.ob_parse_text.specs.Answers.{Answers, Parses}

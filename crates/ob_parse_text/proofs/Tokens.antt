@@ -15,11 +15,12 @@ use Rattle.ob_parse_grammar.specs.Declarations.{«module»}
 use Rattle.ob_parse_grammar.specs.Grammar.{reads}
 use Rattle.ob_parse_grammar.proofs.Basics.{false_not_true}
 use Rattle.ob_parse_expr.specs.Contract.{IsAt}
-use Rattle.ob_parse_expr.specs.Left.{token_of, listed, tokens_in, tokens_of}
+use Rattle.ob_parse_grammar.specs.Texts.{token_of, listed, tokens_in, tokens_of}
 use Rattle.ob_parse_expr.proofs.Texts.{step_whole, same_bound}
-use Rattle.ob_parse_expr.specs.declared.fault.ParseFault.{ParseFault}
-use Rattle.ob_parse_expr.specs.declared.fault.ParseFault.TheVariants as parsing
-use Rattle.ob_parse.specs.Parsed.{Says, limit}
+use Rattle.ob_parse_grammar.specs.declared.fault.ParseFault.{ParseFault}
+use Rattle.ob_parse_grammar.specs.declared.fault.ParseFault.TheVariants as parsing
+use Rattle.ob_parse_grammar.specs.Depth.{limit}
+use Rattle.ob_parse.specs.Parsed.{Says}
 use Rattle.ob_parse.proofs.Ends.{ends_before}
 use Rattle.ob_parse_text.specs.Answers.{Parses, HasTokens}
 use Rattle.ob_parse_text.proofs.Bare.{bares, seen, module_read}

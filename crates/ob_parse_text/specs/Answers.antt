@@ -5,8 +5,8 @@ use Rattle.ob_scan.specs.declared.fault.ScanFault.{ScanFault}
 use Rattle.ob_scan.specs.declared.fault.ScanFault.TheVariants as scanning
 use Rattle.ob_scan.specs.Scanning.{Input, Scans}
 use Rattle.ob_parse_grammar.specs.Phrase.{Tokens}
-use Rattle.ob_parse_expr.specs.declared.fault.ParseFault.{ParseFault}
-use Rattle.ob_parse_expr.specs.declared.fault.ParseFault.TheVariants as parsing
+use Rattle.ob_parse_grammar.specs.declared.fault.ParseFault.{ParseFault}
+use Rattle.ob_parse_grammar.specs.declared.fault.ParseFault.TheVariants as parsing
 use Rattle.ob_parse.specs.Parsed.{Says}
 use Rattle.ob_parse_text.specs.declared.fault.TextFault.{TextFault}
 use Rattle.ob_parse_text.specs.declared.fault.TextFault.TheVariants as fault

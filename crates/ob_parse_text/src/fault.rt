@@ -1,6 +1,6 @@
 //! Why a text is no module.
 
-use ob_parse_expr::ParseFault;
+use ob_parse_grammar::ParseFault;
 use ob_scan::ScanFault;
 
 /// Why a text is no module. The faults inside are never Memory.

@@ -1,7 +1,8 @@
 //! A text read as a module, as a function of its bytes.
 
 ghost use Rattle.std.specs.Prelude.{◌+◌, ◌<◌, ◌^◌, length};
-ghost use Rattle.ob_parse_text.specs.Reading.{reading, IsReading};
+ghost use Rattle.ob_parse_grammar.specs.TextReading.{reading};
+ghost use Rattle.ob_parse_text.specs.Reading.{IsReading};
 
 use crate::fault::TextFault;
 use crate::text::parse_text;

@@ -7,7 +7,8 @@ ghost use Rattle.ob_parse_text.specs.Answers.{Answers, HasTokens};
 
 use crate::fault::TextFault;
 use ob_parse::read_module;
-use ob_parse_expr::{Cursor, ParseFault};
+use ob_parse_expr::Cursor;
+use ob_parse_grammar::ParseFault;
 use ob_scan::{ScanFault, Scanner};
 use ob_tree::{Module, Symbol};
 use std::alloc::Global;

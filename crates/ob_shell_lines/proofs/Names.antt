@@ -5,7 +5,8 @@ use Rattle.std.specs.List.{list_all}
 use Rattle.std.specs.Str.{IsUtf8, IsAscii}
 use Rattle.std.proofs.lemmas.Bool.{and_parts, leb-true, eqb-true, or_cases}
 use Rattle.std.proofs.lemmas.Str.{IsUtf8-from_ascii}
-use Rattle.ob_shell_lines.specs.Lines.{name_byte, is_letter, is_letter_or_digit, is_file_name}
+use Rattle.ob_parse_grammar.specs.Identifiers.{is_letter, is_letter_or_digit}
+use Rattle.ob_shell_lines.specs.Lines.{name_byte, is_file_name}
 use mathlib.Core.Logic.{◌⊎◌, inl, inr}
 
 range : (b lo hi : ℕ) → hi < 128 → (nat_le lo b && nat_le b hi) ≡ true → b < 128

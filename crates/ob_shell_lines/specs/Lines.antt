@@ -1,6 +1,7 @@
 -- The lines of a script, and what each says.
 use Rattle.std.specs.Prelude.{ℕ, ◌+◌, ◌-◌, ◌*◌, List, [], ◌∷◌, Bool, true, false, ◌||◌, ◌&&◌, ◌==◌, nat_le, nat_lt, min, if◌then◌else◌, Option, Some, None, codes, take, drop, length, position, slice_index_or, bytes_eq}
 use Rattle.std.specs.List.{list_all}
+use Rattle.ob_parse_grammar.specs.Identifiers.{is_letter_or_digit, is_identifier}
 
 pub data Line : Type 0 where
   Compile : (file : List ℕ) → Line
@@ -62,17 +63,6 @@ abbrev pub without_return : List ℕ → List ℕ
 without_return l = if slice_index_or l (length l - 1) 0 == 13 then take (length l - 1) l else l
 
 -- WHAT A LINE SAYS
-
-abbrev pub is_letter : ℕ → Bool
-is_letter b = (nat_le 65 b && nat_le b 90) || (nat_le 97 b && nat_le b 122)
-
-abbrev pub is_letter_or_digit : ℕ → Bool
-is_letter_or_digit b = is_letter b || (nat_le 48 b && nat_le b 57)
-
--- a letter and letters and digits behind it, at most 64
-abbrev pub is_identifier : List ℕ → Bool
-is_identifier [] = false
-is_identifier (b ∷ bs) = is_letter b && (list_all is_letter_or_digit bs && nat_lt (length bs) 64)
 
 abbrev pub name_byte : ℕ → Bool
 name_byte b = is_letter_or_digit b || (b == 46)

@@ -2,7 +2,8 @@
 
 ghost use Rattle.std.specs.Prelude.{◌≡◌, ◌<◌, ◌∷◌, ◌≤◌, ◌+◌, ◌-◌, ◌*◌, ◌++◌, [], ◌&&◌, true, false, ℕ, List, ◌||◌, ◌^◌, IfNone, length, codes, take, drop, position, IfSome, MatchOption, min, nat_lt, nat_le, Some};
 ghost use Rattle.std.specs.List.{list_all};
-ghost use Rattle.ob_shell_lines.specs.Lines.{lines_of, words_of, line_of, is_blank, is_letter, is_letter_or_digit, is_identifier, name_byte, is_file_name, when, is_digit, is_first_digit, up_to_sixty, number_if, count_of, demo_line, command_line, dotted, is_dot, line_of_two, line_of_three, line_of_words, without_return, passes, Compile, Compare, Check, Show, Command};
+ghost use Rattle.ob_parse_grammar.specs.Identifiers.{is_letter, is_letter_or_digit, is_identifier};
+ghost use Rattle.ob_shell_lines.specs.Lines.{lines_of, words_of, line_of, is_blank, name_byte, is_file_name, when, is_digit, is_first_digit, up_to_sixty, number_if, count_of, demo_line, command_line, dotted, is_dot, line_of_two, line_of_three, line_of_words, without_return, passes, Compile, Compare, Check, Show, Command};
 ghost use Rattle.ob_shell_lines.specs.Views.{line_view};
 ghost use Rattle.ob_shell_lines.specs.Splits.{starts_blank, FirstLine, Stops, GoesOn, Behind};
 

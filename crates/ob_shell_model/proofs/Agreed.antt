@@ -7,7 +7,8 @@ use Rattle.ob_cmp.specs.Check.{Checked, check_of, check_text, is_refused}
 use Rattle.ob_link.specs.Files.{Files}
 use Rattle.ob_compile_model.specs.Compiling as compile
 use Rattle.ob_compile_model.specs.Compiling.{Compiled, compiled, texts, prints}
-use Rattle.ob_shell_lines.specs.Lines.{Line, Compile, Compare, Check, Show, Demo, Command, Unknown, Nothing, line_of, is_identifier}
+use Rattle.ob_parse_grammar.specs.Identifiers.{is_identifier}
+use Rattle.ob_shell_lines.specs.Lines.{Line, Compile, Compare, Check, Show, Demo, Command, Unknown, Nothing, line_of}
 use Rattle.ob_words.specs.declared.asked.Settings.{Settings}
 use Rattle.ob_shell_reports.specs.Texts.{refused}
 use Rattle.ob_shell_model.specs.Folds.{Answer, changes_from}

@@ -29,7 +29,7 @@ use Rattle.ob_link.specs.Plan.{Entry, Missing, TooLong, Junk, Holds}
 use Rattle.ob_link.specs.Files as objects
 use Rattle.ob_link.specs.Files.{Files, object_file_name, most_bytes, decoded, decoded_as, when_all}
 use Rattle.ob_compile_model.specs.Compiling.{Compiled, texts, object_by, object_bytes, interface_by}
-use Rattle.ob_shell_lines.specs.Lines.{is_identifier}
+use Rattle.ob_parse_grammar.specs.Identifiers.{is_identifier}
 use Rattle.ob_shell_model.specs.Builds.{Text, Build, IsValid, of, shows_of, name_of, file_of, bytes_of, symbols_of as written_symbols}
 use Rattle.ob_shell_model.specs.Library.{Library, IsLibrary, IsEntry, Kept, ObjectKept, SymbolKept}
 use Rattle.ob_shell_model.specs.Model.{face_present, uses_present, check_in}

@@ -7,7 +7,7 @@ use Rattle.ob_machine.specs.declared.outcome.Outcome.{Outcome}
 use Rattle.ob_link.specs.Plan as load
 use Rattle.ob_link.specs.Files.{Files, file_plan, planned}
 use Rattle.ob_load.specs.Command.{Ran, ran}
-use Rattle.ob_shell_lines.specs.Lines.{is_identifier}
+use Rattle.ob_parse_grammar.specs.Identifiers.{is_identifier}
 use Rattle.ob_words.specs.declared.asked.Settings.{Settings}
 use Rattle.ob_shell_reports.specs.Texts.{report, stops, refused}
 use Rattle.ob_shell_model.specs.Folds.{Answer}

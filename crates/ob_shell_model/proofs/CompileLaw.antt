@@ -6,7 +6,7 @@ use Rattle.ob_env_walk.specs.Walk.{Walked, Left, NoInterface, Damaged, Cycle, To
 use Rattle.ob_compile_model.specs.Compiling as c
 use Rattle.ob_compile_model.specs.Compiling.{Compiled, Refusal, compiled, prints, texts}
 use Rattle.ob_shell_reports.specs.Texts.{walk_text, unmet_text, compile_reason}
-use Rattle.ob_shell_lines.specs.Lines.{is_identifier}
+use Rattle.ob_parse_grammar.specs.Identifiers.{is_identifier}
 use Rattle.law_prints.specs.Printed.{Text, walked_printed, found_printed, stale_printed, refusal_printed}
 use Rattle.law_prints.specs.Alike.{ComeToTheSame}
 use Rattle.law_prints.proofs.Law.{alike_among}

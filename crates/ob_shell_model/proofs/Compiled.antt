@@ -17,7 +17,7 @@ use Rattle.ob_env.specs.Shown.{shown}
 use Rattle.ob_env.specs.Answer.{Standing, Stands, Stale, Unfit}
 use Rattle.ob_env_walk.specs.Walk.{Entry, file_limit}
 use Rattle.ob_env_walk.specs.Answer.{Reached, Stopped, Whole, env_answer}
-use Rattle.ob_parse_text.specs.Reading.{NoModule, reading}
+use Rattle.ob_parse_grammar.specs.TextReading.{NoModule, reading}
 use Rattle.ob_compile_model.specs.Compiling as c
 use Rattle.ob_compile_model.specs.Compiling.{Keeping, Refusal, Compiled, compiled, made, within, exceeds, exceeded, or_first, limit_of_operands, limit_of_code, limit_of_files, object_bytes, symbol_bytes, object_by, most_code, of_checked, of_break, by_rules, and_limits, unless_deep, is_deep, of_faces, of_standing, of_reached, of_few, of_tree, of_reading, of_short, most_imports, most_source, imported}
 

@@ -13,7 +13,7 @@ use Rattle.ob_types.specs.TypedSyntax.{Module}
 use Rattle.ob_env.specs.Faces.{Face, Wanted, face_named, object_named, text_in}
 use Rattle.ob_env_walk.specs.Walk.{Entry}
 use Rattle.ob_rules.specs.Names.{is_out}
-use Rattle.ob_parse_text.specs.Reading.{NoModule, reading}
+use Rattle.ob_parse_grammar.specs.TextReading.{NoModule, reading}
 use Rattle.ob_compile_model.specs.Compiling as c
 use Rattle.ob_compile_model.specs.Compiling.{Compiled, compiled, texts, of_reading, of_short, most_source}
 use Rattle.ob_shell_model.specs.Builds.{Text, Build, IsSpelled, IsValid, of, shows_of, tree_of, name_of}

@@ -16,11 +16,11 @@ use Rattle.ob_parse_grammar.specs.Declarations.{import_item, imports, «module»
 use Rattle.ob_parse_grammar.specs.Reading.{Read, Found, Fails, Wrong, Deep}
 use Rattle.ob_parse_grammar.specs.Grammar.{reads, spells}
 use Rattle.ob_parse_grammar.proofs.Verdicts.{verdict}
-use Rattle.ob_parse.specs.Parsed.{limit}
-use Rattle.ob_parse_expr.specs.Left.{tokens_of}
-use Rattle.ob_parse_text.specs.Reading.{NoModule, fault_of, parsed, by_fault, reading}
+use Rattle.ob_parse_grammar.specs.Depth.{limit}
+use Rattle.ob_parse_grammar.specs.Texts.{tokens_of}
+use Rattle.ob_parse_grammar.specs.TextReading.{NoModule, fault_of, parsed, by_fault, reading}
 use Rattle.ob_compile_model.specs.Compiling.{target_of, imported}
-use Rattle.ob_shell_lines.specs.Lines.{is_identifier}
+use Rattle.ob_parse_grammar.specs.Identifiers.{is_identifier}
 use Rattle.ob_shell_model.specs.Named.{AreIdentifiers, ImportsAreNamed}
 use Rattle.law_names_procedures.proofs.Tokens.{is_name, tokens_named}
 use Rattle.law_names_procedures.proofs.Texts.{AreNamed, left, right}

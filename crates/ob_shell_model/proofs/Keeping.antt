@@ -9,7 +9,7 @@ use Rattle.ob_link.specs.Plan.{Entry, Missing, TooLong, Junk, Holds}
 use Rattle.ob_link.specs.Files.{Files, object_file_name}
 use Rattle.ob_env_walk.specs.Walk.{symbol_name}
 use Rattle.ob_demo.specs.Source.{module_name}
-use Rattle.ob_shell_lines.specs.Lines.{is_identifier}
+use Rattle.ob_parse_grammar.specs.Identifiers.{is_identifier}
 use Rattle.ob_shell_model.specs.Bytes.{source_name}
 use Rattle.ob_shell_model.specs.Builds.{Build, bytes_of, symbols_of}
 use Rattle.ob_shell_model.specs.Library.{Library, Kept, ObjectKept, SymbolKept, with_entry, Change, ObjectBecomes, SymbolBecomes, after, after_all}

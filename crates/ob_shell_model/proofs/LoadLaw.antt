@@ -11,7 +11,7 @@ use Rattle.ob_link.specs.Plan.{Entry, Missing, TooLong, Junk, Holds, plan}
 use Rattle.ob_link.specs.Files as files
 use Rattle.ob_link.specs.Files.{Files, object_entry, file_plan}
 use Rattle.ob_compile_model.specs.Compiling.{Compiled}
-use Rattle.ob_shell_lines.specs.Lines.{is_identifier}
+use Rattle.ob_parse_grammar.specs.Identifiers.{is_identifier}
 use Rattle.ob_shell_reports.specs.Texts.{load_refused}
 use Rattle.law_load_plan.specs.Alike.{refusal_as, answer_as, EntryHas, AreEntriesAlike, Agrees}
 use Rattle.law_load_plan.specs.Seen.{IsSeenTo}

@@ -20,7 +20,7 @@ use Rattle.ob_env.specs.Answer.{Standing, Stands, Stale, Unfit, if_fit, if_coher
 use Rattle.ob_env_walk.specs.Walk as walk
 use Rattle.ob_env_walk.specs.Walk.{Walked, Left, NoInterface, Damaged, Cycle, TooMany, walk as walked_from}
 use Rattle.ob_env_walk.specs.Answer.{after_walk, env_answer}
-use Rattle.ob_parse_text.specs.Reading.{NoModule, reading}
+use Rattle.ob_parse_grammar.specs.TextReading.{NoModule, reading}
 use Rattle.ob_link.specs.Plan.{Entry, Missing, TooLong, Junk, Holds}
 use Rattle.ob_compile_model.specs.Compiling as c
 use Rattle.ob_compile_model.specs.Compiling.{Refusal, Compiled, compiled, texts, made, within, exceeds, of_checked, of_break, by_rules, and_limits, unless_deep, is_deep, of_faces, of_standing, of_reached, of_few, of_tree, of_reading, of_short, most_imports, most_source, imported}

@@ -9,7 +9,7 @@ use Rattle.ob_link.specs.Files as objects
 use Rattle.ob_link.specs.Files.{Files, most_bytes, decoded, decoded_as, object_entry, object_file_name}
 use Rattle.ob_link.proofs.Decoded.{decoded_again}
 use Rattle.ob_compile_model.specs.Compiling.{Compiled, texts, object_by, object_bytes}
-use Rattle.ob_shell_lines.specs.Lines.{is_identifier}
+use Rattle.ob_parse_grammar.specs.Identifiers.{is_identifier}
 use Rattle.law_load_plan.specs.Alike.{entry_as}
 use Rattle.ob_shell_model.specs.Builds.{Text, Build, IsValid, of, shows_of, name_of, file_of, bytes_of}
 use Rattle.ob_shell_model.specs.Library.{Library, IsLibrary, IsEntry, Kept, ObjectKept}

@@ -14,7 +14,7 @@ use Rattle.ob_uses.specs.Uses.{with_kept}
 use Rattle.ob_env_walk.specs.Walk as walk
 use Rattle.ob_link.specs.Plan.{Entry, Missing, TooLong, Junk, Holds}
 use Rattle.ob_compile_model.specs.Compiling.{Compiled, texts, made}
-use Rattle.ob_shell_lines.specs.Lines.{is_identifier}
+use Rattle.ob_parse_grammar.specs.Identifiers.{is_identifier}
 use Rattle.law_prints.specs.Printed.{Text}
 use Rattle.law_prints.specs.Alike.{IsShownBy, IsKeptBy, IsSpokenOfAmong}
 use Rattle.ob_shell_model.specs.Builds.{Build, IsValid, shows_of}

@@ -16,7 +16,7 @@ use Rattle.ob_env_walk.specs.Walk.{file_limit, entry_from, named_face, symbol_na
 use Rattle.ob_link.specs.Plan.{Entry, Missing, TooLong, Junk, Holds}
 use Rattle.ob_link.specs.Files.{Files}
 use Rattle.ob_compile_model.specs.Compiling.{Compiled, texts, interface_by}
-use Rattle.ob_shell_lines.specs.Lines.{is_letter_or_digit, is_identifier}
+use Rattle.ob_parse_grammar.specs.Identifiers.{is_letter_or_digit, is_identifier}
 use Rattle.law_prints.specs.Printed.{Text, entry_printed}
 use Rattle.ob_shell_model.specs.Builds.{Build, IsValid, shows_of, name_of, symbols_of}
 use Rattle.ob_shell_model.specs.Library.{Library, IsLibrary, IsEntry, Kept, SymbolKept}

@@ -9,7 +9,8 @@ use Rattle.ob_link.specs.Plan as load
 use Rattle.ob_link.specs.Files.{Files, object_file_name, file_plan}
 use Rattle.ob_compile_model.specs.Compiling as compile
 use Rattle.ob_compile_model.specs.Compiling.{Compiled, compiled, texts, prints, object_bytes, symbol_bytes}
-use Rattle.ob_shell_lines.specs.Lines.{is_identifier, done_lines}
+use Rattle.ob_parse_grammar.specs.Identifiers.{is_identifier}
+use Rattle.ob_shell_lines.specs.Lines.{done_lines}
 use Rattle.ob_words.specs.declared.asked.Settings.{Settings}
 use Rattle.ob_shell_reports.specs.Texts.{compile_reason, load_refused}
 use Rattle.ob_shell_model.specs.Folds.{text_from, changes_from}

@@ -14,7 +14,7 @@ use Rattle.ob_env.specs.Faces.{Face, Wanted, text_in}
 use Rattle.ob_link.specs.Plan.{most_modules, most_globals, words_of, has_command, named}
 use Rattle.ob_link.specs.Files.{planned}
 use Rattle.ob_load.specs.Command.{Ran, ran}
-use Rattle.ob_parse_text.specs.Reading.{NoModule, reading}
+use Rattle.ob_parse_grammar.specs.TextReading.{NoModule, reading}
 use Rattle.ob_compile_model.specs.Compiling.{Compiled, Refusal, texts, compiled, by_rules, object_by, interface_by}
 use Rattle.ob_words.specs.declared.asked.Settings.{Settings}
 use Rattle.ob_shell_model.specs.Builds.{Text, Build, IsSpelled, IsValid, shows_of, tree_of, name_of, file_of, asks}

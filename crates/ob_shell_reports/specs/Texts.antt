@@ -8,8 +8,8 @@ use Rattle.ob_machine.specs.declared.outcome.Outcome.TheVariants as outcome
 use Rattle.ob_tree.specs.declared.which.Which.{Which}
 use Rattle.ob_tree.specs.declared.which.Which.TheVariants as which
 use Rattle.ob_scan.specs.declared.fault.ScanFault.TheVariants as scanning
-use Rattle.ob_parse_expr.specs.declared.fault.ParseFault.TheVariants as parsing
-use Rattle.ob_parse_text.specs.Reading.{NoModule, Scan, Parse}
+use Rattle.ob_parse_grammar.specs.declared.fault.ParseFault.TheVariants as parsing
+use Rattle.ob_parse_grammar.specs.TextReading.{NoModule, Scan, Parse}
 use Rattle.ob_rules.specs.declared.broken.Broken.{Broken}
 use Rattle.ob_env.specs.Stale.{Found, StaleUse, AsWanted, IsAbsent, IsChanged}
 use Rattle.ob_env_walk.specs.Walk.{Walked, Left, NoInterface, Damaged, Cycle, TooMany}

@@ -3,9 +3,9 @@ use Rattle.std.proofs.Common.{◌≡◌, ℕ, List, [], ◌∷◌, ◌++◌, Boo
 use Rattle.std.specs.Prelude.{map as each, codes, decimal}
 use Rattle.ob_tree.specs.declared.print.Print.{Print}
 use Rattle.ob_types.specs.declared.desc.Desc.{Desc}
-use Rattle.ob_parse_expr.specs.declared.fault.ParseFault.TheVariants as parsing
+use Rattle.ob_parse_grammar.specs.declared.fault.ParseFault.TheVariants as parsing
 use Rattle.ob_scan.specs.declared.fault.ScanFault.TheVariants as scanning
-use Rattle.ob_parse_text.specs.Reading.{NoModule, Scan, Parse}
+use Rattle.ob_parse_grammar.specs.TextReading.{NoModule, Scan, Parse}
 use Rattle.ob_env.specs.Faces.{Face, Wanted, face_of, interface_of, object_of, use_of, wanted_of}
 use Rattle.ob_env.specs.Stale.{Found, StaleUse, AsWanted, IsAbsent, IsChanged}
 use Rattle.ob_env_walk.specs.Walk.{Walked, Left, NoInterface, Damaged, Cycle, TooMany, symbol_name}

@@ -2,7 +2,8 @@
 use Rattle.std.proofs.Common.{◌≡◌, ℕ, ◌+◌, ◌-◌, ◌*◌, ◌≤◌, List, [], ◌∷◌, Bool, true, false, cond, refl, subst, codes, Option, Some, None, position, take, drop, bytes_eq, arith}
 use Rattle.std.specs.Prelude.{nat_le, ◌&&◌}
 use Rattle.std.proofs.lemmas.Bool.{leb-true, and_parts}
-use Rattle.ob_shell_lines.specs.Lines.{Line, Compile, Compare, Check, Show, Demo, Command, Unknown, Nothing, when, demo_line, count_of, number_if, up_to_sixty, is_first_digit, is_digit, dotted, is_dot, line_of_two, line_of_words, line_of, words_of, without_return, is_file_name, is_identifier}
+use Rattle.ob_parse_grammar.specs.Identifiers.{is_identifier}
+use Rattle.ob_shell_lines.specs.Lines.{Line, Compile, Compare, Check, Show, Demo, Command, Unknown, Nothing, when, demo_line, count_of, number_if, up_to_sixty, is_first_digit, is_digit, dotted, is_dot, line_of_two, line_of_words, line_of, words_of, without_return, is_file_name}
 
 abbrev pub IsFine : Line → Type 0
 IsFine (Compile file) = Unit {0}

@@ -10,7 +10,7 @@ use Rattle.ob_env.specs.Faces.{Face, described}
 use Rattle.ob_env.specs.Shown.{shown}
 use Rattle.ob_rules.specs.declared.broken.Broken.{Broken}
 use Rattle.ob_rules.specs.Declarations.{checked, first_break}
-use Rattle.ob_parse_text.specs.Reading.{NoModule, reading}
+use Rattle.ob_parse_grammar.specs.TextReading.{NoModule, reading}
 use Rattle.ob_compile_model.specs.Compiling.{Compiled, Refusal, texts, made, of_break, by_rules}
 use Rattle.ob_shell_model.specs.Builds.{Text, Build, shows_of, tree_of}
 use Rattle.ob_shell_model.specs.Laws.{Together, and_one, on_reading, of_source, and_all, taken_afresh, Locality, BuildsAreWritten}

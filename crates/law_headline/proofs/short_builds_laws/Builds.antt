@@ -12,7 +12,7 @@ use Rattle.ob_layout.specs.LaidOut.{laid_type}
 use Rattle.ob_env.specs.Faces.{face_named, described}
 use Rattle.ob_env.specs.Shown.{shown}
 use Rattle.ob_env_walk.specs.Walk.{Entry}
-use Rattle.ob_parse_text.specs.Reading.{reading}
+use Rattle.ob_parse_grammar.specs.TextReading.{reading}
 use Rattle.ob_compile_model.specs.Compiling.{Compiled, texts, most_source, of_short, of_reading, compiled}
 use Rattle.law_names_read.proofs.Reading.{readings_are_worded}
 use Rattle.law_spelling_names.specs.Laws.{IsSound}

@@ -9,7 +9,7 @@ use Rattle.ob_tree.specs.declared.decl.Decl.{Decl}
 use Rattle.ob_tree.specs.declared.decl.Decl.TheOpen.{Decl-F}
 use Rattle.ob_tree.specs.declared.decl.Decl.TheFolds.{fold-Decl}
 use Rattle.ob_tree.specs.declared.decl.Module.{Module as Tree}
-use Rattle.ob_parse_text.specs.Reading.{reading}
+use Rattle.ob_parse_grammar.specs.TextReading.{reading}
 use Rattle.ob_rules.specs.Types.{WrittenSection, written_parameters}
 use Rattle.law_typing.specs.Spelled.{all_true}
 

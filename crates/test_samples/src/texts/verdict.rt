@@ -3,7 +3,7 @@
 ghost use Rattle.std.specs.Prelude.{◌≡◌, ◌<◌, length, false};
 
 use ob_parse::parse;
-use ob_parse_expr::ParseFault;
+use ob_parse_grammar::ParseFault;
 use ob_parse_text::{TextFault, parse_text};
 use ob_scan::{ScanFault, scan};
 use ob_tree::Pos;

@@ -1,5 +1,5 @@
 use Rattle.std.proofs.Common.{Err, arith}
-use Rattle.ob_parse_text.specs.Reading.{reading}
+use Rattle.ob_parse_grammar.specs.TextReading.{reading}
 use Rattle.ob_env_walk.specs.Walk.{Missing, symbol_entry}
 use Rattle.ob_compile_model.specs.Compiling.{of_reading, prints}
 use Rattle.ob_compile.proofs.Answered.{made_compiles, no_folder}

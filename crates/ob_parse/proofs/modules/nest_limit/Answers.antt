@@ -1,5 +1,5 @@
 use Rattle.std.proofs.Common.{refl}
-use Rattle.ob_parse.specs.Parsed.{limit}
+use Rattle.ob_parse_grammar.specs.Depth.{limit}
 use Rattle.ob_parse.proofs.modules.nest_limit.Goals as goal
 
 pub returns : goal.returns

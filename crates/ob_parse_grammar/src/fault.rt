@@ -1,7 +1,7 @@
 //! Why tokens are no module.
 
 ghost use Rattle.std.specs.Prelude.{◌≡◌};
-ghost use Rattle.ob_parse_expr.specs.declared.fault.ParseFault.TheVariants.{Memory};
+ghost use Rattle.ob_parse_grammar.specs.declared.fault.ParseFault.TheVariants.{Memory};
 
 use ob_tree::Pos;
 use std::alloc::{AllocError, AllocFailed};
