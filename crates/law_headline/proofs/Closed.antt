@@ -23,7 +23,7 @@ use Rattle.law_typing_env.proofs.Keeping.{core_bare}
 use Rattle.law_typing_env.proofs.Ordered.{has_more, sees, types_named}
 use Rattle.law_typing_env.proofs.Views.{type_found}
 use Rattle.ob_compile_model.specs.Compiling.{Compiled}
-use Rattle.ob_shell_model.specs.Builds.{Text}
+use Rattle.ob_builds.specs.Builds.{Text}
 use Rattle.law_headline.specs.ruled_laws.Ruled.{types_of}
 use Rattle.law_headline.proofs.Used.{near_named}
 

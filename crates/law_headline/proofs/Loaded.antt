@@ -32,10 +32,12 @@ use Rattle.law_typing_env.proofs.Keeping.{open_kind, kind_back}
 use Rattle.law_typing_env.proofs.Ordered.{AreSound, has_more, view_held, held_more, in_order_sound, program_sound}
 use Rattle.ob_compile_model.specs.Compiling.{Compiled}
 use Rattle.law_load_plan.proofs.Checked.{compiled_marked}
-use Rattle.ob_shell_model.specs.Builds.{Text, Build, IsValid, IsSpelled, of, shows_of, tree_of, name_of}
-use Rattle.ob_shell_model.specs.Laws.{AreAsWanted, AreTogether, IsBehind, BuildsAreWritten}
-use Rattle.ob_shell_model.proofs.Members.{In, to_in, has_head, has_more as has_behind}
-use Rattle.ob_shell_model.proofs.Stood.{of_is}
+use Rattle.ob_builds.specs.Builds.{Text, Build, IsValid, IsSpelled, of, shows_of, tree_of, name_of}
+use Rattle.ob_builds.specs.Local.{AreAsWanted}
+use Rattle.ob_builds.specs.Afresh.{AreTogether, IsBehind}
+use Rattle.ob_builds.specs.Written.{BuildsAreWritten}
+use Rattle.law_builds.proofs.Members.{In, to_in, has_head, has_more as has_behind}
+use Rattle.law_builds.proofs.Faces.{of_is}
 use Rattle.law_program_runs.specs.Builds.{program_of}
 use Rattle.law_typing_values.proofs.Stays.{values_stay}
 use Rattle.law_local.proofs.Compiled.{comes_of}

@@ -10,16 +10,16 @@ use Rattle.ob_meaning.specs.Values.{type_named, description}
 use Rattle.law_typing_forms.proofs.Modules.{of_all}
 use Rattle.law_typing_env.proofs.Sounds.{sound_in_order}
 use Rattle.law_typing_env.proofs.Views.{type_found}
-use Rattle.ob_shell_model.specs.Builds.{Build, tree_of}
-use Rattle.ob_shell_model.specs.Laws.{AreTogether}
-use Rattle.ob_shell_model.proofs.Members.{In, to_in}
+use Rattle.ob_builds.specs.Builds.{Build, tree_of}
+use Rattle.ob_builds.specs.Afresh.{AreTogether}
+use Rattle.law_builds.proofs.Members.{In, to_in}
 use Rattle.law_program_runs.specs.Builds.{program_of}
 use Rattle.law_program_names.proofs.Fields.{fields_have_names, nothing_of_out}
 use Rattle.law_headline.specs.ruled_laws.Ruled.{HasLength, BuildsAreRuled}
 use Rattle.law_headline.specs.Loaded.{LoadedAreSound, LoadedVariables, LoadedDescribe}
 use Rattle.law_headline.proofs.Sound.{variables_have_forms, ordered_describe}
 use Rattle.law_headline.proofs.Loaded.{valid_of, in_order, kept_in}
-use Rattle.ob_shell_model.specs.Laws.{BuildsAreWritten}
+use Rattle.ob_builds.specs.Written.{BuildsAreWritten}
 
 module _ (written : BuildsAreWritten) (ruled : BuildsAreRuled) where
   -- arrays have lengths

@@ -19,7 +19,7 @@ use Rattle.law_names_distinct.specs.Distinct.{AreDistinct}
 use Rattle.law_typing_forms.specs.Said.{IsOneOf}
 use Rattle.law_typing_forms.proofs.Modules.{of_all, other_name}
 use Rattle.law_typing_env.proofs.Shown.{one_joined, one_filtered, one_mapped, one_ordered, object_found}
-use Rattle.ob_shell_model.specs.Builds.{Text, Build, shows_of, tree_of, name_of}
+use Rattle.ob_builds.specs.Builds.{Text, Build, shows_of, tree_of, name_of}
 use Rattle.law_program_runs.specs.Builds.{program_of}
 
 -- an object that is a type is a type of the module

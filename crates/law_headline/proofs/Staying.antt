@@ -19,7 +19,7 @@ use Rattle.law_typing_forms.proofs.Shapes.{basic_is}
 use Rattle.law_typing_forms.proofs.Chains.{no_longer}
 use Rattle.law_typing_forms.proofs.Staying.{form_stays, more_described, more_types}
 use Rattle.law_typing_env.proofs.Ordered.{AreSound, program_sound}
-use Rattle.ob_shell_model.proofs.Members.{In, to_in}
+use Rattle.law_builds.proofs.Members.{In, to_in}
 use Rattle.law_headline.specs.Staying.{OrderedStay}
 
 -- ---- the names of a program's types

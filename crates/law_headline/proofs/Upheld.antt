@@ -10,9 +10,9 @@ use Rattle.ob_env.specs.Faces.{face_named}
 use Rattle.ob_compile_model.specs.Compiling.{Compiled}
 use Rattle.law_names_compiled.proofs.Compiled.{compiled_types_differ}
 use Rattle.law_spelling_values.proofs.Left.{left_written}
-use Rattle.ob_shell_model.specs.Builds.{Text, Build, IsSpelled, IsValid, entry_of}
-use Rattle.ob_shell_model.specs.Laws.{BuildsAreWritten}
-use Rattle.ob_shell_model.proofs.Apart.{entry_named}
+use Rattle.ob_builds.specs.Builds.{Text, Build, IsSpelled, IsValid, entry_of}
+use Rattle.ob_builds.specs.Written.{BuildsAreWritten}
+use Rattle.law_builds.proofs.Apart.{entry_named}
 use Rattle.law_local.proofs.Following.{locality_holds}
 use Rattle.law_headline.proofs.grounds_laws.Builds.{builds_are_grounded}
 use Rattle.law_headline.proofs.based_laws.Builds.{builds_are_based}

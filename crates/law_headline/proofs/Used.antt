@@ -43,7 +43,7 @@ use Rattle.law_typing_env.specs.Ordered.{bare}
 use Rattle.law_typing_env.proofs.Keeping.{core_bare}
 use Rattle.law_typing_env.proofs.Ordered.{seen_bare}
 use Rattle.ob_compile_model.specs.Compiling.{Compiled}
-use Rattle.ob_shell_model.specs.Builds.{Text}
+use Rattle.ob_builds.specs.Builds.{Text}
 use Rattle.law_headline.specs.ruled_laws.Ruled.{types_of, bound_types, IsRuled}
 
 -- ---- lists and truths

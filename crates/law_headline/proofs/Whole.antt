@@ -17,11 +17,11 @@ use Rattle.law_program_scope.proofs.Modules.{programs_are_scoped}
 use Rattle.law_program_typing.specs.Kept as kept
 use Rattle.law_program_typing.specs.Accepted.{AreBuilt}
 use Rattle.law_names_compiled.proofs.Compiled.{compiled_types_differ}
-use Rattle.ob_shell_model.specs.Builds.{Build, tree_of, entry_of}
-use Rattle.ob_shell_model.specs.Laws.{Simulation}
-use Rattle.ob_shell_model.proofs.Apart.{entry_named}
-use Rattle.ob_shell_model.proofs.Linked.{builds_are_linked}
-use Rattle.ob_shell_model.proofs.Members.{has_head, has_more}
+use Rattle.ob_builds.specs.Builds.{Build, tree_of, entry_of}
+use Rattle.ob_builds.specs.Simulated.{Simulation}
+use Rattle.law_builds.proofs.Apart.{entry_named}
+use Rattle.law_builds.proofs.Linked.{builds_are_linked}
+use Rattle.law_builds.proofs.Members.{has_head, has_more}
 use Rattle.law_program_runs.specs.Builds.{program_of, AreLoaded, IsOf}
 use Rattle.law_program_runs.proofs.Whole.{commands_follow}
 use Rattle.law_program_runs.proofs.Settings.{loaded_front}

@@ -25,8 +25,8 @@ use Rattle.law_typing_env.specs.Words.{AreLaidInOrder}
 use Rattle.law_image_code.specs.Described.{IsDescribed}
 use Rattle.law_typing_values.specs.Valued.{values}
 use Rattle.ob_compile_model.specs.Compiling.{Compiled}
-use Rattle.ob_shell_model.specs.Builds.{Text, Build, IsValid, tree_of}
-use Rattle.ob_shell_model.specs.Laws.{BuildsAreWritten}
+use Rattle.ob_builds.specs.Builds.{Text, Build, IsValid, tree_of}
+use Rattle.ob_builds.specs.Written.{BuildsAreWritten}
 use Rattle.law_program_runs.specs.Builds.{program_of, AreLoaded, FormsStay}
 
 -- THE LAWS

@@ -23,7 +23,7 @@ pub mod law_short_builds;
 pub mod law_whole;
 
 ghost use Rattle.law_headline.specs.Promised.{Promised};
-ghost use Rattle.ob_shell_model.specs.Laws.{BuildsAreWritten};
+ghost use Rattle.ob_builds.specs.Written.{BuildsAreWritten};
 ghost use Rattle.law_headline.specs.Upheld.{SimulationSuffices};
 ghost use Rattle.law_headline.specs.Loaded.{LoadedAreSound, LoadedDescribe, LoadedFormsStay, LoadedStand, LoadedValuesStay, LoadedVariables};
 ghost use Rattle.law_headline.specs.Sound.{OrderedDescribe, VariablesHaveForms};

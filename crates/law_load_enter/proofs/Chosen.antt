@@ -28,12 +28,13 @@ use Rattle.law_load_plan.proofs.Checked.{compiled_marked}
 use Rattle.law_load_plan.proofs.Exports.{exports_shown}
 use Rattle.law_load_plan.proofs.Fitting.{names_spelled}
 use Rattle.law_names_procedures.specs.Named.{AreNamedApart}
-use Rattle.ob_shell_model.specs.Builds.{Text, Build, IsValid, of, shows_of, name_of, file_of}
-use Rattle.ob_shell_model.specs.Laws.{AreAsWanted, BuildsAreWritten}
-use Rattle.ob_shell_model.specs.Loads.{BuildsAreLinked}
-use Rattle.ob_shell_model.proofs.Apart.{build_apart}
-use Rattle.ob_shell_model.proofs.Compiled.{Comes, comes}
-use Rattle.ob_shell_model.proofs.Stood.{of_is, same_name}
+use Rattle.ob_builds.specs.Builds.{Text, Build, IsValid, of, shows_of, name_of, file_of}
+use Rattle.ob_builds.specs.Local.{AreAsWanted}
+use Rattle.ob_builds.specs.Written.{BuildsAreWritten}
+use Rattle.law_builds.specs.Linked.{BuildsAreLinked}
+use Rattle.law_builds.proofs.Apart.{build_apart}
+use Rattle.law_builds.proofs.Compiled.{Comes, comes}
+use Rattle.law_builds.proofs.Faces.{of_is, same_name}
 use Rattle.law_load_enter.proofs.Limits.{room_kept}
 
 abbrev pub Compiles : Build → Type 0

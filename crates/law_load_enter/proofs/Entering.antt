@@ -20,12 +20,13 @@ use Rattle.ob_link.proofs.Made.{made_none, enter_all}
 use Rattle.law_load_plan.specs.Alike.{wanted_as}
 use Rattle.law_load_plan.proofs.Asked.{all_joined}
 use Rattle.law_load_plan.proofs.Links.{links_named}
-use Rattle.ob_shell_model.specs.Builds.{Text, Build, shows_of, name_of, file_of, asks}
-use Rattle.ob_shell_model.specs.Laws.{IsBehind, AreTogether, BuildsAreWritten}
-use Rattle.ob_shell_model.specs.Loads.{BuildsAreLinked}
-use Rattle.ob_shell_model.proofs.Members.{has_head, has_more}
-use Rattle.ob_shell_model.proofs.Stood.{of_is, uses_back, within_limit, other_name}
-use Rattle.ob_shell_model.proofs.Gone.{all_valid}
+use Rattle.ob_builds.specs.Builds.{Text, Build, shows_of, name_of, file_of, asks}
+use Rattle.ob_builds.specs.Afresh.{IsBehind, AreTogether}
+use Rattle.ob_builds.specs.Written.{BuildsAreWritten}
+use Rattle.law_builds.specs.Linked.{BuildsAreLinked}
+use Rattle.law_builds.proofs.Members.{has_head, has_more}
+use Rattle.law_builds.proofs.Faces.{of_is, uses_back, within_limit, other_name}
+use Rattle.law_builds.proofs.Gone.{all_valid}
 use Rattle.law_load_enter.specs.Entered.{FilesEnter}
 use Rattle.law_load_enter.proofs.Law.{files_have}
 use Rattle.law_load_enter.proofs.Chosen.{Compiles, Valid, One, AnyText, kept_of, filed, chosen, chosen_files, known, all_known, links_used, uses_find, are_met, prints_met}

@@ -19,11 +19,11 @@ use Rattle.law_load_plan.specs.Laws.{IsMarked}
 use Rattle.law_load_plan.proofs.Checked.{compiled_marked}
 use Rattle.law_load_plan.proofs.Globals.{globals_are}
 use Rattle.law_load_plan.proofs.Numbered.{numbered_by_names}
-use Rattle.ob_shell_model.specs.Builds.{Text, of}
+use Rattle.ob_builds.specs.Builds.{Text, of}
 use Rattle.law_names_procedures.specs.Named.{AreNamedApart}
-use Rattle.ob_shell_model.proofs.Apart.{build_apart}
-use Rattle.ob_shell_model.proofs.Compiled.{Comes, comes}
-use Rattle.ob_shell_model.proofs.Stood.{of_is}
+use Rattle.law_builds.proofs.Apart.{build_apart}
+use Rattle.law_builds.proofs.Compiled.{Comes, comes}
+use Rattle.law_builds.proofs.Faces.{of_is}
 use Rattle.law_load_enter.specs.Filed.{FilesHave, FilesHaveCommands}
 use Rattle.law_load_enter.proofs.Limits.{room_kept, code_kept}
 

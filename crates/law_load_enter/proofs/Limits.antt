@@ -9,7 +9,7 @@ use Rattle.ob_layout.specs.Room.{above, first_limit, globals_words}
 use Rattle.ob_env.specs.Faces.{described}
 use Rattle.ob_scheme.specs.Needs.{has_few_operands}
 use Rattle.ob_compile_model.specs.Compiling.{Compiled, texts, object_by, or_first, exceeded, most_code, limit_of_files, object_bytes, symbol_bytes, limit_of_code, limit_of_operands, exceeds}
-use Rattle.ob_shell_model.specs.Builds.{Text}
+use Rattle.ob_builds.specs.Builds.{Text}
 
 both_none : (a b : Option Which) → or_first a b ≡ None → (a ≡ None) × (b ≡ None)
 both_none None b e = (refl, e)

@@ -17,10 +17,10 @@ use Rattle.ob_compile_model.specs.Compiling.{Compiled, texts}
 use Rattle.law_load_plan.proofs.Asked.{all_joined}
 use Rattle.law_load_plan.proofs.Orders.{all_in_order}
 use Rattle.law_load_plan.proofs.Shown.{object_has}
-use Rattle.ob_shell_model.specs.Builds.{Text, Build, IsValid, tree_of, shows_of, name_of}
-use Rattle.ob_shell_model.proofs.Compiled.{comes}
-use Rattle.ob_shell_model.proofs.Stood.{of_is, same_name}
-use Rattle.ob_shell_model.proofs.Gone.{all_valid}
+use Rattle.ob_builds.specs.Builds.{Text, Build, IsValid, tree_of, shows_of, name_of}
+use Rattle.law_builds.proofs.Compiled.{comes}
+use Rattle.law_builds.proofs.Faces.{of_is, same_name}
+use Rattle.law_builds.proofs.Gone.{all_valid}
 use Rattle.law_load_enter.specs.Shown.{ShownAreDeclared}
 use Rattle.law_load_enter.proofs.Law.{files_have}
 use Rattle.law_load_enter.proofs.Chosen.{Compiles}

@@ -3,8 +3,8 @@ use Rattle.std.proofs.Common.{sym, subst}
 use Rattle.ob_obj.specs.Grammar.{file}
 use Rattle.ob_compile_model.specs.Compiling.{Compiled, texts, object_by}
 use Rattle.law_load_plan.proofs.Fitting.{long_strings}
-use Rattle.ob_shell_model.specs.Builds.{Text, file_of}
-use Rattle.ob_shell_model.proofs.Stood.{of_is}
+use Rattle.ob_builds.specs.Builds.{Text, file_of}
+use Rattle.law_builds.proofs.Faces.{of_is}
 use Rattle.law_load_enter.specs.Strings.{StringsFit}
 
 pub strings_fit : StringsFit

@@ -3,10 +3,10 @@ use Rattle.std.proofs.Common.{List, [], ◌∷◌, subst, inl, inr}
 use Rattle.std.specs.Prelude.{Contains}
 use Rattle.std.specs.List.{AllByRecursion}
 use Rattle.ob_compile_model.specs.Compiling.{Compiled}
-use Rattle.ob_shell_model.specs.Builds.{Text, Build, IsValid}
-use Rattle.ob_shell_model.specs.Laws.{AreTogether}
-use Rattle.ob_shell_model.proofs.Members.{In, to_in}
-use Rattle.ob_shell_model.proofs.Gone.{all_valid}
+use Rattle.ob_builds.specs.Builds.{Text, Build, IsValid}
+use Rattle.ob_builds.specs.Afresh.{AreTogether}
+use Rattle.law_builds.proofs.Members.{In, to_in}
+use Rattle.law_builds.proofs.Gone.{all_valid}
 use Rattle.law_load_enter.proofs.Law.{files_have, files_have_commands}
 use Rattle.law_load_enter.proofs.Entering.{files_enter}
 use Rattle.law_load_enter.specs.Loaded.{NamesAreShown, WordsAreCounted, CommandsAreThere, LoadedEnter}

@@ -6,7 +6,7 @@ use Rattle.ob_meaning.specs.Commands.{command_named}
 use Rattle.law_simulation_relation.specs.Layout.{procedure_index}
 use Rattle.ob_compile_model.specs.Compiling.{Compiled}
 use Rattle.ob_link.specs.Files.{command_in}
-use Rattle.ob_shell_model.specs.Builds.{Text, Build, IsValid, tree_of, name_of, file_of, asks}
+use Rattle.ob_builds.specs.Builds.{Text, Build, IsValid, tree_of, name_of, file_of, asks}
 
 -- its name, the words of its globals, and not too much code
 pub record HasOfFile (b : Build) : Type 0 where

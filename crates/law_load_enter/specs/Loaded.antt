@@ -6,9 +6,9 @@ use Rattle.ob_meaning.specs.Commands.{command_named}
 use Rattle.law_simulation_relation.specs.Layout.{procedure_index}
 use Rattle.ob_link.specs.Files.{command_in}
 use Rattle.ob_link.specs.Members.{empty_image}
-use Rattle.ob_shell_model.specs.Builds.{Build, tree_of, name_of, file_of, asks}
-use Rattle.ob_shell_model.specs.Laws.{BuildsAreWritten}
-use Rattle.ob_shell_model.specs.Loads.{BuildsAreLinked}
+use Rattle.ob_builds.specs.Builds.{Build, tree_of, name_of, file_of, asks}
+use Rattle.ob_builds.specs.Written.{BuildsAreWritten}
+use Rattle.law_builds.specs.Linked.{BuildsAreLinked}
 use Rattle.law_program_runs.specs.Builds.{AreLoaded}
 
 -- a module shows its own name

@@ -5,8 +5,8 @@ use Rattle.ob_types.specs.declared.desc.Desc.{Desc}
 use Rattle.ob_types.specs.Maps.{is_type}
 use Rattle.ob_meaning.specs.Values.{description}
 use Rattle.ob_env.specs.Faces.{described}
-use Rattle.ob_shell_model.specs.Builds.{Build, tree_of, shows_of}
-use Rattle.ob_shell_model.specs.Laws.{AreTogether}
+use Rattle.ob_builds.specs.Builds.{Build, tree_of, shows_of}
+use Rattle.ob_builds.specs.Afresh.{AreTogether}
 
 -- What the interfaces of builds that go together have as a type is declared in the module of that name.
 abbrev pub ShownAreDeclared : Type 0

@@ -2,8 +2,8 @@
 use Rattle.std.specs.Prelude.{◌≤◌, length}
 use Rattle.std.specs.List.{AllByRecursion}
 use Rattle.ob_compile_model.specs.Compiling.{Compiled}
-use Rattle.ob_shell_model.specs.Builds.{Text, Build, IsValid, file_of}
-use Rattle.ob_shell_model.specs.Laws.{BuildsAreWritten}
+use Rattle.ob_builds.specs.Builds.{Text, Build, IsValid, file_of}
+use Rattle.ob_builds.specs.Written.{BuildsAreWritten}
 
 -- No string of a valid build is longer than its words.
 abbrev pub StringsFit : Type 0

@@ -29,7 +29,7 @@ use Rattle.ob_env_walk.specs.Answer.{after_walk}
 use Rattle.ob_parse_grammar.specs.TextReading.{reading}
 use Rattle.ob_compile_model.specs.Compiling as c
 use Rattle.ob_compile_model.specs.Compiling.{Refusal, Compiled, compiled, texts, made, within, exceeds, of_break, by_rules, and_limits, unless_deep, is_deep, of_faces, of_standing, of_reached, of_few, of_tree, of_reading, of_short, most_imports, most_source, imported}
-use Rattle.ob_shell_model.specs.Builds.{Text, Build, IsValid, entry_of}
+use Rattle.ob_builds.specs.Builds.{Text, Build, IsValid, entry_of}
 use Rattle.std.proofs.lemmas.Bool.{false≢true, leb-true}
 use Rattle.law_local.proofs.Walked.{IsBelow, LeavesBelow, AreNamed, IsNoRoot, is_built_in, walk_below, walk_other, have_none, only_named}
 use Rattle.law_names_procedures.proofs.Judges.{front_empty}

@@ -18,8 +18,8 @@ use Rattle.ob_uses.specs.Made.{face_from}
 use Rattle.ob_scheme.specs.Object.{object_file}
 use Rattle.ob_parse_grammar.specs.TextReading.{reading}
 use Rattle.ob_compile_model.specs.Compiling.{Compiled, texts, made, of_break, by_rules, object_by, exports_of}
-use Rattle.ob_shell_model.specs.Builds.{Text, Build, IsValid, IsSpelled}
-use Rattle.ob_shell_model.specs.Laws.{AreAsWanted, IsSame, AreAround, Locality}
+use Rattle.ob_builds.specs.Builds.{Text, Build, IsValid, IsSpelled}
+use Rattle.ob_builds.specs.Local.{AreAsWanted, IsSame, AreAround, Locality}
 use Rattle.law_local_files.specs.Agreeing.{IsNear}
 use Rattle.law_local_files.specs.Laws.{AreSpelled, HaveNoOut, AreMet, over, view}
 use Rattle.law_local_files.specs.Laws as local

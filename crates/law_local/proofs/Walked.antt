@@ -6,7 +6,7 @@ use Rattle.std.specs.Cmp.Lexicographic.{bytes_decides}
 use Rattle.ob_env.specs.Faces.{Face, face_named}
 use Rattle.ob_env_walk.specs.Walk.{Entry, Missing, Junk, Holds, Walked, Left, NoInterface, Damaged, Cycle, TooMany, go_on, is_among, is_passed_over, through, entered, at_entry, at_module, entering, visit, walk}
 use Rattle.ob_uses.proofs.Sorting.{Has, has}
-use Rattle.ob_shell_model.specs.Builds.{Text, entry_of}
+use Rattle.ob_builds.specs.Builds.{Text, entry_of}
 use Rattle.law_local_files.specs.Laws.{HaveNoOut}
 
 -- what is found for a name is of it

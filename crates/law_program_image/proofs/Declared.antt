@@ -29,11 +29,11 @@ use Rattle.law_image_tables.proofs.Settled.{TypesDiffer as NamesDiffer, types_di
 use Rattle.ob_compile_model.specs.Compiling.{Compiled, texts, object_by, exports_of, interface_by}
 use Rattle.ob_layout.specs.LaidOut.{viewed}
 use Rattle.ob_env.specs.Faces.{described}
-use Rattle.ob_shell_model.specs.Builds.{Text, Build, IsValid, of, tree_of, file_of}
-use Rattle.ob_shell_model.specs.Laws.{BuildsAreWritten}
-use Rattle.ob_shell_model.proofs.Members.{In, of_in}
-use Rattle.ob_shell_model.proofs.Stood.{of_is}
-use Rattle.ob_shell_model.proofs.Gone.{all_valid}
+use Rattle.ob_builds.specs.Builds.{Text, Build, IsValid, of, tree_of, file_of}
+use Rattle.ob_builds.specs.Written.{BuildsAreWritten}
+use Rattle.law_builds.proofs.Members.{In, of_in}
+use Rattle.law_builds.proofs.Faces.{of_is}
+use Rattle.law_builds.proofs.Gone.{all_valid}
 use Rattle.law_program_runs.specs.Builds.{program_of, AreLoaded}
 use Rattle.law_program_runs.proofs.Settings.{loaded_front}
 use Rattle.law_program_image.specs.Owed.{in_program}

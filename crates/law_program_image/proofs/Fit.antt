@@ -6,7 +6,7 @@ use Rattle.law_typing_values.proofs.Values.{values_fit}
 use Rattle.law_image_tables.specs.Settled.{TypesSettled, AllDeclared}
 use Rattle.law_image_tables.proofs.Settled.{types_from_declarations}
 use Rattle.law_typing_values.specs.Valued.{values}
-use Rattle.ob_shell_model.specs.Builds.{Build, tree_of}
+use Rattle.ob_builds.specs.Builds.{Build, tree_of}
 use Rattle.law_program_runs.specs.Builds.{program_of}
 use Rattle.law_program_runs.proofs.Settings.{loaded_front}
 use Rattle.law_program_image.specs.Owed.{in_program}

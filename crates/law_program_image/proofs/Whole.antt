@@ -19,8 +19,8 @@ use Rattle.law_image_tables.specs.Image as tables
 use Rattle.law_image_tables.proofs.Image.{program_from_files}
 use Rattle.ob_link.specs.Members.{empty_image}
 use Rattle.ob_compile_model.specs.Compiling.{texts, exports_of, interface_by}
-use Rattle.ob_shell_model.specs.Builds.{Build, of, tree_of, file_of}
-use Rattle.ob_shell_model.proofs.Members.{In, to_in, of_in}
+use Rattle.ob_builds.specs.Builds.{Build, of, tree_of, file_of}
+use Rattle.law_builds.proofs.Members.{In, to_in, of_in}
 use Rattle.law_program_runs.specs.Builds.{program_of, AreLoaded, HasModule, IsOf, BodyStands, AllStand, BuildsStand}
 use Rattle.law_program_image.specs.Owed.{in_program, Owed, OwedGives}
 

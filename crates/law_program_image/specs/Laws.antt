@@ -7,8 +7,8 @@ use Rattle.law_image_links.specs.Files.{AllKeepRules}
 use Rattle.law_image_tables.specs.Settled.{TypesSettled, AllDeclared, TypesFit}
 use Rattle.law_typing_values.specs.Valued.{values}
 use Rattle.law_typing_values.specs.Laws.{ValuesAre}
-use Rattle.ob_shell_model.specs.Builds.{Build}
-use Rattle.ob_shell_model.specs.Laws.{BuildsAreWritten}
+use Rattle.ob_builds.specs.Builds.{Build}
+use Rattle.ob_builds.specs.Written.{BuildsAreWritten}
 use Rattle.law_program_runs.specs.Builds.{program_of, AreLoaded, IsOf}
 use Rattle.law_program_image.specs.Premises.{builds_of, TypesDiffer, LoadedAreSound, LoadedDescribe, LoadedAreSame}
 

@@ -18,7 +18,7 @@ use Rattle.law_image_tables.specs.Image.{RulesKept}
 use Rattle.ob_link.specs.Files.{command_in}
 use Rattle.ob_link.specs.Members.{empty_image}
 use Rattle.ob_compile_model.specs.Compiling.{texts, exports_of, interface_by}
-use Rattle.ob_shell_model.specs.Builds.{Build, of, tree_of, name_of, file_of, asks}
+use Rattle.ob_builds.specs.Builds.{Build, of, tree_of, name_of, file_of, asks}
 use Rattle.law_program_runs.specs.Builds.{program_of, AreLoaded, FormsStay, Values, IsOf, BuildsStand}
 
 -- A build's module by the descriptions of a whole program: those that it was compiled with lack what is hidden from it.

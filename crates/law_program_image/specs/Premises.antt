@@ -9,7 +9,7 @@ use Rattle.law_image_code.specs.Described.{IsDescribed}
 use Rattle.law_image_links.specs.Files as linking
 use Rattle.law_image_links.specs.Same.{ModuleSame}
 use Rattle.ob_compile_model.specs.Compiling.{Compiled}
-use Rattle.ob_shell_model.specs.Builds.{Text, Build, IsValid, of, tree_of}
+use Rattle.ob_builds.specs.Builds.{Text, Build, IsValid, of, tree_of}
 use Rattle.law_program_runs.specs.Builds.{program_of, AreLoaded}
 use Rattle.law_program_image.specs.Owed.{in_program}
 

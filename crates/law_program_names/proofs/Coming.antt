@@ -18,7 +18,7 @@ use Rattle.ob_env_walk.specs.Walk.{Entry, Walked, Left, NoInterface, Damaged, Cy
 use Rattle.ob_env_walk.specs.Answer.{Reached, Stopped, Whole, after_walk, env_answer}
 use Rattle.ob_parse_grammar.specs.TextReading.{NoModule, reading}
 use Rattle.ob_compile_model.specs.Compiling.{texts, Refusal, Compiled, exceeds, within, made, of_checked, of_break, by_rules, and_limits, is_deep, unless_deep, of_faces, of_standing, of_reached, most_imports, of_few, imported, of_reading, most_source, of_short, compiled}
-use Rattle.ob_shell_model.specs.Builds.{Text}
+use Rattle.ob_builds.specs.Builds.{Text}
 
 pub record ComesFrom (source : List ℕ) (c : Compiled Text) : Type 0 where
   pub tree : Tree

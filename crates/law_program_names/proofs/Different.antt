@@ -12,10 +12,10 @@ use Rattle.law_simulation_relation.proofs.Names.{bytes_true}
 use Rattle.ob_compile_model.specs.Compiling.{Compiled}
 use Rattle.law_names_distinct.specs.Distinct.{AreDistinct}
 use Rattle.law_names_distinct.proofs.Blocks.{variables_differ}
-use Rattle.ob_shell_model.specs.Builds.{Text, Build, IsValid, of, tree_of, name_of}
-use Rattle.ob_shell_model.specs.Laws.{IsBehind, AreTogether}
-use Rattle.ob_shell_model.proofs.Members.{has_left, has_right, has_head}
-use Rattle.ob_shell_model.proofs.Stood.{of_is}
+use Rattle.ob_builds.specs.Builds.{Text, Build, IsValid, of, tree_of, name_of}
+use Rattle.ob_builds.specs.Afresh.{IsBehind, AreTogether}
+use Rattle.law_builds.proofs.Members.{has_left, has_right, has_head}
+use Rattle.law_builds.proofs.Faces.{of_is}
 use Rattle.law_program_runs.specs.Builds.{program_of}
 use Rattle.law_typing_forms.specs.Whole.{Different}
 use Rattle.law_program_names.specs.Sizes.{ModulesDiffer, NamesDiffer}

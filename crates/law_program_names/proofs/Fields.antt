@@ -22,8 +22,8 @@ use Rattle.law_names_distinct.specs.Distinct.{AreDistinct}
 use Rattle.law_names_distinct.specs.Fields.{FieldsDiffer, AreApart}
 use Rattle.law_names_distinct.proofs.Blocks.{not_out}
 use Rattle.law_names_distinct.proofs.FieldBlocks.{fields_differ}
-use Rattle.ob_shell_model.specs.Builds.{Text, Build, IsValid, of, tree_of, name_of}
-use Rattle.ob_shell_model.specs.Laws.{IsBehind, AreTogether}
+use Rattle.ob_builds.specs.Builds.{Text, Build, IsValid, of, tree_of, name_of}
+use Rattle.ob_builds.specs.Afresh.{IsBehind, AreTogether}
 use Rattle.law_program_runs.specs.Builds.{program_of}
 use Rattle.law_program_names.specs.Sizes.{FieldsHaveNames, NothingOfOut}
 use Rattle.law_program_names.proofs.Different.{build_comes}

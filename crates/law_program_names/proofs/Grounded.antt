@@ -14,8 +14,8 @@ use Rattle.ob_env.specs.Fit.{misfit, steps_of, first_unfit}
 use Rattle.ob_env.proofs.Grounded.{fit_grounded}
 use Rattle.law_prints.proofs.Faces.{described_same, steps_same}
 use Rattle.ob_compile_model.specs.Compiling.{Compiled}
-use Rattle.ob_shell_model.specs.Builds.{Text, Build, IsValid, of}
-use Rattle.ob_shell_model.proofs.Stood.{of_is, face_back}
+use Rattle.ob_builds.specs.Builds.{Text, Build, IsValid, of}
+use Rattle.law_builds.proofs.Faces.{of_is, face_back}
 use Rattle.law_program_names.specs.Sizes.{AgainstIsGrounded}
 use Rattle.law_program_names.proofs.Different.{build_comes}
 

@@ -12,7 +12,7 @@ use Rattle.law_typing_forms.specs.Whole.{Different}
 use Rattle.ob_types.specs.Relations.{IsGrounded}
 use Rattle.ob_env.specs.Faces.{described}
 use Rattle.ob_compile_model.specs.Compiling.{Compiled}
-use Rattle.ob_shell_model.specs.Builds.{Text, Build, IsValid}
+use Rattle.ob_builds.specs.Builds.{Text, Build, IsValid}
 use Rattle.law_program_runs.specs.Builds.{program_of, AreLoaded}
 
 -- modules have different names, and the variables of each have

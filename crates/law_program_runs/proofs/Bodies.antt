@@ -21,9 +21,9 @@ use Rattle.ob_link.specs.Members.{empty_image}
 use Rattle.ob_load.specs.Running.{IsShort}
 use Rattle.ob_load.specs.Command.{Last, last, behind, goes_on, runs, body_of, image_for}
 use Rattle.ob_load.proofs.Wholes.{no_body, one_body}
-use Rattle.ob_shell_model.specs.Builds.{Build, tree_of, file_of, asks}
-use Rattle.ob_shell_model.specs.Model as ages
-use Rattle.ob_shell_model.proofs.Members.{has_head, has_right}
+use Rattle.ob_builds.specs.Builds.{Build, tree_of, file_of, asks}
+use Rattle.ob_builds.specs.Simulated as ages
+use Rattle.law_builds.proofs.Members.{has_head, has_right}
 use Rattle.law_program_runs.specs.Builds.{program_of, AreLoaded, HasModule, BuildsStand}
 use Rattle.law_program_runs.proofs.Joins.{others_differ, last_number}
 use Rattle.law_program_runs.proofs.Stops.{IsThere, ends_there}

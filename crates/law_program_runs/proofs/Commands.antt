@@ -22,9 +22,9 @@ use Rattle.ob_link.specs.Plan.{words_of}
 use Rattle.ob_link.specs.Files.{planned, command_at}
 use Rattle.ob_load.specs.Command.{Ran, ran, came, runs, begin, image_for}
 use Rattle.ob_words.specs.declared.asked.Settings.{Settings}
-use Rattle.ob_shell_model.specs.Builds.{Build, tree_of, file_of, asks}
-use Rattle.ob_shell_model.specs.Model.{joined, ended}
-use Rattle.ob_shell_model.specs.Laws.{AreTogether, IsPlanned, IsSameRun, StandFor, ran_over}
+use Rattle.ob_builds.specs.Builds.{Build, tree_of, file_of, asks}
+use Rattle.ob_builds.specs.Simulated.{joined, ended, IsPlanned, IsSameRun, StandFor, ran_over}
+use Rattle.ob_builds.specs.Afresh.{AreTogether}
 use Rattle.law_program_runs.specs.Builds.{program_of, AreLoaded, HasModule, BuildsStand}
 use Rattle.law_program_runs.proofs.Images.{image_both, all_words, next_is, globals_of, globals_length, strings_length, IsFull, words_are}
 use Rattle.law_program_runs.proofs.Settings.{map_both, all_of, all_map, are_few, setting, front, large, small, stands_small, stands_large}

@@ -16,8 +16,8 @@ use Rattle.law_simulation_relation.proofs.Names.{bytes_same}
 use Rattle.law_simulation_relation.proofs.Places.{Hs}
 use Rattle.law_simulation_relation.proofs.Firsts.{zeros}
 use Rattle.law_simulation_relation.proofs.Modules.{M}
-use Rattle.ob_shell_model.specs.Builds.{Build, tree_of, file_of}
-use Rattle.ob_shell_model.proofs.Members.{has_left, to_in, of_in, In}
+use Rattle.ob_builds.specs.Builds.{Build, tree_of, file_of}
+use Rattle.law_builds.proofs.Members.{has_left, to_in, of_in, In}
 use Rattle.law_program_runs.specs.Builds.{program_of, AreLoaded, HasModule, FormsStay, BuildsStand}
 use Rattle.law_program_runs.proofs.Carried.{Carries}
 use Rattle.law_program_runs.proofs.Joins.{Stays, Differs, Follows, stands_on, first_slots, first_held, others_differ, last_different}

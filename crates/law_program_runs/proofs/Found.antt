@@ -11,7 +11,7 @@ use Rattle.law_simulation_relation.specs.Layout.{module_number, procedure_index,
 use Rattle.law_simulation_relation.proofs.Names.{and_both}
 use Rattle.ob_link.specs.Plan.{named, has_command, is_there}
 use Rattle.ob_link.specs.Files.{command_at, command_in, or_zero}
-use Rattle.ob_shell_model.specs.Builds.{Build, tree_of, file_of, asks}
+use Rattle.ob_builds.specs.Builds.{Build, tree_of, file_of, asks}
 use Rattle.law_program_runs.specs.Builds.{HasModule}
 
 none_of : {A : Type 0} (xs : List A) → is_none_of xs ≡ true → xs ≡ []

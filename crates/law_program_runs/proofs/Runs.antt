@@ -23,8 +23,8 @@ use Rattle.ob_load.specs.Running.{IsShort, run_whole}
 use Rattle.ob_load.specs.Command.{Last, last, behind, goes_on, again, image_for}
 use Rattle.ob_load.proofs.Falls.{runs_end}
 use Rattle.ob_load.proofs.Wholes.{whole_is, whole_ends}
-use Rattle.ob_shell_model.specs.Builds.{Build, tree_of, file_of}
-use Rattle.ob_shell_model.specs.Model as ages
+use Rattle.ob_builds.specs.Builds.{Build, tree_of, file_of}
+use Rattle.ob_builds.specs.Simulated as ages
 use Rattle.law_program_runs.specs.Builds.{program_of}
 use Rattle.law_program_runs.proofs.Shifts.{put, ends_shift}
 use Rattle.law_program_runs.proofs.Stops.{IsThere}

@@ -14,9 +14,9 @@ use Rattle.law_simulation_relation.specs.Setting.{Setting, StandIn}
 use Rattle.ob_link.specs.Members.{empty_image}
 use Rattle.ob_link.specs.Plan.{words_of, most_modules}
 use Rattle.ob_load.specs.Command.{image_for}
-use Rattle.ob_shell_model.specs.Builds.{Build, file_of, asks}
-use Rattle.ob_shell_model.specs.Laws.{AreTogether}
-use Rattle.ob_shell_model.proofs.Members.{has_head, has_more}
+use Rattle.ob_builds.specs.Builds.{Build, file_of, asks}
+use Rattle.ob_builds.specs.Afresh.{AreTogether}
+use Rattle.law_builds.proofs.Members.{has_head, has_more}
 use Rattle.law_program_runs.specs.Builds.{program_of, AreLoaded, AllStand, BuildsStand}
 use Rattle.law_program_runs.proofs.Carried.{Carries}
 use Rattle.law_program_runs.proofs.Joins.{Stays, stands_on}

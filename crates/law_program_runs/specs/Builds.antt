@@ -18,8 +18,8 @@ use Rattle.law_simulation.specs.Simulates.{ImageStands}
 use Rattle.ob_link.specs.Plan.{most_modules, most_globals, words_of}
 use Rattle.ob_link.specs.Files.{command_in}
 use Rattle.ob_load.specs.Command.{image_for}
-use Rattle.ob_shell_model.specs.Builds.{Build, name_of, tree_of, file_of, asks}
-use Rattle.ob_shell_model.specs.Laws.{AreTogether}
+use Rattle.ob_builds.specs.Builds.{Build, name_of, tree_of, file_of, asks}
+use Rattle.ob_builds.specs.Afresh.{AreTogether}
 
 -- the modules of builds
 abbrev pub program_of : List Build → Program

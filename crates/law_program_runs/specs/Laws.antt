@@ -1,5 +1,5 @@
 -- That all commands of a session run by the table as they are meant.
-use Rattle.ob_shell_model.specs.Laws.{Simulation}
+use Rattle.ob_builds.specs.Simulated.{Simulation}
 use Rattle.law_program_runs.specs.Builds.{BuildsStand}
 
 -- The law of simulation for all commands, from what is asked of builds.

@@ -7,10 +7,11 @@ use Rattle.ob_shell_lines.specs.Lines.{Demo, done_lines, line_of}
 use Rattle.ob_words.specs.declared.asked.Settings.{Settings}
 use Rattle.ob_shell_model.specs.Folds.{world_from, session_changes}
 use Rattle.ob_shell_model.specs.Session.{Kind, Ends, is_whole}
-use Rattle.ob_shell_model.specs.Builds.{Text, Build, shows_of, tree_of}
+use Rattle.ob_builds.specs.Builds.{Text, Build, shows_of, tree_of}
 use Rattle.ob_shell_model.specs.Library.{Library, IsLibrary, Kept, Change, ObjectBecomes, after_all}
 use Rattle.ob_shell_model.specs.Model.{World, start, answer, written_all, demo_behind}
-use Rattle.ob_shell_model.specs.Laws.{IsTextOfBuild, Apart, taken_afresh}
+use Rattle.ob_builds.specs.Apart.{IsTextOfBuild, Apart}
+use Rattle.ob_builds.specs.Afresh.{taken_afresh}
 
 -- the session by the meaning
 abbrev pub kind : Settings → Files → Library → Kind World Change

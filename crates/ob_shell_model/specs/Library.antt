@@ -7,7 +7,7 @@ use Rattle.ob_link.specs.Files as objects
 use Rattle.ob_link.specs.Files.{Files, most_bytes, object_file_name}
 use Rattle.ob_compile_model.specs.Compiling.{Compiled}
 use Rattle.ob_parse_grammar.specs.Identifiers.{is_identifier}
-use Rattle.ob_shell_model.specs.Builds.{Text, Build, IsValid, name_of, bytes_of, symbols_of}
+use Rattle.ob_builds.specs.Builds.{Text, Build, IsValid, name_of, bytes_of, symbols_of}
 
 -- for each name of a module what its object file and what its symbol file have; the two builds of a name may be of different ages
 pub record Library : Type 0 where

@@ -1,32 +1,29 @@
 -- What a session means: compiles over a library, loads by the texts of uses, commands by the meaning of the loaded sources.
-use Rattle.std.specs.Prelude.{ℕ, zero, suc, ◌+◌, List, [], ◌∷◌, ◌++◌, Bool, true, false, length, take, map, Option, Some, None, Result, Ok, Err, bytes_eq, codes}
-use Rattle.ob_tree.specs.declared.names.QName.{QName}
+use Rattle.std.specs.Prelude.{ℕ, zero, suc, ◌+◌, List, [], ◌∷◌, ◌++◌, false, length, Option, Some, None, Result, Ok, Err, bytes_eq, codes}
 use Rattle.ob_io.specs.Io.{put}
 use Rattle.ob_desc.specs.Grammar.{text_of}
-use Rattle.ob_machine.specs.declared.outcome.Outcome.{Outcome}
-use Rattle.ob_machine.specs.declared.outcome.Outcome.TheVariants as outcome
-use Rattle.ob_meaning.specs.Results.{Why, Trapped, Spent}
-use Rattle.ob_meaning.specs.Commands.{System, Ended, nothing_loaded, command}
+use Rattle.ob_meaning.specs.Commands.{System, Ended, nothing_loaded}
 use Rattle.ob_env.specs.Faces.{Face, Wanted}
 use Rattle.ob_env_walk.specs.Walk as walk
 use Rattle.ob_env_walk.specs.Walk.{symbol_name}
 use Rattle.ob_cmp.specs.Verdicts.{no_face, compiled_text}
 use Rattle.ob_cmp.specs.Check as check
 use Rattle.ob_cmp.specs.Check.{Checked, Present, NotThere, Refused, There, checked}
-use Rattle.ob_demo.specs.Source.{source, module_name}
+use Rattle.ob_compile_model.specs.Compiling as compile
+use Rattle.ob_compile_model.specs.Compiling.{Compiled, compiled, texts}
 use Rattle.ob_link.specs.Plan as load
 use Rattle.ob_link.specs.Plan.{Entry, Missing, TooLong, Junk, Holds, plan}
 use Rattle.ob_link.specs.Files.{Files, object_file_name}
-use Rattle.ob_compile_model.specs.Compiling as compile
-use Rattle.ob_compile_model.specs.Compiling.{Compiled, compiled, texts}
 use Rattle.ob_shell_lines.specs.Lines as line
 use Rattle.ob_shell_lines.specs.Lines.{Line}
+use Rattle.ob_demo.specs.Source.{source, module_name}
 use Rattle.ob_words.specs.declared.asked.Settings.{Settings}
 use Rattle.ob_shell_reports.specs.Texts.{compile_refused, load_refused, report, stops, demo_text, unknown_text}
+use Rattle.ob_builds.specs.Builds.{Text, Build, shows_of, bytes_of, symbols_of, asks}
+use Rattle.ob_builds.specs.Simulated.{outcome_of, joined, ended}
 use Rattle.ob_shell_model.specs.Folds.{Answer}
 use Rattle.ob_shell_model.specs.Files.{sym_file}
 use Rattle.ob_shell_model.specs.Bytes.{Said, told, denied, compared, shown, check_said, no_files, source_name}
-use Rattle.ob_shell_model.specs.Builds.{Text, Build, shows_of, tree_of, bytes_of, symbols_of, asks}
 use Rattle.ob_shell_model.specs.Library.{Library, Change, ObjectBecomes, SymbolBecomes, after_all, empty}
 
 -- What a session keeps: the files, the library, the builds that are loaded, and the system of their sources.
@@ -101,15 +98,6 @@ compiled_in w text = compiled texts (interface_in w.library) text
 
 -- COMMAND
 
-abbrev pub outcome_of : Option Why → Outcome
-outcome_of None = outcome.Done
-outcome_of (Some (Trapped kind number unit at)) = outcome.Trap kind number unit at
-outcome_of (Some (Spent unit at)) = outcome.TurnsSpent unit at
-
--- the builds of the modules that have joined
-abbrev pub joined : List Build → Ended → List Build
-joined bs e = take (length e.system.program) bs
-
 abbrev pub ended_answer : World → List Build → Ended → Answer World Change
 ended_answer w bs e = record {
   world = record { files = w.files; library = w.library; loaded = joined bs e; system = e.system };
@@ -118,10 +106,6 @@ ended_answer w bs e = record {
   text = e.out ++ report (outcome_of e.why);
   refused = stops (outcome_of e.why);
 }
-
--- the command of the new modules' sources over those that are loaded
-abbrev pub ended : Settings → System → List Build → List ℕ → List ℕ → Ended
-ended s system new m name = command system (map tree_of new) s.heap s.turns (record { «module» = m; object = name })
 
 abbrev pub load_answer : Settings → World → List ℕ → List ℕ → Result (List Build) (load.Refusal Text) → Answer World Change
 load_answer s w m name (Err r) = says w (denied (load_refused m r))

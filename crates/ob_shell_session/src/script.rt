@@ -10,7 +10,7 @@ ghost use Rattle.ob_shell_session.specs.Does.{Shows, LineDoes, Cause};
 ghost use Rattle.ob_shell_model.specs.Session.{bytes, Ends};
 ghost use Rattle.ob_shell_model.specs.Library.{Library};
 ghost use Rattle.ob_shell_model.specs.Headline.{Headline, Stands};
-ghost use Rattle.ob_shell_model.specs.Holds.{WritesPieces};
+ghost use Rattle.ob_shell_model.specs.Pieces.{WritesPieces};
 ghost use Rattle.ob_shell_session.specs.Stand.{Pieces};
 ghost use Rattle.ob_shell_session.specs.Session.{Causes, StatusIs};
 

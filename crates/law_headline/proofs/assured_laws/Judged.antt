@@ -13,12 +13,13 @@ use Rattle.law_spelling_values.proofs.Shown.{spelled_shown}
 use Rattle.law_local.proofs.Compiled.{comes_of, checked_name, apart_of}
 use Rattle.law_typing_forms.proofs.Modules.{of_all}
 use Rattle.law_program_context.specs.Judged.{IsJudgedModule}
-use Rattle.ob_shell_model.specs.Builds.{Text, Build, IsSpelled, shows_of, tree_of, name_of}
-use Rattle.ob_shell_model.specs.Laws.{Locality, BuildsAreWritten}
-use Rattle.ob_shell_model.proofs.Compiled.{comes}
-use Rattle.ob_shell_model.proofs.Stood.{of_is}
-use Rattle.ob_shell_model.proofs.Gone.{all_valid}
-use Rattle.ob_shell_model.proofs.Members.{In}
+use Rattle.ob_builds.specs.Builds.{Text, Build, IsSpelled, shows_of, tree_of, name_of}
+use Rattle.ob_builds.specs.Local.{Locality}
+use Rattle.ob_builds.specs.Written.{BuildsAreWritten}
+use Rattle.law_builds.proofs.Compiled.{comes}
+use Rattle.law_builds.proofs.Faces.{of_is}
+use Rattle.law_builds.proofs.Gone.{all_valid}
+use Rattle.law_builds.proofs.Members.{In}
 use Rattle.law_program_runs.specs.Builds.{program_of, AreLoaded}
 use Rattle.law_headline.proofs.inherited_laws.Checked.{checked_at}
 use Rattle.law_headline.proofs.inherited_laws.Loaded.{IsSome, in_front, in_middle, all_shown}

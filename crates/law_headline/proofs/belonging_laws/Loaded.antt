@@ -18,12 +18,13 @@ use Rattle.law_typing_forms.specs.Whole.{IsWhole}
 use Rattle.law_typing_forms.proofs.Modules.{of_all}
 use Rattle.law_typing_env.proofs.Ordered.{program_sound}
 use Rattle.law_local.proofs.Compiled.{checked_name}
-use Rattle.ob_shell_model.specs.Builds.{Text, Build, shows_of, tree_of, name_of}
-use Rattle.ob_shell_model.specs.Laws.{Locality, BuildsAreWritten}
-use Rattle.ob_shell_model.proofs.Compiled.{comes}
-use Rattle.ob_shell_model.proofs.Stood.{of_is}
-use Rattle.ob_shell_model.proofs.Gone.{all_valid}
-use Rattle.ob_shell_model.proofs.Members.{In}
+use Rattle.ob_builds.specs.Builds.{Text, Build, shows_of, tree_of, name_of}
+use Rattle.ob_builds.specs.Local.{Locality}
+use Rattle.ob_builds.specs.Written.{BuildsAreWritten}
+use Rattle.law_builds.proofs.Compiled.{comes}
+use Rattle.law_builds.proofs.Faces.{of_is}
+use Rattle.law_builds.proofs.Gone.{all_valid}
+use Rattle.law_builds.proofs.Members.{In}
 use Rattle.law_program_runs.specs.Builds.{program_of, AreLoaded}
 use Rattle.law_headline.specs.ruled_laws.Ruled.{BuildsAreRuled}
 use Rattle.law_headline.proofs.ruled_laws.Builds.{names_laid}

@@ -26,9 +26,9 @@ use Rattle.law_spelling_read.specs.Placed.{are_rising}
 use Rattle.law_spelling_read.proofs.Modules.{places_rise}
 use Rattle.law_program_typing.specs.Accepted.{IsBuilt}
 use Rattle.law_program_typing.proofs.Parameters.{closed_ok}
-use Rattle.ob_shell_model.specs.Builds.{Text, Build, IsValid, of, tree_of}
-use Rattle.ob_shell_model.proofs.Gone.{all_valid}
-use Rattle.ob_shell_model.proofs.Stood.{of_is}
+use Rattle.ob_builds.specs.Builds.{Text, Build, IsValid, of, tree_of}
+use Rattle.law_builds.proofs.Gone.{all_valid}
+use Rattle.law_builds.proofs.Faces.{of_is}
 use Rattle.law_program_runs.specs.Builds.{program_of}
 use Rattle.law_local.proofs.Compiled.{ComesOf, comes_of}
 use Rattle.law_program_names.proofs.Different.{build_comes}

@@ -6,8 +6,8 @@ use Rattle.ob_types.specs.declared.desc.Desc.{Desc}
 use Rattle.ob_format.specs.Format.{◌>>=◌}
 use Rattle.ob_env.specs.Faces.{Face, object_named, face_named, described}
 use Rattle.law_simulation_relation.proofs.Names.{bytes_same, bytes_true}
-use Rattle.ob_shell_model.specs.Builds.{Text, Build, shows_of, name_of}
-use Rattle.ob_shell_model.proofs.Members.{has_head, has_more}
+use Rattle.ob_builds.specs.Builds.{Text, Build, shows_of, name_of}
+use Rattle.law_builds.proofs.Members.{has_head, has_more}
 
 abbrev in_face : Option (Face Text) → QName → Option Desc
 in_face o q = o >>= λ (f : Face Text). object_named f.objects q.object

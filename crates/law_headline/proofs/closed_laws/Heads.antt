@@ -33,7 +33,7 @@ use Rattle.law_local_files.specs.Laws.{HaveNoOut}
 use Rattle.law_typing_forms.specs.Said.{IsOneOf}
 use Rattle.law_body_context.specs.Knows.{Stands}
 use Rattle.law_typing_env.proofs.Keeping.{structure_kind}
-use Rattle.ob_shell_model.specs.Builds.{Text}
+use Rattle.ob_builds.specs.Builds.{Text}
 use Rattle.law_local.proofs.Compiled.{ComesOf, comes_of, checked_name, apart_of}
 use Rattle.law_program_names.proofs.Different.{build_comes}
 use Rattle.law_program_names.proofs.Grounded.{against_is_grounded}

@@ -26,8 +26,9 @@ use Rattle.law_typing_env.specs.Near.{core}
 use Rattle.law_typing_env.specs.Near as declares
 use Rattle.law_typing_env.proofs.Keeping.{core_bare}
 use Rattle.law_typing_env.proofs.Views.{type_found}
-use Rattle.ob_shell_model.specs.Builds.{Build, of, shows_of, tree_of}
-use Rattle.ob_shell_model.specs.Laws.{IsBehind, BuildsAreWritten}
+use Rattle.ob_builds.specs.Builds.{Build, of, shows_of, tree_of}
+use Rattle.ob_builds.specs.Afresh.{IsBehind}
+use Rattle.ob_builds.specs.Written.{BuildsAreWritten}
 use Rattle.law_headline.specs.ruled_laws.Ruled.{types_of, IsRuled, BuildsAreRuled}
 use Rattle.law_headline.proofs.Shown.{Showing, found_type}
 use Rattle.law_headline.proofs.Used.{IsInside}

@@ -24,8 +24,9 @@ use Rattle.law_typing_forms.proofs.Within.{all_right}
 use Rattle.law_typing_env.specs.Near.{core}
 use Rattle.law_typing_env.specs.Near as declares
 use Rattle.law_typing_env.proofs.Keeping.{structure_kind}
-use Rattle.ob_shell_model.specs.Builds.{Text, Build, of, shows_of, tree_of, name_of}
-use Rattle.ob_shell_model.specs.Laws.{IsBehind, AreTogether, BuildsAreWritten}
+use Rattle.ob_builds.specs.Builds.{Text, Build, of, shows_of, tree_of, name_of}
+use Rattle.ob_builds.specs.Afresh.{IsBehind, AreTogether}
+use Rattle.ob_builds.specs.Written.{BuildsAreWritten}
 use Rattle.law_program_runs.specs.Builds.{program_of}
 use Rattle.law_headline.specs.ruled_laws.Ruled.{types_of, BuildsAreRuled}
 use Rattle.law_headline.proofs.Closed as closed

@@ -16,8 +16,9 @@ use Rattle.law_acyclic.specs.Steady.{IsClosed}
 use Rattle.law_typing_env.specs.Near.{core}
 use Rattle.law_typing_env.proofs.Keeping.{Says, core_bare}
 use Rattle.law_typing_env.proofs.Ordered.{seen_bare, program_sound}
-use Rattle.ob_shell_model.specs.Builds.{Build, shows_of}
-use Rattle.ob_shell_model.specs.Laws.{AreTogether, BuildsAreWritten}
+use Rattle.ob_builds.specs.Builds.{Build, shows_of}
+use Rattle.ob_builds.specs.Afresh.{AreTogether}
+use Rattle.ob_builds.specs.Written.{BuildsAreWritten}
 use Rattle.law_program_runs.specs.Builds.{program_of, AreLoaded}
 use Rattle.law_program_runs.proofs.Settings.{loaded_front}
 use Rattle.law_headline.specs.ruled_laws.Ruled.{BuildsAreRuled}

@@ -20,11 +20,11 @@ use Rattle.law_typing_env.specs.Views as view
 use Rattle.law_names_distinct.specs.Distinct.{AreDistinct}
 use Rattle.law_names_distinct.specs.Fields.{FieldsDiffer, AreApart}
 use Rattle.law_acyclic.specs.Laws.{IsApart}
-use Rattle.ob_shell_model.specs.Builds.{Text, Build, shows_of, name_of}
-use Rattle.ob_shell_model.proofs.Apart.{build_apart}
-use Rattle.ob_shell_model.proofs.Compiled.{comes}
-use Rattle.ob_shell_model.proofs.Members.{In, has_head, has_more}
-use Rattle.ob_shell_model.proofs.Stood.{of_is}
+use Rattle.ob_builds.specs.Builds.{Text, Build, shows_of, name_of}
+use Rattle.law_builds.proofs.Apart.{build_apart}
+use Rattle.law_builds.proofs.Compiled.{comes}
+use Rattle.law_builds.proofs.Members.{In, has_head, has_more}
+use Rattle.law_builds.proofs.Faces.{of_is}
 use Rattle.law_headline.proofs.inherited_laws.Loaded.{IsSome}
 
 -- ---- names

@@ -29,10 +29,12 @@ use Rattle.law_acyclic.proofs.Grounded.{types_are_held}
 use Rattle.law_acyclic.proofs.Bodies.{bodies_are_steady}
 use Rattle.law_program_context.specs.Judged.{IsJudgedModule}
 use Rattle.law_program_typing.specs.Steady.{AreSteady, IsSteadyModule, AreSteadyModules}
-use Rattle.ob_shell_model.specs.Builds.{Build, shows_of, tree_of, name_of}
-use Rattle.ob_shell_model.specs.Laws.{IsBehind, AreTogether, Locality, BuildsAreWritten}
-use Rattle.ob_shell_model.proofs.Gone.{all_valid}
-use Rattle.ob_shell_model.proofs.Members.{In}
+use Rattle.ob_builds.specs.Builds.{Build, shows_of, tree_of, name_of}
+use Rattle.ob_builds.specs.Afresh.{IsBehind, AreTogether}
+use Rattle.ob_builds.specs.Local.{Locality}
+use Rattle.ob_builds.specs.Written.{BuildsAreWritten}
+use Rattle.law_builds.proofs.Gone.{all_valid}
+use Rattle.law_builds.proofs.Members.{In}
 use Rattle.law_program_runs.specs.Builds.{program_of, AreLoaded}
 use Rattle.law_headline.proofs.inherited_laws.Checked.{checked_at}
 use Rattle.law_program_image.specs.Premises.{LoadedAreSound}

@@ -18,9 +18,9 @@ use Rattle.ob_compile_model.specs.Compiling.{Compiled}
 use Rattle.law_names_distinct.specs.Distinct.{AreDistinct}
 use Rattle.law_headline.specs.Laws.{Text, IsCheckedOver, laid}
 use Rattle.law_headline.proofs.Views.{views_are_grounded, views_are_short}
-use Rattle.ob_shell_model.specs.Builds.{Build, IsValid, of}
-use Rattle.ob_shell_model.proofs.Members.{has_right, has_head}
-use Rattle.ob_shell_model.proofs.Stood.{of_is}
+use Rattle.ob_builds.specs.Builds.{Build, IsValid, of}
+use Rattle.law_builds.proofs.Members.{has_right, has_head}
+use Rattle.law_builds.proofs.Faces.{of_is}
 use Rattle.law_program_names.proofs.Coming.{ComesFrom}
 use Rattle.law_program_names.proofs.Different.{build_comes}
 use Rattle.law_program_names.proofs.Grounded.{against_is_grounded}

@@ -12,9 +12,11 @@ use Rattle.ob_rules.specs.declared.broken.Broken.{Broken}
 use Rattle.ob_rules.specs.Declarations.{checked, first_break}
 use Rattle.ob_parse_grammar.specs.TextReading.{NoModule, reading}
 use Rattle.ob_compile_model.specs.Compiling.{Compiled, Refusal, texts, made, of_break, by_rules}
-use Rattle.ob_shell_model.specs.Builds.{Text, Build, shows_of, tree_of}
-use Rattle.ob_shell_model.specs.Laws.{Together, and_one, on_reading, of_source, and_all, taken_afresh, Locality, BuildsAreWritten}
-use Rattle.ob_shell_model.proofs.Gathered.{afresh_so}
+use Rattle.ob_builds.specs.Builds.{Text, Build, shows_of, tree_of}
+use Rattle.ob_builds.specs.Afresh.{Together, and_one, on_reading, of_source, and_all, taken_afresh}
+use Rattle.ob_builds.specs.Local.{Locality}
+use Rattle.ob_builds.specs.Written.{BuildsAreWritten}
+use Rattle.law_builds.proofs.Gathered.{afresh_so}
 use Rattle.law_program_runs.specs.Builds.{AreLoaded}
 use Rattle.law_program_runs.proofs.Settings.{loaded_front}
 

@@ -25,12 +25,13 @@ use Rattle.law_image_tables.specs.Counted.{FamiliesNumbered, number, AllBoundOnc
 use Rattle.law_image_tables.specs.Redefined.{RedefinitionsKept}
 use Rattle.law_image_tables.proofs.Counted.{families_from_declarations}
 use Rattle.ob_compile_model.specs.Compiling.{Compiled, texts}
-use Rattle.ob_shell_model.specs.Builds.{Text, Build, IsValid, shows_of, tree_of}
-use Rattle.ob_shell_model.specs.Laws.{Locality, BuildsAreWritten}
-use Rattle.ob_shell_model.proofs.Compiled.{comes}
-use Rattle.ob_shell_model.proofs.Gone.{all_valid}
-use Rattle.ob_shell_model.proofs.Members.{In}
-use Rattle.ob_shell_model.proofs.Stood.{of_is}
+use Rattle.ob_builds.specs.Builds.{Text, Build, IsValid, shows_of, tree_of}
+use Rattle.ob_builds.specs.Local.{Locality}
+use Rattle.ob_builds.specs.Written.{BuildsAreWritten}
+use Rattle.law_builds.proofs.Compiled.{comes}
+use Rattle.law_builds.proofs.Gone.{all_valid}
+use Rattle.law_builds.proofs.Members.{In}
+use Rattle.law_builds.proofs.Faces.{of_is}
 use Rattle.law_program_runs.specs.Builds.{program_of, AreLoaded}
 use Rattle.law_program_runs.proofs.Settings.{loaded_front}
 use Rattle.law_program_image.specs.Owed.{in_program}

@@ -24,7 +24,7 @@ use Rattle.law_program_names.proofs.Coming.{ComesFrom, comes_from}
 use Rattle.law_local.proofs.Compiled.{comes_of, apart_of, short_is}
 use Rattle.law_headline.proofs.ruled_laws.Builds.{names_laid}
 use Rattle.ob_compile_model.specs.Compiling.{Compiled}
-use Rattle.ob_shell_model.specs.Builds.{Text, Build, IsValid}
+use Rattle.ob_builds.specs.Builds.{Text, Build, IsValid}
 use Rattle.law_headline.specs.joint_laws.Named.{MethodsDiffer, ProceduresAreNoTypes, AreNamedApart}
 use Rattle.law_headline.specs.joint_laws.Joint.{BuildsAreNamedApart}
 use Rattle.law_headline.proofs.joint_laws.Modules.{checked_named, laid_named}

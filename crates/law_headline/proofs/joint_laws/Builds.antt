@@ -33,8 +33,8 @@ use Rattle.law_local.proofs.Named.{found_all}
 use Rattle.law_local.proofs.Walked.{have_none}
 use Rattle.law_local.proofs.Compiled.{ComesOf}
 use Rattle.ob_compile_model.specs.Compiling.{Compiled}
-use Rattle.ob_shell_model.specs.Builds.{Text, Build, IsValid, IsSpelled, shows_of, tree_of, name_of}
-use Rattle.ob_shell_model.specs.Laws.{AreAsWanted}
+use Rattle.ob_builds.specs.Builds.{Text, Build, IsValid, IsSpelled, shows_of, tree_of, name_of}
+use Rattle.ob_builds.specs.Local.{AreAsWanted}
 use Rattle.law_program_runs.specs.Builds.{program_of}
 use Rattle.law_headline.proofs.ruled_laws.Builds.{names_laid}
 use Rattle.law_headline.proofs.Shown.{Showing, builds_show}

@@ -11,9 +11,10 @@ use Rattle.law_typing_forms.specs.Said.{IsSound}
 use Rattle.law_image_links.specs.Same.{ModuleSame}
 use Rattle.law_program_names.proofs.Different.{build_comes}
 use Rattle.law_local.proofs.Compiled.{comes_of}
-use Rattle.ob_shell_model.specs.Builds.{Build, of, shows_of, tree_of}
-use Rattle.ob_shell_model.specs.Laws.{AreTogether, IsBehind, BuildsAreWritten}
-use Rattle.ob_shell_model.proofs.Members.{In, to_in}
+use Rattle.ob_builds.specs.Builds.{Build, of, shows_of, tree_of}
+use Rattle.ob_builds.specs.Afresh.{AreTogether, IsBehind}
+use Rattle.ob_builds.specs.Written.{BuildsAreWritten}
+use Rattle.law_builds.proofs.Members.{In, to_in}
 use Rattle.law_program_runs.specs.Builds.{program_of}
 use Rattle.law_program_runs.proofs.Settings.{loaded_front}
 use Rattle.law_headline.specs.ruled_laws.Ruled.{BuildsAreRuled}

@@ -25,8 +25,10 @@ use Rattle.law_names_distinct.specs.Fields.{FieldsDiffer, AreApart}
 use Rattle.law_names_distinct.specs.Distinct.{AreDistinct}
 use Rattle.law_names_distinct.proofs.FieldBlocks.{fields_differ}
 use Rattle.law_spelling.proofs.Limits.{within}
-use Rattle.ob_shell_model.specs.Builds.{Text, Build, of, shows_of, tree_of, name_of}
-use Rattle.ob_shell_model.specs.Laws.{IsBehind, AreTogether, AreAround, Locality, BuildsAreWritten}
+use Rattle.ob_builds.specs.Builds.{Text, Build, of, shows_of, tree_of, name_of}
+use Rattle.ob_builds.specs.Afresh.{IsBehind, AreTogether}
+use Rattle.ob_builds.specs.Local.{AreAround, Locality}
+use Rattle.ob_builds.specs.Written.{BuildsAreWritten}
 use Rattle.law_program_runs.specs.Builds.{program_of}
 use Rattle.law_typing_forms.specs.Said.{IsFreshName, HaveNames}
 use Rattle.law_typing_env.specs.Ordered.{bare}

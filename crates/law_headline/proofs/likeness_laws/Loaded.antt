@@ -13,11 +13,12 @@ use Rattle.law_spelling.proofs.Reading.{readings_named}
 use Rattle.law_spelling_values.proofs.Outward.{laid_differ}
 use Rattle.law_local.proofs.Compiled.{checked_name}
 use Rattle.ob_compile_model.specs.Compiling.{Compiled}
-use Rattle.ob_shell_model.specs.Builds.{Text, Build, shows_of, tree_of, name_of}
-use Rattle.ob_shell_model.specs.Laws.{Locality, BuildsAreWritten}
-use Rattle.ob_shell_model.proofs.Gone.{all_valid}
-use Rattle.ob_shell_model.proofs.Members.{In}
-use Rattle.ob_shell_model.proofs.Stood.{of_is}
+use Rattle.ob_builds.specs.Builds.{Text, Build, shows_of, tree_of, name_of}
+use Rattle.ob_builds.specs.Local.{Locality}
+use Rattle.ob_builds.specs.Written.{BuildsAreWritten}
+use Rattle.law_builds.proofs.Gone.{all_valid}
+use Rattle.law_builds.proofs.Members.{In}
+use Rattle.law_builds.proofs.Faces.{of_is}
 use Rattle.law_program_runs.specs.Builds.{program_of, AreLoaded}
 use Rattle.law_program_image.specs.Premises.{TypesDiffer, LoadedAreSound}
 use Rattle.law_headline.specs.Loaded.{LoadedAreWhole}

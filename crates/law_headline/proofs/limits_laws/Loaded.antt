@@ -6,11 +6,11 @@ use Rattle.ob_layout.specs.LaidOut.{viewed}
 use Rattle.ob_env.specs.Faces.{described}
 use Rattle.law_spelling.proofs.Limits.{IsWithin, within}
 use Rattle.ob_compile_model.specs.Compiling.{Compiled, texts, exceeds}
-use Rattle.ob_shell_model.specs.Builds.{Text, Build, IsValid, of}
-use Rattle.ob_shell_model.proofs.Compiled.{Comes, comes}
-use Rattle.ob_shell_model.proofs.Gone.{all_valid}
-use Rattle.ob_shell_model.proofs.Members.{In, to_in, has_left}
-use Rattle.ob_shell_model.proofs.Stood.{of_is}
+use Rattle.ob_builds.specs.Builds.{Text, Build, IsValid, of}
+use Rattle.law_builds.proofs.Compiled.{Comes, comes}
+use Rattle.law_builds.proofs.Gone.{all_valid}
+use Rattle.law_builds.proofs.Members.{In, to_in, has_left}
+use Rattle.law_builds.proofs.Faces.{of_is}
 use Rattle.law_program_runs.specs.Builds.{program_of}
 use Rattle.law_headline.specs.limits_laws.Limits.{CompiledKeepLimits, LoadedKeepLimits}
 use Rattle.law_headline.proofs.limits_laws.Procedures.{module_keeps}

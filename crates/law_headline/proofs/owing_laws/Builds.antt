@@ -7,8 +7,8 @@ use Rattle.std.proofs.lemmas.Slice.Eq.{bytes_eq-Decides}
 use Rattle.ob_types.specs.declared.typed.TypedType.{TypedType}
 use Rattle.ob_env.specs.Faces.{face_named}
 use Rattle.law_names_distinct.specs.Distinct.{AreDistinct}
-use Rattle.ob_shell_model.specs.Builds.{entry_of}
-use Rattle.ob_shell_model.proofs.Apart.{entry_named}
+use Rattle.ob_builds.specs.Builds.{entry_of}
+use Rattle.law_builds.proofs.Apart.{entry_named}
 use Rattle.law_names_compiled.proofs.Compiled.{compiled_types_differ}
 use Rattle.law_headline.proofs.grounds_laws.Builds.{builds_are_grounded}
 use Rattle.law_headline.specs.ruled_laws.Ruled.{BuildsDiffer, BuildsAreGrounded, BuildsAreRuled}

@@ -8,8 +8,8 @@ use Rattle.law_simulation_relation.proofs.Names.{bytes_true}
 use Rattle.ob_env.specs.Faces.{described}
 use Rattle.ob_env.specs.Shown.{blank, shown}
 use Rattle.law_acyclic.proofs.Stand.{bases_shown}
-use Rattle.ob_shell_model.specs.Builds.{Build, shows_of, name_of}
-use Rattle.ob_shell_model.specs.Laws.{AreTogether}
+use Rattle.ob_builds.specs.Builds.{Build, shows_of, name_of}
+use Rattle.ob_builds.specs.Afresh.{AreTogether}
 use Rattle.law_headline.specs.pointed_laws.Pointed.{LoadedBases}
 use Rattle.law_headline.proofs.closed_laws.Found.{named_among}
 use Rattle.law_headline.proofs.closed_laws.Loaded.{append_none, loaded_closed}

@@ -21,7 +21,7 @@ use Rattle.law_methods_described.proofs.Blocks.{types_described}
 use Rattle.law_spelling_read.proofs.Trees.{readings_spelled}
 use Rattle.law_spelling.specs.Seen.{AreNamedEntries, LengthFits}
 use Rattle.law_spelling_values.proofs.Compiled.{compiled_in_range}
-use Rattle.ob_shell_model.specs.Builds.{Text, Build, IsValid, IsSpelled, entry_of}
+use Rattle.ob_builds.specs.Builds.{Text, Build, IsValid, IsSpelled, entry_of}
 use Rattle.law_local.proofs.Compiled.{ComesOf, comes_of, checked_name, apart_of}
 use Rattle.law_program_names.proofs.Different.{build_comes}
 use Rattle.law_program_names.proofs.Grounded.{against_is_grounded}

@@ -20,7 +20,7 @@ use Rattle.law_spelling_names.proofs.Reading.{readings_within}
 use Rattle.law_spelling_names.proofs.Whole.{sound_names_are_short}
 use Rattle.law_acyclic.proofs.Grounded.{modules_are_grounded}
 use Rattle.law_headline.proofs.Views.{checked_so}
-use Rattle.ob_shell_model.specs.Builds.{Text, entry_of}
+use Rattle.ob_builds.specs.Builds.{Text, entry_of}
 use Rattle.law_headline.proofs.grounds_laws.Builds.{build_from, build_over}
 use Rattle.law_headline.specs.short_builds_laws.Laws.{BuildsHaveShortNames}
 

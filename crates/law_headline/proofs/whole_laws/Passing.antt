@@ -30,8 +30,9 @@ use Rattle.ob_compile_model.specs.Compiling.{Compiled}
 use Rattle.law_names_distinct.specs.Distinct.{AreDistinct}
 use Rattle.law_methods_described.proofs.Blocks.{types_described}
 use Rattle.law_spelling_read.proofs.Trees.{readings_spelled}
-use Rattle.ob_shell_model.specs.Builds.{Text, Build, IsValid, of, tree_of}
-use Rattle.ob_shell_model.specs.Laws.{IsBehind, AreTogether, BuildsAreWritten}
+use Rattle.ob_builds.specs.Builds.{Text, Build, IsValid, of, tree_of}
+use Rattle.ob_builds.specs.Afresh.{IsBehind, AreTogether}
+use Rattle.ob_builds.specs.Written.{BuildsAreWritten}
 use Rattle.law_program_runs.specs.Builds.{program_of, AreLoaded}
 use Rattle.law_typing_forms.specs.Formed.{IsDeclared}
 use Rattle.law_typing_forms.specs.Said.{IsOneOf, ChainsEnd}

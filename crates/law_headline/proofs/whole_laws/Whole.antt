@@ -20,10 +20,10 @@ use Rattle.law_simulation_relation.proofs.Names.{bytes_sym}
 use Rattle.law_names_distinct.specs.Distinct.{AreDistinct}
 use Rattle.law_local_files.proofs.Agreed.{out_none}
 use Rattle.ob_compile_model.specs.Compiling.{Compiled}
-use Rattle.ob_shell_model.specs.Builds.{Text, Build, IsValid, of, tree_of}
-use Rattle.ob_shell_model.specs.Laws.{AreTogether}
-use Rattle.ob_shell_model.proofs.Apart.{build_apart}
-use Rattle.ob_shell_model.proofs.Stood.{of_is}
+use Rattle.ob_builds.specs.Builds.{Text, Build, IsValid, of, tree_of}
+use Rattle.ob_builds.specs.Afresh.{AreTogether}
+use Rattle.law_builds.proofs.Apart.{build_apart}
+use Rattle.law_builds.proofs.Faces.{of_is}
 use Rattle.law_program_runs.specs.Builds.{program_of}
 use Rattle.law_typing_forms.specs.Formed.{IsDeclared}
 use Rattle.law_typing_forms.specs.Whole.{Different, HeadingOk, IsWholeModule}

@@ -10,7 +10,7 @@ use Rattle.law_program_context.specs.Judged.{AreJudgedModules}
 use Rattle.law_program_typing.specs.Steady.{AreSteadyModules}
 use Rattle.law_program_typing.specs.Accepted.{AreBuilt}
 use Rattle.law_program_typing.specs.Kept.{AreLeft}
-use Rattle.ob_shell_model.specs.Builds.{Build}
+use Rattle.ob_builds.specs.Builds.{Build}
 use Rattle.law_program_runs.specs.Builds.{program_of, AreLoaded, IsOf}
 use Rattle.law_program_image.specs.Premises.{builds_of, LoadedAreSound}
 use Rattle.law_headline.specs.Loaded.{LoadedAreWhole}

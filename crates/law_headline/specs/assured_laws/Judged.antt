@@ -1,8 +1,9 @@
 -- Builds that are loaded together are judged modules of their program: the law.
 use Rattle.std.specs.Prelude.{List}
 use Rattle.law_program_context.specs.Judged.{AreJudgedModules}
-use Rattle.ob_shell_model.specs.Builds.{Build}
-use Rattle.ob_shell_model.specs.Laws.{Locality, BuildsAreWritten}
+use Rattle.ob_builds.specs.Builds.{Build}
+use Rattle.ob_builds.specs.Local.{Locality}
+use Rattle.ob_builds.specs.Written.{BuildsAreWritten}
 use Rattle.law_program_runs.specs.Builds.{program_of, AreLoaded}
 use Rattle.law_headline.specs.pointed_laws.Pointed.{LoadedShowBases}
 

@@ -13,7 +13,7 @@ use Rattle.law_spelling.specs.Laws.{IsSpelled}
 use Rattle.law_spelling.specs.Files.{BasesFit}
 use Rattle.law_acyclic.specs.Laws.{IsChecked}
 use Rattle.law_headline.specs.Laws.{Text, IsCheckedOver, laid}
-use Rattle.ob_shell_model.specs.Builds.{Build, IsValid}
+use Rattle.ob_builds.specs.Builds.{Build, IsValid}
 use Rattle.law_headline.specs.based_laws.Based.{AreBased}
 
 -- The base of each record of a checked module, and what each alias is equated to, stand before it.

@@ -8,8 +8,9 @@ use Rattle.law_typing_forms.specs.Whole.{IsWhole}
 use Rattle.law_image_code.specs.Fits.{IsNamed}
 use Rattle.law_typing.specs.Redefined.{AreRedefined}
 use Rattle.law_program_typing.specs.Accepted.{AreBuilt}
-use Rattle.ob_shell_model.specs.Builds.{Build}
-use Rattle.ob_shell_model.specs.Laws.{Locality, BuildsAreWritten}
+use Rattle.ob_builds.specs.Builds.{Build}
+use Rattle.ob_builds.specs.Local.{Locality}
+use Rattle.ob_builds.specs.Written.{BuildsAreWritten}
 use Rattle.law_program_runs.specs.Builds.{program_of, AreLoaded}
 use Rattle.law_headline.specs.ruled_laws.Ruled.{BuildsAreRuled}
 use Rattle.law_headline.specs.Loaded.{LoadedAreWhole}

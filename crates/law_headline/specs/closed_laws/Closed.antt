@@ -10,8 +10,8 @@ use Rattle.ob_env.specs.Shown.{shown}
 use Rattle.ob_uses.specs.Objects.{signature_of}
 use Rattle.ob_compile_model.specs.Compiling.{Compiled}
 use Rattle.law_acyclic.specs.Steady.{IsClosed}
-use Rattle.ob_shell_model.specs.Builds.{Text, Build, IsValid, shows_of}
-use Rattle.ob_shell_model.specs.Laws.{BuildsAreWritten}
+use Rattle.ob_builds.specs.Builds.{Text, Build, IsValid, shows_of}
+use Rattle.ob_builds.specs.Written.{BuildsAreWritten}
 use Rattle.law_program_runs.specs.Builds.{AreLoaded}
 use Rattle.law_headline.specs.ruled_laws.Ruled.{types_of, BuildsAreRuled}
 

@@ -3,8 +3,9 @@ use Rattle.std.specs.Prelude.{List}
 use Rattle.ob_meaning.specs.Values.{Program}
 use Rattle.law_program_context.specs.Judged.{AreJudgedModules}
 use Rattle.law_program_typing.specs.Steady.{AreSteadyModules}
-use Rattle.ob_shell_model.specs.Builds.{Build}
-use Rattle.ob_shell_model.specs.Laws.{Locality, BuildsAreWritten}
+use Rattle.ob_builds.specs.Builds.{Build}
+use Rattle.ob_builds.specs.Local.{Locality}
+use Rattle.ob_builds.specs.Written.{BuildsAreWritten}
 use Rattle.law_program_runs.specs.Builds.{program_of, AreLoaded}
 use Rattle.law_program_image.specs.Premises.{LoadedAreSound}
 use Rattle.law_headline.specs.ruled_laws.Ruled.{BuildsAreRuled}

@@ -5,7 +5,7 @@ use Rattle.ob_env.specs.Faces.{described}
 use Rattle.ob_compile_model.specs.Compiling.{Compiled}
 use Rattle.law_names_distinct.specs.Distinct.{AreDistinct}
 use Rattle.law_headline.specs.Laws.{Text, AreShort}
-use Rattle.ob_shell_model.specs.Builds.{Build, IsValid}
+use Rattle.ob_builds.specs.Builds.{Build, IsValid}
 
 -- the map is grounded, and chains of the module's own types are short
 pub record IsGroundedBuild (c : Compiled Text) : Type 0 where

@@ -8,8 +8,9 @@ use Rattle.law_image_tables.specs.Families.{NumbersDiffer, AllFamiliesDeclared}
 use Rattle.law_image_tables.specs.Counted.{number}
 use Rattle.law_image_tables.specs.Image.{AllBodiesChecked, RulesKept}
 use Rattle.law_typing_values.specs.Valued.{values}
-use Rattle.ob_shell_model.specs.Builds.{Build}
-use Rattle.ob_shell_model.specs.Laws.{Locality, BuildsAreWritten}
+use Rattle.ob_builds.specs.Builds.{Build}
+use Rattle.ob_builds.specs.Local.{Locality}
+use Rattle.ob_builds.specs.Written.{BuildsAreWritten}
 use Rattle.law_program_runs.specs.Builds.{program_of, AreLoaded, IsOf}
 use Rattle.law_headline.specs.Loaded.{LoadedAreWhole, LoadedAreLaid}
 use Rattle.law_program_image.specs.Premises.{builds_of, TypesDiffer, LoadedAreSound, LoadedDescribe, LoadedAreSame}

@@ -7,8 +7,8 @@ use Rattle.law_typing_forms.specs.Said.{IsSound}
 use Rattle.law_image_links.specs.Same.{ModuleSame}
 use Rattle.law_headline.specs.ruled_laws.Ruled.{BuildsAreRuled}
 use Rattle.ob_compile_model.specs.Compiling.{Compiled}
-use Rattle.ob_shell_model.specs.Builds.{Text, Build, IsValid, of, tree_of}
-use Rattle.ob_shell_model.specs.Laws.{BuildsAreWritten}
+use Rattle.ob_builds.specs.Builds.{Text, Build, IsValid, of, tree_of}
+use Rattle.ob_builds.specs.Written.{BuildsAreWritten}
 use Rattle.law_program_runs.specs.Builds.{program_of, AreLoaded}
 use Rattle.law_headline.specs.joint_laws.Named.{AreNamedApart}
 

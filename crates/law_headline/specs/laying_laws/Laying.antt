@@ -1,5 +1,6 @@
 -- Builds that are loaded together are laid out, each over those before it: the law.
-use Rattle.ob_shell_model.specs.Laws.{Locality, BuildsAreWritten}
+use Rattle.ob_builds.specs.Local.{Locality}
+use Rattle.ob_builds.specs.Written.{BuildsAreWritten}
 use Rattle.law_headline.specs.ruled_laws.Ruled.{BuildsAreRuled}
 use Rattle.law_headline.specs.Loaded.{LoadedAreLaid}
 

@@ -12,7 +12,7 @@ use Rattle.ob_scheme.specs.Procedures.{body_of, within, all_local_words, param_f
 use Rattle.ob_scheme.specs.Needs.{need_stmts}
 use Rattle.law_image_links.specs.Same.{ModuleSame}
 use Rattle.ob_compile_model.specs.Compiling.{Compiled, texts, exceeds}
-use Rattle.ob_shell_model.specs.Builds.{Text, Build, tree_of}
+use Rattle.ob_builds.specs.Builds.{Text, Build, tree_of}
 use Rattle.law_program_runs.specs.Builds.{program_of, AreLoaded}
 use Rattle.law_program_image.specs.Premises.{LoadedAreSame}
 

@@ -12,8 +12,8 @@ use Rattle.law_typing_forms.specs.Steady.{without_members, IsSteady}
 use Rattle.law_typing_env.specs.Ordered.{StandInOrder}
 use Rattle.law_acyclic.specs.Steady.{IsEnding}
 use Rattle.law_headline.specs.ruled_laws.Ruled.{BuildsAreRuled}
-use Rattle.ob_shell_model.specs.Builds.{Build}
-use Rattle.ob_shell_model.specs.Laws.{BuildsAreWritten}
+use Rattle.ob_builds.specs.Builds.{Build}
+use Rattle.ob_builds.specs.Written.{BuildsAreWritten}
 use Rattle.law_program_runs.specs.Builds.{program_of, AreLoaded}
 
 -- no type of the program stands on a line of more than 200 others, where of a record its base alone counts

@@ -7,9 +7,9 @@ use Rattle.law_simulation_relation.specs.Setting.{Setting}
 use Rattle.law_image_links.specs.Same.{ModuleSame}
 use Rattle.law_image_tables.specs.Image.{RulesKept}
 use Rattle.law_typing_values.specs.Valued.{values}
-use Rattle.ob_shell_model.specs.Builds.{Build, of, tree_of}
-use Rattle.ob_shell_model.specs.Laws.{BuildsAreWritten}
-use Rattle.ob_shell_model.specs.Loads.{BuildsAreLinked}
+use Rattle.ob_builds.specs.Builds.{Build, of, tree_of}
+use Rattle.ob_builds.specs.Written.{BuildsAreWritten}
+use Rattle.law_builds.specs.Linked.{BuildsAreLinked}
 use Rattle.law_program_runs.specs.Builds.{program_of, AreLoaded, IsOf, BuildsStand}
 use Rattle.law_program_image.specs.Owed.{in_program, Owed}
 

@@ -2,8 +2,8 @@
 use Rattle.std.specs.Prelude.{List, ◌∷◌, ◌++◌, map}
 use Rattle.ob_env.specs.Shown.{shown}
 use Rattle.law_names_procedures.specs.Procedures.{ShowBases}
-use Rattle.ob_shell_model.specs.Builds.{Build, shows_of, name_of}
-use Rattle.ob_shell_model.specs.Laws.{BuildsAreWritten}
+use Rattle.ob_builds.specs.Builds.{Build, shows_of, name_of}
+use Rattle.ob_builds.specs.Written.{BuildsAreWritten}
 use Rattle.law_program_runs.specs.Builds.{AreLoaded}
 use Rattle.law_headline.specs.ruled_laws.Ruled.{BuildsAreRuled}
 

@@ -12,7 +12,7 @@ use Rattle.ob_env.specs.Faces.{described}
 use Rattle.law_names_distinct.specs.Distinct.{AreDistinct}
 use Rattle.law_local_files.specs.Agreeing.{Map, IsNear, On}
 use Rattle.ob_compile_model.specs.Compiling.{Compiled}
-use Rattle.ob_shell_model.specs.Builds.{Text, Build, IsValid}
+use Rattle.ob_builds.specs.Builds.{Text, Build, IsValid}
 
 -- the descriptions that a module was compiled with
 abbrev pub types_of : Compiled Text → Map

@@ -12,7 +12,7 @@ use Rattle.ob_rules.specs.Statements.{judging, in_turn}
 use Rattle.ob_layout.specs.LaidOut.{viewed}
 use Rattle.ob_env.specs.Faces.{described}
 use Rattle.ob_compile_model.specs.Compiling.{Compiled}
-use Rattle.ob_shell_model.specs.Builds.{Text, Build, IsValid}
+use Rattle.ob_builds.specs.Builds.{Text, Build, IsValid}
 use Rattle.law_headline.specs.seen_laws.Seen.{HasMethod, FieldSeen, StmtsSeen, ModuleSeen}
 
 -- A map keeps the members of another one: each field and each bound procedure that is found there for a record is here one of the record that

@@ -3,7 +3,7 @@ use Rattle.std.specs.Prelude.{◌<◌, ◌^◌, length}
 use Rattle.std.specs.List.{AllByRecursion}
 use Rattle.ob_compile_model.specs.Compiling.{Compiled}
 use Rattle.law_names_distinct.specs.Distinct.{AreDistinct}
-use Rattle.ob_shell_model.specs.Builds.{Text, Build, IsValid}
+use Rattle.ob_builds.specs.Builds.{Text, Build, IsValid}
 
 -- THE NAMES OF TYPES of a valid build are shorter than 2^16, where they differ.
 abbrev pub BuildsHaveShortNames : Type 0

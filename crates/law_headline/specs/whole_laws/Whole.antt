@@ -6,8 +6,8 @@ use Rattle.ob_meaning.specs.Values.{Program, form_in}
 use Rattle.law_simulation_relation.specs.Passed.{IsOpen}
 use Rattle.law_typing_forms.specs.Whole.{HeadingOk}
 use Rattle.law_typing.specs.Forms.{ResultIs}
-use Rattle.ob_shell_model.specs.Builds.{Build}
-use Rattle.ob_shell_model.specs.Laws.{BuildsAreWritten}
+use Rattle.ob_builds.specs.Builds.{Build}
+use Rattle.ob_builds.specs.Written.{BuildsAreWritten}
 use Rattle.law_program_runs.specs.Builds.{program_of, AreLoaded}
 use Rattle.law_headline.specs.ruled_laws.Ruled.{BuildsAreRuled}
 use Rattle.law_headline.specs.Loaded.{LoadedAreWhole}

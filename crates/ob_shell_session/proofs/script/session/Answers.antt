@@ -2,8 +2,8 @@ use Rattle.std.proofs.Common.{◌≡◌, ◌++◌, Bool, true, false, Option, So
 use Rattle.std.proofs.lemmas.Bool.{false≢true}
 use Rattle.ob_words.specs.declared.asked.Settings.{Settings}
 use Rattle.ob_shell_input.specs.Reading.{ended}
-use Rattle.ob_shell_model.proofs.Held.{whole_so, lines_so}
-use Rattle.ob_shell_model.proofs.Chosen.{settings_in}
+use Rattle.law_session.proofs.Held.{whole_so, lines_so}
+use Rattle.law_session.proofs.Chosen.{settings_in}
 use Rattle.law_headline.proofs.Whole.{promised}
 use Rattle.ob_shell_session.proofs.script.session.Goals as goal
 

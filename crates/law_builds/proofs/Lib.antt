@@ -1,0 +1,9 @@
+pub mod Members
+pub mod Compiled
+pub mod Apart
+pub mod Kept
+pub mod Again
+pub mod Gathered
+pub mod Gone
+pub mod Linked
+pub mod Faces

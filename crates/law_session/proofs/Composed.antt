@@ -1,0 +1,118 @@
+-- The headline of a session whose lines agree.
+use Rattle.std.proofs.Common.{◌≡◌, ℕ, ◌+◌, ◌≤◌, List, [], ◌∷◌, ◌++◌, Bool, true, false, length, take, refl, sym, ap, ◌∙◌, subst, append_assoc, arith, ⊎_elim, inl, inr}
+use Rattle.std.proofs.lemmas.Bool.{false≢true}
+use Rattle.std.specs.Prelude.{map, zero, suc, ◌⊎◌, Contains}
+use Rattle.ob_io.specs.Io.{SameFiles}
+use Rattle.ob_link.specs.Files.{Files}
+use Rattle.ob_shell_lines.specs.Lines.{done_lines, line_of}
+use Rattle.ob_shell_model.specs.Folds.{Answers, world_from, changes_from, session_changes}
+use Rattle.ob_shell_model.specs.Session.{IsCut, next_of, is_whole}
+use Rattle.ob_shell_model.specs.Bytes as bytes
+use Rattle.ob_shell_model.specs.Bytes.{changed}
+use Rattle.ob_shell_model.specs.Session as session
+use Rattle.ob_words.specs.declared.asked.Settings.{Settings}
+use Rattle.ob_shell_model.specs.Library.{Library, Kept, Change, ObjectBecomes, SymbolBecomes, after_all}
+use Rattle.ob_shell_model.specs.Model.{World, start, answer, written, written_all}
+use Rattle.law_session.specs.Agreeing.{MakeSame}
+use Rattle.ob_shell_model.specs.Headline.{kind, Stands, IsIn, IsText, KeepsOn}
+use Rattle.ob_builds.specs.Simulated.{AreSettings, Simulation}
+use Rattle.ob_builds.specs.Builds.{Build}
+use Rattle.law_session.specs.Composing.{as_bytes, Alike, Composes, HeadlineFollows}
+use Rattle.law_session.proofs.Keeping.{all_stay}
+use Rattle.law_session.proofs.Transfer.{ends_alike, related_behind}
+
+make_same : (ds : List Change) (files : Files) → changed files (map as_bytes ds) ≡ written_all files ds
+make_same [] files = refl
+make_same (ObjectBecomes name b ∷ ds) files = make_same ds (written files (ObjectBecomes name b))
+make_same (SymbolBecomes name b ∷ ds) files = make_same ds (written files (SymbolBecomes name b))
+
+-- THE CHANGES OF A SESSION THAT WAS CUT SHORT
+
+front_of : {A : Type 0} (p x y : List A) (k : ℕ) → (j : ℕ) × (take j (p ++ (x ++ y)) ≡ p ++ take k x)
+front_of [] [] [] zero = (0, refl)
+front_of [] [] [] (suc k) = (0, refl)
+front_of [] [] (a ∷ y) zero = (0, refl)
+front_of [] [] (a ∷ y) (suc k) = (0, refl)
+front_of [] (a ∷ x) y zero = (0, refl)
+front_of [] (a ∷ x) y (suc k) = let r = front_of [] x y k in (suc r.0, ap (λ t. a ∷ t) r.1)
+front_of (a ∷ p) x y k = let r = front_of p x y k in (suc r.0, ap (λ t. a ∷ t) r.1)
+
+split_none : {W C : Type 0} (answer : Answers W C) (w : W) (n : ℕ) (rest : List (List ℕ)) → (y : List C) × (changes_from answer w n rest ≡ changes_from answer w n [] ++ ((next_of answer (world_from answer w n []) n rest).changes ++ y))
+unfolding changes_from world_from
+split_none answer w n [] = ([], refl)
+split_none answer w n (l ∷ ls) = (changes_from answer (answer w n (line_of l)).world (n + 1) ls, refl)
+
+split_more : {W C : Type 0} (answer : Answers W C) (w : W) (n m : ℕ) (l : List ℕ) (past rest : List (List ℕ)) → (y : List C) × (changes_from answer (answer w n (line_of l)).world (n + 1) (past ++ rest) ≡ changes_from answer (answer w n (line_of l)).world (n + 1) past ++ ((next_of answer (world_from answer (answer w n (line_of l)).world (n + 1) past) m rest).changes ++ y)) → (y : List C) × (changes_from answer w n ((l ∷ past) ++ rest) ≡ changes_from answer w n (l ∷ past) ++ ((next_of answer (world_from answer w n (l ∷ past)) m rest).changes ++ y))
+unfolding changes_from world_from
+split_more answer w n m l past rest h =
+    let a = answer w n (line_of l) in
+    (h.0, ap (λ t. a.changes ++ t) h.1 ∙ sym (append_assoc a.changes (changes_from answer a.world (n + 1) past) ((next_of answer (world_from answer a.world (n + 1) past) m rest).changes ++ h.0)))
+
+split_changes : {W C : Type 0} (answer : Answers W C) (past rest : List (List ℕ)) (w : W) (n m : ℕ) → n + length past ≡ m → (y : List C) × (changes_from answer w n (past ++ rest) ≡ changes_from answer w n past ++ ((next_of answer (world_from answer w n past) m rest).changes ++ y))
+split_changes {W} {C} answer [] rest w n m e =
+    let same : n ≡ m = omega (arith, e) in
+    subst (λ k. (y : List C) × (changes_from answer w n rest ≡ changes_from answer w n [] ++ ((next_of answer (world_from answer w n []) k rest).changes ++ y))) same (split_none answer w n rest)
+split_changes answer (l ∷ past) rest w n m e = split_more answer w n m l past rest (split_changes answer past rest (answer w n (line_of l)).world (n + 1) m (omega (arith, e)))
+
+take_all : {A : Type 0} (xs : List A) → take (length xs) xs ≡ xs
+take_all [] = refl
+take_all (x ∷ xs) = ap (λ r. x ∷ r) (take_all xs)
+
+keeps_so : (s : Settings) (old new : Files) (l : Library) (script : List ℕ) (status made : ℕ) → Kept old l → SameFiles new (written_all old (take made (session_changes (answer s) (start old l) script))) → (is_whole status ≡ true → length (session_changes (answer s) (start old l) script) ≤ made) → KeepsOn s old new l script status
+keeps_so s old new l script status made k f a = record {
+  made = made;
+  files = f;
+  kept = subst (λ x. Kept x (after_all l (take made (session_changes (answer s) (start old l) script)))) (sym f) (all_stay (take made (session_changes (answer s) (start old l) script)) old l k);
+  all = a;
+}
+
+keeps_cut : (s : Settings) (before now : List ℕ) (old new : Files) (l : Library) (script : List ℕ) (status : ℕ) → Kept old l → is_whole status ≡ false → IsCut (kind s old l) before now old new (done_lines script) status → KeepsOn s old new l script status
+keeps_cut s before now old new l script status k w c =
+    let first = start old l in
+    let next = next_of (answer s) (world_from (answer s) first 1 c.past) (1 + length c.past) c.rest in
+    let y = split_changes (answer s) c.past c.rest first 1 (1 + length c.past) refl in
+    let j = front_of (changes_from (answer s) first 1 c.past) next.changes y.0 c.made in
+    let e : take j.0 (session_changes (answer s) first script) ≡ changes_from (answer s) first 1 c.past ++ take c.made next.changes = ap (λ x. take j.0 (changes_from (answer s) first 1 x)) c.split ∙ ap (take j.0) y.1 ∙ j.1 in
+    keeps_so s old new l script status j.0 k (c.files ∙ ap (written_all old) (sym e)) (λ t. absurd (false≢true (sym w ∙ t)))
+
+keeps_whole : (s : Settings) (old new : Files) (l : Library) (script : List ℕ) (status : ℕ) → Kept old l → SameFiles new (written_all old (session_changes (answer s) (start old l) script)) → KeepsOn s old new l script status
+keeps_whole s old new l script status k f =
+    let all = session_changes (answer s) (start old l) script in
+    keeps_so s old new l script status (length all) k (f ∙ ap (written_all old) (sym (take_all all))) (λ t. omega arith)
+
+-- each status is whole or cut short; a refusal of the words is neither, and is no status here
+by_bool : (b : Bool) → (b ≡ true) ⊎ (b ≡ false)
+by_bool true = inl refl
+by_bool false = inr refl
+
+pub composes : Composes
+composes s l before now old new script status law afresh first small neither ends =
+    let e = ends_alike as_bytes (Alike s (IsText s old l script)) (session.bytes s old) (kind s old l) law (λ files ds. make_same ds files) before now old new script status first ends in
+    record {
+      ends = e;
+      keeps = ⊎_elim
+          (λ w. keeps_whole s old new l script status first.kept (e.whole w).2)
+          (λ w. keeps_cut s before now old new l script status first.kept w (e.cut (small w) (neither w)))
+          (by_bool (is_whole status));
+      afresh = λ past rest split. afresh _ (related_behind as_bytes (Alike s (IsText s old l script)) (bytes.answer s) (answer s) law past rest (bytes.start s old) (start old l) (subst (Alike s (IsText s old l script) (bytes.start s old) (start old l) 1) split first)).together;
+    }
+
+-- AT ENTRY
+
+pub starts_alike : (s : Settings) (l : Library) (old : Files) (script : List ℕ) → Simulation → AreSettings s → Stands s old l script → Alike s (IsText s old l script) (bytes.start s old) (start old l) 1 (done_lines script)
+starts_alike s l old script simulation limits h = record {
+  files = refl;
+  library = h.library;
+  kept = h.kept;
+  loaded = refl;
+  together = tt;
+  stand = λ commands. simulation commands s limits;
+  texts = λ b i t x. ⊎_elim (λ (i : IsIn l b). (b, inl i, x)) (λ n. absurd (no_build b n)) i;
+  to_come = λ b i t x. (b, inr i, x);
+}
+  where
+    no_build : (b : Build) → Contains [] b → ⊥
+    no_build b n = let h = n.1 in omega (arith, h)
+
+pub follows : HeadlineFollows
+follows s l before now old new script status simulation limits afresh law h small neither ends = composes s l before now old new script status law afresh (starts_alike s l old script simulation limits h) small neither ends

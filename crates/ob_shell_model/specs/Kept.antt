@@ -1,7 +1,0 @@
--- A compile over files that keep a library is a compile over the library.
-use Rattle.ob_shell_model.specs.Laws.{BuildsAreWritten}
-use Rattle.ob_shell_model.specs.Composing.{CompilesAlike}
-
--- THE LAW, where all builds can be written
-abbrev pub KeptCompilesAlike : Type 0
-KeptCompilesAlike = BuildsAreWritten → CompilesAlike
