@@ -11,14 +11,16 @@ use Rattle.ob_shell_model.specs.Bytes as bytes
 use Rattle.ob_shell_model.specs.Bytes.{changed}
 use Rattle.ob_shell_model.specs.Session as session
 use Rattle.ob_words.specs.declared.asked.Settings.{Settings}
-use Rattle.ob_shell_model.specs.Library.{Library, Kept, Change, ObjectBecomes, SymbolBecomes, after_all}
+use Rattle.ob_shell_model.specs.Library.{Library, IsLibrary, Kept, Change, ObjectBecomes, SymbolBecomes, after_all}
 use Rattle.ob_shell_model.specs.Model.{World, start, answer, written, written_all}
 use Rattle.law_session.specs.Agreeing.{MakeSame}
 use Rattle.ob_shell_model.specs.Headline.{kind, Stands, IsIn, IsText, KeepsOn}
 use Rattle.ob_builds.specs.Simulated.{AreSettings, Simulation}
 use Rattle.ob_builds.specs.Builds.{Build}
 use Rattle.law_session.specs.Composing.{as_bytes, Alike, Composes, HeadlineFollows}
+use Rattle.law_session.specs.New.{NewIsValid}
 use Rattle.law_session.proofs.Keeping.{all_stay}
+use Rattle.law_session.proofs.Libraries.{library_stays, front_good, lines_good}
 use Rattle.law_session.proofs.Transfer.{ends_alike, related_behind}
 
 make_same : (ds : List Change) (files : Files) → changed files (map as_bytes ds) ≡ written_all files ds
@@ -58,27 +60,36 @@ take_all : {A : Type 0} (xs : List A) → take (length xs) xs ≡ xs
 take_all [] = refl
 take_all (x ∷ xs) = ap (λ r. x ∷ r) (take_all xs)
 
-keeps_so : (s : Settings) (old new : Files) (l : Library) (script : List ℕ) (status made : ℕ) → Kept old l → SameFiles new (written_all old (take made (session_changes (answer s) (start old l) script))) → (is_whole status ≡ true → length (session_changes (answer s) (start old l) script) ≤ made) → KeepsOn s old new l script status
-keeps_so s old new l script status made k f a = record {
-  made = made;
-  files = f;
-  kept = subst (λ x. Kept x (after_all l (take made (session_changes (answer s) (start old l) script)))) (sym f) (all_stay (take made (session_changes (answer s) (start old l) script)) old l k);
-  all = a;
-}
+-- these changes are those of the lines that a session did, and the first ones of the line that was cut
+abbrev AreCut : Settings → List ℕ → List ℕ → Files → Files → Library → List ℕ → ℕ → ℕ → Type 0
+AreCut s before now old new l script status made = (c : IsCut (kind s old l) before now old new (done_lines script) status) × (take made (session_changes (answer s) (start old l) script) ≡ changes_from (answer s) (start old l) 1 c.past ++ take c.made (next_of (answer s) (world_from (answer s) (start old l) 1 c.past) (1 + length c.past) c.rest).changes)
 
-keeps_cut : (s : Settings) (before now : List ℕ) (old new : Files) (l : Library) (script : List ℕ) (status : ℕ) → Kept old l → is_whole status ≡ false → IsCut (kind s old l) before now old new (done_lines script) status → KeepsOn s old new l script status
-keeps_cut s before now old new l script status k w c =
+keeps_so : NewIsValid → (s : Settings) (before now : List ℕ) (old new : Files) (l : Library) (script : List ℕ) (status made : ℕ) → IsLibrary l → Kept old l → SameFiles new (written_all old (take made (session_changes (answer s) (start old l) script))) →
+    (is_whole status ≡ true → length (session_changes (answer s) (start old l) script) ≤ made) → (is_whole status ≡ false → AreCut s before now old new l script status made) → KeepsOn s before now old new l script status
+keeps_so valid s before now old new l script status made h k f a b =
+    let changes = session_changes (answer s) (start old l) script in
+    record {
+      made = made;
+      files = f;
+      kept = subst (λ x. Kept x (after_all l (take made changes))) (sym f) (all_stay (take made changes) old l k);
+      library = library_stays (take made changes) l h (front_good made changes (lines_good valid s (done_lines script) (start old l) 1 h));
+      all = a;
+      cut = b;
+    }
+
+keeps_cut : NewIsValid → (s : Settings) (before now : List ℕ) (old new : Files) (l : Library) (script : List ℕ) (status : ℕ) → IsLibrary l → Kept old l → is_whole status ≡ false → IsCut (kind s old l) before now old new (done_lines script) status → KeepsOn s before now old new l script status
+keeps_cut valid s before now old new l script status h k w c =
     let first = start old l in
     let next = next_of (answer s) (world_from (answer s) first 1 c.past) (1 + length c.past) c.rest in
     let y = split_changes (answer s) c.past c.rest first 1 (1 + length c.past) refl in
     let j = front_of (changes_from (answer s) first 1 c.past) next.changes y.0 c.made in
     let e : take j.0 (session_changes (answer s) first script) ≡ changes_from (answer s) first 1 c.past ++ take c.made next.changes = ap (λ x. take j.0 (changes_from (answer s) first 1 x)) c.split ∙ ap (take j.0) y.1 ∙ j.1 in
-    keeps_so s old new l script status j.0 k (c.files ∙ ap (written_all old) (sym e)) (λ t. absurd (false≢true (sym w ∙ t)))
+    keeps_so valid s before now old new l script status j.0 h k (c.files ∙ ap (written_all old) (sym e)) (λ t. absurd (false≢true (sym w ∙ t))) (λ t. (c, e))
 
-keeps_whole : (s : Settings) (old new : Files) (l : Library) (script : List ℕ) (status : ℕ) → Kept old l → SameFiles new (written_all old (session_changes (answer s) (start old l) script)) → KeepsOn s old new l script status
-keeps_whole s old new l script status k f =
+keeps_whole : NewIsValid → (s : Settings) (before now : List ℕ) (old new : Files) (l : Library) (script : List ℕ) (status : ℕ) → IsLibrary l → Kept old l → is_whole status ≡ true → SameFiles new (written_all old (session_changes (answer s) (start old l) script)) → KeepsOn s before now old new l script status
+keeps_whole valid s before now old new l script status h k w f =
     let all = session_changes (answer s) (start old l) script in
-    keeps_so s old new l script status (length all) k (f ∙ ap (written_all old) (sym (take_all all))) (λ t. omega arith)
+    keeps_so valid s before now old new l script status (length all) h k (f ∙ ap (written_all old) (sym (take_all all))) (λ t. omega arith) (λ t. absurd (false≢true (sym t ∙ w)))
 
 -- each status is whole or cut short; a refusal of the words is neither, and is no status here
 by_bool : (b : Bool) → (b ≡ true) ⊎ (b ≡ false)
@@ -86,15 +97,17 @@ by_bool true = inl refl
 by_bool false = inr refl
 
 pub composes : Composes
-composes s l before now old new script status law afresh first small neither ends =
+composes s l before now old new script status valid law afresh first small neither ends =
     let e = ends_alike as_bytes (Alike s (IsText s old l script)) (session.bytes s old) (kind s old l) law (λ files ds. make_same ds files) before now old new script status first ends in
     record {
       ends = e;
       keeps = ⊎_elim
-          (λ w. keeps_whole s old new l script status first.kept (e.whole w).2)
-          (λ w. keeps_cut s before now old new l script status first.kept w (e.cut (small w) (neither w)))
+          (λ w. keeps_whole valid s before now old new l script status first.library first.kept w (e.whole w).2)
+          (λ w. keeps_cut valid s before now old new l script status first.library first.kept w (e.cut (small w) (neither w)))
           (by_bool (is_whole status));
-      afresh = λ past rest split. afresh _ (related_behind as_bytes (Alike s (IsText s old l script)) (bytes.answer s) (answer s) law past rest (bytes.start s old) (start old l) (subst (Alike s (IsText s old l script) (bytes.start s old) (start old l) 1) split first)).together;
+      afresh = λ past rest split.
+          let k = (related_behind as_bytes (Alike s (IsText s old l script)) (bytes.answer s) (answer s) law past rest (bytes.start s old) (start old l) (subst (Alike s (IsText s old l script) (bytes.start s old) (start old l) 1) split first)).together in
+          record { program = afresh _ k; together = k };
     }
 
 -- AT ENTRY
@@ -115,4 +128,4 @@ starts_alike s l old script simulation limits h = record {
     no_build b n = let h = n.1 in omega (arith, h)
 
 pub follows : HeadlineFollows
-follows s l before now old new script status simulation limits afresh law h small neither ends = composes s l before now old new script status law afresh (starts_alike s l old script simulation limits h) small neither ends
+follows s l before now old new script status valid simulation limits afresh law h small neither ends = composes s l before now old new script status valid law afresh (starts_alike s l old script simulation limits h) small neither ends

@@ -21,7 +21,7 @@ by_bool true = inl refl
 by_bool false = inr refl
 
 -- whether two names are the same, as the test says
-same_or : (a b : List ℕ) → ((a ≡ b) × (bytes_eq a b ≡ true)) ⊎ (bytes_eq a b ≡ false)
+pub same_or : (a b : List ℕ) → ((a ≡ b) × (bytes_eq a b ≡ true)) ⊎ (bytes_eq a b ≡ false)
 same_or a b = ⊎_elim (λ e. inl ((bytes_eq-Decides a b).0 e, e)) (λ e. inr e) (by_bool (bytes_eq a b))
 
 self : (a b : List ℕ) → a ≡ b → bytes_eq a b ≡ true

@@ -5,6 +5,7 @@ pub mod Named
 pub mod Held
 pub mod Whole
 pub mod Keeping
+pub mod Libraries
 pub mod Transfer
 pub mod Composed
 pub mod Imports
@@ -20,3 +21,4 @@ pub mod Agreed
 pub mod CompileLaw
 pub mod Demos
 pub mod ObjectEntries
+pub mod Chain

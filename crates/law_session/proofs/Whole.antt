@@ -7,6 +7,7 @@ use Rattle.ob_shell_model.specs.Model.{start, answer}
 use Rattle.ob_shell_model.specs.Headline.{IsText}
 use Rattle.law_session.specs.Composing.{as_bytes, Alike, HeadlineHolds, FrontsAgree}
 use Rattle.law_session.proofs.Transfer.{text_behind}
+use Rattle.law_session.proofs.New.{new_is_valid}
 use Rattle.law_session.proofs.Composed.{follows, starts_alike}
 use Rattle.law_session.proofs.Agreed.{agreed}
 use Rattle.law_builds.proofs.Gathered.{afresh_so}
@@ -20,7 +21,7 @@ seven n h e = grind (arith, h, e)
 
 pub holds : HeadlineHolds
 holds s l before now old new script status locality simulation written compiles plans limits h two most ends =
-    follows s l before now old new script status simulation limits (afresh_so written locality) (agreed s l old script compiles plans written simulation limits h.apart) h (apart_from status two) (seven status most) ends
+    follows s l before now old new script status (new_is_valid written) simulation limits (afresh_so written locality) (agreed s l old script compiles plans written simulation limits h.apart) h (apart_from status two) (seven status most) ends
 
 pub fronts_so : FrontsAgree
 fronts_so s l old script simulation written compiles plans limits h past rest split =

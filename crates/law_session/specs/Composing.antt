@@ -122,7 +122,7 @@ LinesAgreeAll = (s : Settings) (l : Library) (old : Files) (script : List ℕ) �
 -- what the byte session's clause and the laws come to
 abbrev pub Composes : Type 0
 Composes = (s : Settings) (l : Library) (before now : List ℕ) (old new : Files) (script : List ℕ) (status : ℕ) →
-    LinesAgree s (IsText s old l script) → Afresh → Alike s (IsText s old l script) (bytes.start s old) (start old l) 1 (done_lines script) →
+    NewIsValid → LinesAgree s (IsText s old l script) → Afresh → Alike s (IsText s old l script) (bytes.start s old) (start old l) 1 (done_lines script) →
     -- the words were accepted, and each other status that is not whole is 3 to 6
     (is_whole status ≡ false → 3 ≤ status) → (is_whole status ≡ false → status ≤ 6) →
     Ends (session.bytes s old) before now old new script status →
@@ -131,7 +131,7 @@ Composes = (s : Settings) (l : Library) (before now : List ℕ) (old new : Files
 -- The headline, for every library that the files keep, from the laws and from what the byte session is promised.
 abbrev pub HeadlineFollows : Type 0
 HeadlineFollows = (s : Settings) (l : Library) (before now : List ℕ) (old new : Files) (script : List ℕ) (status : ℕ) →
-    Simulation → AreSettings s → Afresh → LinesAgree s (IsText s old l script) → Stands s old l script →
+    NewIsValid → Simulation → AreSettings s → Afresh → LinesAgree s (IsText s old l script) → Stands s old l script →
     (is_whole status ≡ false → 3 ≤ status) → (is_whole status ≡ false → status ≤ 6) →
     Ends (session.bytes s old) before now old new script status → Headline s before now old new l script status
 

@@ -5,3 +5,4 @@ pub mod Kept
 pub mod Loads
 pub mod Holds
 pub mod Named
+pub mod Chain

@@ -1,6 +1,7 @@
 //! The laws that tie what a session means to the byte session.
 #![tactic(auto)]
 
+ghost use Rattle.law_session.specs.Chain.{SessionsChain};
 ghost use Rattle.law_session.specs.Composing.{ChecksFollow, Composes, EmptyIsKept, FrontsAgree, HeadlineFollows, HeadlineHolds, KeptStays, LinesAgreeAll, NewBuildsAreValid};
 ghost use Rattle.law_session.specs.Named.{ImportsAreNamed};
 ghost use Rattle.law_session.specs.Kept.{KeptCompilesAlike};
@@ -99,4 +100,12 @@ pub fn loads_alike()
 pub fn headline()
     ensures whole { FromPromises }
     ensures lines { LinesHold }
+{}
+
+/// A law, with nothing to run. What a session leaves, whole or cut short, is what the next one starts
+/// from: its files keep the library that it left, whose builds are valid. So over any number of
+/// sessions in one folder, from an empty one on, the headline asks of each only that the texts spoken
+/// of are apart.
+pub fn sessions_chain()
+    ensures { SessionsChain }
 {}

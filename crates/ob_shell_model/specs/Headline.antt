@@ -1,17 +1,17 @@
 -- The headline, as clauses of a session over files that some library keeps.
-use Rattle.std.specs.Prelude.{◌≡◌, ℕ, ◌≤◌, List, [], ◌++◌, true, length, take, map, Option, Some, Contains, ◌⊎◌}
+use Rattle.std.specs.Prelude.{◌≡◌, ℕ, ◌+◌, ◌≤◌, List, [], ◌++◌, true, false, length, take, map, Option, Some, Contains, ◌⊎◌}
 use Rattle.ob_io.specs.Io.{SameFiles}
 use Rattle.ob_link.specs.Plan.{Holds}
 use Rattle.ob_link.specs.Files.{Files}
 use Rattle.ob_shell_lines.specs.Lines.{Demo, done_lines, line_of}
 use Rattle.ob_words.specs.declared.asked.Settings.{Settings}
-use Rattle.ob_shell_model.specs.Folds.{world_from, session_changes}
-use Rattle.ob_shell_model.specs.Session.{Kind, Ends, is_whole}
+use Rattle.ob_shell_model.specs.Folds.{world_from, changes_from, session_changes}
+use Rattle.ob_shell_model.specs.Session.{Kind, Ends, IsCut, is_whole, next_of}
 use Rattle.ob_builds.specs.Builds.{Text, Build, shows_of, tree_of}
 use Rattle.ob_shell_model.specs.Library.{Library, IsLibrary, Kept, Change, ObjectBecomes, after_all}
 use Rattle.ob_shell_model.specs.Model.{World, start, answer, written_all, demo_behind}
 use Rattle.ob_builds.specs.Apart.{IsTextOfBuild, Apart}
-use Rattle.ob_builds.specs.Afresh.{taken_afresh}
+use Rattle.ob_builds.specs.Afresh.{AreTogether, taken_afresh}
 
 -- the session by the meaning
 abbrev pub kind : Settings → Files → Library → Kind World Change
@@ -42,20 +42,29 @@ pub record Stands (s : Settings) (files : Files) (l : Library) (script : List �
   pub apart : Apart (IsText s files l script)
 
 -- Behind all lines before, the loaded sources taken afresh together are a well formed program, whose interfaces are those of the
--- builds.
-abbrev pub IsWellFormed : World → Type 0
-IsWellFormed w = taken_afresh ([], []) (map (λ b. b.source) w.loaded) ≡ Some (map shows_of w.loaded, map tree_of w.loaded)
+-- builds: each is checked by the rules over the interfaces of those before it. No two have one name, and each stands behind all that it
+-- imports and has the text of each of its uses among those before it.
+pub record IsWellFormed (w : World) : Type 0 where
+  pub program : taken_afresh ([], []) (map (λ b. b.source) w.loaded) ≡ Some (map shows_of w.loaded, map tree_of w.loaded)
+  pub together : AreTogether [] w.loaded
 
--- the files keep the library after the first so many changes, and all where the session was not cut short
-pub record KeepsOn (s : Settings) (old new : Files) (l : Library) (script : List ℕ) (status : ℕ) : Type 0 where
+-- What a session leaves: the library after the first so many of its changes, after all of them where it was not cut short, and else
+-- after those of the lines that were done and the very first ones of the line that was cut. The files keep it, and its builds are valid.
+pub record KeepsOn (s : Settings) (before now : List ℕ) (old new : Files) (l : Library) (script : List ℕ) (status : ℕ) : Type 0 where
   pub made : ℕ
   pub files : SameFiles new (written_all old (take made (session_changes (answer s) (start old l) script)))
   pub kept : Kept new (after_all l (take made (session_changes (answer s) (start old l) script)))
+  pub library : IsLibrary (after_all l (take made (session_changes (answer s) (start old l) script)))
   pub all : is_whole status ≡ true → length (session_changes (answer s) (start old l) script) ≤ made
+  pub cut : is_whole status ≡ false → (c : IsCut (kind s old l) before now old new (done_lines script) status) × (take made (session_changes (answer s) (start old l) script) ≡ changes_from (answer s) (start old l) 1 c.past ++ take c.made (next_of (answer s) (world_from (answer s) (start old l) 1 c.past) (1 + length c.past) c.rest).changes)
+
+-- the library that a session leaves
+abbrev pub left_by : (s : Settings) (before now : List ℕ) (old new : Files) (l : Library) (script : List ℕ) (status : ℕ) → KeepsOn s before now old new l script status → Library
+left_by s before now old new l script status k = after_all l (take k.made (session_changes (answer s) (start old l) script))
 
 -- The bytes written, the status and the files are those of the meaning, and so is every front of them where the session was cut
--- short; the program of the loaded builds is well formed at each command.
+-- short; a library is left; the program of the loaded builds is well formed at each command.
 pub record Headline (s : Settings) (before now : List ℕ) (old new : Files) (l : Library) (script : List ℕ) (status : ℕ) : Type 0 where
   pub ends : Ends (kind s old l) before now old new script status
-  pub keeps : KeepsOn s old new l script status
+  pub keeps : KeepsOn s before now old new l script status
   pub afresh : (past rest : List (List ℕ)) → done_lines script ≡ past ++ rest → IsWellFormed (world_from (answer s) (start old l) 1 past)
