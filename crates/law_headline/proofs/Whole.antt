@@ -27,31 +27,31 @@ use Rattle.law_program_runs.proofs.Whole.{commands_follow}
 use Rattle.law_program_runs.proofs.Settings.{loaded_front}
 use Rattle.law_local.proofs.Following.{locality_holds}
 use Rattle.law_program_image.specs.Owed.{in_program}
-use Rattle.law_headline.specs.Loaded.{BoundAreThere, LoadedAreWhole, LoadedAreLaid}
-use Rattle.law_headline.proofs.Owing.{loaded_are_sound, loaded_describe}
-use Rattle.law_headline.proofs.whole_laws.Whole.{loaded_whole}
-use Rattle.law_headline.proofs.whole_laws.Passing.{loaded_passed}
-use Rattle.law_headline.proofs.laying_laws.Loaded.{loaded_laid}
-use Rattle.law_headline.proofs.pointed_laws.Loaded.{loaded_bases}
-use Rattle.law_headline.proofs.belonging_laws.Loaded.{bound_there}
+use Rattle.law_builds_loaded.specs.Loaded.{BoundAreThere, LoadedAreWhole, LoadedAreLaid}
+use Rattle.law_builds_loaded.proofs.Owing.{loaded_are_sound, loaded_describe}
+use Rattle.law_builds_loaded.proofs.whole_laws.Whole.{loaded_whole}
+use Rattle.law_builds_loaded.proofs.whole_laws.Passing.{loaded_passed}
+use Rattle.law_builds_loaded.proofs.laying_laws.Loaded.{loaded_laid}
+use Rattle.law_builds_types.proofs.pointed_laws.Loaded.{loaded_bases}
+use Rattle.law_builds_methods.proofs.belonging_laws.Loaded.{bound_there}
 use Rattle.law_program_image.specs.Premises.{builds_of, TypesDiffer, LoadedAreSound, LoadedDescribe, LoadedAreSame}
-use Rattle.law_headline.specs.inherited_laws.Laws.{LoadedAreLike}
-use Rattle.law_headline.proofs.inherited_laws.Loaded.{loaded_keep_rules}
-use Rattle.law_headline.proofs.likeness_laws.Loaded.{loaded_like}
-use Rattle.law_headline.proofs.joint_laws.Loaded.{loaded_are_same}
-use Rattle.law_headline.specs.limits_laws.Limits.{KeepsLimits, AllKeepLimits}
-use Rattle.law_headline.proofs.limits_laws.Loaded.{loaded_keep}
-use Rattle.law_headline.specs.built_laws.Built.{IsBuiltModule}
-use Rattle.law_headline.proofs.built_laws.Built.{loaded_are_built}
-use Rattle.law_headline.proofs.built_laws.Nearest.{loaded_are_redefined}
-use Rattle.law_headline.specs.encircled_laws.Encircled.{AreEncircled}
-use Rattle.law_headline.proofs.encircled_laws.Encircled.{loaded_are_steady}
-use Rattle.law_headline.specs.assured_laws.Checked.{IsLeft}
-use Rattle.law_headline.proofs.assured_laws.Checked.{loaded_are_checked}
+use Rattle.law_builds_loaded.specs.inherited_laws.Laws.{LoadedAreLike}
+use Rattle.law_builds_loaded.proofs.inherited_laws.Loaded.{loaded_keep_rules}
+use Rattle.law_builds_methods.proofs.likeness_laws.Loaded.{loaded_like}
+use Rattle.law_builds_joint.proofs.Loaded.{loaded_are_same}
+use Rattle.law_builds_bodies.specs.limits_laws.Limits.{KeepsLimits, AllKeepLimits}
+use Rattle.law_builds_bodies.proofs.limits_laws.Loaded.{loaded_keep}
+use Rattle.law_builds_bodies.specs.built_laws.Built.{IsBuiltModule}
+use Rattle.law_builds_bodies.proofs.built_laws.Built.{loaded_are_built}
+use Rattle.law_builds_bodies.proofs.built_laws.Nearest.{loaded_are_redefined}
+use Rattle.law_builds_types.specs.encircled_laws.Encircled.{AreEncircled}
+use Rattle.law_builds_types.proofs.encircled_laws.Encircled.{loaded_are_steady}
+use Rattle.law_builds_types.specs.assured_laws.Checked.{IsLeft}
+use Rattle.law_builds_types.proofs.assured_laws.Checked.{loaded_are_checked}
 use Rattle.law_headline.specs.owing_laws.Left.{Left}
 use Rattle.law_headline.proofs.owing_laws.Builds.{builds_ruled}
 use Rattle.law_headline.proofs.owing_laws.Whole.{left_stands}
-use Rattle.law_headline.proofs.Upheld.{builds_are_written, simulation_suffices}
+use Rattle.law_builds_written.proofs.Upheld.{builds_are_written, simulation_suffices}
 use Rattle.law_headline.specs.Promised.{Promised}
 
 types_differ : TypesDiffer

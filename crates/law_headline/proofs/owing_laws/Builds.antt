@@ -10,9 +10,9 @@ use Rattle.law_names_distinct.specs.Distinct.{AreDistinct}
 use Rattle.ob_builds.specs.Builds.{entry_of}
 use Rattle.law_builds.proofs.Apart.{entry_named}
 use Rattle.law_names_compiled.proofs.Compiled.{compiled_types_differ}
-use Rattle.law_headline.proofs.grounds_laws.Builds.{builds_are_grounded}
-use Rattle.law_headline.specs.ruled_laws.Ruled.{BuildsDiffer, BuildsAreGrounded, BuildsAreRuled}
-use Rattle.law_headline.proofs.ruled_laws.Builds.{builds_keep_rules}
+use Rattle.law_builds_written.proofs.grounds_laws.Builds.{builds_are_grounded}
+use Rattle.law_builds_ruled.specs.ruled_laws.Ruled.{BuildsDiffer, BuildsAreGrounded, BuildsAreRuled}
+use Rattle.law_builds_ruled.proofs.ruled_laws.Builds.{builds_keep_rules}
 
 fresh : (x : List ℕ) (ts : List TypedType) → AllByRecursion (λ y. bytes_eq x y ≡ false) (map (λ t. t.name) ts) → AllByRecursion (λ t. t.name ≢ x) ts
 fresh x [] h = tt

@@ -4,12 +4,12 @@ use Rattle.law_program_image.proofs.Whole.{builds_stand}
 use Rattle.law_program_names.proofs.Different.{modules_differ}
 use Rattle.law_load_enter.proofs.Whole.{names_are_shown, words_are_counted, commands_are_there, loaded_enter}
 use Rattle.law_local.proofs.Following.{locality_holds}
-use Rattle.law_headline.proofs.Loaded.{loaded_forms_stay, loaded_values_stay}
-use Rattle.law_headline.proofs.Owing.{loaded_variables, loaded_describe}
-use Rattle.law_headline.proofs.whole_laws.Whole.{loaded_whole}
-use Rattle.law_headline.proofs.whole_laws.Passing.{loaded_passed}
-use Rattle.law_headline.proofs.laying_laws.Loaded.{loaded_laid}
-use Rattle.law_headline.proofs.belonging_laws.Loaded.{bound_there}
+use Rattle.law_builds_loaded.proofs.Loaded.{loaded_forms_stay, loaded_values_stay}
+use Rattle.law_builds_loaded.proofs.Owing.{loaded_variables, loaded_describe}
+use Rattle.law_builds_loaded.proofs.whole_laws.Whole.{loaded_whole}
+use Rattle.law_builds_loaded.proofs.whole_laws.Passing.{loaded_passed}
+use Rattle.law_builds_loaded.proofs.laying_laws.Loaded.{loaded_laid}
+use Rattle.law_builds_methods.proofs.belonging_laws.Loaded.{bound_there}
 use Rattle.law_headline.specs.owing_laws.Left.{LeftGives, LeftStands}
 use Rattle.law_headline.proofs.owing_laws.Builds.{builds_ruled}
 

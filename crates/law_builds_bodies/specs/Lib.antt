@@ -1,0 +1,2 @@
+pub mod built_laws
+pub mod limits_laws

@@ -1,0 +1,10 @@
+pub mod inherited_laws
+pub mod Staying
+pub mod Sound
+pub mod Shown
+pub mod Used
+pub mod Closed
+pub mod Loaded
+pub mod Owing
+pub mod whole_laws
+pub mod laying_laws

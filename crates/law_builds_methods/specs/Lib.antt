@@ -1,0 +1,2 @@
+pub mod belonging_laws
+pub mod likeness_laws

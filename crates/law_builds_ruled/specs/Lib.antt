@@ -1,0 +1,2 @@
+pub mod ruled_laws
+pub mod passed_laws

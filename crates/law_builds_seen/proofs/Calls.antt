@@ -1,0 +1,156 @@
+-- Actual parameters and calls name members that are there where their parts do.
+use Rattle.std.proofs.Common.{Bool, true, false, List, [], ◌∷◌, length, Option, Some, None, sym, subst}
+use Rattle.std.specs.Prelude.{is_some}
+use Rattle.std.specs.List.{AllByRecursion}
+use Rattle.ob_tree.specs.declared.pos.Pos.{Pos}
+use Rattle.ob_tree.specs.declared.names.QName.{QName}
+use Rattle.ob_types.specs.declared.types.Mode.{Mode}
+use Rattle.ob_types.specs.declared.types.Mode.TheVariants as mode
+use Rattle.ob_types.specs.declared.types.TypeRef.{TypeRef}
+use Rattle.ob_types.specs.declared.types.TypeRef.TheVariants as ref
+use Rattle.ob_types.specs.declared.types.Signature.{Signature}
+use Rattle.ob_types.specs.declared.desc.Receiver.{Receiver}
+use Rattle.ob_types.specs.declared.desc.Receiver.TheVariants as receiver
+use Rattle.ob_types.specs.declared.typed.Passing.{Passing}
+use Rattle.ob_types.specs.declared.typed.Passing.TheVariants as passing
+use Rattle.ob_types.specs.declared.typed.OutProcedure.{OutProcedure}
+use Rattle.ob_types.specs.declared.typed.Callee.{Callee}
+use Rattle.ob_types.specs.declared.typed.Callee.TheVariants as callee
+use Rattle.ob_types.specs.declared.typed.Actual.{Actual}
+use Rattle.ob_types.specs.declared.typed.Designator.TheFolds.{fold-roll-Actual}
+use Rattle.ob_types.specs.declared.typed.TypedExpr.{TypedExpr}
+use Rattle.ob_types.specs.declared.typed.TypedExpr.TheVariants as e
+use Rattle.ob_types.specs.TypedKinds.{result_type}
+use Rattle.ob_types.specs.TypedSyntax.{Desig, Deref, Expr, ValueOf, Call, CallVariable}
+use Rattle.ob_types.specs.TypedView.{OneActual, designator_layer, expr_layer, actual_layer, designator_view, actual_view, actuals_view}
+use Rattle.ob_types.proofs.TypedViews.{view_value_of, view_deref, view_call, view_call_variable}
+use Rattle.ob_rules.specs.declared.values.Place.{Place}
+use Rattle.ob_rules.specs.declared.values.Valued.{Valued}
+use Rattle.ob_rules.specs.declared.meant.Chosen.{Chosen}
+use Rattle.ob_rules.specs.declared.meant.Meant.{Meant}
+use Rattle.ob_rules.specs.declared.meant.Meant.TheVariants as means
+use Rattle.ob_rules.specs.declared.meant.Where.{Where}
+use Rattle.ob_rules.specs.Judged.{Judged, sound, both, also, wants}
+use Rattle.ob_rules.specs.Shapes.{Map, open_element, is_array, passing_of}
+use Rattle.ob_rules.specs.Names.{Around, map_of}
+use Rattle.ob_rules.specs.Values.{computed}
+use Rattle.ob_rules.specs.Phrases.{Phrase, record_receiver, receiver_place}
+use Rattle.ob_rules.specs.Calls.{actual_of, unless_guarded, unless_read_only, variable_actual, meant_actual, var_actual, tree_for, value_actual, actual, actuals, misplaced, called_with, called, call_procedure, call_variable, out_signature, call_out, bound_callee, receiver_actual, nearest_sound, where_from, call_bound_sound, call_bound, takes_value}
+use Rattle.law_builds_seen.specs.Seen.{ExprSeen, ActualsSeen, CalleeSeen}
+use Rattle.law_builds_seen.proofs.Setting.{Stands, E, PlaceOk, ValuedOk, ChosenOk, MeantOk, Anything, Keeps, any_keeps, then_keeps, both_keep, wants_keeps, also_keeps, named_e, named_d, tree_ok}
+use Rattle.law_builds_seen.proofs.Values.{text_tree_ok}
+
+-- a phrase names what is there, whatever stands around
+abbrev pub MeantKeeps : Map → Option (Around → Judged Meant) → Type 0
+MeantKeeps k None = Unit {0}
+MeantKeeps k (Some f) = (u : Around) → Stands k u → Keeps (MeantOk k) (f u)
+
+pub record PhraseOk (k : Map) (p : Phrase) : Type 0 where
+  pub value : (u : Around) → Stands k u → Keeps (ValuedOk k) (p.value u)
+  pub meant : MeantKeeps k p.meant
+
+abbrev pub ArePhrases : Map → List Phrase → Type 0
+ArePhrases k ps = AllByRecursion (PhraseOk k) ps
+
+abbrev OneSeen : Map → OneActual → Type 0
+OneSeen k a = ExprSeen k a.e
+
+abbrev pub ActualOk : Map → Actual → Type 0
+ActualOk k a = OneSeen k (actual_view a)
+
+actual_ok : (k : Map) (how : Passing) (t : TypeRef) (x : TypedExpr) → E k x → ActualOk k (actual_of how t x)
+actual_ok k how t x h = subst (OneSeen k) (sym (fold-roll-Actual Desig Expr OneActual designator_layer expr_layer actual_layer (record { passing = how; formal = t; value = x }))) h
+
+actuals_seen : (k : Map) (xs : List Actual) → AllByRecursion (ActualOk k) xs → ActualsSeen k (actuals_view xs)
+actuals_seen k [] h = tt
+actuals_seen k (x ∷ xs) h = (h.0, actuals_seen k xs h.1)
+
+designator_e : (k : Map) (p : Place) → PlaceOk k p → E k (e.Designator p.designator.inner)
+designator_e k p h = named_e k _ (ValueOf (designator_view p.designator.inner)) (view_value_of p.designator.inner) h
+
+-- ---- actual parameters
+
+variable_keeps : (k map : Map) (t : TypeRef) (start : Pos) (p : Place) → PlaceOk k p → Keeps (ActualOk k) (variable_actual map t start p)
+variable_keeps k map t start p h =
+    also_keeps (ActualOk k) _ 25 start (unless_read_only map t start p)
+    (also_keeps (ActualOk k) p.read_only 26 start (unless_guarded map t start p)
+    (also_keeps (ActualOk k) p.guarded 38 start (sound (actual_of (passing_of map mode.Var t) t (e.Designator p.designator.inner)))
+    (actual_ok k (passing_of map mode.Var t) t (e.Designator p.designator.inner) (designator_e k p h))))
+
+meant_keeps : (k map : Map) (t : TypeRef) (start : Pos) (m : Meant) → MeantOk k m → Keeps (ActualOk k) (meant_actual map t start m)
+meant_keeps k map t start (means.Place p) h = variable_keeps k map t start p h
+meant_keeps k map t start (means.Call x) h = tt
+meant_keeps k map t start m h = tt
+
+var_keeps : (k : Map) (u : Around) → Stands k u → (t : TypeRef) (p : Phrase) (o : Option (Around → Judged Meant)) → MeantKeeps k o → Keeps (ActualOk k) (var_actual u t p o)
+var_keeps k u s t p None h = then_keeps Anything (ActualOk k) (p.value u) _ (any_keeps (p.value u)) (λ x q. tt)
+var_keeps k u s t p (Some f) h = then_keeps (MeantOk k) (ActualOk k) (f u) (meant_actual (map_of u) t p.start) (h u s) (λ m q. meant_keeps k (map_of u) t p.start m q)
+
+tree_for_ok : (k : Map) (b : Bool) (x : Valued) → ValuedOk k x → E k (tree_for b x)
+tree_for_ok k true x h = text_tree_ok k x h
+tree_for_ok k false x h = tree_ok k x h
+
+value_keeps : (k map : Map) (t : TypeRef) (start : Pos) (x : Valued) → ValuedOk k x → Keeps (ActualOk k) (value_actual map t start x)
+value_keeps k map t start x h =
+    wants_keeps (ActualOk k) (takes_value map (open_element map t) t x) 25 start (actual_of (passing_of map mode.Value t) t (tree_for (is_array map t) x))
+    (actual_ok k (passing_of map mode.Value t) t (tree_for (is_array map t) x) (tree_for_ok k (is_array map t) x h))
+
+actual_keeps : (k : Map) (u : Around) → Stands k u → (m : Mode) (t : TypeRef) (p : Phrase) → PhraseOk k p → Keeps (ActualOk k) (actual u m t p)
+actual_keeps k u s mode.Var t p g = var_keeps k u s t p p.meant g.meant
+actual_keeps k u s mode.Value t p g = then_keeps (ValuedOk k) (ActualOk k) (p.value u) (value_actual (map_of u) t p.start) (g.value u s) (λ x h. value_keeps k (map_of u) t p.start x h)
+
+actuals_keep : (k : Map) (u : Around) → Stands k u → (fs : List (Mode × TypeRef)) (ps : List Phrase) → ArePhrases k ps → Keeps (AllByRecursion (ActualOk k)) (actuals u fs ps)
+actuals_keep k u s [] [] g = tt
+actuals_keep k u s (f ∷ fs) [] g = tt
+actuals_keep k u s [] (p ∷ ps) g =
+    then_keeps (λ (r : Valued × List Actual). Unit {0} × AllByRecursion (ActualOk k) r.1) (AllByRecursion (ActualOk k)) (both (p.value u) (actuals u [] ps)) (λ r. sound r.1)
+    (both_keep Anything (AllByRecursion (ActualOk k)) (p.value u) (actuals u [] ps) (any_keeps (p.value u)) (actuals_keep k u s [] ps g.1)) (λ r h. h.1)
+actuals_keep k u s (f ∷ fs) (p ∷ ps) g =
+    then_keeps (λ (r : Actual × List Actual). ActualOk k r.0 × AllByRecursion (ActualOk k) r.1) (AllByRecursion (ActualOk k)) (both (actual u f.0 f.1 p) (actuals u fs ps)) (λ r. sound (r.0 ∷ r.1))
+    (both_keep (ActualOk k) (AllByRecursion (ActualOk k)) (actual u f.0 f.1 p) (actuals u fs ps) (actual_keeps k u s f.0 f.1 p g.0) (actuals_keep k u s fs ps g.1)) (λ r h. h)
+
+-- ---- calls
+
+called_keeps : (k : Map) (u : Around) → Stands k u → (w : Where) (at : Pos) (s : Signature) (ps : List Phrase) → ArePhrases k ps → (f : List Actual → TypedExpr) → ((xs : List Actual) → AllByRecursion (ActualOk k) xs → E k (f xs)) → Keeps (ValuedOk k) (called u w at s ps f)
+called_keeps k u st w at s ps g f h =
+    then_keeps (AllByRecursion (ActualOk k)) (ValuedOk k) (actuals u s.params ps) (called_with w at s (length ps) f) (actuals_keep k u st s.params ps g)
+    (λ xs q. then_keeps (AllByRecursion (ActualOk k)) (ValuedOk k) (wants _ 24 at xs) (λ ys. also (misplaced w (is_some s.result)) 27 at (sound (computed (f ys) (result_type s.result)))) (wants_keeps (AllByRecursion (ActualOk k)) _ 24 at xs q)
+    (λ ys r. also_keeps (ValuedOk k) (misplaced w (is_some s.result)) 27 at (sound (computed (f ys) (result_type s.result))) (h ys r)))
+
+call_e : (k : Map) (f : Callee) (xs : List Actual) (at : Pos) (t : Option TypeRef) → AllByRecursion (ActualOk k) xs → CalleeSeen k f → E k (e.Call f xs at t)
+call_e k f xs at t g c = named_e k _ (Call f (actuals_view xs) at t) (view_call f xs at t) (actuals_seen k xs g, c)
+
+pub call_procedure_keeps : (k : Map) (u : Around) → Stands k u → (w : Where) (at : Pos) (q : QName) (s : Signature) (ps : List Phrase) → ArePhrases k ps → Keeps (ValuedOk k) (call_procedure u w at q s ps)
+call_procedure_keeps k u st w at q s ps g = called_keeps k u st w at s ps g (λ xs. e.Call (callee.Declared q) xs at s.result) (λ xs r. call_e k (callee.Declared q) xs at s.result r tt)
+
+pub call_variable_keeps : (k : Map) (u : Around) → Stands k u → (w : Where) (at : Pos) (p : Place) (s : Signature) (ps : List Phrase) → ArePhrases k ps → PlaceOk k p → Keeps (ValuedOk k) (call_variable u w at p s ps)
+call_variable_keeps k u st w at p s ps g h =
+    called_keeps k u st w at s ps g (λ xs. e.CallVariable p.designator.inner xs at s.result)
+    (λ xs r. named_e k _ (CallVariable (designator_view p.designator.inner) (actuals_view xs) at s.result) (view_call_variable p.designator.inner xs at s.result) (h, actuals_seen k xs r))
+
+pub call_out_keeps : (k : Map) (u : Around) → Stands k u → (w : Where) (at : Pos) (p : OutProcedure) (ps : List Phrase) → ArePhrases k ps → Keeps (ValuedOk k) (call_out u w at p ps)
+call_out_keeps k u st w at p ps g = called_keeps k u st w at (out_signature p) ps g (λ xs. e.Call (callee.Out p) xs at None) (λ xs r. call_e k (callee.Out p) xs at None r tt)
+
+receiver_d : (k : Map) (start : Pos) (p : Place) → PlaceOk k p → (o : Option TypeRef) → E k (e.Designator (record_receiver start p o).designator.inner)
+receiver_d k start p h None = designator_e k p h
+receiver_d k start p h (Some t) =
+    named_e k _ (ValueOf (designator_view (record_receiver start p (Some t)).designator.inner)) (view_value_of (record_receiver start p (Some t)).designator.inner)
+    (named_d k (record_receiver start p (Some t)).designator.inner (Deref (designator_view p.designator.inner) start t) (view_deref p.designator.inner start t) h)
+
+receiver_ok : (k : Map) (r : Receiver) (c : Chosen) → ChosenOk k c → ActualOk k (receiver_actual r c)
+receiver_ok k receiver.Pointer c h = actual_ok k passing.Scalar c.receiver.of (e.Designator c.receiver.designator.inner) (designator_e k c.receiver h.receiver)
+receiver_ok k receiver.Record c h = actual_ok k passing.VariableRecord (ref.Named c.owner) (e.Designator (receiver_place c).designator.inner) (receiver_d k c.start c.receiver h.receiver c.pointed)
+
+callee_ok : (k : Map) (c : Chosen) → ChosenOk k c → (o : Option QName) → CalleeSeen k (bound_callee c o)
+callee_ok k c h None = h.family
+callee_ok k c h (Some b) = h.family
+
+bound_keeps : (k : Map) (b : Bool) (u : Around) → Stands k u → (w : Where) (at : Pos) (c : Chosen) (ps : List Phrase) → ArePhrases k ps → ChosenOk k c → Keeps (ValuedOk k) (call_bound_sound b u w at c ps)
+bound_keeps k false u st w at c ps g h = then_keeps Anything (ValuedOk k) (actuals u [] ps) _ (any_keeps (actuals u [] ps)) (λ xs q. tt)
+bound_keeps k true u st w at c ps g h =
+    also_keeps (ValuedOk k) _ 26 at (called u w at c.method.signature ps (λ xs. e.Call (bound_callee c c.base) (receiver_actual c.method.receiver c ∷ xs) at c.method.signature.result))
+    (called_keeps k u st w at c.method.signature ps g (λ xs. e.Call (bound_callee c c.base) (receiver_actual c.method.receiver c ∷ xs) at c.method.signature.result)
+    (λ xs r. call_e k (bound_callee c c.base) (receiver_actual c.method.receiver c ∷ xs) at c.method.signature.result (receiver_ok k c.method.receiver c h, r) (callee_ok k c h c.base)))
+
+pub call_bound_keeps : (k : Map) (u : Around) → Stands k u → (w : Where) (at : Pos) (c : Chosen) (ps : List Phrase) → ArePhrases k ps → ChosenOk k c → Keeps (ValuedOk k) (call_bound u w at c ps)
+call_bound_keeps k u st w at c ps g h = bound_keeps k (nearest_sound u 201 (where_from c c.base) c.method.name) u st w at c ps g h

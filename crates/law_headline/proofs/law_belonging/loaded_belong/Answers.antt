@@ -1,6 +1,0 @@
--- Bound procedures of builds that are loaded together.
-use Rattle.law_headline.proofs.belonging_laws.Loaded.{bound_there}
-use Rattle.law_headline.proofs.law_belonging.loaded_belong.Goals as goal
-
-pub returns : goal.returns
-returns c = bound_there

@@ -1,6 +1,0 @@
--- Names.
-use Rattle.law_headline.proofs.built_laws.Reading.{readings_are_lettered}
-use Rattle.law_headline.proofs.law_built.readings_are_lettered.Goals as goal
-
-pub returns : goal.returns
-returns c = readings_are_lettered

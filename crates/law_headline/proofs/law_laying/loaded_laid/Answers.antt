@@ -1,6 +1,0 @@
--- Layout.
-use Rattle.law_headline.proofs.laying_laws.Loaded.{loaded_laid}
-use Rattle.law_headline.proofs.law_laying.loaded_laid.Goals as goal
-
-pub returns : goal.returns
-returns c = loaded_laid

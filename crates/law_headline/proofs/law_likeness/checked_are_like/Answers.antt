@@ -1,6 +1,0 @@
--- Bound procedures of a checked module.
-use Rattle.law_headline.proofs.likeness_laws.Modules.{checked_like}
-use Rattle.law_headline.proofs.law_likeness.checked_are_like.Goals as goal
-
-pub returns : goal.returns
-returns c = checked_like

@@ -1,6 +1,0 @@
--- Bound procedures of builds that are loaded together.
-use Rattle.law_headline.proofs.likeness_laws.Loaded.{loaded_like}
-use Rattle.law_headline.proofs.law_likeness.loaded_are_like.Goals as goal
-
-pub returns : goal.returns
-returns c = loaded_like

@@ -1,6 +1,0 @@
--- Parameters.
-use Rattle.law_headline.proofs.passed_laws.Modules.{parameters_passed}
-use Rattle.law_headline.proofs.law_passed.parameters_are_passed.Goals as goal
-
-pub returns : goal.returns
-returns c = parameters_passed

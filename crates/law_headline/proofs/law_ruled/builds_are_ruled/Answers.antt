@@ -1,6 +1,0 @@
--- Builds.
-use Rattle.law_headline.proofs.ruled_laws.Builds.{builds_keep_rules}
-use Rattle.law_headline.proofs.law_ruled.builds_are_ruled.Goals as goal
-
-pub returns : goal.returns
-returns c = builds_keep_rules

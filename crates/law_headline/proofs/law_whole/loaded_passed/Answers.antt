@@ -1,6 +1,0 @@
--- Parameters.
-use Rattle.law_headline.proofs.whole_laws.Passing.{loaded_passed}
-use Rattle.law_headline.proofs.law_whole.loaded_passed.Goals as goal
-
-pub returns : goal.returns
-returns c = loaded_passed

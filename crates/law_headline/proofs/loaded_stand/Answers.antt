@@ -1,6 +1,0 @@
--- Each module stands over those before it.
-use Rattle.law_headline.proofs.Loaded.{loaded_stand}
-use Rattle.law_headline.proofs.loaded_stand.Goals as goal
-
-pub returns : goal.returns
-returns c = loaded_stand

@@ -1,6 +1,0 @@
--- Maps of modules that are laid out.
-use Rattle.law_headline.proofs.Views.{views_are_grounded as grounded_so, views_are_short as short_so}
-use Rattle.law_headline.proofs.views_are_grounded.Goals as goal
-
-pub returns : goal.returns
-returns c = record { grounded = grounded_so; short = short_so }

@@ -1,9 +1,0 @@
--- Builds that are loaded together are laid out, each over those before it: the law.
-use Rattle.ob_builds.specs.Local.{Locality}
-use Rattle.ob_builds.specs.Written.{BuildsAreWritten}
-use Rattle.law_headline.specs.ruled_laws.Ruled.{BuildsAreRuled}
-use Rattle.law_headline.specs.Loaded.{LoadedAreLaid}
-
--- So they are where valid builds are ruled, and the same against other interfaces that have the texts of their uses.
-abbrev pub LoadedLaid : Type 0
-LoadedLaid = BuildsAreWritten → BuildsAreRuled → Locality → LoadedAreLaid
