@@ -3,6 +3,9 @@ MODULE Pretty;  (* Writes a text of Oberon-2 anew: a line for each declaration
 
 IMPORT Texts, Symbols, Scanner;
 
+CONST
+  width = 76;                           (* beyond it a line is continued *)
+
 TYPE
   Printer = RECORD
     w: Texts.Writer;
@@ -34,12 +37,17 @@ PROCEDURE (VAR p: Printer) Behind;
 BEGIN p.Before(1)
 END Behind;
 
-PROCEDURE (VAR p: Printer) StartLine;
+PROCEDURE (VAR p: Printer) Indent(level: INTEGER);
   VAR i: INTEGER;
+BEGIN
+  FOR i := 1 TO level DO p.w.String("  ") END
+END Indent;
+
+PROCEDURE (VAR p: Printer) StartLine;
 BEGIN
   IF p.w.col > 1 THEN p.w.EndLine END;
   IF p.gap THEN p.w.EndLine END;
-  FOR i := 1 TO p.level DO p.w.String("  ") END;
+  p.Indent(p.level);
   p.newLine := FALSE; p.gap := FALSE; p.named := FALSE; p.mark := FALSE
 END StartLine;
 
@@ -178,7 +186,10 @@ BEGIN
     ELSE
       p.Prepare(s.kind);
       IF p.newLine THEN p.StartLine
-      ELSIF p.Apart(s.kind) THEN p.w.Char(" ")
+      ELSIF p.Apart(s.kind) THEN
+        IF p.w.col + s.length > width THEN p.w.EndLine; p.Indent(p.level + 2)
+        ELSE p.w.Char(" ")
+        END
       END;
       p.w.String(s.text); p.Conclude(s.kind);
       p.last := s.kind; p.lastLine := s.line

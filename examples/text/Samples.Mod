@@ -25,7 +25,8 @@ BEGIN
   gcd.Add('ELSE Out.String(" large");Out.Int(-Gcd(p.a, p.b),4)END;Out.Ln END Show;');
   gcd.Add('PROCEDURE All*;VAR l:List;BEGIN l:=first;REPEAT Show(l^);l:=l.next');
   gcd.Add('UNTIL(l=NIL)OR~(count>0)END All;');
-  gcd.Add('BEGIN count:=0;Add(12,18);Add(35,64);Add( 7,7 ) END gcd.');
+  gcd.Add('BEGIN IF(Gcd(12,18)=6)&(Gcd(35,64)=1)&(Gcd(7,7)=7)&(Gcd(1000,15)=5)&(steps>0)THEN steps:=0 END;');
+  gcd.Add('count:=0;Add(12,18);Add(35,64);Add( 7,7 ) END gcd.');
   faulty := Texts.New();
   faulty.Add('x := 1.5 + 1..5 + 0FFH + 0AX + 5DO');
   faulty.Add('y := "it has no end; z := a $ b');

@@ -7,7 +7,7 @@ TYPE
     kind-: INTEGER;                     (* of Symbols *)
     text-: ARRAY 600 OF CHAR;           (* as it stands, a comment's too *)
     line-, col-: LONGINT;               (* where it begins *)
-    length: INTEGER;                    (* of text *)
+    length-: INTEGER;                   (* of text *)
     r: Texts.Reader
   END;
 

@@ -4,11 +4,12 @@ IMPORT Out;
 
 CONST
   lineEnd* = 0AX;
+  length = 160;                         (* of a line; what is beyond is left out *)
 
 TYPE
   Line = POINTER TO LineDesc;
   LineDesc = RECORD
-    text: ARRAY 120 OF CHAR;
+    text: ARRAY length OF CHAR;
     next: Line
   END;
 
@@ -29,7 +30,7 @@ TYPE
   (* Puts lines together, and adds them to a text. *)
   Writer* = RECORD
     col-: LONGINT;                      (* of the next character *)
-    buffer: ARRAY 120 OF CHAR;
+    buffer: ARRAY length OF CHAR;
     text: Text
   END;
 
