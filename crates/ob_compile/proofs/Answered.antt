@@ -3,11 +3,12 @@ use Rattle.std.proofs.Common.{Result, Ok, Err, IfOk, subst}
 use Rattle.std.specs.Prelude.{IsErrOf}
 use Rattle.ob_tree.specs.declared.print.Print.{Print}
 use Rattle.ob_sym.specs.Grammar.{face as face_form}
-use Rattle.ob_compile.specs.declared.shape.Built.{Built}
+use Rattle.ob_compile_trait.specs.declared.shape.Built.{Built}
 use Rattle.ob_compile_model.specs.declared.fault.CompileFault.{CompileFault}
 use Rattle.ob_compile_model.specs.declared.fault.CompileFault.TheVariants as fault
 use Rattle.ob_compile_model.specs.Compiling.{Refusal, Compiled}
-use Rattle.ob_compile.specs.Contract.{AreFile, Compiles, Makes}
+use Rattle.ob_compile_trait.specs.Contract.{AreFile, Compiles}
+use Rattle.ob_compile.specs.Steps.{Makes}
 
 -- it is answered as it is
 pub made_compiles : (a : Result (Compiled Print) (Refusal Print)) (r : Result Built CompileFault) → Makes a r → Compiles a r

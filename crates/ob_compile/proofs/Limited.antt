@@ -12,13 +12,12 @@ use Rattle.ob_scheme.specs.Numbers.{nothing_named}
 use Rattle.ob_scheme.specs.Procedures.{module_code}
 use Rattle.ob_scheme.specs.Object.{own_words}
 use Rattle.ob_scheme.proofs.Appends.{instrs_length}
-use Rattle.ob_compile.specs.declared.shape.Built.{Built}
+use Rattle.ob_compile_trait.specs.declared.shape.Built.{Built}
 use Rattle.ob_compile_model.specs.declared.fault.CompileRefusal.TheVariants as refusal
 use Rattle.ob_compile_model.specs.declared.fault.CompileFault.{CompileFault}
 use Rattle.ob_compile_model.specs.declared.fault.CompileFault.TheVariants as fault
 use Rattle.ob_compile_model.specs.Compiling.{Compiled, within, or_first, exceeded, most_code, limit_of_code, limit_of_files, object_by, object_with, object_bytes, symbol_bytes, interface_by, prints}
-use Rattle.ob_compile.specs.Contract.{Makes}
-use Rattle.ob_compile.specs.Steps.{short_code}
+use Rattle.ob_compile.specs.Steps.{short_code, Makes}
 
 pub over : (c : Compiled Print) (o : Option Which) (w : Which) (f : CompileFault) → o ≡ Some w → f ≡ fault.Refused (refusal.Limit w) → Makes (within c o) (Err f)
 over c o w f e is = subst (λ (x : CompileFault). Makes (within c o) (Err x)) (sym is) (subst (λ (p : Option Which). Makes (within c p) (Err (fault.Refused (refusal.Limit w)))) (sym e) refl)

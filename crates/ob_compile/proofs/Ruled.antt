@@ -15,10 +15,10 @@ use Rattle.ob_env.specs.Faces.{faces_of}
 use Rattle.ob_env.specs.Answer.{Stands}
 use Rattle.ob_env.specs.Shown.{shown}
 use Rattle.ob_env.specs.Building.{stands_as}
-use Rattle.ob_compile.specs.declared.shape.Built.{Built}
+use Rattle.ob_compile_trait.specs.declared.shape.Built.{Built}
 use Rattle.ob_compile_model.specs.declared.fault.CompileFault.{CompileFault}
 use Rattle.ob_compile_model.specs.Compiling.{of_standing, of_faces, unless_deep, is_deep, and_limits, of_break, within, exceeds, made, prints}
-use Rattle.ob_compile.specs.Contract.{Makes}
+use Rattle.ob_compile.specs.Steps.{Makes}
 use Rattle.ob_compile.specs.Ruled.{IsChecked}
 
 pub stands : (tree : Tree) (is env : List Interface) (r : Result Built CompileFault) → stands_as is ≡ Stands (faces_of is) → env ≡ is → Makes (of_faces prints (faces_of env) tree) r → Makes (of_standing prints tree (stands_as is)) r

@@ -15,13 +15,12 @@ use Rattle.ob_obj.specs.declared.parts.Export.{Export}
 use Rattle.ob_obj.specs.declared.file.ObjFile.{ObjFile}
 use Rattle.ob_scheme.specs.Needs.{has_few_operands, has_short_code}
 use Rattle.ob_scheme.specs.Object.{object_file}
-use Rattle.ob_compile.specs.declared.shape.Built.{Built}
+use Rattle.ob_compile_trait.specs.declared.shape.Built.{Built}
 use Rattle.ob_compile_model.specs.declared.fault.CompileRefusal.TheVariants as refusal
 use Rattle.ob_compile_model.specs.declared.fault.CompileFault.{CompileFault}
 use Rattle.ob_compile_model.specs.declared.fault.CompileFault.TheVariants as fault
 use Rattle.ob_compile_model.specs.Compiling.{within, exceeded, exceeds, limit_of_operands, limit_of_code, exports_of, object_with, interface_by, prints}
-use Rattle.ob_compile.specs.Contract.{Makes}
-use Rattle.ob_compile.specs.Steps.{compiled_of, short_code}
+use Rattle.ob_compile.specs.Steps.{compiled_of, short_code, Makes}
 use Rattle.ob_compile.proofs.Limited.{over_first, then_more}
 use Rattle.ob_compile.proofs.Facing.{objects_are}
 

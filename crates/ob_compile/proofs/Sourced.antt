@@ -9,12 +9,12 @@ use Rattle.ob_io.specs.declared.traits.FolderFault.{FolderFault}
 use Rattle.ob_io.specs.declared.traits.FolderFault.TheVariants as folder
 use Rattle.ob_parse_grammar.specs.TextReading.{reading}
 use Rattle.ob_env_walk.specs.Walk.{symbol_entry}
-use Rattle.ob_compile.specs.declared.shape.Built.{Built}
+use Rattle.ob_compile_trait.specs.declared.shape.Built.{Built}
 use Rattle.ob_compile_model.specs.declared.fault.CompileRefusal.TheVariants as refusal
 use Rattle.ob_compile_model.specs.declared.fault.CompileFault.{CompileFault}
 use Rattle.ob_compile_model.specs.declared.fault.CompileFault.TheVariants as fault
 use Rattle.ob_compile_model.specs.Compiling.{Refusal, Long, Compiled, compiled, of_short, of_reading, prints}
-use Rattle.ob_compile.specs.Contract.{Compiles}
+use Rattle.ob_compile_trait.specs.Contract.{Compiles}
 use Rattle.ob_compile.specs.Steps.{Sources}
 
 short : (b : Bool) → b ≡ true → (r : Result (Compiled Print) (Refusal Print)) → of_short b r ≡ r

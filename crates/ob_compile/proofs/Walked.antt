@@ -11,13 +11,13 @@ use Rattle.ob_env.specs.Faces.{faces_of}
 use Rattle.ob_env.specs.Building.{stands_as}
 use Rattle.ob_env_walk.specs.Walk.{Entry, Walked, Left, walk}
 use Rattle.ob_env_walk.specs.Answer.{after_walk}
-use Rattle.ob_compile.specs.declared.shape.Built.{Built}
+use Rattle.ob_compile_trait.specs.declared.shape.Built.{Built}
 use Rattle.ob_compile_model.specs.declared.fault.CompileRefusal.TheVariants as refusal
 use Rattle.ob_compile_model.specs.declared.fault.CompileFault.{CompileFault}
 use Rattle.ob_compile_model.specs.declared.fault.CompileFault.TheVariants as fault
 use Rattle.ob_compile_model.specs.Compiling.{Refusal, Compiled, of_few, of_tree, of_reading, of_reached, of_standing, prints}
-use Rattle.ob_compile.specs.Contract.{Compiles, Makes}
-use Rattle.ob_compile.specs.Steps.{stood}
+use Rattle.ob_compile_trait.specs.Contract.{Compiles}
+use Rattle.ob_compile.specs.Steps.{stood, Makes}
 use Rattle.ob_compile.proofs.Answered.{made_compiles}
 
 pub whole : (tree : Tree) (w : Walked Print) (is : List Interface) (r : Result Built CompileFault) → w ≡ Left (faces_of is) → Makes (of_standing prints tree (stands_as is)) r → Compiles (of_reached prints tree (after_walk stood w)) r

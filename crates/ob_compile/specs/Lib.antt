@@ -1,4 +1,3 @@
-pub mod Contract
 pub mod Steps
 pub mod Ruled
 pub mod Showing

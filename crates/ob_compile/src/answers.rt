@@ -11,8 +11,8 @@ ghost use Rattle.ob_env_walk.specs.Walk.{Walked, Entry};
 ghost use Rattle.ob_env_walk.specs.Walking.{StopsAs};
 ghost use Rattle.ob_env_walk.specs.Answer.{after_walk};
 ghost use Rattle.ob_compile_model.specs.Compiling.{Unread, of_reading, of_reached, of_standing, prints};
-ghost use Rattle.ob_compile.specs.Contract.{Compiles, Makes};
-ghost use Rattle.ob_compile.specs.Steps.{stood};
+ghost use Rattle.ob_compile_trait.specs.Contract.{Compiles};
+ghost use Rattle.ob_compile.specs.Steps.{stood, Makes};
 
 use ob_compile_model::{CompileFault, CompileRefusal};
 use ob_env::EnvFault;

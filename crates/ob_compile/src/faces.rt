@@ -10,15 +10,15 @@ ghost use Rattle.ob_env_walk.specs.Walk.{symbol_entry, walk as walking};
 ghost use Rattle.ob_env_walk.specs.Answer.{after_walk};
 ghost use Rattle.ob_env.specs.Faces.{faces_of};
 ghost use Rattle.ob_compile_model.specs.Compiling.{of_reading, of_tree, of_reached, of_standing, of_faces, prints, imported};
-ghost use Rattle.ob_compile.specs.Contract.{AreFile, Compiles, Makes, CompileHasCause};
-ghost use Rattle.ob_compile.specs.Steps.{stood};
+ghost use Rattle.ob_compile_trait.specs.Contract.{AreFile, Compiles, CompileHasCause};
+ghost use Rattle.ob_compile.specs.Steps.{stood, Makes};
 
 use crate::answers::{fault_of_env, fault_of_text, fault_of_walk, over_limit};
 use crate::compiler::Compiler;
 use crate::held::SourceTree;
 use crate::rules::judged;
-use crate::shape::Built;
 use ob_compile_model::CompileFault;
+use ob_compile_trait::Built;
 use ob_env::{Env, EnvFault};
 use ob_env_coherent::CoherentEnv;
 use ob_env_files::SymbolFile;

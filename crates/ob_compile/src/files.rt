@@ -7,12 +7,13 @@ ghost use Rattle.ob_obj.specs.Grammar.{file as file_form};
 ghost use Rattle.ob_obj_spelling.specs.Prints.{AllHavePrints};
 ghost use Rattle.ob_env_walk.specs.Walk.{file_limit};
 ghost use Rattle.ob_compile_model.specs.Compiling.{Compiled, within, limit_of_files, object_by, object_bytes, symbol_bytes, interface_by, prints};
-ghost use Rattle.ob_compile.specs.Contract.{AreFile, Makes};
+ghost use Rattle.ob_compile_trait.specs.Contract.{AreFile};
+ghost use Rattle.ob_compile.specs.Steps.{Makes};
 
 use crate::answers::over_limit;
 use crate::held::ShownFace;
-use crate::shape::Built;
 use ob_compile_model::CompileFault;
+use ob_compile_trait::Built;
 use ob_env_files::SymbolFile;
 use ob_obj::{ObjFile, write_obj};
 use ob_obj_spelling::{has_object_file, has_symbol_file};
@@ -24,8 +25,9 @@ use std::alloc::{AllocError, Global};
 /// The most bytes of a file.
 const MOST_BYTES: usize = 16_777_216;
 
-// The bytes of an object file. What a compile makes has a spelling; no law says so yet, so it is
-// asked, and where it had none this would answer want of memory.
+// The bytes of an object file. Whether it has a spelling is asked, and where it had none this would
+// answer want of memory. That does not come: what a compile makes has a spelling, by a law of builds
+// (`written` of law_headline), on which this code does not stand.
 fn object_bytes(alloc: Global, file: &ObjFile) -> Result<Text, AllocError>
     ensures text { IfOk result (λ text. text ≡ file_form.spell file.now) }
     ensures fits { OnOk result (file_form.fits file.now) }
@@ -37,8 +39,8 @@ fn object_bytes(alloc: Global, file: &ObjFile) -> Result<Text, AllocError>
     write_obj(alloc, file)
 }
 
-// The bytes of a symbol file. What a compile makes has a spelling; no law says so yet, so it is
-// asked, and where it had none this would answer want of memory.
+// The bytes of a symbol file. Whether it has a spelling is asked, and where it had none this would
+// answer want of memory. That does not come either, by the same law.
 fn symbol_bytes(alloc: Global, face: &Interface) -> Result<Text, AllocError>
     requires { AllHavePrints face.now }
     ensures text { IfOk result (λ text. text ≡ face_form.spell face.now) }

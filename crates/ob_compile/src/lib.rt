@@ -10,10 +10,8 @@ mod held;
 mod limits;
 mod prints;
 mod rules;
-mod shape;
 mod shown;
 mod source;
 
 pub use compiler::Compiler;
 pub use compiling::compile;
-pub use shape::Built;

@@ -8,16 +8,15 @@ ghost use Rattle.ob_types.specs.declared.desc.Desc.{Desc};
 ghost use Rattle.ob_types.specs.TypedView.{module_view};
 ghost use Rattle.ob_scheme.specs.Needs.{has_few_operands as few_operands};
 ghost use Rattle.ob_compile_model.specs.Compiling.{within, exceeds, exceeded, limit_of_operands, limit_of_code, object_with, prints};
-ghost use Rattle.ob_compile.specs.Contract.{Makes};
-ghost use Rattle.ob_compile.specs.Steps.{compiled_of, short_code};
+ghost use Rattle.ob_compile.specs.Steps.{compiled_of, short_code, Makes};
 ghost use Rattle.ob_compile.specs.Showing.{IsShown};
 
 use crate::answers::over_limit;
 use crate::files::written;
 use crate::held::{ObjectFile, ShownFace};
-use crate::shape::Built;
 use crate::shown::{copy_uses, exports_of, shown};
 use ob_compile_model::CompileFault;
+use ob_compile_trait::Built;
 use ob_env::{Env, View};
 use ob_gexpr_code::GenFault;
 use ob_gproc::object_file;

@@ -8,14 +8,14 @@ ghost use Rattle.ob_layout.specs.LaidOut.{laid_out};
 ghost use Rattle.ob_env.specs.Faces.{faces_of, described};
 ghost use Rattle.ob_env.specs.Shown.{shown};
 ghost use Rattle.ob_compile_model.specs.Compiling.{of_faces, unless_deep, is_deep, and_limits, of_break, of_checked, made as made_by, prints};
-ghost use Rattle.ob_compile.specs.Contract.{Makes};
+ghost use Rattle.ob_compile.specs.Steps.{Makes};
 ghost use Rattle.ob_compile.specs.Ruled.{IsChecked};
 
 use crate::answers::over_limit;
 use crate::limits::measured;
-use crate::shape::Built;
 use ob_cmodule::{Checked, check_module};
 use ob_compile_model::{CompileFault, CompileRefusal};
+use ob_compile_trait::Built;
 use ob_env::Env;
 use ob_env_shown::{BlankRecords, Shown};
 use ob_layout_module::lay_out;

@@ -2,7 +2,7 @@
 
 ghost use Rattle.std.specs.Prelude.{◌≡◌, true, IfOk};
 ghost use Rattle.ob_io.specs.Io.{SameFiles};
-ghost use Rattle.ob_compile.specs.Contract.{CompileHasCause};
+ghost use Rattle.ob_compile_trait.specs.Contract.{CompileHasCause};
 ghost use Rattle.ob_compile.specs.Steps.{Sources, IsShort};
 
 use ob_compile_model::{CompileFault, CompileRefusal};

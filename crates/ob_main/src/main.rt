@@ -2,7 +2,7 @@
 #![tactic(auto)]
 
 use ob_real::{RealFolder, RealSink, RealSource};
-use ob_shell_session::session;
+use ob_shell::session;
 use std::io::{BufWriter, ErrorKind};
 use std::process::ExitCode;
 use std::{env, io};

@@ -15,8 +15,8 @@ use Rattle.ob_cmp.specs.Verdicts.{compiled_text}
 use Rattle.ob_link.specs.Files.{Files, object_file_name}
 use Rattle.ob_compile_model.specs.Compiling as compile
 use Rattle.ob_compile_model.specs.Compiling.{Compiled}
-use Rattle.ob_compile.specs.Contract.{IsBuilt, IsRefused, answered, unread, stopped, stale, built}
-use Rattle.ob_compile.specs.declared.shape.Built.{Built}
+use Rattle.ob_compile_trait.specs.Contract.{IsBuilt, IsRefused, answered, unread, stopped, stale, built}
+use Rattle.ob_compile_trait.specs.declared.shape.Built.{Built}
 use Rattle.ob_compile_model.specs.declared.fault.CompileRefusal.{CompileRefusal}
 use Rattle.ob_shell_reports.specs.declared.stop.Stop.{Stop}
 use Rattle.ob_shell_reports.specs.Prints.{PrintDoes}

@@ -14,8 +14,8 @@ ghost use Rattle.ob_shell_model.specs.Files.{stood, sym_file};
 
 use crate::counting::count_objects;
 use crate::files::{object_file, read_symbols, symbol_file};
-use ob_compile::{Built, Compiler};
 use ob_compile_model::CompileFault;
+use ob_compile_trait::{Built, Compile};
 use ob_io::{Failed, Folder, Sink};
 use ob_shell_reports::{Counts, Stop, put_compiled, refuse_compile};
 use std::alloc::Global;
@@ -117,10 +117,10 @@ fn put_built<F: Folder, O: Sink>(
 
 /// Compiles a file: replaces the module's object file and then its symbol file, and counts its
 /// objects against the symbol file that stood there.
-pub fn do_compile<F: Folder, O: Sink>(
+pub fn do_compile<F: Folder, C: Compile, O: Sink>(
     alloc: Global,
     folder: &mut F,
-    compiler: &mut Compiler,
+    compiler: &mut C,
     file: &str,
     out: &mut O,
 ) -> Result<bool, Stop>

@@ -13,8 +13,8 @@ ghost use Rattle.ob_shell_session.specs.Does.{Shows, TextDoes, MakesSo, AreFew};
 use crate::commanding::do_command;
 use crate::files::{object_file, symbol_file};
 use itoa::Buffer;
-use ob_compile::{Built, Compiler};
 use ob_compile_model::CompileFault;
+use ob_compile_trait::{Built, Compile};
 use ob_demo::source;
 use ob_io::{Folder, MemFolder, Sink};
 use ob_load::System;
@@ -74,10 +74,10 @@ fn source_file(alloc: Global, at: u32) -> Result<Vec<u8>, AllocError>
 }
 
 // Compiles a file. It answers the number of the module's objects; none where it is refused.
-fn make_file(
+fn make_file<C: Compile>(
     alloc: Global,
     folder: &mut MemFolder,
-    compiler: &mut Compiler,
+    compiler: &mut C,
     file: &str,
 ) -> Result<Option<u32>, AllocError>
     ensures makes { IfOk result (MakesSo (made_of (file_in folder.old.pairs) (compiled_file (file_in folder.old.pairs) file.now)) (file_in folder.new.pairs)) }
@@ -96,12 +96,12 @@ fn make_file(
 
 // Makes module `at` of `count`.
 #[tactic(auto, using(crate::proofs::Demos::one_made))]
-fn make_one(
+fn make_one<C: Compile>(
     alloc: Global,
     count: u32,
     at: u32,
     folder: &mut MemFolder,
-    compiler: &mut Compiler,
+    compiler: &mut C,
 ) -> Result<Option<u32>, AllocError>
     requires first { 1 ≤ at }
     requires last { at ≤ count }
@@ -120,11 +120,11 @@ fn make_one(
 }
 
 // Makes all modules of a demo, in an empty folder.
-fn make_all(
+fn make_all<C: Compile>(
     alloc: Global,
     count: u32,
     folder: &mut MemFolder,
-    compiler: &mut Compiler,
+    compiler: &mut C,
 ) -> Result<Option<u32>, AllocError>
     requires empty { folder.old.pairs ≡ [] }
     requires few { count ≤ 60 }
@@ -237,11 +237,11 @@ fn run_last<O: Sink>(
 
 /// Compiles the modules of a demo in an empty folder in memory, and runs the last one's command in
 /// a fresh system with these settings.
-pub fn do_demo<O: Sink>(
+pub fn do_demo<C: Compile, O: Sink>(
     alloc: Global,
     settings: Settings,
     count: u32,
-    compiler: &mut Compiler,
+    compiler: &mut C,
     out: &mut O,
 ) -> Result<bool, Stop>
     requires first { 1 ≤ count }

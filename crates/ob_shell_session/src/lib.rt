@@ -1,4 +1,4 @@
-//! The session: what the program does.
+//! The lines of a script, with whatever compiles: what a session does by the bytes of files.
 #![tactic(auto)]
 
 mod commanding;
@@ -13,4 +13,4 @@ mod saying;
 mod script;
 
 pub use ob_shell_reports::Stop;
-pub use script::session;
+pub use script::do_all;

@@ -10,7 +10,7 @@ use crate::comparing::{do_check, do_compare, do_show};
 use crate::compiling::do_compile;
 use crate::demo::do_demo;
 use crate::saying::do_unknown;
-use ob_compile::Compiler;
+use ob_compile_trait::Compile;
 use ob_io::{Folder, Sink};
 use ob_load::System;
 use ob_shell_lines::{LineWords, words_of};
@@ -19,12 +19,12 @@ use ob_words::Settings;
 use std::alloc::Global;
 
 /// Does the line with this number. It answers whether the line was refused, unknown or stopped.
-pub fn do_line<F: Folder, O: Sink>(
+pub fn do_line<F: Folder, C: Compile, O: Sink>(
     alloc: Global,
     settings: Settings,
     system: &mut System,
     folder: &mut F,
-    compiler: &mut Compiler,
+    compiler: &mut C,
     n: u32,
     line: &[u8],
     out: &mut O,

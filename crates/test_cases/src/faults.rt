@@ -2,7 +2,7 @@
 
 use crate::files::{Change, Files};
 use ob_io::{MemSink, MemSource};
-use ob_shell_session::session;
+use ob_shell::session;
 use std::alloc::{AllocError, Global};
 
 /// Room for what a session writes, in bytes.

@@ -3,7 +3,7 @@ use Rattle.ob_types.specs.declared.face.Interface.{Interface}
 use Rattle.ob_env.specs.Building.{stands_as}
 use Rattle.ob_env.specs.Faces.{faces_of}
 use Rattle.ob_compile_model.specs.Compiling.{of_faces, prints}
-use Rattle.ob_compile.specs.Contract.{Makes}
+use Rattle.ob_compile.specs.Steps.{Makes}
 use Rattle.ob_compile.proofs.Ruled.{stands}
 use Rattle.ob_compile.proofs.faces.compile_over.Goals as goal
 

@@ -3,7 +3,7 @@ use Rattle.ob_env_walk.specs.Walk.{symbol_entry}
 use Rattle.ob_env.specs.Faces.{face_of}
 use Rattle.ob_link.specs.Files.{Files}
 use Rattle.ob_compile_model.specs.Compiling.{compiled, prints}
-use Rattle.ob_compile.specs.Contract.{Compiles, IsBuilt, IsRefused}
+use Rattle.ob_compile_trait.specs.Contract.{Compiles, IsBuilt, IsRefused}
 use Rattle.ob_compile_model.specs.declared.fault.CompileFault.{CompileFault}
 use Rattle.ob_compile_model.specs.declared.fault.CompileRefusal.{CompileRefusal}
 use Rattle.ob_shell_reports.specs.Prints.{PrintDoes}

@@ -6,7 +6,7 @@ use Rattle.ob_shell_session.proofs.Demos.{starts, goes_on}
 use Rattle.ob_shell_session.proofs.demo.make_all.Goals as goal
 
 pub modules-init : goal.modules-init
-modules-init c =
+modules-init g c =
     let all : c.args.count ≡ c.args.count + 1 - 1 = omega arith in (
       omega arith,
       omega arith,
@@ -15,7 +15,7 @@ modules-init c =
     )
 
 pub modules-preserved : goal.modules-preserved
-modules-preserved c =
+modules-preserved g c =
     let i = c.modules.invariant in
     let some = i.2 in
     let t = c.modules-test.true in

@@ -4,14 +4,14 @@ use Rattle.ob_shell_session.proofs.Demos.{few_objects}
 use Rattle.ob_shell_session.proofs.demo.make_file.Goals as goal
 
 pub overflow_cast-result : goal.overflow_cast-result
-overflow_cast-result c =
+overflow_cast-result g c =
     let f : length c.in-Ok.built.face.objects ≤ 4096 = few_objects c.in-Ok.built.face c.in-Ok.ensures.fits in
     let e : length c.face.result.now.objects ≡ length c.in-Ok.built.face.objects = ap (λ (i : Interface). length i.objects) c.face.ensures in
     let l = c.len.ensures in
     omega (arith, f, e, l)
 
 pub returns-in-Ok-clause-few : goal.returns-in-Ok-clause-few
-returns-in-Ok-clause-few c =
+returns-in-Ok-clause-few g c =
     let f : length c.in-Ok.built.face.objects ≤ 4096 = few_objects c.in-Ok.built.face c.in-Ok.ensures.fits in
     let e : length c.face.result.now.objects ≡ length c.in-Ok.built.face.objects = ap (λ (i : Interface). length i.objects) c.face.ensures in
     let l = c.len.ensures in

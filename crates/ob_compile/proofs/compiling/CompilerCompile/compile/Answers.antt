@@ -3,7 +3,7 @@ use Rattle.ob_env_walk.specs.Walk.{symbol_entry}
 use Rattle.ob_compile_model.specs.declared.fault.CompileFault.TheVariants as fault
 use Rattle.ob_compile.proofs.Sourced.{then_text}
 use Rattle.ob_compile.proofs.Walked.{same_fault}
-use Rattle.ob_compile.proofs.compiler.Compiler.compile.Goals as goal
+use Rattle.ob_compile.proofs.compiling.CompilerCompile.compile.Goals as goal
 
 pub returns-in-Ok-clause-compiles : goal.returns-in-Ok-clause-compiles
 returns-in-Ok-clause-compiles g c = λ told.

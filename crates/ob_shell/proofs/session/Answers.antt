@@ -5,7 +5,7 @@ use Rattle.ob_shell_input.specs.Reading.{ended}
 use Rattle.law_session.proofs.Held.{whole_so, lines_so}
 use Rattle.law_session.proofs.Chosen.{settings_in}
 use Rattle.law_headline.proofs.Whole.{promised}
-use Rattle.ob_shell_session.proofs.script.session.Goals as goal
+use Rattle.ob_shell.proofs.session.Goals as goal
 
 abbrev is_some : Option Settings → Bool
 is_some None = false

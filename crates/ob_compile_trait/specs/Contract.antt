@@ -1,4 +1,4 @@
--- What a call of compile answers.
+-- What a call of `compile` answers.
 use Rattle.std.specs.Prelude.{◌≡◌, ℕ, ◌≤◌, List, Option, Some, None, Result, Ok, Err, IsErrOf}
 use Rattle.ob_tree.specs.declared.print.Print.{Print}
 use Rattle.ob_io.specs.Io.{Rose}
@@ -8,10 +8,9 @@ use Rattle.ob_tree.specs.declared.which.Which.TheVariants as which
 use Rattle.ob_env.specs.Stale.{Found, StaleUse, AsWanted, IsAbsent, IsChanged}
 use Rattle.ob_env_walk.specs.Walk.{Walked, Left, NoInterface, Damaged, Cycle, TooMany}
 use Rattle.ob_parse_grammar.specs.TextReading.{NoModule, Scan, Parse}
-use Rattle.ob_sym.specs.Grammar.{face as face_form}
 use Rattle.ob_obj.specs.declared.file.ObjFile.{ObjFile}
 use Rattle.ob_obj.specs.Grammar.{file as file_form}
-use Rattle.ob_compile.specs.declared.shape.Built.{Built}
+use Rattle.ob_compile_trait.specs.declared.shape.Built.{Built}
 use Rattle.ob_compile_model.specs.declared.fault.CompileRefusal.{CompileRefusal}
 use Rattle.ob_compile_model.specs.declared.fault.CompileRefusal.TheVariants as refusal
 use Rattle.ob_compile_model.specs.declared.fault.CompileFault.{CompileFault}
@@ -73,13 +72,6 @@ Compiles answer (Err fault.Memory) = Unit {0}
 -- bytes that are an object file, which they read back to
 abbrev pub AreFile : List ℕ → Type 0
 AreFile bytes = (o : ObjFile) × file_form.fits o × (bytes ≡ file_form.spell o)
-
--- so is what needs no folder, which is then never named; the interface and the object file that it makes have a spelling
-abbrev pub Makes : Result (Compiled Print) (Refusal Print) → Result Built CompileFault → Type 0
-Makes answer (Ok b) = IsBuilt answer b × face_form.fits b.face × AreFile b.obj
-Makes answer (Err (fault.Refused s)) = IsRefused answer s
-Makes answer (Err fault.Folder) = ⊥
-Makes answer (Err fault.Memory) = Unit {0}
 
 -- The folder is named only where its count rose, and the count never falls.
 pub record CompileHasCause {T : Type 0} (before now : ℕ) (result : Result T CompileFault) : Type 0 where
