@@ -6,7 +6,7 @@ from obtext import BASIC, PREDECLARED, RESERVED
 
 # What each rule is about, by its name in docs/RULES.md: the only place here that knows these names.
 TOPICS = {
-    "1": "twice", "2": "unknown", "3": "kind", "4": "ending", "6": "mark", "7": "leftout", "8": "outer", "9": "number",
+    "1": "twice", "2": "unknown", "3": "kind", "4": "ending", "5": "taken", "6": "mark", "7": "leftout", "8": "outer", "9": "number",
     "10": "constant", "11": "trapping", "12": "length", "13": "openarray", "14": "base", "15": "pointerbase",
     "17": "result", "18": "forward", "19": "receiver", "20": "redefined", "21": "operands", "22": "selector",
     "23": "test", "24": "count", "25": "parameter", "26": "readonly", "27": "statement", "28": "predeclared",
@@ -145,7 +145,7 @@ def joined(tokens):
     """Symbols as a text that can be read."""
     text = ""
     for token in tokens:
-        tight = not text or token.text in (".", ",", ";", ")", "]", ":", "^") or text[-1] in ".([^"
+        tight = not text or token.text in (".", ",", ";", ")", "[", "]", ":", "^") or text[-1] in ".([^"
         text += token.text if tight else " " + token.text
     return text
 
@@ -158,7 +158,7 @@ def imports_of(tokens):
             return found
         at += 1
     stop = index_of(tokens, at, (";",))
-    names = [token for token in tokens[at + 1:stop]]
+    names = tokens[at + 1:stop]
     for place, token in enumerate(names):
         if token.kind == "word" and (place == 0 or names[place - 1].text != ":="):
             renamed = place + 2 < len(names) and names[place + 1].text == ":="
@@ -338,8 +338,8 @@ def deep_hint(place):
 
 def syntax_hint(place):
     """Where no module goes on with the symbol: the first of these that finds something."""
-    for look in (_end_hint, _pair_hint, _sign_hint, _word_hint, _operand_hint, _assign_hint, _order_hint, _heading_hint, _relation_hint,
-                 _array_hint, _keyword_missing_hint, _closing_hint, _begin_hint, _semicolon_hint):
+    for look in (_end_hint, _pair_hint, _sign_hint, _word_hint, _operand_hint, _assign_hint, _order_hint, _heading_hint,
+                 _relation_hint, _array_hint, _keyword_missing_hint, _closing_hint, _begin_hint, _semicolon_hint):
         found = look(place)
         if found:
             return found
@@ -576,6 +576,15 @@ def _semicolon_hint(place):
     return "a ; is missing in front of it"
 
 
+# ---- a hint for a trap ----
+
+def nil_name(place):
+    """What is NIL where a dereference traps, as it stands in the source; None where that is not told."""
+    if place.is_exact and place.text() in (".", "^", "[") and place.index > 0:
+        return joined(place.tokens[_designator_start(place.tokens, place.index):place.index])
+    return None
+
+
 # ---- hints for rules ----
 
 def rule_hint(topic, place):
@@ -629,6 +638,10 @@ def _ending(place):
     if last and last.name:
         return "%s ends with END %s" % (block_text(last), last.name)
     return None
+
+
+def _taken(place):
+    return "the name is taken: Out is built in, and there is no SYSTEM"
 
 
 def _mark(place):
@@ -948,7 +961,7 @@ def _super(place):
 
 
 LOOKS = {
-    "unknown": _unknown, "kind": _kind, "ending": _ending, "mark": _mark, "leftout": _leftout, "outer": _outer,
+    "unknown": _unknown, "kind": _kind, "ending": _ending, "taken": _taken, "mark": _mark, "leftout": _leftout, "outer": _outer,
     "number": _number, "constant": _constant, "openarray": _openarray, "base": _base, "pointerbase": _pointerbase,
     "result": _result, "receiver": _receiver, "redefined": _redefined, "operands": _operands, "selector": _selector,
     "test": _test, "count": _count, "parameter": _parameter, "readonly": _readonly, "statement": _statement,

@@ -4,6 +4,7 @@ import os
 import re
 import shutil
 import subprocess
+import sys
 import unicodedata
 
 RESERVED = frozenset(
@@ -216,6 +217,15 @@ def read_bytes(path, limit=None):
             return file.read()
     except OSError:
         return None
+
+
+def write_out(text):
+    """Writes to standard output, in UTF-8 wherever it goes; a reader that has gone is no fault."""
+    try:
+        sys.stdout.buffer.write(text.encode("utf-8", "replace"))
+        sys.stdout.buffer.flush()
+    except BrokenPipeError:
+        os.dup2(os.open(os.devnull, os.O_WRONLY), 1)
 
 
 # ---- the tables of docs/RULES.md ----

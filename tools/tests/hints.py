@@ -170,6 +170,7 @@ RULES = [
     ("variable as a type", "rule 3", part("VAR x: LONGINT; y: @x;"), OFTEN),
     ("name behind END", "rule 4", part("PROCEDURE P;\nEND @Q;"), "the PROCEDURE P of line 2 ends with END P"),
     ("name behind the module's END", "rule 4", "MODULE M;\nEND @N.\n", "the MODULE M of line 1 ends with END M"),
+    ("SYSTEM", "rule 5", "MODULE M; IMPORT @SYSTEM;\nEND M.\n", "the name is taken: Out is built in, and there is no SYSTEM"),
     ("mark inside", "rule 6", part("PROCEDURE P;\n  VAR x@*: LONGINT;\nEND P;"),
      "what stands inside a procedure is not exported: leave the mark out"),
     ("mark - on a type", "rule 6", part("TYPE T@- = RECORD END;"), "- stands behind variables and fields of a module alone: write *"),
