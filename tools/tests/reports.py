@@ -337,6 +337,9 @@ def stale_cases(bench):
              load + "hint: K is up to date with the files; %s\n" % session),
             ("compiled and refused", "compiled K: 0 objects, 0 new, 0 changed, 0 gone\nrefused K: A.c changed\n",
              load + "hint: K was compiled; %s\n" % session),
+            ("stale and refused", "check K: 1 stale\nA.c shape changed\nrefused K: A.c changed\n",
+             "K: warning: K would be refused: A.c changed\nhint: compile K.Mod again, then begin a new session\n"
+             + load + "hint: %s\n" % changed),
             ("check", "check K: 2 stale\nA.c shape changed\nA.d shape changed\n",
              "K: warning: K would be refused: A.c changed, A.d changed\nhint: compile K.Mod again, then begin a new session\n"),
             ("check of both aspects", "check K: 2 stale\nA.T shape changed\nA.T layout changed\n",
