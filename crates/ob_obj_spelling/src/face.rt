@@ -144,7 +144,8 @@ fn has_objects(alloc: Global, face: &Interface) -> Result<bool, AllocError>
 }
 
 /// Whether it is found that the interface, whose objects carry the prints of their texts, has a
-/// symbol file. What a compile makes has one; this is asked because no law says so yet.
+/// symbol file. What a compile makes has one, by a law of builds; a compile does not stand on that
+/// law, and asks.
 #[tactic(auto, using(crate::proofs::Faces::from_parts))]
 pub fn has_symbol_file(alloc: Global, face: &Interface) -> Result<bool, AllocError>
     ensures { IfOk result (λ b. AllHavePrints face.now → b ≡ true → face_form.fits face.now) }

@@ -75,8 +75,8 @@ fn is_sound(file: &ObjFile) -> bool
         && positions_are_there(file)
 }
 
-/// Whether it is found that the object file has a spelling. What a compile makes has one; this is
-/// asked because no law says so yet.
+/// Whether it is found that the object file has a spelling. What a compile makes has one, by a law of
+/// builds; a compile does not stand on that law, and asks.
 #[tactic(auto, unfolding(ob_obj::specs::Grammar::file))]
 pub fn has_object_file(alloc: Global, file: &ObjFile) -> Result<bool, AllocError>
     ensures { IfOk result (λ b. b ≡ true → file_form.fits file.now) }
