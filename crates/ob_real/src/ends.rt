@@ -1,6 +1,7 @@
 //! Where a session was cut short, and why.
 
-ghost use Rattle.std.specs.Prelude.{◌≡◌, ◌&&◌, nat_le, is_some};
+ghost use Rattle.std.specs.Prelude.{◌≡◌, ◌&&◌, nat_le, nat_lt, is_some, Some, if◌then◌else◌};
+ghost use Rattle.ob_io.specs.Held.{more};
 
 use crate::{Lost, RealFolder, RealSink, RealSource};
 use std::fmt;
@@ -68,7 +69,11 @@ pub fn cut_short<'a, R, W, F>(
     out: &RealSink<W>,
     folder: &'a RealFolder<F>,
 ) -> Option<CutShort<'a>>
-    ensures { is_some result ≡ (nat_le 3 status && nat_le status 7) }
+    ensures cut { is_some result ≡ (nat_le 3 status && nat_le status 7) }
+    ensures script { status ≡ 3 → result ≡ Some (CutShort.Line (more out.now.flushes) (Why.Script script.now.error)) }
+    ensures output { status ≡ 4 → result ≡ Some (CutShort.Line (more out.now.flushes) (Why.Output out.now.error)) }
+    ensures memory { status ≡ 5 → result ≡ Some (if nat_lt 0 script.now.given then CutShort.Line (more out.now.flushes) Why.Memory else CutShort.Start) }
+    ensures limit { status ≡ 7 → result ≡ Some (CutShort.Line (more out.now.flushes) (if nat_lt script.now.mark script.now.given then Why.LongScript else Why.LongLine)) }
 {
     let why = match status {
         3 => Why::Script(script.error()),
