@@ -26,7 +26,8 @@ use Rattle.law_simulation_calls.specs.Tables.{TablesStand, FamiliesStand}
 use Rattle.law_simulation_calls.proofs.Unbound.{unbound}
 use Rattle.law_simulation.specs.Simulates.{ImageStands, Simulates}
 use Rattle.law_simulation.specs.Slice.{AllIn, InStmts}
-use Rattle.law_simulation.proofs.Nothing.{none, none_length}
+use Rattle.law_simulation.specs.Nothing.{none}
+use Rattle.law_simulation.proofs.Nothing.{none_length}
 use Rattle.ob_instr.specs.Table.{Ends}
 use Rattle.law_simulation.specs.Sum.{add, add_name, at, begins, code, entry_at, go_name, image, k, loaded, m, named, p, program, run_it, unit, words, Example}
 

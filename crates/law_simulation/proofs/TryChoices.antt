@@ -35,7 +35,8 @@ use Rattle.ob_meaning.specs.Results.{Res, Gives, Stops}
 use Rattle.ob_meaning.specs.Meaning.{Flow}
 use Rattle.ob_meaning.specs.Operators.{padded}
 use Rattle.law_simulation.proofs.Whole.{command_simulates}
-use Rattle.law_simulation.proofs.Nothing.{none, none_length}
+use Rattle.law_simulation.specs.Nothing.{none}
+use Rattle.law_simulation.proofs.Nothing.{none_length}
 use Rattle.law_simulation_relation.specs.Linked.{Linked, ProcedureStands, TypesStand}
 use Rattle.law_simulation_relation.specs.Setting.{Setting, StandIn}
 use Rattle.law_simulation_operators.specs.Procedures.{ValuesNumbered}

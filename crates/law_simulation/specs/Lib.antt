@@ -3,3 +3,4 @@ pub mod Simulates
 pub mod Laws
 pub mod Sum
 pub mod Matching
+pub mod Nothing

@@ -29,7 +29,7 @@ use Rattle.ob_instr.specs.Image.{ModuleImage, Image, World}
 use Rattle.ob_meaning.specs.Values.{Program, State}
 use Rattle.ob_meaning.specs.Commands.{no_store, first_globals}
 use Rattle.law_simulation_relation.specs.Stands.{instr, plain, with_a}
-use Rattle.law_simulation.proofs.Nothing.{none}
+use Rattle.law_simulation.specs.Nothing.{none}
 use Rattle.ob_instr.specs.Table.{Ends}
 use Rattle.ob_instr.specs.Image.{Done}
 
