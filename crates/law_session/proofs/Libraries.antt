@@ -52,7 +52,7 @@ behind_good (c ∷ cs) ds g h = (g.0, behind_good cs ds g.1 h)
 becomes_good : (text : List ℕ) (c : Compiled Text) → IsValid (new_build text c) c → AllByRecursion IsGood (becomes text c)
 becomes_good text c v =
     let named : name_of (new_build text c) ≡ c.shows.«module» = ap (λ (x : Compiled Text). x.shows.«module») (of_is (new_build text c) c v) in
-    ((c, v, named), (c, v, named), tt)
+    ((c, v, named), ((c, v, named), tt))
 
 -- the changes are good, and the library of the world behind the line is the one after them
 abbrev IsGoodLine : World → List Change → World → Type 0
