@@ -230,6 +230,12 @@ def write_out(text):
 
 # ---- the tables of docs/RULES.md ----
 
+def alone(text):
+    """A text without what sends its reader on to another place of its page."""
+    text = re.sub(r" \(see below\)", "", text)
+    return re.sub(r"\. [^.]*see below\.?$", "", text)
+
+
 class Rules:
     """The tables of docs/RULES.md: each rule by its name, and each text of a refusal, whatever they are called."""
 
@@ -261,7 +267,7 @@ class Rules:
         if len(meanings) != len(templates):
             meanings = [cells[1]] * len(templates)
         for template, meaning in zip(templates, meanings):
-            self.texts.append((section, template, pattern_of(template), plain(meaning)))
+            self.texts.append((section, template, pattern_of(template), alone(plain(meaning))))
 
     def rule(self, name):
         """The text of a rule, or None."""
