@@ -24,11 +24,11 @@ use Rattle.ob_rules.specs.Statements.{Judging, in_turn}
 use Rattle.ob_rules.specs.Headings.{Head, Heads, Binding, types_of, head_of, name_twice, declared_head, known_behind, forwards_judged, reversed}
 use Rattle.ob_rules.specs.Declarations.{Contents, Part, Declared, Declaration, Plain, Procedure, plain_of, type_name_of, procedure_of, Written_procedure, in_order, headings_in_order, pointer_name, is_wrong, pointers_judged, is_pointer_left, field_judged, all_judged, around_body, types_of_head, procedure_judged, procedures_judged, body_part, with_bound, binding_at, heads_later, closing_judged, block}
 use Rattle.law_typing_forms.specs.Said.{IsOneOf}
-use Rattle.law_names_procedures.proofs.Judges.{Has, front_empty, rest_empty}
+use Rattle.law_names_procedures.proofs.Judges.{Has}
 use Rattle.law_names_procedures.proofs.Knowing.{AreKnown}
 use Rattle.law_local_module.proofs.Heads.{heads_of, heads_are as heads_same}
 use Rattle.law_body_context.specs.Knows.{HasName, Grows, IsDescribed, Knows}
-use Rattle.law_body_context.proofs.Lists.{one_left, one_right, one_joined, one_all, all_one, all_of, all_both}
+use Rattle.law_body_context.proofs.Lists.{one_left, one_right, one_joined, one_all, all_one, all_of}
 use Rattle.law_body_context.proofs.Standing.{Lies, lies_front, lies_behind, grows_as, stands_grown, all_grown}
 use Rattle.law_body_context.proofs.Binding.{binding_changes}
 use Rattle.law_acyclic.specs.Laws.{IsApart}
@@ -40,6 +40,7 @@ use Rattle.law_acyclic.proofs.Plain.{GoodPlain, AreDeclared, HasAll, VariableFir
 use Rattle.law_acyclic.proofs.Stand.{IsOwn, IsOther, at, held_at, shown_names}
 use Rattle.law_acyclic.proofs.Headings.{HeadsAre, IsHeadIn, heads_are, head_types, resolved, bindings_whole}
 use Rattle.law_acyclic.proofs.Pointers.{HasRight, pointers_right}
+use Rattle.law_lists.proofs.Lists.{all_both, back_empty, front_empty}
 
 no_level : (x : List ℕ) → nothing (x ++ codes "/") ≡ false
 no_level [] = refl
@@ -204,7 +205,7 @@ module _ (shown : QName → Option Desc) (unit : List ℕ) (kept : IsClosed show
         let rest = in_order (filter_map plain_of ds) a.around in
         let p = g.0 path names u k (front_empty a.part.notes.broken rest.part.notes.broken e) in
         let kp = next_place unit shown out path names u k a.part.notes.later p.made p.more p.firm p.known p.entities in
-        order_one unit shown out path names o (filter_map type_name_of ds) u a rest p (order_good ds g.1 a.around (subst (Place unit shown out path names) (sym p.around) kp) (rest_empty a.part.notes.broken rest.part.notes.broken e))
+        order_one unit shown out path names o (filter_map type_name_of ds) u a rest p (order_good ds g.1 a.around (subst (Place unit shown out path names) (sym p.around) kp) (back_empty a.part.notes.broken rest.part.notes.broken e))
 
   procedures_good : (ds : List Declaration) → AreGood ds → AllByRecursion GoodProcedure (filter_map procedure_of ds)
   procedures_good [] g = tt
@@ -222,7 +223,7 @@ module _ (shown : QName → Option Desc) (unit : List ℕ) (kept : IsClosed show
   one_adds U p g h s false e l =
       let c = p.inside (around_body U h) in
       let q = closing_judged h.name p.closing in
-      let r = g.inside (around_body U h) s.starts (no_level h.path) (rest_empty q.broken c.notes.broken (rest_empty h.notes.broken (joined q c.notes).broken e)) (λ t i. l t (one_right (types_of_head h.parameters) c.contents.types t i)) in
+      let r = g.inside (around_body U h) s.starts (no_level h.path) (back_empty q.broken c.notes.broken (back_empty h.notes.broken (joined q c.notes).broken e)) (λ t i. l t (one_right (types_of_head h.parameters) c.contents.types t i)) in
       all_both (W [] F) (types_of_head h.parameters) c.contents.types s.types r.types
 
   procedures_add : (U : Around) (ps : List Written_procedure) → AllByRecursion GoodProcedure ps → (hs : List Head) → AllByRecursion (HeadStarts U) hs → (procedures_judged U ps hs).notes.broken ≡ [] → Lies (procedures_judged U ps hs).contents.types F → AllByRecursion (W [] F) (procedures_judged U ps hs).contents.types
@@ -232,7 +233,7 @@ module _ (shown : QName → Option Desc) (unit : List ℕ) (kept : IsClosed show
       let a = procedure_judged U p h p.forward in
       let b = procedures_judged U ps hs in
       all_both (W [] F) a.contents.types b.contents.types (one_adds U p g.0 h s.0 p.forward (front_empty a.notes.broken b.notes.broken e) (λ t i. l t (one_left a.contents.types b.contents.types t i)))
-      (procedures_add U ps g.1 hs s.1 (rest_empty a.notes.broken b.notes.broken e) (λ t i. l t (one_right a.contents.types b.contents.types t i)))
+      (procedures_add U ps g.1 hs s.1 (back_empty a.notes.broken b.notes.broken e) (λ t i. l t (one_right a.contents.types b.contents.types t i)))
 
   head_types_same : (o : Option Parameters) → types_of o ≡ types_of_head o
   head_types_same None = refl
@@ -362,13 +363,13 @@ module _ (shown : QName → Option Desc) (unit : List ℕ) (kept : IsClosed show
     front = d.part.notes.broken ++ pj.broken
 
     e1 : n.broken ++ (Q.notes.broken ++ B.notes.broken) ≡ []
-    e1 = rest_empty front (n.broken ++ (Q.notes.broken ++ B.notes.broken)) e
+    e1 = back_empty front (n.broken ++ (Q.notes.broken ++ B.notes.broken)) e
 
     ef : front ≡ []
     ef = front_empty front (n.broken ++ (Q.notes.broken ++ B.notes.broken)) e
 
     eQ : Q.notes.broken ≡ []
-    eQ = front_empty Q.notes.broken B.notes.broken (rest_empty n.broken (Q.notes.broken ++ B.notes.broken) e1)
+    eQ = front_empty Q.notes.broken B.notes.broken (back_empty n.broken (Q.notes.broken ++ B.notes.broken) e1)
 
     -- the types among all
     dF : Lies d.part.contents.types F
@@ -428,7 +429,7 @@ module _ (shown : QName → Option Desc) (unit : List ℕ) (kept : IsClosed show
     told = all_both (Tells F) d.part.notes.later (heads_later hs.before) (are_told_more o.made F mF d.part.notes.later o.told) (heads_told F hs.before (all_one (λ (h : Head). AreTold F h.notes.later) hs.before (λ h i. told_head h (one_reversed hs.before h i))))
 
     fit : AllByRecursion (W [] w.own) w.own
-    fit = all_of (W L w.own) (W [] w.own) w.own (λ s i. pointers_fit w headed.0.place.knows headed.0.place.aliases L told headed.0.within (rest_empty d.part.notes.broken pj.broken ef) s i) headed.0.whole
+    fit = all_of (W L w.own) (W [] w.own) w.own (λ s i. pointers_fit w headed.0.place.knows headed.0.place.aliases L told headed.0.within (back_empty d.part.notes.broken pj.broken ef) s i) headed.0.whole
 
     all : (t : TypedType) → IsOneOf w.own t → W [] F t
     all t i = to_all w.own headed.0.within t (one_all (W [] w.own) w.own t fit i)

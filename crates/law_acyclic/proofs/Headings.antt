@@ -23,7 +23,7 @@ use Rattle.ob_rules.specs.Types.{Parameters, with_types, marked, inner}
 use Rattle.ob_rules.specs.Headings.{BoundAs, owner_of, owner_if, knows_receiver, WrittenHeading, Head, Heads, path_by, forward_name, as_parameters, heading_parameters, head_of, entity_as, head_entity, name_twice, declared_head, knows_procedure, known_behind, types_of, signature_if, signature_or_none, new_method, with_method, change_desc, changed_if, change_type, Binding, redefined, bind_method, bind_by, bind_one, bind_all, of_record, bind_records, counted, counts, reversed, bindings}
 use Rattle.ob_rules.specs.Declarations.{Written_procedure, headings_in_order, around_body, procedure_judged, procedures_judged, closing_judged, types_of_head}
 use Rattle.law_typing_forms.specs.Said.{IsOneOf}
-use Rattle.law_names_procedures.proofs.Judges.{Has, Speaks, Anything, front_empty, rest_empty, has_more, made_speaks}
+use Rattle.law_names_procedures.proofs.Judges.{Has, Speaks, has_more, made_speaks}
 use Rattle.law_names_procedures.proofs.Knowing.{IsKnown, AreKnown, filter_has}
 use Rattle.law_names_procedures.proofs.Points.{holds, PointsWell}
 use Rattle.law_names_procedures.proofs.Typings.{mark_speaks}
@@ -33,7 +33,7 @@ use Rattle.law_local_module.proofs.Leaves.{Nil, then_nil, made_nil, type_nil}
 use Rattle.law_local_module.proofs.Typings.{mark_nil}
 use Rattle.law_local_module.proofs.Heads.{heads_of}
 use Rattle.law_body_context.specs.Knows.{HasName, Grows, EntityStands}
-use Rattle.law_body_context.proofs.Lists.{one_left, one_right, one_joined, all_of, all_both}
+use Rattle.law_body_context.proofs.Lists.{one_left, one_right, one_joined, all_of}
 use Rattle.law_body_context.proofs.Standing.{Lies, lies_same, lies_then, lies_front, lies_behind, grows_as, grows_front, stands_grown, own_stands, all_grown}
 use Rattle.law_acyclic.specs.Laws.{IsApart}
 use Rattle.law_acyclic.specs.Steady.{IsClosed}
@@ -42,6 +42,7 @@ use Rattle.law_acyclic.proofs.Typings.{Within, AreTold, Place}
 use Rattle.law_acyclic.proofs.Sections.{E, P, AreParameters, AreFirmSections, known_place, inner_place, parameters_firm, sections_entities}
 use Rattle.law_acyclic.proofs.Plain.{HasAll}
 use Rattle.law_acyclic.proofs.Stand.{name_found, held_at, bases_shown}
+use Rattle.law_lists.proofs.Lists.{Anything, all_both, back_empty, front_empty}
 
 -- the receiver is bound where there is one
 abbrev Fits : Option RawReceiver → Option BoundAs → Type 0
@@ -212,9 +213,9 @@ module _ (shown : QName → Option Desc) (unit : List ℕ) (kept : IsClosed show
       let s = heading_parameters u w forward b in
       let v = knows_receiver (inner u) w.receiver b.node in
       let two : m.notes.broken ++ b.notes.broken ≡ [] = front_empty (m.notes.broken ++ b.notes.broken) s.found.notes.broken e in
-      let three_e : s.found.notes.broken ≡ [] = rest_empty (m.notes.broken ++ b.notes.broken) s.found.notes.broken e in
+      let three_e : s.found.notes.broken ≡ [] = back_empty (m.notes.broken ++ b.notes.broken) s.found.notes.broken e in
       let mm : Has Anything m.node = mark_speaks u false w.name (front_empty m.notes.broken b.notes.broken two) in
-      let n : Has (Fits w.receiver) b.node = owner_fits u k a h w.receiver (rest_empty m.notes.broken b.notes.broken two) in
+      let n : Has (Fits w.receiver) b.node = owner_fits u k a h w.receiver (back_empty m.notes.broken b.notes.broken two) in
       let kv = receiver_place (inner u) (inner_place unit shown out path names u k) w.receiver b.node n in
       let name = forward_name forward (u.path ++ path_by b.node w.name.ident.name) in
       let p = parameters_firm unit shown out path names v kv name w.parameters g three_e in
@@ -349,7 +350,7 @@ module _ (shown : QName → Option Desc) (unit : List ℕ) (kept : IsClosed show
       let j : (s : TypedType) → IsOneOf (types_of d.parameters) s → In s = λ s l. i s (one_left mine.contents.types rest.contents.types s (head_types U p h p.forward s (subst (λ o. IsOneOf (types_of o) s) (sym (declared_parameters t d (known_behind v t d) n.0)) l))) in
       let hd = head_is hs.around k.place k.all k.whole k.within p.heading p.forward g.0 n.1 j (subst (λ ls. Within ls L) (declared_later t d (known_behind v t d) n.0) f.0) in
       let one = next_are base hs k p.heading p.forward hd j t n.0 in
-      let more = heads_are base U ps g.1 next one.0 (rest_empty mine.notes.broken rest.notes.broken e) (λ s l. i s (one_right mine.contents.types rest.contents.types s l)) f.1 in
+      let more = heads_are base U ps g.1 next one.0 (back_empty mine.notes.broken rest.notes.broken e) (λ s l. i s (one_right mine.contents.types rest.contents.types s l)) f.1 in
       (more.0, ((head_in_more (known_behind v t d).own (headings_in_order ps next).around.own more.1.1 h one.1.0, more.1.0), lies_then hs.around.own (known_behind v t d).own (headings_in_order ps next).around.own one.1.1 more.1.1))
 
   -- ---- what is bound

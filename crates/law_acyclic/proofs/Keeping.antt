@@ -14,8 +14,8 @@ use Rattle.ob_types.specs.declared.desc.Method.{Method}
 use Rattle.ob_types.specs.Maps.{named_by, signature_types, listed}
 use Rattle.ob_types.specs.Relations.{IsOwn as IsOwnType, is_alias, StandsFor, itself, equated, Is, is_structure, is_open as is_open_desc, is_record as is_record_desc, IsPlainResult, Keeps}
 use Rattle.ob_rules.specs.Shapes.{Map}
-use Rattle.law_typing_forms.proofs.Within.{all_left, all_right}
 use Rattle.law_acyclic.proofs.Sorts.{strip, stripped, alias_is, alias_stripped, structure_stripped, open_desc_stripped, record_desc_stripped}
+use Rattle.law_lists.proofs.Lists.{all_back, all_front}
 
 -- ---- what descriptions have that are the same but for bound procedures
 
@@ -69,7 +69,7 @@ module _ (P : TypeRef → Type 0) (one two : Map) (names : (q : QName) (d : Desc
   All ts = AllByRecursion P ts
 
   plain : (s : Signature) → All (signature_types s) → IsPlainResult one s → IsPlainResult two s
-  plain s h k = by s.result (all_right P (map (λ p. p.1) s.params) (listed s.result) h) k
+  plain s h k = by s.result (all_back P (map (λ p. p.1) s.params) (listed s.result) h) k
     where
       by : (o : Option TypeRef) → All (listed o) → IfSome o (λ t. Is one is_structure t → ⊥) → IfSome o (λ t. Is two is_structure t → ⊥)
       by None h k = tt
@@ -81,7 +81,7 @@ module _ (P : TypeRef → Type 0) (one two : Map) (names : (q : QName) (d : Desc
 
   methods : (ms : List Method) → All (flat_map (λ (m : Method). signature_types m.signature) ms) → AllByRecursion (λ (m : Method). IsPlainResult one m.signature) ms → AllByRecursion (λ (m : Method). IsPlainResult two m.signature) ms
   methods [] h k = tt
-  methods (m ∷ ms) h k = (plain m.signature (all_left P (signature_types m.signature) _ h) k.0, methods ms (all_right P (signature_types m.signature) _ h) k.1)
+  methods (m ∷ ms) h k = (plain m.signature (all_front P (signature_types m.signature) _ h) k.0, methods ms (all_back P (signature_types m.signature) _ h) k.1)
 
   base : (o : Option TypeRef) → All (listed o) → IfSome o (Is one is_record_desc) → IfSome o (Is two is_record_desc)
   base None h k = tt
@@ -99,4 +99,4 @@ module _ (P : TypeRef → Type 0) (one two : Map) (names : (q : QName) (d : Desc
   keeps_same (desc.ProcType m s) h k = plain s h k
   keeps_same (desc.Record r) h k =
       let front = listed r.base ++ map (λ f. f.of) r.fields in
-      (base r.base (all_left P (listed r.base) (map (λ f. f.of) r.fields) (all_left P front _ h)) k.0, (fields r.fields (all_right P (listed r.base) (map (λ f. f.of) r.fields) (all_left P front _ h)) k.1.0, methods r.methods (all_right P front _ h) k.1.1))
+      (base r.base (all_front P (listed r.base) (map (λ f. f.of) r.fields) (all_front P front _ h)) k.0, (fields r.fields (all_back P (listed r.base) (map (λ f. f.of) r.fields) (all_front P front _ h)) k.1.0, methods r.methods (all_back P front _ h) k.1.1))

@@ -20,17 +20,18 @@ use Rattle.ob_types.proofs.Targets.{more}
 use Rattle.ob_rules.specs.Shapes.{is_held, same_name}
 use Rattle.ob_rules.specs.Names.{Around, map_of, type_desc, is_out, out_string}
 use Rattle.ob_rules.specs.Depth.{chain_of, is_within}
-use Rattle.law_simulation_relation.proofs.Names.{bytes_sym, bytes_true, and_both}
+use Rattle.law_simulation_relation.proofs.Names.{bytes_sym, bytes_true}
 use Rattle.law_typing_forms.specs.Said.{IsOneOf}
 use Rattle.law_typing_forms.specs.Steady.{bare}
 use Rattle.law_typing.specs.Makes.{IfThere}
 use Rattle.law_body_context.specs.Knows.{IsDescribed}
-use Rattle.law_body_context.proofs.Lists.{one_all, all_of, all_both}
+use Rattle.law_body_context.proofs.Lists.{one_all, all_of}
 use Rattle.law_body_context.proofs.Standing.{own_stands}
 use Rattle.law_acyclic.specs.Laws.{IsApart}
 use Rattle.law_acyclic.specs.Steady.{IsClosed}
 use Rattle.law_acyclic.proofs.Firm.{Firm, SignatureFirm, AnyValue, S}
 use Rattle.law_acyclic.proofs.Stand.{IsOwn, IsOther, at, described_at, held_at, other_at, no_own, no_out, shown_names}
+use Rattle.law_lists.proofs.Lists.{all_both, and_parts, some_is}
 
 -- ---- what a description names
 
@@ -100,9 +101,6 @@ stands_bare S (desc.OpenArray m t) h = h
 stands_bare S (desc.Pointer m t) h = h
 stands_bare S (desc.ProcType m s) h = h
 
-some_is : {A : Type 0} (x y : A) → Some x ≡ Some y → x ≡ y
-some_is x y e = cc
-
 -- ---- a closed map
 
 module _ (shown : QName → Option Desc) (unit : List ℕ) (kept : IsClosed shown) (apart : IsApart shown unit) (out : is_out unit ≡ false) (w : Around) (unit_is : w.unit ≡ unit) (shown_is : w.shown ≡ shown) (described : AllByRecursion (IsDescribed AnyValue) w.own) (closed : AllByRecursion (λ (s : TypedType). AllByRecursion (S unit shown w.own) (named_by s.desc)) w.own) where
@@ -133,7 +131,7 @@ module _ (shown : QName → Option Desc) (unit : List ℕ) (kept : IsClosed show
   -- what is built in
   pub out_is : (q : QName) → same_name q out_string ≡ true → map_of w q ≡ Some (desc.OpenArray mark.Hidden (ref.Basic basic.Char))
   out_is q o =
-      let p = and_both (bytes_eq q.«module» out_string.«module») (bytes_eq q.object out_string.object) o in
+      let p = and_parts (bytes_eq q.«module» out_string.«module») (bytes_eq q.object out_string.object) o in
       let m : q.«module» ≡ codes "Out" = bytes_true q.«module» (codes "Out") p.0 in
       let b : bytes_eq q.«module» w.unit ≡ false = ap (λ n. bytes_eq q.«module» n) unit_is ∙ ap (λ n. bytes_eq n unit) m ∙ bytes_sym (codes "Out") unit ∙ out in
       ap (λ b. type_desc b (same_name q out_string) w q) b ∙ ap (λ c. type_desc false c w q) o
@@ -158,7 +156,7 @@ module _ (shown : QName → Option Desc) (unit : List ℕ) (kept : IsClosed show
     where
       all : (ts : List TypeRef) → AllByRecursion T ts → list_all (λ t. is_within (map_of w) n t) ts ≡ true → ((t : TypeRef) → T t → is_within (map_of w) n t ≡ true → IsWithin (map_of w) n t) → AllByRecursion (λ t. IsWithin (map_of w) n t) ts
       all [] h e f = tt
-      all (t ∷ ts) h e f = let p = and_both (is_within (map_of w) n t) (list_all (λ t. is_within (map_of w) n t) ts) e in (f t h.0 p.0, all ts h.1 p.1 f)
+      all (t ∷ ts) h e f = let p = and_parts (is_within (map_of w) n t) (list_all (λ t. is_within (map_of w) n t) ts) e in (f t h.0 p.0, all ts h.1 p.1 f)
 
   pub shown_at : (q : QName) → MatchOption (shown q) ⊥ (λ d. IsTrue (is_type d)) → map_of w q ≡ shown q
   shown_at q h = other_at unit shown w unit_is shown_is q (no_own shown unit kept apart q (bytes_eq q.«module» unit) refl (shown q) refl h) (no_out shown unit kept apart q (same_name q out_string) refl (shown q) refl h)

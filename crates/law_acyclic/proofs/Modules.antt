@@ -22,11 +22,11 @@ use Rattle.ob_rules.specs.Statements.{Judging, judging}
 use Rattle.ob_rules.specs.Headings.{reversed}
 use Rattle.ob_rules.specs.Declarations.{Part, Declared, Declaration, declare_if, in_order, headings_in_order, plain_of, procedure_of, type_name_of, binding_at, block, decl_rule, declaration, is_system, target_of, import_entity, import_declared, imports_declared, twice, around_module, name_judged, module_part}
 use Rattle.law_typing_forms.specs.Said.{IsOneOf}
-use Rattle.law_names_procedures.proofs.Judges.{front_empty, rest_empty, not_empty}
+use Rattle.law_names_procedures.proofs.Judges.{not_empty}
 use Rattle.law_names_procedures.proofs.Knowing.{IsKnown, AreKnown}
 use Rattle.law_local_module.proofs.Expressions.{expr_nil}
 use Rattle.law_body_context.specs.Knows.{HasName, EntityStands}
-use Rattle.law_body_context.proofs.Lists.{one_right, one_joined, all_both}
+use Rattle.law_body_context.proofs.Lists.{one_right, one_joined}
 use Rattle.law_body_context.proofs.Standing.{Lies}
 use Rattle.law_body_context.proofs.Binding.{IsFrom, binding_changes}
 use Rattle.law_acyclic.specs.Laws.{IsApart}
@@ -35,6 +35,7 @@ use Rattle.law_acyclic.proofs.Firm.{AnyValue}
 use Rattle.law_acyclic.proofs.Written.{written_firm, written_parameters_firm}
 use Rattle.law_acyclic.proofs.Plain.{constant_firm, type_firm, variables_firm}
 use Rattle.law_acyclic.proofs.Blocks.{AreOne, W, Start, VariableIn, Adds, GoodDeclaration, AreGood, w, own_within, bound_is, block_adds}
+use Rattle.law_lists.proofs.Lists.{all_both, back_empty, front_empty}
 
 module _ (shown : QName → Option Desc) (unit : List ℕ) (kept : IsClosed shown) (apart : IsApart shown unit) (out : is_out unit ≡ false) (In : TypedType → Type 0) (F : List TypedType) (among : (s : TypedType) → IsOneOf F s → In s) (named : (s : TypedType) → In s → HasName F s.name) (one : AreOne F) where
   -- ---- declarations, by induction
@@ -107,7 +108,7 @@ module _ (shown : QName → Option Desc) (unit : List ℕ) where
       let rest = in_order (map (λ i. import_declared i (target_of i)) is) a.around in
       let b = is_system t.name in
       let one = declare_is (found_in_scope u i.ident.name) u i.ident b t (import_is b t (twice u i.ident).broken h.0 (front_empty a.part.notes.broken rest.part.notes.broken e)) s k in
-      let r = imports_are is h.1 a.around one.1.0 one.1.1 (rest_empty a.part.notes.broken rest.part.notes.broken e) in
+      let r = imports_are is h.1 a.around one.1.0 one.1.1 (back_empty a.part.notes.broken rest.part.notes.broken e) in
       record { more = r.more; around = r.around ∙ ap (λ (z : Around). record z { known = r.more }) one.0; known = r.known; entities = r.entities; types = r.types; bound = r.bound; variables = r.variables }
 
 -- ---- the module
@@ -141,10 +142,10 @@ module _ (shown : QName → Option Desc) (tree : Tree) (kept : IsClosed shown) (
   X = (module_part shown tree).contents.bound
 
   eF : d.part.notes.broken ++ b.notes.broken ≡ []
-  eF = rest_empty (name_judged tree.name tree.closing).broken (d.part.notes.broken ++ b.notes.broken) e
+  eF = back_empty (name_judged tree.name tree.closing).broken (d.part.notes.broken ++ b.notes.broken) e
 
   eb : b.notes.broken ≡ []
-  eb = rest_empty d.part.notes.broken b.notes.broken eF
+  eb = back_empty d.part.notes.broken b.notes.broken eF
 
   are : AreImports shown unit (around_module shown unit ds) d
   are = imports_are shown unit tree.imports imports (around_module shown unit ds) predeclared_known (predeclared_stand unit shown) (front_empty d.part.notes.broken b.notes.broken eF)

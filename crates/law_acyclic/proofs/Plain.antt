@@ -29,18 +29,19 @@ use Rattle.ob_rules.specs.Declarations.{Declared, declare_if, no_nil, constant_e
 use Rattle.law_typing_forms.specs.Said.{IsOneOf}
 use Rattle.law_typing.specs.Makes.{IfThere}
 use Rattle.law_simulation_relation.proofs.Names.{bytes_true}
-use Rattle.law_names_procedures.proofs.Judges.{Has, Speaks, Anything, front_empty, rest_empty, then_speaks, both_speak, breaks_speaks}
+use Rattle.law_names_procedures.proofs.Judges.{Has, Speaks, then_speaks, both_speak, breaks_speaks}
 use Rattle.law_names_procedures.proofs.Knowing.{IsKnown, AreKnown}
 use Rattle.law_names_procedures.proofs.Typings.{constant_speaks, mark_speaks}
 use Rattle.law_local_module.proofs.Leaves.{Nil, then_nil, both_nil}
 use Rattle.law_local_module.proofs.Typings.{LengthNil, constant_nil, mark_nil}
 use Rattle.law_body_context.specs.Knows.{HasName, EntityStands}
-use Rattle.law_body_context.proofs.Lists.{one_left, one_right, one_joined, all_of, all_both}
+use Rattle.law_body_context.proofs.Lists.{one_left, one_right, one_joined, all_of}
 use Rattle.law_body_context.proofs.Standing.{Lies, lies_same, lies_front, lies_behind, grows_as, grows_front, grows_behind, stands_grown, all_grown}
 use Rattle.law_acyclic.proofs.Tells.{Tell, made_tell, both_tell, tell_more}
 use Rattle.law_acyclic.proofs.Firm.{AnyValue, S, Closed, closed_more, AreFirm, FirmAt, are_more}
 use Rattle.law_acyclic.proofs.Typings.{Tells, AreTold, are_told_more, nil_tell, Place, IsTyping, IsFirm, typed_firm, with_place}
 use Rattle.law_acyclic.proofs.Sections.{E, known_place}
+use Rattle.law_lists.proofs.Lists.{Anything, all_both, back_empty, front_empty}
 
 twice_nil : (b : Bool) (at : Pos) → (notes_if b 1 at).later ≡ []
 twice_nil true at = refl
@@ -241,7 +242,7 @@ module _ (unit : List ℕ) (shown : QName → Option Desc) (out : is_out unit �
       let i = variable_is own u d.ident m.node t h in
       let c = declare_known own (found_in_scope u d.ident.name) u d.ident n k s i.0 i.1 in
       let z = variable_none d.ident p in
-      let r = variables_are own ds t v c.0 c.1 (rest_empty a.part.notes.broken rest.part.notes.broken e) in
+      let r = variables_are own ds t v c.0 c.1 (back_empty a.part.notes.broken rest.part.notes.broken e) in
       record {
         more = r.more;
         around = r.around ∙ ap (λ (z : Around). record z { known = r.more }) (declare_is (found_in_scope u d.ident.name) u d.ident n);
@@ -288,7 +289,7 @@ module _ (unit : List ℕ) (shown : QName → Option Desc) (out : is_out unit �
       let name = u.path ++ first_name ds ++ codes ":" in
       let t = w.typing u name mark.Hidden false in
       let rest = variables_with ds t.node (with_types u (made_in t.node)) in
-      typed_firm_of ds u k name w.name t t.node (g u k name mark.Hidden false (front_empty t.notes.broken rest.part.notes.broken e)) (rest_empty t.notes.broken rest.part.notes.broken e)
+      typed_firm_of ds u k name w.name t t.node (g u k name mark.Hidden false (front_empty t.notes.broken rest.part.notes.broken e)) (back_empty t.notes.broken rest.part.notes.broken e)
 
   -- ---- in order
 

@@ -9,8 +9,9 @@ use Rattle.ob_rules.specs.Names.{Around, map_of, is_among}
 use Rattle.ob_rules.specs.Declarations.{Pointers, pointer_name, base_name, is_inline, is_wrong, notes_of_wrong, comes_back, add_if, is_told, ring_left, pointer_judged, judge_base, judge_unless, judge_pointer, judge_pointers, is_pointer_left, pointers_judged}
 use Rattle.law_simulation_relation.proofs.Names.{bytes_same, bytes_true}
 use Rattle.law_typing_forms.specs.Said.{IsOneOf}
-use Rattle.law_names_procedures.proofs.Judges.{front_empty, rest_empty, not_empty}
+use Rattle.law_names_procedures.proofs.Judges.{not_empty}
 use Rattle.law_body_context.proofs.Lists.{one_all}
+use Rattle.law_lists.proofs.Lists.{back_empty, front_empty}
 
 abbrev IsPointer : Later → Type 0
 IsPointer l = is_pointer_left l ≡ true
@@ -108,7 +109,7 @@ module _ (u : Around) (all : List Later) (pointers : AllByRecursion IsPointer al
       let back = comes_back (base_name u l) v in
       let told = is_told w un back v in
       let quiet_v : (pointer_judged u l v).notes.broken ≡ [] → v.notes.broken ≡ [] = λ e. front_empty v.notes.broken (notes_of_wrong told l).broken e in
-      let no : (pointer_judged u l v).notes.broken ≡ [] → told ≡ false = λ e. wrong_noted told l p (rest_empty v.notes.broken (notes_of_wrong told l).broken e) in
+      let no : (pointer_judged u l v).notes.broken ≡ [] → told ≡ false = λ e. wrong_noted told l p (back_empty v.notes.broken (notes_of_wrong told l).broken e) in
       let free : v.unsound ≡ [] → un ≡ false = λ q. ap (λ xs. is_among (base_name u l) xs) q in
       record {
         broken = λ e. g.broken (quiet_v e);

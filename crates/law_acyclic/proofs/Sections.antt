@@ -20,15 +20,16 @@ use Rattle.ob_rules.specs.Names.{Around, map_of, type_named, found_in_scope, is_
 use Rattle.ob_rules.specs.Types.{Typing, typed_as, with_types, section_name, first_of, Parameters, WrittenSection, WrittenParameters, Sections, mode_of, twice_if, parameter_as, knows, declare_all, parameters_of, parameters_joined, behind_section, with_made, section, sections, result_fits, result_of, with_result, parameters_in, inner, procedure_type}
 use Rattle.law_typing_forms.specs.Said.{IsOneOf}
 use Rattle.law_typing.specs.Makes.{IfThere}
-use Rattle.law_names_procedures.proofs.Judges.{Has, front_empty, rest_empty}
+use Rattle.law_names_procedures.proofs.Judges.{Has}
 use Rattle.law_names_procedures.proofs.Knowing.{AreKnown}
 use Rattle.law_names_procedures.proofs.Typings.{declare_all_is}
 use Rattle.law_body_context.specs.Knows.{EntityStands}
-use Rattle.law_body_context.proofs.Lists.{one_left, one_right, one_joined, all_both, there_of}
+use Rattle.law_body_context.proofs.Lists.{one_left, one_right, one_joined, there_of}
 use Rattle.law_body_context.proofs.Standing.{Lies, lies_front, grows_as, grows_front, stands_grown}
 use Rattle.law_acyclic.proofs.Tells.{Tell, then_tell, made_tell, both_tell, unless_tell}
 use Rattle.law_acyclic.proofs.Firm.{SignatureFirm, signature_more, AnyValue, S, Seen, seen_more, AreFirm, FirmAt, are_more}
 use Rattle.law_acyclic.proofs.Typings.{Tells, AreTold, are_told_more, Place, IsTyping, IsFirm, with_place, seen_at, name_tell, typed_firm}
+use Rattle.law_lists.proofs.Lists.{all_both, back_empty, front_empty}
 
 if_twice : (o : Option Known) (at : Pos) → (twice_if o at).later ≡ []
 if_twice None at = refl
@@ -116,7 +117,7 @@ module _ (unit : List ℕ) (shown : QName → Option Desc) (out : is_out unit �
         let mine = noted d (made (parameters_of u m xs) j) in
         let r = (rest (record u { known = (declare_all u m None xs).around.known })).found in
         let two : mine.notes.broken ++ r.notes.broken ≡ [] = front_empty (mine.notes.broken ++ r.notes.broken) _ e in
-        absurd (h (front_empty ns.broken [] (rest_empty d.broken (ns.broken ++ []) (front_empty mine.notes.broken r.notes.broken two))))
+        absurd (h (front_empty ns.broken [] (back_empty d.broken (ns.broken ++ []) (front_empty mine.notes.broken r.notes.broken two))))
     section_by (Some t) ns h = λ e.
         let d = (declare_all u m (Some t) xs).notes in
         let j : Judged Typing = record { node = Some t; notes = ns } in
@@ -124,11 +125,11 @@ module _ (unit : List ℕ) (shown : QName → Option Desc) (out : is_out unit �
         let w : Around = record u { known = (declare_all u m (Some t) xs).around.known } in
         let r = (rest (with_types w t.made)).found in
         let two : mine.notes.broken ++ r.notes.broken ≡ [] = front_empty (mine.notes.broken ++ r.notes.broken) _ e in
-        let i = h (front_empty ns.broken [] (rest_empty d.broken (ns.broken ++ []) (front_empty mine.notes.broken r.notes.broken two))) in
+        let i = h (front_empty ns.broken [] (back_empty d.broken (ns.broken ++ []) (front_empty mine.notes.broken r.notes.broken two))) in
         let dk = declared_known u.own m t xs u k.sound k.knows.known in
         let kw = known_place u k w.known dk.0 dk.1 in
         let kv = with_place unit shown out path names w kw ns.later t.made i.made in
-        let g = good (with_types w t.made) kv (rest_empty mine.notes.broken r.notes.broken two) in
+        let g = good (with_types w t.made) kv (back_empty mine.notes.broken r.notes.broken two) in
         let ls : (d.later ++ (ns.later ++ [])) ++ r.notes.later ≡ ns.later ++ r.notes.later = sym (append-nil ((d.later ++ (ns.later ++ [])) ++ r.notes.later)) ∙ later_is d.later ns.later r.notes.later (declares_nil u m (Some t) xs) in
         (joined_has u.own ns.later r.notes.later ((d.later ++ (ns.later ++ [])) ++ r.notes.later) (parameters_of u m xs t) ls (one_section u m xs t name q ns.later i) refl r.node g.0, g.1)
 

@@ -12,7 +12,7 @@ use Rattle.ob_types.specs.Maps.{is_type, named_by, IsHeld}
 use Rattle.ob_types.specs.Tests.{pointer_of}
 use Rattle.ob_rules.specs.Shapes.{is_held, same_name}
 use Rattle.ob_rules.specs.Names.{Around, map_of, type_desc, own_desc, out_string}
-use Rattle.law_simulation_relation.proofs.Names.{bytes_same, bytes_true, and_both}
+use Rattle.law_simulation_relation.proofs.Names.{bytes_same, bytes_true}
 use Rattle.law_typing_forms.specs.Said.{IsOneOf}
 use Rattle.law_names_procedures.specs.Procedures.{IsShown, ShowBases}
 use Rattle.law_body_context.specs.Knows.{HasName, IsTypeDesc, StandsBy, Stands, IsDescribed}
@@ -20,6 +20,7 @@ use Rattle.law_body_context.proofs.Lists.{one_all}
 use Rattle.law_acyclic.specs.Laws.{IsApart}
 use Rattle.law_acyclic.specs.Steady.{IsClosed}
 use Rattle.law_acyclic.proofs.Firm.{AnyValue}
+use Rattle.law_lists.proofs.Lists.{and_parts}
 
 -- the first of that name
 pub record IsFound (ts : List TypedType) (x : List ℕ) : Type 0 where
@@ -107,7 +108,7 @@ module _ (shown : QName → Option Desc) (unit : List ℕ) (kept : IsClosed show
   pub no_out : (q : QName) (b : Bool) → same_name q out_string ≡ b → (o : Option Desc) → shown q ≡ o → MatchOption o ⊥ (λ d. IsTrue (is_type d)) → b ≡ false
   no_out q false e o f h = refl
   no_out q true e o f h =
-      let p = and_both (bytes_eq q.«module» out_string.«module») (bytes_eq q.object out_string.object) e in
+      let p = and_parts (bytes_eq q.«module» out_string.«module») (bytes_eq q.object out_string.object) e in
       let s : q ≡ out_string = ap (λ (n : List ℕ). let p : QName = record { «module» = n; object = q.object } in p) (bytes_true q.«module» out_string.«module» p.0) ∙ ap (λ (n : List ℕ). let p : QName = record { «module» = out_string.«module»; object = n } in p) (bytes_true q.object out_string.object p.1) in
       absurd (subst (λ o. MatchOption o ⊥ (λ d. IsTrue (is_type d))) (sym f ∙ ap shown s ∙ apart.out) h)
 

@@ -3,7 +3,8 @@ use Rattle.std.proofs.Common.{◌≡◌, ℕ, Bool, true, false, List, [], ◌++
 use Rattle.ob_tree.specs.declared.pos.Pos.{Pos}
 use Rattle.ob_rules.specs.declared.notes.Later.{Later}
 use Rattle.ob_rules.specs.Judged.{Judged, Notes, sound, if_sound, paired, both, made, noted, unless, wants, also, ◌▷◌}
-use Rattle.law_names_procedures.proofs.Judges.{Has, front_empty, rest_empty, not_empty, has_more}
+use Rattle.law_names_procedures.proofs.Judges.{Has, not_empty, has_more}
+use Rattle.law_lists.proofs.Lists.{back_empty, front_empty}
 
 -- where nothing is broken there is a node, which has the property with what is left for later
 abbrev pub Tell : {A : Type 0} → (List Later → A → Type 0) → Judged A → Type 0
@@ -14,7 +15,7 @@ if_tell P Q None f h k = absurd h
 if_tell P Q (Some x) f h k = k x h
 
 pub then_tell : {A B : Type 0} (P : List Later → A → Type 0) (Q : List Later → B → Type 0) (j : Judged A) (f : A → Judged B) → Tell P j → ((x : A) → P j.notes.later x → Tell (λ ms. Q (j.notes.later ++ ms)) (f x)) → Tell Q (j ▷ f)
-then_tell P Q j f h k = λ e. if_tell (P j.notes.later) (λ ms. Q (j.notes.later ++ ms)) j.node f (h (front_empty j.notes.broken (if_sound j.node f).notes.broken e)) k (rest_empty j.notes.broken (if_sound j.node f).notes.broken e)
+then_tell P Q j f h k = λ e. if_tell (P j.notes.later) (λ ms. Q (j.notes.later ++ ms)) j.node f (h (front_empty j.notes.broken (if_sound j.node f).notes.broken e)) k (back_empty j.notes.broken (if_sound j.node f).notes.broken e)
 
 -- a node that is made of another
 pub made_tell : {A B : Type 0} (P : List Later → A → Type 0) (Q : List Later → B → Type 0) (f : A → B) (j : Judged A) → Tell P j → ((x : A) → P j.notes.later x → Q j.notes.later (f x)) → Tell Q (made f j)
@@ -29,7 +30,7 @@ paired_tell P Q R (Some x) (Some y) h k f = f x y h k
 pub both_after : {A B : Type 0} (P : List Later → A → Type 0) (Q : List Later → B → Type 0) (R : List Later → A × B → Type 0) (a : Judged A) (b : Judged B) → Tell P a → (Has (P a.notes.later) a.node → Tell Q b) → ((x : A) (y : B) → P a.notes.later x → Q b.notes.later y → R (a.notes.later ++ b.notes.later) (x, y)) → Tell R (both a b)
 both_after P Q R a b h k f = λ e.
     let x = h (front_empty a.notes.broken b.notes.broken e) in
-    paired_tell (P a.notes.later) (Q b.notes.later) (R (a.notes.later ++ b.notes.later)) a.node b.node x (k x (rest_empty a.notes.broken b.notes.broken e)) f
+    paired_tell (P a.notes.later) (Q b.notes.later) (R (a.notes.later ++ b.notes.later)) a.node b.node x (k x (back_empty a.notes.broken b.notes.broken e)) f
 
 pub both_tell : {A B : Type 0} (P : List Later → A → Type 0) (Q : List Later → B → Type 0) (R : List Later → A × B → Type 0) (a : Judged A) (b : Judged B) → Tell P a → Tell Q b → ((x : A) (y : B) → P a.notes.later x → Q b.notes.later y → R (a.notes.later ++ b.notes.later) (x, y)) → Tell R (both a b)
 both_tell P Q R a b h k f = both_after P Q R a b h (λ x. k) f
@@ -50,4 +51,4 @@ pub tell_more : {A : Type 0} (P Q : List Later → A → Type 0) (j : Judged A) 
 tell_more P Q j h f = λ e. has_more (P j.notes.later) (Q j.notes.later) j.node f (h e)
 
 pub noted_tell : {A : Type 0} (P Q : List Later → A → Type 0) (n : Notes) (j : Judged A) → Tell P j → ((x : A) → P j.notes.later x → Q (n.later ++ j.notes.later) x) → Tell Q (noted n j)
-noted_tell P Q n j h f = λ e. has_more (P j.notes.later) (Q (n.later ++ j.notes.later)) j.node f (h (rest_empty n.broken j.notes.broken e))
+noted_tell P Q n j h f = λ e. has_more (P j.notes.later) (Q (n.later ++ j.notes.later)) j.node f (h (back_empty n.broken j.notes.broken e))

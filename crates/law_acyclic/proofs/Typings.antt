@@ -28,17 +28,18 @@ use Rattle.ob_rules.specs.Expressions.{constant_value}
 use Rattle.ob_rules.specs.Types.{Typing, Written, marked, typed_as, with_types, base_name, element_name, field_name, named_typing, length_of, array_length, fixed_array, array, first_of, base_of, base_if, inherits, member_in, record_in, field_declared, fields_of, name_in, names_behind, WrittenFields, first_name, Fields, with_fields, fields_joined, field_lists, record_with, record_desc, pointer_to, base_judged, pointer_base, later_if, later_by, is_later, pointer_by, pointer}
 use Rattle.law_typing_forms.specs.Said.{IsOneOf}
 use Rattle.law_typing.specs.Makes.{IfThere}
-use Rattle.law_names_procedures.proofs.Judges.{Has, Speaks, Anything, front_empty, rest_empty, not_empty, has_more}
+use Rattle.law_names_procedures.proofs.Judges.{Has, Speaks, not_empty, has_more}
 use Rattle.law_names_procedures.proofs.Knowing.{AreKnown, name_speaks}
 use Rattle.law_names_procedures.proofs.Typings.{constant_speaks, mark_speaks}
 use Rattle.law_local_module.proofs.Leaves.{Nil, type_nil}
 use Rattle.law_local_module.proofs.Typings.{LengthNil, constant_nil, mark_nil}
 use Rattle.law_body_context.specs.Knows.{HasName, Knows}
-use Rattle.law_body_context.proofs.Lists.{one_left, one_right, one_joined, all_of, all_both}
+use Rattle.law_body_context.proofs.Lists.{one_left, one_right, one_joined, all_of}
 use Rattle.law_body_context.proofs.Standing.{Lies, lies_same, lies_front, grows_front, grows_as, stands_grown, own_stands, with_types_known}
 use Rattle.law_body_context.proofs.Named.{type_named_stands}
 use Rattle.law_acyclic.proofs.Tells.{Tell, then_tell, made_tell, both_tell, unless_tell, wants_tell, also_tell, tell_more}
 use Rattle.law_acyclic.proofs.Firm.{AnyValue, is_solid, IfAlias, S, Aliased, Seen, seen_more, Closed, closed_more, Base, FirmAt, AreFirm, desc_more, are_more, are_described, are_aliased, aliases_more}
+use Rattle.law_lists.proofs.Lists.{Anything, all_both, back_empty, front_empty}
 
 -- ---- what is left for later
 
@@ -296,7 +297,7 @@ module _ (unit : List ℕ) (shown : QName → Option Desc) (out : is_out unit �
   fields_firm u base before ds t name o g =
       let r = each_sound (fields_of u base before ds t.node) in
       made_tell (λ ls (p : Typing × List Field). AreFields u ls (record { fields = p.1; made = p.0.made })) (AreFields u) (λ p. record { fields = p.1; made = p.0.made }) (both t r)
-      (λ e. by t.node refl (g (front_empty t.notes.broken r.notes.broken e)) (rest_empty t.notes.broken r.notes.broken e))
+      (λ e. by t.node refl (g (front_empty t.notes.broken r.notes.broken e)) (back_empty t.notes.broken r.notes.broken e))
       (λ p h. h)
     where
       by : (n : Option Typing) → t.node ≡ n → Has (IsTyping u name o false t.notes.later) n → (each_sound (fields_of u base before ds n)).notes.broken ≡ [] → Has (λ (p : Typing × List Field). AreFields u (t.notes.later ++ (each_sound (fields_of u base before ds n)).notes.later) (record { fields = p.1; made = p.0.made })) (Rattle.ob_rules.specs.Judged.paired n (each_sound (fields_of u base before ds n)).node)

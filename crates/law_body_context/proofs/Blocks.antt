@@ -28,7 +28,7 @@ use Rattle.law_typing_forms.specs.Said.{IsOneOf}
 use Rattle.law_typing.specs.Makes.{IfThere}
 use Rattle.law_body_context.specs.Knows.{Grows, Stands, IsDescribed, EntityStands}
 use Rattle.law_body_context.specs.Judged.{IsReceivedAs, IsWithin, ReceiverStands, AreOf, IsParameter, IsInside, result_of, NameIs, StandsAround, IsJudged}
-use Rattle.law_body_context.proofs.Lists.{one_left, one_right, one_joined, all_of, all_both, there_of, first_empty, second_empty}
+use Rattle.law_body_context.proofs.Lists.{one_left, one_right, one_joined, all_of, there_of}
 use Rattle.law_body_context.proofs.Standing.{Lies, lies_same, lies_front, lies_behind, lies_then, grows_front, grows_then, stands_grown}
 use Rattle.law_body_context.proofs.Heads.{self_is, InsideEntity, SignatureStands, HeadStands, all_parameters}
 use Rattle.law_body_context.proofs.Receivers.{received_as}
@@ -38,6 +38,7 @@ use Rattle.law_body_context.proofs.InOrder.{over_all}
 use Rattle.law_body_context.proofs.Quiet.{IsQuiet, IsWellHeading, IsQuietHead, inside_quiet}
 use Rattle.law_body_context.proofs.Around.{IsJudgedAlso}
 use Rattle.law_body_context.proofs.Levels.{Level, AtModule, Within, frame, IsPlaced, IsVariableAt, Included, IsFull, none_full, both_full, first_included, second_included, BlockAt, IsOpened, BoundStands, BodyOwn, not_module, outer_name}
+use Rattle.law_lists.proofs.Lists.{all_both, back_empty, both_empty, front_empty}
 
 -- ---- lists
 
@@ -60,12 +61,6 @@ no_nothing (x ∷ xs) y ys = refl
 
 pub all_empty : {A : Type 0} (P : A → Type 0) (xs : List A) → xs ≡ [] → AllByRecursion P xs
 all_empty P xs e = subst (AllByRecursion P) (sym e) tt
-
-pub two_empty : {A : Type 0} (xs ys : List A) → xs ≡ [] → ys ≡ [] → xs ++ ys ≡ []
-two_empty xs ys e f = ap (λ l. l ++ ys) e ∙ f
-
-pub at_most : (n : ℕ) → n ≤ n
-at_most n = omega arith
 
 one_more : (k n : ℕ) → k ≤ n → k ≤ suc n
 one_more k n h = omega (arith, h)
@@ -99,7 +94,7 @@ judged_body u p h false = refl
 pub procedures_body : (u : Around) (ps : List Written_procedure) (hs : List Head) → (procedures_judged u ps hs).contents.body ≡ []
 procedures_body u [] hs = refl
 procedures_body u (p ∷ ps) [] = refl
-procedures_body u (p ∷ ps) (h ∷ hs) = two_empty (procedure_judged u p h p.forward).contents.body (procedures_judged u ps hs).contents.body (judged_body u p h p.forward) (procedures_body u ps hs)
+procedures_body u (p ∷ ps) (h ∷ hs) = both_empty (procedure_judged u p h p.forward).contents.body (procedures_judged u ps hs).contents.body (judged_body u p h p.forward) (procedures_body u ps hs)
 
 module _ (IsConstant : Value → Type 0) (shown : QName → Option Desc) (m : TypedModule) (content : Contents) (out : is_out m.name ≡ false) where
   abbrev S : List TypedType → TypeRef → Type 0
@@ -317,7 +312,7 @@ module _ (IsConstant : Value → Type 0) (shown : QName → Option Desc) (m : Ty
         let types = map_of u in
         let f = framed types h h.parameters c in
         let own = typed_procedure types h h.parameters c in
-        let quiet = second_empty (closing_judged h.name p.closing).broken _ (second_empty h.notes.broken _ n) in
+        let quiet = back_empty (closing_judged h.name p.closing).broken _ (back_empty h.notes.broken _ n) in
         let r = g.inside (Within f) (around_body u h) (inside_block l u b h s o k types c) a tt (inside_quiet path u h quiet_head) quiet (record { variables = λ x j. framed_variables types h h.parameters c x j; procedures = λ q j. i.procedures q (one_right own c.procedures q j); types = grows_then c.types (types_of_head h.parameters ++ c.types) m.types (grows_front (types_of_head h.parameters) c.types) i.types; made = λ t j. i.made t (one_right (types_of_head h.parameters) c.types t j); bound = tt }) in
         record {
           procedures = all_both (IsJudgedAlso Also IsConstant shown m content) own c.procedures (framed_judged u.own b.grown types h s.self h.parameters c s.signature r.body r.also) r.procedures;
@@ -331,8 +326,8 @@ module _ (IsConstant : Value → Type 0) (shown : QName → Option Desc) (m : Ty
         let a = (procedure_judged u p h p.forward).contents in
         let c = (procedures_judged u ps hs).contents in
         let one = (procedure_judged u p h p.forward).notes.broken in
-        let x = procedure_is path l u b p g.0 h s.0 r.0 k.0 q.0 d.0 p.forward (first_empty one _ n) (first_included IsConstant shown m content l a c i) in
-        let y = procedures_are path l u b ps g.1 hs s.1 r.1 k.1 q.1 d.1 (second_empty one _ n) (second_included IsConstant shown m content l a c i) in
+        let x = procedure_is path l u b p g.0 h s.0 r.0 k.0 q.0 d.0 p.forward (front_empty one _ n) (first_included IsConstant shown m content l a c i) in
+        let y = procedures_are path l u b ps g.1 hs s.1 r.1 k.1 q.1 d.1 (back_empty one _ n) (second_included IsConstant shown m content l a c i) in
         record { procedures = all_both (IsJudgedAlso Also IsConstant shown m content) a.procedures c.procedures x.procedures y.procedures; full = both_full IsConstant shown m content a c x.full y.full }
 
   judged_bound : (u : Around) (p : Written_procedure) (h : Head) (forward : Bool) → (procedure_judged u p h forward).contents.bound ≡ []
@@ -342,19 +337,19 @@ module _ (IsConstant : Value → Type 0) (shown : QName → Option Desc) (m : Ty
   pub procedures_bound : (u : Around) (ps : List Written_procedure) (hs : List Head) → (procedures_judged u ps hs).contents.bound ≡ []
   procedures_bound u [] hs = refl
   procedures_bound u (p ∷ ps) [] = refl
-  procedures_bound u (p ∷ ps) (h ∷ hs) = two_empty (procedure_judged u p h p.forward).contents.bound (procedures_judged u ps hs).contents.bound (judged_bound u p h p.forward) (procedures_bound u ps hs)
+  procedures_bound u (p ∷ ps) (h ∷ hs) = both_empty (procedure_judged u p h p.forward).contents.bound (procedures_judged u ps hs).contents.bound (judged_bound u p h p.forward) (procedures_bound u ps hs)
 
   -- headings against which nothing is said, and the types that they make
   head_unbroken : (u : Around) (p : Written_procedure) (h : Head) (forward : Bool) → (procedure_judged u p h forward).notes.broken ≡ [] → IsUnbroken h
   head_unbroken u p h true n = n
-  head_unbroken u p h false n = first_empty h.notes.broken _ n
+  head_unbroken u p h false n = front_empty h.notes.broken _ n
 
   pub heads_unbroken : (u : Around) (ps : List Written_procedure) (hs : List Head) → Aligned ps hs → (procedures_judged u ps hs).notes.broken ≡ [] → (h : Head) → IsOneOf hs h → IsUnbroken h
   heads_unbroken u [] [] a n h i = absurd i
   heads_unbroken u [] (g ∷ hs) a n h i = absurd a
   heads_unbroken u (p ∷ ps) [] a n h i = absurd i
-  heads_unbroken u (p ∷ ps) (g ∷ hs) a n h (inl e) = subst IsUnbroken e (head_unbroken u p g p.forward (first_empty (procedure_judged u p g p.forward).notes.broken _ n))
-  heads_unbroken u (p ∷ ps) (g ∷ hs) a n h (inr i) = heads_unbroken u ps hs a.1 (second_empty (procedure_judged u p g p.forward).notes.broken _ n) h i
+  heads_unbroken u (p ∷ ps) (g ∷ hs) a n h (inl e) = subst IsUnbroken e (head_unbroken u p g p.forward (front_empty (procedure_judged u p g p.forward).notes.broken _ n))
+  heads_unbroken u (p ∷ ps) (g ∷ hs) a n h (inr i) = heads_unbroken u ps hs a.1 (back_empty (procedure_judged u p g p.forward).notes.broken _ n) h i
 
   same_types : (o : Option Parameters) → types_of o ≡ types_of_head o
   same_types None = refl

@@ -55,7 +55,6 @@ use Rattle.law_simulation_relation.specs.Typed.{AreCharacters}
 use Rattle.law_typing.specs.Known.{ConstantIs}
 use Rattle.law_typing.specs.Spelled as spelled
 use Rattle.law_typing.specs.Spelled.{all_true, are_bytes, is_spelled, designator_spelled, element_spelled, tail_spelled, selector_spelled}
-use Rattle.law_simulation_relation.proofs.Names.{and_both}
 use Rattle.law_methods_described.proofs.Nodes.{Has, then_has, any_then, both_have}
 use Rattle.law_typing.specs.Makes.{IfThere, Makes}
 use Rattle.law_body_context.specs.Knows.{LengthIs, IsDescribed, EntityStands, Knows}
@@ -65,6 +64,7 @@ use Rattle.law_body_context.specs.ConstantLaws.{AreShown, ConstantsStand, Bodies
 use Rattle.law_body_context.proofs.Folded.{V, E, constant_is, combined_is, opposite_is, signed_is, related_is, element_is, set_is, each_has}
 use Rattle.law_body_context.proofs.Functions.{M, AreLengths}
 use Rattle.law_body_context.proofs.Phrased.{also_broken, PhraseIs, ArePhrases, BehindIs, AreBehind, behind_are, DescIs, marked_has, out_has, place_has, meant_exported, from_has}
+use Rattle.law_lists.proofs.Lists.{and_parts}
 
 -- ---- literals
 
@@ -83,7 +83,7 @@ byte_small n e = grind (arith, nat_tests)
 
 characters_are : (cs : List ℕ) → are_bytes cs ≡ true → AreCharacters cs
 characters_are [] e = tt
-characters_are (c ∷ cs) e = let p = and_both (nat_lt c 256) (are_bytes cs) e in (byte_small c p.0, characters_are cs p.1)
+characters_are (c ∷ cs) e = let p = and_parts (nat_lt c 256) (are_bytes cs) e in (byte_small c p.0, characters_are cs p.1)
 
 text_is : (cs : List ℕ) → are_bytes cs ≡ true → ConstantIs (text_value cs)
 text_is [] e = (tt, λ n. absurd cc)
@@ -317,19 +317,19 @@ module _ (unit : List ℕ) (shown : QName → Option Desc) (are : AreShown shown
 
   phrases_are : (xs : List SX) → all_true (map is_spelled (exprs_in xs)) ≡ true → ArePhrases K (map phrase_of (exprs_in xs))
   phrases_are [] e = tt
-  phrases_are (x ∷ xs) e = let p = and_both (is_spelled x.0) (all_true (map is_spelled (exprs_in xs))) e in (x.1 p.0, phrases_are xs p.1)
+  phrases_are (x ∷ xs) e = let p = and_parts (is_spelled x.0) (all_true (map is_spelled (exprs_in xs))) e in (x.1 p.0, phrases_are xs p.1)
 
   selectors_are : (xs : List SB) → all_true (map selector_spelled (map (λ (x : SB). x.0) xs)) ≡ true → AreBehind K (map behind_of (map (λ (x : SB). x.0) xs))
   selectors_are [] e = tt
-  selectors_are (x ∷ xs) e = let p = and_both (selector_spelled x.0) (all_true (map selector_spelled (map (λ (x : SB). x.0) xs))) e in (x.1 p.0, selectors_are xs p.1)
+  selectors_are (x ∷ xs) e = let p = and_parts (selector_spelled x.0) (all_true (map selector_spelled (map (λ (x : SB). x.0) xs))) e in (x.1 p.0, selectors_are xs p.1)
 
   ranges_are : (xs : List SR) → all_true (map element_spelled (map (λ (x : SR). x.0) xs)) ≡ true → AllByRecursion RangedIs (map ranged_of (map (λ (x : SR). x.0) xs))
   ranges_are [] e = tt
-  ranges_are (x ∷ xs) e = let p = and_both (element_spelled x.0) (all_true (map element_spelled (map (λ (x : SR). x.0) xs))) e in (x.1 p.0, ranges_are xs p.1)
+  ranges_are (x ∷ xs) e = let p = and_parts (element_spelled x.0) (all_true (map element_spelled (map (λ (x : SR). x.0) xs))) e in (x.1 p.0, ranges_are xs p.1)
 
   tails_are : (xs : List ST) → all_true (map tail_spelled (map (λ (x : ST). x.0) xs)) ≡ true → AreTails (map tailed_of (map (λ (x : ST). x.0) xs))
   tails_are [] e = tt
-  tails_are (x ∷ xs) e = let p = and_both (tail_spelled x.0) (all_true (map tail_spelled (map (λ (x : ST). x.0) xs))) e in (x.1 p.0, tails_are xs p.1)
+  tails_are (x ∷ xs) e = let p = and_parts (tail_spelled x.0) (all_true (map tail_spelled (map (λ (x : ST). x.0) xs))) e in (x.1 p.0, tails_are xs p.1)
 
   by_layers : (x : Expr-F Expr Selector Designator Element Tail) → (spelled.expr_layer (map-Expr Expr Selector Designator Element Tail Bool Bool Bool Bool Bool is_spelled selector_spelled designator_spelled element_spelled tail_spelled x) ≡ true → PhraseIs K (expr_rule (map-Expr Expr Selector Designator Element Tail Phrase Behind Named Ranged Tailed phrase_of behind_of named_of ranged_of tailed_of x))) → PX (roll-Expr x)
   by_layers x h e =
@@ -350,8 +350,8 @@ module _ (unit : List ℕ) (shown : QName → Option Desc) (are : AreShown shown
   expr_cases (Expr-F.Signed s at x) = by_layers (Expr-F.Signed s at x.0) (λ e. plain at (λ u. (phrase_of x.0).value u ▷ signed (map_of u) s at) (λ u k. then_has V V ((phrase_of x.0).value u) (signed (map_of u) s at) ((x.1 e).value u k) (λ v i. signed_is (map_of u) s at v i)))
   expr_cases (Expr-F.Chain x ts) =
       let us = map tailed_of (map (λ (x : ST). x.0) ts) in
-      by_layers (Expr-F.Chain x.0 (map (λ (x : ST). x.0) ts)) (λ e. let p = and_both (is_spelled x.0) (all_true (map tail_spelled (map (λ (x : ST). x.0) ts))) e in plain (phrase_of x.0).start (λ u. combine_all u us ((phrase_of x.0).value u)) (λ u k. chain_has u k us (tails_are ts p.1) ((phrase_of x.0).value u) ((x.1 p.0).value u k)))
-  expr_cases (Expr-F.Relate l o at r) = by_layers (Expr-F.Relate l.0 o at r.0) (λ e. let p = and_both (is_spelled l.0) (is_spelled r.0) e in plain (phrase_of l.0).start (λ u. relation_value u o at (phrase_of l.0) (phrase_of r.0)) (λ u k. relation_has u k o at ((phrase_of l.0).value u) (phrase_of r.0) ((l.1 p.0).value u k) (r.1 p.1)))
+      by_layers (Expr-F.Chain x.0 (map (λ (x : ST). x.0) ts)) (λ e. let p = and_parts (is_spelled x.0) (all_true (map tail_spelled (map (λ (x : ST). x.0) ts))) e in plain (phrase_of x.0).start (λ u. combine_all u us ((phrase_of x.0).value u)) (λ u k. chain_has u k us (tails_are ts p.1) ((phrase_of x.0).value u) ((x.1 p.0).value u k)))
+  expr_cases (Expr-F.Relate l o at r) = by_layers (Expr-F.Relate l.0 o at r.0) (λ e. let p = and_parts (is_spelled l.0) (is_spelled r.0) e in plain (phrase_of l.0).start (λ u. relation_value u o at (phrase_of l.0) (phrase_of r.0)) (λ u k. relation_has u k o at ((phrase_of l.0).value u) (phrase_of r.0) ((l.1 p.0).value u k) (r.1 p.1)))
 
   selector_layers : (x : Selector-F Expr Selector Designator Element Tail) → (spelled.selector_layer (map-Selector Expr Selector Designator Element Tail Bool Bool Bool Bool Bool is_spelled selector_spelled designator_spelled element_spelled tail_spelled x) ≡ true → BehindIs K (selector_rule (map-Selector Expr Selector Designator Element Tail Phrase Behind Named Ranged Tailed phrase_of behind_of named_of ranged_of tailed_of x))) → PB (roll-Selector x)
   selector_layers x h e =
@@ -373,11 +373,11 @@ module _ (unit : List ℕ) (shown : QName → Option Desc) (are : AreShown shown
   element_by : (low : SX) (high : Option SX) → PR (roll-Element (map-Element SX SB SD SR ST Expr Selector Designator Element Tail (λ x. x.0) (λ x. x.0) (λ x. x.0) (λ x. x.0) (λ x. x.0) (record { low = low; high = high })))
   element_by low None e =
       let x = map-Element SX SB SD SR ST Expr Selector Designator Element Tail (λ x. x.0) (λ x. x.0) (λ x. x.0) (λ x. x.0) (λ x. x.0) (record { low = low; high = None }) in
-      let p = and_both (is_spelled low.0) true (sym (fold-roll-Element Bool Bool Bool Bool Bool spelled.expr_layer spelled.selector_layer spelled.designator_layer spelled.element_layer spelled.tail_layer x) ∙ e) in
+      let p = and_parts (is_spelled low.0) true (sym (fold-roll-Element Bool Bool Bool Bool Bool spelled.expr_layer spelled.selector_layer spelled.designator_layer spelled.element_layer spelled.tail_layer x) ∙ e) in
       subst RangedIs (sym (fold-roll-Element Phrase Behind Named Ranged Tailed expr_rule selector_rule designator_rule element_rule tail_rule x)) (low.1 p.0, tt)
   element_by low (Some h) e =
       let x = map-Element SX SB SD SR ST Expr Selector Designator Element Tail (λ x. x.0) (λ x. x.0) (λ x. x.0) (λ x. x.0) (λ x. x.0) (record { low = low; high = Some h }) in
-      let p = and_both (is_spelled low.0) (is_spelled h.0) (sym (fold-roll-Element Bool Bool Bool Bool Bool spelled.expr_layer spelled.selector_layer spelled.designator_layer spelled.element_layer spelled.tail_layer x) ∙ e) in
+      let p = and_parts (is_spelled low.0) (is_spelled h.0) (sym (fold-roll-Element Bool Bool Bool Bool Bool spelled.expr_layer spelled.selector_layer spelled.designator_layer spelled.element_layer spelled.tail_layer x) ∙ e) in
       subst RangedIs (sym (fold-roll-Element Phrase Behind Named Ranged Tailed expr_rule selector_rule designator_rule element_rule tail_rule x)) (low.1 p.0, h.1 p.1)
 
   tail_cases : (y : Tail-F SX SB SD SR ST) → PT (roll-Tail (map-Tail SX SB SD SR ST Expr Selector Designator Element Tail (λ x. x.0) (λ x. x.0) (λ x. x.0) (λ x. x.0) (λ x. x.0) y))

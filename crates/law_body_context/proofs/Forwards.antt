@@ -8,11 +8,12 @@ use Rattle.ob_rules.specs.Shapes.{Map}
 use Rattle.ob_rules.specs.Operators.{signatures_match}
 use Rattle.ob_rules.specs.Types.{Parameters}
 use Rattle.ob_rules.specs.Headings.{BoundAs, Head, answers_by, answers, same_receiver, signature_if, both_sound, forward_broken, forward_if, forwards_judged}
-use Rattle.law_simulation_relation.proofs.Names.{and_both, bytes_true}
+use Rattle.law_simulation_relation.proofs.Names.{bytes_true}
 use Rattle.law_typing_forms.specs.Said.{IsOneOf}
 use Rattle.law_names_procedures.proofs.Judges.{Has}
-use Rattle.law_body_context.proofs.Lists.{one_all, first_empty, second_empty}
+use Rattle.law_body_context.proofs.Lists.{one_all}
 use Rattle.law_body_context.proofs.Quiet.{IsQuietHead}
+use Rattle.law_lists.proofs.Lists.{and_parts, back_empty, front_empty, not_false, not_true}
 
 -- the heading of the procedure that a forward declaration, which is not bound, stands for
 pub record IsAnswered (map : Map) (all : List Head) (f : Head) (q : Parameters) : Type 0 where
@@ -28,14 +29,6 @@ pub record IsAnswered (map : Map) (all : List Head) (f : Head) (q : Parameters) 
 quiet_false : (b : Bool) (at : Pos) → (notes_if b 18 at).broken ≡ [] → b ≡ false
 quiet_false true at e = absurd cc
 quiet_false false at e = refl
-
-not_true : (b : Bool) → not b ≡ false → b ≡ true
-not_true true e = refl
-not_true false e = absurd cc
-
-not_first : (b : Bool) → not b ≡ true → b ≡ false
-not_first true e = absurd cc
-not_first false e = refl
 
 has_one : {A : Type 0} (o : Option A) → Has (λ x. Unit {0}) o → (x : A) × (o ≡ Some x)
 has_one None h = absurd h
@@ -62,7 +55,7 @@ module _ (map : Map) (all : List Head) (path : List ℕ) (quiet : AllByRecursion
       by None p a b e = absurd cc
       by (Some o) None a b e = absurd cc
       by (Some o) (Some p) a b e =
-          let m = and_both (signatures_match map (Some o.signature) (Some p.signature)) (same_receiver map f.bound g.bound) (not_true _ e) in
+          let m = and_parts (signatures_match map (Some o.signature) (Some p.signature)) (same_receiver map f.bound g.bound) (not_true _ e) in
           let s : o ≡ q = cc in
           let t : p ≡ r = cc in
           subst (λ (z : Parameters). signatures_match map (Some q.signature) (Some z.signature) ≡ true) t (subst (λ (z : Parameters). signatures_match map (Some z.signature) (Some p.signature) ≡ true) s m.0)
@@ -71,7 +64,7 @@ module _ (map : Map) (all : List Head) (path : List ℕ) (quiet : AllByRecursion
   answered f i free q a None e b = absurd cc
   answered f i free q a (Some g) e b =
       let x = found_one (answers f) all g e in
-      let y = and_both (not g.forward) (answers_by f.is_bound g.is_bound f.bound g.bound f.name g.name) x.1 in
+      let y = and_parts (not g.forward) (answers_by f.is_bound g.is_bound f.bound g.bound f.name g.name) x.1 in
       let z = answer_parts f.is_bound g.is_bound f.bound g.bound f.name g.name free y.1 in
       let mine = one_all (IsQuietHead path) all f quiet i in
       let theirs = one_all (IsQuietHead path) all g quiet x.0 in
@@ -79,7 +72,7 @@ module _ (map : Map) (all : List Head) (path : List ℕ) (quiet : AllByRecursion
       record {
         g = g;
         there = x.0;
-        written = not_first g.forward y.0;
+        written = not_false g.forward y.0;
         free = z.0;
         path = theirs.path_is z.0 ∙ ap (λ n. path ++ n) (sym (bytes_true f.name g.name z.1)) ∙ sym (mine.path_is free);
         r = r.0;
@@ -94,5 +87,5 @@ module _ (map : Map) (all : List Head) (path : List ℕ) (quiet : AllByRecursion
   pub all_answered : (hs : List Head) → ((h : Head) → IsOneOf hs h → IsOneOf all h) → (forwards_judged map all hs).broken ≡ [] → (f : Head) → IsOneOf hs f → f.forward ≡ true → f.is_bound ≡ false → (q : Parameters) → f.parameters ≡ Some q → IsAnswered map all f q
   all_answered [] lies n f i w free q a = absurd i
   all_answered (h ∷ hs) lies n f (inl e) w free q a =
-      subst (λ (x : Head). x.forward ≡ true → x.is_bound ≡ false → x.parameters ≡ Some q → IsAnswered map all x q) e (λ w free a. one_answered h (lies h (inl refl)) h.forward refl (first_empty (forward_if h.forward map all h).broken _ n) w free q a) w free a
-  all_answered (h ∷ hs) lies n f (inr i) w free q a = all_answered hs (λ g j. lies g (inr j)) (second_empty (forward_if h.forward map all h).broken _ n) f i w free q a
+      subst (λ (x : Head). x.forward ≡ true → x.is_bound ≡ false → x.parameters ≡ Some q → IsAnswered map all x q) e (λ w free a. one_answered h (lies h (inl refl)) h.forward refl (front_empty (forward_if h.forward map all h).broken _ n) w free q a) w free a
+  all_answered (h ∷ hs) lies n f (inr i) w free q a = all_answered hs (λ g j. lies g (inr j)) (back_empty (forward_if h.forward map all h).broken _ n) f i w free q a

@@ -14,13 +14,14 @@ use Rattle.ob_rules.specs.Declarations.{Written_procedure, headings_in_order}
 use Rattle.law_typing_forms.specs.Said.{IsOneOf}
 use Rattle.law_typing.specs.Makes.{IfThere}
 use Rattle.law_body_context.specs.Knows.{Grows, IsDescribed, EntityStands, Knows}
-use Rattle.law_body_context.proofs.Lists.{all_of, second_empty}
+use Rattle.law_body_context.proofs.Lists.{all_of}
 use Rattle.law_body_context.proofs.Standing.{Lies, lies_front, lies_behind, lies_then, lies_both, grows_front, grows_then, with_types_known}
 use Rattle.law_body_context.specs.Order.{AreInOrder}
 use Rattle.law_body_context.proofs.InOrder.{made_in_order}
 use Rattle.law_body_context.proofs.Over.{AreSectionsOver}
 use Rattle.law_body_context.proofs.Sections.{AreGoodSections}
 use Rattle.law_body_context.proofs.Heads.{InsideEntity, inside_none, inside_again, HeadStands, head_grown, head_stands, head_over}
+use Rattle.law_lists.proofs.Lists.{back_empty}
 
 -- a heading in each place of a procedure
 abbrev pub Aligned : List Written_procedure → List Head → Type 0
@@ -78,7 +79,7 @@ abbrev pub IsUnbroken : Head → Type 0
 IsUnbroken h = h.notes.broken ≡ []
 
 declared_types : (twice : Bool) (h : Head) (u : Around) → IsUnbroken (declared_head twice h u) → types_of (declared_head twice h u).parameters ≡ types_of h.parameters
-declared_types true h u e = let bad = second_empty h.notes.broken _ e in absurd cc
+declared_types true h u e = let bad = back_empty h.notes.broken _ e in absurd cc
 declared_types false h u e = refl
 
 named_own : (u : Around) (h : Head) (b : Bool) → (knows_procedure u h b).own ≡ u.own

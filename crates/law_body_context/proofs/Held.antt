@@ -11,12 +11,12 @@ use Rattle.law_simulation_relation.specs.Typed as typed
 use Rattle.law_simulation_relation.specs.Typed.{As, IsOwn}
 use Rattle.law_simulation_relation.proofs.Names.{bytes_same, bytes_sym}
 use Rattle.law_typing_forms.specs.Said.{IsOneOf}
-use Rattle.law_methods_described.proofs.Nodes.{IfThere}
 use Rattle.law_typing.specs.Bodies.{in_all, hidden_places}
 use Rattle.law_typing.specs.Laws.{Having}
 use Rattle.law_body_context.specs.Laws.{HiddenStand}
 use Rattle.law_body_context.proofs.Lists.{one_right, all_one}
 use Rattle.law_body_context.proofs.Places.{Keeps, stmts_keep}
+use Rattle.law_lists.proofs.Lists.{IfThere}
 
 fresh_of : (x : List ℕ) (hs : List Held) (h : Held) → Fresh x hs → IsOneOf hs h → bytes_eq x (held_name h) ≡ false
 fresh_of x [] h f i = absurd i

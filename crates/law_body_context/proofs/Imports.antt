@@ -7,10 +7,7 @@ use Rattle.law_simulation_relation.proofs.Names.{bytes_true}
 use Rattle.ob_rules.specs.Names.{is_among, is_out}
 use Rattle.ob_rules.specs.Declarations.{target_of, import_if, imported}
 use Rattle.law_body_context.specs.Laws.{AreOthers}
-
-either_true : (a b : Bool) → (a || b) ≡ true → (a ≡ true) ⊎ (b ≡ true)
-either_true true b e = inl refl
-either_true false b e = inr e
+use Rattle.law_lists.proofs.Lists.{either_true}
 
 module _ (unit : List ℕ) (out : is_out unit ≡ false) where
   abbrev IsOther : List ℕ → Type 0

@@ -25,10 +25,11 @@ use Rattle.ob_rules.specs.Declarations.{Contents, no_contents, together, declare
 use Rattle.law_typing_forms.specs.Said.{IsOneOf}
 use Rattle.law_body_context.specs.Knows.{Grows, Stands, IsDescribed, EntityStands, Knows}
 use Rattle.law_body_context.specs.Judged.{IsMade, IsWithin, ReceiverStands, IsInside, result_of, IsProcedureIn, NameIs, IsBoundBy}
-use Rattle.law_body_context.proofs.Lists.{one_left, one_right, one_joined, all_of, all_both, there_of}
+use Rattle.law_body_context.proofs.Lists.{one_left, one_right, one_joined, all_of, there_of}
 use Rattle.law_body_context.specs.Order.{IsOver, AreInOrder}
 use Rattle.law_body_context.proofs.Binding.{AreOne, IsFrom, Changes}
 use Rattle.law_body_context.proofs.Standing.{Lies, grows_front, grows_behind, grows_then, grows_both, stands_grown, with_types_known}
+use Rattle.law_lists.proofs.Lists.{all_both}
 
 -- in the module, or in a procedure, whose heading may break a rule
 pub data Level : Type 0 where

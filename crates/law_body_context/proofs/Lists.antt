@@ -31,14 +31,6 @@ pub all_of : {A : Type 0} (P Q : A → Type 0) (xs : List A) → ((x : A) → P 
 all_of P Q [] f h = tt
 all_of P Q (x ∷ xs) f h = (f x h.0, all_of P Q xs f h.1)
 
-pub all_pairs : {A : Type 0} (P Q : A → Type 0) (xs : List A) → AllByRecursion P xs → AllByRecursion Q xs → AllByRecursion (λ x. P x × Q x) xs
-all_pairs P Q [] h k = tt
-all_pairs P Q (x ∷ xs) h k = ((h.0, k.0), all_pairs P Q xs h.1 k.1)
-
-pub all_both : {A : Type 0} (P : A → Type 0) (xs ys : List A) → AllByRecursion P xs → AllByRecursion P ys → AllByRecursion P (xs ++ ys)
-all_both P [] ys h k = k
-all_both P (x ∷ xs) ys h k = (h.0, all_both P xs ys h.1 k)
-
 pub all_same : {A B : Type 0} (P : B → Type 0) (f : A → B) (xs : List A) → ((x : A) → IsOneOf xs x → P (f x)) → AllByRecursion P (map f xs)
 all_same P f [] h = tt
 all_same P f (x ∷ xs) h = (h x (inl refl), all_same P f xs (λ y k. h y (inr k)))
@@ -64,11 +56,3 @@ find_has P test (x ∷ xs) h = first_if P (test x) x (find test xs) h.0 (find_ha
 pub there_of : {A : Type 0} (P Q : A → Type 0) (o : Option A) → ((x : A) → P x → Q x) → IfThere P o → IfThere Q o
 there_of P Q None f h = tt
 there_of P Q (Some x) f h = f x h
-
-pub first_empty : {A : Type 0} (xs ys : List A) → xs ++ ys ≡ [] → xs ≡ []
-first_empty [] ys e = refl
-first_empty (x ∷ xs) ys e = absurd cc
-
-pub second_empty : {A : Type 0} (xs ys : List A) → xs ++ ys ≡ [] → ys ≡ []
-second_empty [] ys e = e
-second_empty (x ∷ xs) ys e = absurd cc

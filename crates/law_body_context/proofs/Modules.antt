@@ -29,7 +29,7 @@ use Rattle.ob_rules.specs.Declarations.{Contents, no_contents, together, Part, D
 use Rattle.law_typing.specs.Makes.{IfThere}
 use Rattle.law_typing.specs.Spelled.{all_true, is_spelled}
 use Rattle.law_typing.specs.Bodies.{stmt_spelled}
-use Rattle.law_simulation_relation.proofs.Names.{and_both, bytes_true, bytes_same}
+use Rattle.law_simulation_relation.proofs.Names.{bytes_true, bytes_same}
 use Rattle.law_typing_forms.specs.Said.{IsOneOf}
 use Rattle.law_typing_forms.specs.Whole.{Different}
 use Rattle.law_typing_forms.proofs.Members.{found}
@@ -41,7 +41,7 @@ use Rattle.law_body_context.proofs.Held.{one_mapped}
 use Rattle.law_body_context.proofs.More.{more_same}
 use Rattle.law_body_context.proofs.Binding.{AreOne, IsFrom}
 use Rattle.law_body_context.proofs.Standing.{Lies, lies_same}
-use Rattle.law_body_context.proofs.Lists.{one_joined, one_all, all_one, all_both, find_has, first_empty, second_empty}
+use Rattle.law_body_context.proofs.Lists.{one_joined, one_all, all_one, find_has}
 use Rattle.law_body_context.proofs.Typings.{ConstantPhrase}
 use Rattle.law_body_context.specs.Order.{AreInOrder}
 use Rattle.law_body_context.proofs.Over.{written_over, written_parameters_over}
@@ -50,7 +50,7 @@ use Rattle.law_body_context.proofs.Levels.{Level, AtModule, Within, frame, IsPla
 use Rattle.law_names_procedures.specs.Procedures.{is_plain, ShowBases, heading_layer, is_named_plainly}
 use Rattle.law_names_procedures.specs.Procedures as said
 use Rattle.law_names_procedures.proofs.Knowing.{AreKnown}
-use Rattle.law_names_procedures.proofs.Apart.{or_parts, IsPlain as IsPlainName}
+use Rattle.law_names_procedures.proofs.Apart.{IsPlain as IsPlainName}
 use Rattle.law_names_procedures.proofs.Written.{written_well, written_parameters_well}
 use Rattle.law_names_procedures.proofs.Plain.{OrderIs, GoodPlain, constant_good, type_good, variables_good, imports_good, order_one}
 use Rattle.law_body_context.proofs.Quiet.{IsQuiet, quiet_behind}
@@ -58,6 +58,7 @@ use Rattle.law_body_context.proofs.Plain.{IsPlain, constant_plain, type_plain, v
 use Rattle.law_body_context.proofs.Blocks.{all_empty, PartIs, IsBlock, IsProcedure, stands_at}
 use Rattle.law_body_context.proofs.Sequences.{block_is}
 use Rattle.law_body_context.proofs.Around.{HandsOn, IsJudgedAlso, both_of, nothing_handed}
+use Rattle.law_lists.proofs.Lists.{all_both, and_parts, back_empty, first_false, front_empty, or_parts}
 
 one_kept : {B : Type 0} (Q : B → Type 0) (o : Option B) (ys : List B) → IfThere Q o → AllByRecursion Q ys → AllByRecursion Q (cons_option o ys)
 one_kept Q None ys h k = k
@@ -76,10 +77,6 @@ unbroken_is (b ∷ bs) x m e = absurd cc
 not_noted : (b : Bool) (n : ℕ) (at : Pos) → (notes_if b n at).broken ≡ [] → b ≡ false
 not_noted true n at e = absurd cc
 not_noted false n at e = refl
-
-first_false : (a b : Bool) → (a || b) ≡ false → a ≡ false
-first_false true b e = absurd cc
-first_false false b e = refl
 
 module _ (IsConstant : Value → Type 0) (truths : (b : Bool) → IsConstant (literal.Bool b)) (shown : QName → Option Desc) (m : TypedModule) (content : Contents) (out : is_out m.name ≡ false) (constants : (x : Expr) → is_spelled x ≡ true → ConstantPhrase IsConstant m.name shown out (phrase_of x)) (Also : Around → Type 0) (hands : (ds : List Decl) (xs : List Stmt) → HandsOn Also content (map declaration ds) (map judging xs)) where
   abbrev GoodDeclaration : Declaration → Type 0
@@ -112,8 +109,8 @@ module _ (IsConstant : Value → Type 0) (truths : (b : Bool) → IsConstant (li
   order_quiet (Plain o f ∷ ds) g u k e =
       let a = f u in
       let rest = in_order (filter_map plain_of ds) a.around in
-      let p = g.0.1 u k (first_empty a.part.notes.broken rest.part.notes.broken e) in
-      order_one o (filter_map type_name_of ds) u a rest p (order_quiet ds g.1 a.around (subst (λ (v : Around). AreKnown v.known) (sym p.around) p.known) (second_empty a.part.notes.broken rest.part.notes.broken e))
+      let p = g.0.1 u k (front_empty a.part.notes.broken rest.part.notes.broken e) in
+      order_one o (filter_map type_name_of ds) u a rest p (order_quiet ds g.1 a.around (subst (λ (v : Around). AreKnown v.known) (sym p.around) p.known) (back_empty a.part.notes.broken rest.part.notes.broken e))
 
   -- what is bound at the level of the module is made by it
   bound_at : (l : Level) (u : Around) → IsPlaced l u → (c : Contents) → IsBoundAt IsConstant shown m content l c → is_module_level u ≡ true → (t : TypedType) → IsOneOf c.bound t → IsMade content t
@@ -139,7 +136,7 @@ module _ (IsConstant : Value → Type 0) (truths : (b : Bool) → IsConstant (li
         receiver = b.receiver;
       } in
       let r = order_plain IsConstant shown m content out (filter_map plain_of ds) (kept_all GoodDeclaration (IsPlain IsConstant shown m content out) plain_of plain_good ds g) l v c (first_included IsConstant shown m content l d.part.contents _ i) in
-      let plain : d.part.notes.broken ≡ [] = first_empty d.part.notes.broken _ (first_empty (d.part.notes.broken ++ _) _ n) in
+      let plain : d.part.notes.broken ≡ [] = front_empty d.part.notes.broken _ (front_empty (d.part.notes.broken ++ _) _ n) in
       block_is IsConstant shown m content out Also l ps (kept_all GoodDeclaration (IsProcedure IsConstant shown m content out Also) procedure_of procedure_good ds g) xs e u b.placed v (later_opened l u names o) d r (quiet_behind names u d q (order_quiet ds g v q.known plain)) (next u a n i.made (bound_at l u b.placed (block ds (map judging xs) u).contents i.bound)) n i
 
   -- BY INDUCTION OVER DECLARATIONS
@@ -156,8 +153,8 @@ module _ (IsConstant : Value → Type 0) (truths : (b : Bool) → IsConstant (li
   all_in : (xs : List SD) → all_true (map decl_spelled (decls_in xs)) ≡ true → said.all_true (map is_named_plainly (decls_in xs)) ≡ true → AreGood (map declaration (decls_in xs))
   all_in [] e f = tt
   all_in (x ∷ xs) e f =
-      let p = and_both (decl_spelled x.0) (all_true (map decl_spelled (decls_in xs))) e in
-      let q = and_both (is_named_plainly x.0) (said.all_true (map is_named_plainly (decls_in xs))) f in
+      let p = and_parts (decl_spelled x.0) (all_true (map decl_spelled (decls_in xs))) e in
+      let q = and_parts (is_named_plainly x.0) (said.all_true (map is_named_plainly (decls_in xs))) f in
       (x.1 p.0 q.0, all_in xs p.1 q.1)
 
   layer : (x : Decl-F Decl) → (decl_layer (map-Decl Decl Bool decl_spelled x) ≡ true → heading_layer (map-Decl Decl Bool is_named_plainly x) ≡ true → GoodDeclaration (decl_rule (map-Decl Decl Declaration declaration x))) → PD (roll-Decl x)
@@ -173,7 +170,7 @@ module _ (IsConstant : Value → Type 0) (truths : (b : Bool) → IsConstant (li
   plain_from : (x : List ℕ) → is_plain x ≡ true → IsPlainName x
   plain_from [] e = (tt, tt)
   plain_from (b ∷ x) e =
-      let p = and_both (not (b == 46 || b == 47)) (is_plain x) e in
+      let p = and_parts (not (b == 46 || b == 47)) (is_plain x) e in
       let q = or_parts (b == 46) (b == 47) (not_false (b == 46 || b == 47) p.0) in
       let r = plain_from x p.1 in
       ((differs b 46 refl q.0, r.0), (differs b 47 refl q.1, r.1))
@@ -186,9 +183,9 @@ module _ (IsConstant : Value → Type 0) (truths : (b : Bool) → IsConstant (li
   decl_cases (Decl-F.NamedType d n) = layer (Decl-F.NamedType d n) (λ e f. (type_plain IsConstant shown m content out d (written n) (written_good IsConstant m.name shown out constants n e) (written_over IsConstant m.name shown out n), type_good d (written n) (written_well n)))
   decl_cases (Decl-F.Variables ds n) = layer (Decl-F.Variables ds n) (λ e f. (variables_declared_plain IsConstant shown m content out ds (written n) (written_good IsConstant m.name shown out constants n e) (written_over IsConstant m.name shown out n), variables_good ds (written n) (written_well n)))
   decl_cases (Decl-F.Procedure h ds body closing) = layer (Decl-F.Procedure h (decls_in ds) body closing) (λ e f.
-      let p = and_both (parameters_spelled h.parameters) (all_true (map decl_spelled (decls_in ds)) && all_true (map stmt_spelled body)) e in
-      let q = and_both (all_true (map decl_spelled (decls_in ds))) (all_true (map stmt_spelled body)) p.1 in
-      let r = and_both (is_plain h.name.ident.name) (said.all_true (map is_named_plainly (decls_in ds))) f in
+      let p = and_parts (parameters_spelled h.parameters) (all_true (map decl_spelled (decls_in ds)) && all_true (map stmt_spelled body)) e in
+      let q = and_parts (all_true (map decl_spelled (decls_in ds))) (all_true (map stmt_spelled body)) p.1 in
+      let r = and_parts (is_plain h.name.ident.name) (said.all_true (map is_named_plainly (decls_in ds))) f in
       record {
         heading = ((written_parameters_good IsConstant m.name shown out constants h.parameters p.0, written_parameters_over IsConstant m.name shown out h.parameters), tt);
         well = record { sections = written_parameters_well h.parameters; plain = plain_from h.name.ident.name r.0 };
@@ -202,8 +199,8 @@ module _ (IsConstant : Value → Type 0) (truths : (b : Bool) → IsConstant (li
   decls_good : (xs : List Decl) → all_true (map decl_spelled xs) ≡ true → said.all_true (map is_named_plainly xs) ≡ true → AreGood (map declaration xs)
   decls_good [] e f = tt
   decls_good (x ∷ xs) e f =
-      let p = and_both (decl_spelled x) (all_true (map decl_spelled xs)) e in
-      let q = and_both (is_named_plainly x) (said.all_true (map is_named_plainly xs)) f in
+      let p = and_parts (decl_spelled x) (all_true (map decl_spelled xs)) e in
+      let q = and_parts (is_named_plainly x) (said.all_true (map is_named_plainly xs)) f in
       (decl_good x p.0 q.0, decls_good xs p.1 q.1)
 
   -- IMPORTS
@@ -264,9 +261,9 @@ module _ (IsConstant : Value → Type 0) (truths : (b : Bool) → IsConstant (li
       let j = second_included IsConstant shown m content AtModule no_contents (together d.part.contents c) i in
       let r = order_plain IsConstant shown m content out (map (λ i. import_declared i (target_of i)) imports) (imports_plain imports o) AtModule u (module_around name.name ds e) (first_included IsConstant shown m content AtModule d.part.contents c j) in
       let inner = (block ds (map judging xs) d.around).notes.broken in
-      let quiet : inner ≡ [] = second_empty d.part.notes.broken inner (second_empty _ (d.part.notes.broken ++ inner) n) in
+      let quiet : inner ≡ [] = back_empty d.part.notes.broken inner (back_empty _ (d.part.notes.broken ++ inner) n) in
       let opened : Lies d.around.own content.types = λ t k. ⊎_elim (λ y. (first_included IsConstant shown m content AtModule d.part.contents c j).made t y) (λ y. absurd y) (one_joined d.part.contents.types [] t (r.lies t k)) in
-      let known = imports_good imports u predeclared_known (first_empty d.part.notes.broken inner (second_empty _ (d.part.notes.broken ++ inner) n)) in
+      let known = imports_good imports u predeclared_known (front_empty d.part.notes.broken inner (back_empty _ (d.part.notes.broken ++ inner) n)) in
       let calm : IsQuiet d.around = subst IsQuiet (sym known.around) (record { known = known.known; begins = λ l. (refl, bases) }) in
       let p = block_good ds g xs next s AtModule d.around r.around begins (opened, r.order tt) calm quiet (second_included IsConstant shown m content AtModule d.part.contents c j) in
       record {
@@ -361,7 +358,7 @@ module _ (IsConstant : Value → Type 0) (truths : (b : Bool) → IsConstant (li
   not_out e =
       let b = is_out tree.name.name || is_system tree.name.name in
       let n = notes_if b 5 tree.name.pos in
-      let f = first_empty n.broken _ (first_empty (n.broken ++ (Rattle.ob_rules.specs.Declarations.closing_judged tree.name.name (Some tree.closing)).broken) _ e) in
+      let f = front_empty n.broken _ (front_empty (n.broken ++ (Rattle.ob_rules.specs.Declarations.closing_judged tree.name.name (Some tree.closing)).broken) _ e) in
       first_false (is_out tree.name.name) (is_system tree.name.name) (not_noted b 5 tree.name.pos f)
 
   names_kept : (bound : List TypedType) (ts : List TypedType) → Grows ts (all_described bound ts)
@@ -375,7 +372,7 @@ module _ (IsConstant : Value → Type 0) (truths : (b : Bool) → IsConstant (li
 
     whole_is : parts.notes.broken ≡ [] → (out : is_out whole.name ≡ false) → ((x : Expr) → is_spelled x ≡ true → ConstantPhrase IsConstant whole.name shown out (phrase_of x)) → tree_spelled tree ≡ true → ShowBases shown tree.name.name → said.all_true (map is_named_plainly tree.decls) ≡ true → AllByRecursion (λ (i : Import). bytes_eq (target_of i).name tree.name.name ≡ false) tree.imports → With whole
     whole_is quiet out constants s bases plain o =
-        let e = and_both (all_true (map decl_spelled tree.decls)) (all_true (map stmt_spelled tree.body)) s in
+        let e = and_parts (all_true (map decl_spelled tree.decls)) (all_true (map stmt_spelled tree.body)) s in
         let p = module_is IsConstant truths shown whole parts.contents out constants Also hands tree.name refl bases tree.imports o (map declaration tree.decls) (decls_good IsConstant truths shown whole parts.contents out constants Also hands tree.decls e.0 plain) tree.body (hands tree.decls tree.body) begins e.1 tree.closing quiet (record { variables = λ x i. i; procedures = λ p i. i; types = names_kept parts.contents.bound parts.contents.types; made = λ t i. i; bound = λ t i. inr i }) in
         let both = both_of Also IsConstant shown whole parts.contents whole.procedures p.procedures in (
           record { content = parts.contents; told = λ d. all_told IsConstant parts.contents.types parts.contents.bound p.bound.from p.bound.one d; types_are = refl; over = p.full.over; from = p.bound.from; bound = p.bound.by; own = p.own; procedures = both.0; body = p.body; scope = p.placed.1.0; receiver = p.placed.1.1.1; name = out; constants = p.full.constants; types = all_described_are IsConstant parts.contents.bound p.full.bound parts.contents.types p.full.types },

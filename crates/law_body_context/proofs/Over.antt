@@ -35,9 +35,10 @@ use Rattle.law_methods_described.proofs.Nodes.{Has, then_has, both_have, first_h
 use Rattle.law_typing.specs.Makes.{IfThere}
 use Rattle.law_body_context.specs.Knows.{Stands, EntityStands}
 use Rattle.law_body_context.specs.Order.{IsFresh, IsBased, IsOver}
-use Rattle.law_body_context.proofs.Lists.{all_both, there_of}
+use Rattle.law_body_context.proofs.Lists.{there_of}
 use Rattle.law_body_context.proofs.Named.{type_named_stands}
 use Rattle.law_body_context.proofs.Typings.{AreOver, TypingOver, KnownOver, IsWellOver, AreWellOver}
+use Rattle.law_lists.proofs.Lists.{all_both}
 
 -- names do not hang on the types that stand around
 entity_own : (u : Around) (start : List TypedType) (x : Ident) (k : Known) (e : Entity) (f : Entity → Judged TypeRef) → unless_variable_is (record u { own = start }) x k e f ≡ unless_variable_is u x k e f

@@ -30,9 +30,10 @@ use Rattle.ob_rules.specs.Phrases.{Phrase}
 use Rattle.ob_rules.specs.Statements as rules
 use Rattle.ob_rules.specs.Statements.{Judging, Conditional, Labelled, GuardedBody, in_turn, in_turn_if, one, branch_of, empty_if_none, condition, Labels, labels, case_of, case_behind, cases, selects_if, case_judged, for_made, for_parts, bound_if, for_step, for_variable, in_loop, conditional, conditionals, guarded_body, with_test, with_branch, with_branches, if_statement, while_statement, repeat_statement, loop_statement, with_statement, case, for, phrase_if, stmt_rule, branch_rule, case_rule, guarded_rule, judging, conditional_of, labelled_of, guarded_of}
 use Rattle.law_typing_forms.specs.Said.{IsOneOf}
-use Rattle.law_methods_described.proofs.Nodes.{IfThere, Has, then_has, both_have, first_has, second_has}
+use Rattle.law_methods_described.proofs.Nodes.{Has, then_has, both_have, first_has, second_has}
 use Rattle.law_typing.specs.Bodies.{in_all, place_layer, branch_places_layer, case_places_layer, guarded_places_layer, hidden_places, branch_places, case_places, guarded_places}
 use Rattle.law_body_context.proofs.Lists.{one_left, one_right, one_joined}
+use Rattle.law_lists.proofs.Lists.{IfThere}
 
 -- each of these is among those
 abbrev pub Holds : List Pos → List Pos → Type 0

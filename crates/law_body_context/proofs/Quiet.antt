@@ -11,7 +11,7 @@ use Rattle.ob_rules.specs.Declarations.{Declared, Written_procedure, around_body
 use Rattle.law_typing_forms.specs.Said.{IsOneOf}
 use Rattle.law_names_procedures.specs.Procedures.{ShowBases}
 use Rattle.law_names_procedures.proofs.Judges.{Has, has_more}
-use Rattle.law_names_procedures.proofs.Knowing.{IsKnown, AreKnown, all_both}
+use Rattle.law_names_procedures.proofs.Knowing.{IsKnown, AreKnown}
 use Rattle.law_names_procedures.proofs.Typings.{AreWellSections}
 use Rattle.law_names_procedures.proofs.Points.{front_covers, PointsWell, Points, points_alike}
 use Rattle.law_names_procedures.proofs.Plain.{OrderIs}
@@ -19,6 +19,7 @@ use Rattle.law_names_procedures.proofs.Apart.{IsPlain}
 use Rattle.law_names_procedures.proofs.Headings.{AreBased, more_based, known_based, IsHead, head_good}
 use Rattle.law_names_procedures.proofs.Sequences.{types_pointed, not_twice}
 use Rattle.law_body_context.proofs.Headings.{IsUnbroken, stays_before}
+use Rattle.law_lists.proofs.Lists.{all_both}
 
 -- no declaration that is known broke a rule; and where a module begins no type is known, and the bases of pointers are shown
 pub record IsQuiet (u : Around) : Type 0 where

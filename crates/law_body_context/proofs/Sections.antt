@@ -31,10 +31,11 @@ use Rattle.law_typing.specs.Makes.{IfThere}
 use Rattle.law_body_context.specs.Knows.{Grows, Stands, IsDescribed, EntityStands, Knows, IsPlain}
 use Rattle.law_body_context.specs.Judged as judged
 use Rattle.law_body_context.specs.Judged.{AreOf, IsParameter}
-use Rattle.law_body_context.proofs.Lists.{one_left, one_right, one_joined, all_of, all_both, all_same, there_of}
+use Rattle.law_body_context.proofs.Lists.{one_left, one_right, one_joined, all_of, all_same, there_of}
 use Rattle.law_body_context.proofs.Standing.{stands_grown, with_types_known}
 use Rattle.law_body_context.proofs.Named.{type_named_stands}
 use Rattle.law_body_context.proofs.Typings.{TypingIs, IsGood, typed_is}
+use Rattle.law_lists.proofs.Lists.{all_both}
 
 -- THE MODE OF A PASSING
 

@@ -22,18 +22,18 @@ use Rattle.law_body_context.specs.Knows.{Grows, IsDescribed, EntityStands}
 use Rattle.law_body_context.specs.Judged.{IsMade, IsWithin, AreOf, IsProcedureIn, IsForwardIn, NameIs}
 use Rattle.law_body_context.specs.Order.{AreInOrder}
 use Rattle.law_body_context.proofs.Receivers.{IsBoundAmong, bound_in_order}
-use Rattle.law_body_context.proofs.Lists.{one_joined, one_all, there_of, all_of, all_both, all_pairs, first_empty, second_empty}
+use Rattle.law_body_context.proofs.Lists.{one_joined, one_all, there_of, all_of}
 use Rattle.law_body_context.proofs.Standing.{Lies, lies_same, grows_as, grows_same, grows_then, grows_both, entity_grown}
 use Rattle.law_body_context.proofs.Heads.{SignatureStands, HeadStands, head_grown}
 use Rattle.law_body_context.proofs.Headings.{Aligned, IsUnbroken, types_of_all, lies_in_order, types_lie, named_at, aligned_in_order, names_in_order, HeadsStand, named_fine, stand_in_order}
-use Rattle.law_body_context.proofs.More.{append_none}
 use Rattle.law_body_context.proofs.Binding.{binding_changes}
 use Rattle.law_body_context.proofs.Around.{HoldsInside, HoldsBehind, IsJudgedAlso}
 use Rattle.law_body_context.proofs.Levels.{Level, AtModule, Within, frame, IsPlaced, IsBoundAt, IsOpened, BoundBy, own_none, own_bound, own_same, bound_none, bound_changed, Included, none_full, both_full, first_included, second_included, BlockAt, name_grown}
 use Rattle.law_body_context.proofs.Plain.{DeclaredIs}
 use Rattle.law_body_context.proofs.Quiet.{AreQuiet, IsQuietHead, quiet_in_order}
 use Rattle.law_body_context.proofs.Forwards.{IsAnswered, all_answered}
-use Rattle.law_body_context.proofs.Blocks.{one_reversed, one_turned, all_reversed, all_empty, at_most, two_empty, procedures_body, procedures_bound, PartIs, AreProcedures, headings_good, headings_well, stands_at, KnownBehind, IsBoundWithin, HeadBound, procedures_are, heads_unbroken, types_there, HasProcedure, heading_there}
+use Rattle.law_body_context.proofs.Blocks.{one_reversed, one_turned, all_reversed, all_empty, procedures_body, procedures_bound, PartIs, AreProcedures, headings_good, headings_well, stands_at, KnownBehind, IsBoundWithin, HeadBound, procedures_are, heads_unbroken, types_there, HasProcedure, heading_there}
+use Rattle.law_lists.proofs.Lists.{all_both, all_pairs, append_none, at_most, back_empty, both_empty, front_empty}
 
 module _ (IsConstant : Value → Type 0) (shown : QName → Option Desc) (m : TypedModule) (content : Contents) (out : is_out m.name ≡ false) (Also : Around → Type 0) where
   abbrev B : Level → Around → Type 0
@@ -170,15 +170,15 @@ module _ (IsConstant : Value → Type 0) (shown : QName → Option Desc) (m : Ty
         inside_is =
             let c = (procedures_judged w ps heads).contents in
             let s = (body_part (in_turn (map judging xs) w)).contents in
-            let a = procedures_are IsConstant shown m content out Also base.path l w around ps good heads (all_reversed (HS own base.scope) hs.before heads_stand) (all_reversed (HeadBound IsConstant shown m content out) hs.before heads_bound) (all_reversed (λ (h : Head). AllByRecursion (KnownBehind IsConstant shown m content out l w) h.known) hs.before known.1) (all_reversed (IsQuietHead base.path) hs.before quiet) also.1 (first_empty (procedures_judged w ps heads).notes.broken _ n) (first_included IsConstant shown m content l c s i) in
+            let a = procedures_are IsConstant shown m content out Also base.path l w around ps good heads (all_reversed (HS own base.scope) hs.before heads_stand) (all_reversed (HeadBound IsConstant shown m content out) hs.before heads_bound) (all_reversed (λ (h : Head). AllByRecursion (KnownBehind IsConstant shown m content out l w) h.known) hs.before known.1) (all_reversed (IsQuietHead base.path) hs.before quiet) also.1 (front_empty (procedures_judged w ps heads).notes.broken _ n) (first_included IsConstant shown m content l c s i) in
             record {
               procedures = all_both (IsJudgedAlso Also IsConstant shown m content) c.procedures [] a.procedures tt;
               also = also.0;
               body = record { u = w; xs = xs; is = ap (λ l. l ++ s.body) (procedures_body w ps heads); spelled = spelled; stands = stands_at IsConstant shown m content out l w around };
               placed = around.placed;
               full = both_full IsConstant shown m content c s a.full (record { constants = tt; types = tt; bound = tt; over = tt });
-              bound = bound_none IsConstant shown m content l inside.contents (two_empty c.bound s.bound (procedures_bound IsConstant shown m content out w ps heads) refl);
-              own = own_none IsConstant shown m content l inside.contents.bound w (two_empty c.bound s.bound (procedures_bound IsConstant shown m content out w ps heads) refl);
+              bound = bound_none IsConstant shown m content l inside.contents (both_empty c.bound s.bound (procedures_bound IsConstant shown m content out w ps heads) refl);
+              own = own_none IsConstant shown m content l inside.contents.bound w (both_empty c.bound s.bound (procedures_bound IsConstant shown m content out w ps heads) refl);
             }
 
         inside_own : inside_is.body.u.own ≡ own
@@ -215,13 +215,13 @@ module _ (IsConstant : Value → Type 0) (shown : QName → Option Desc) (m : Ty
       let bound : Contents = record no_contents { bound = bind.own } in
       let j : I l c = second_included IsConstant shown m content l bound c (second_included IsConstant shown m content l no_contents (together bound c) (second_included IsConstant shown m content l d.part.contents (together no_contents (together bound c)) i)) in
       let inner = (block_inside u ps all (map judging xs)).notes.broken in
-      let quiet : inner ≡ [] = second_empty _ inner (second_empty _ (_ ++ inner) n) in
+      let quiet : inner ≡ [] = back_empty _ inner (back_empty _ (_ ++ inner) n) in
       let judged = procedures_judged u ps all in
       let align = aligned l base g.around ps good xs spelled in
-      let unbroken : (x : Head) → IsOneOf h.before x → IsUnbroken x = λ x k. heads_unbroken IsConstant shown m content out u ps all align (first_empty judged.notes.broken _ quiet) x (one_reversed h.before x k) in
+      let unbroken : (x : Head) → IsOneOf h.before x → IsUnbroken x = λ x k. heads_unbroken IsConstant shown m content out u ps all align (front_empty judged.notes.broken _ quiet) x (one_reversed h.before x k) in
       let calm_heads : AllByRecursion (IsQuietHead base.path) h.before = quiet_in_order base.path ps (headings_well IsConstant shown m content out Also ps good) (record { around = base; before = [] }) calm refl unbroken tt in
       let fields = (all_judged (field_judged (map_of u)) (d.part.notes.later ++ heads_later h.before)).broken in
-      let notes = second_empty fields (forwards_judged (map_of h.around) all all).broken (second_empty bind.notes.broken _ (first_empty _ inner (second_empty _ (_ ++ inner) n))) in
+      let notes = back_empty fields (forwards_judged (map_of h.around) all all).broken (back_empty bind.notes.broken _ (front_empty _ inner (back_empty _ (_ ++ inner) n))) in
       let answered : (f : Head) → IsOneOf h.before f → f.is_bound ≡ false → (q : Parameters) → f.parameters ≡ Some q → f.forward ≡ true → IsAnswered (map_of h.around) all f q =
       λ f k free q e w. all_answered (map_of h.around) all base.path (all_reversed (IsQuietHead base.path) h.before calm_heads) all (λ x j. j) notes f (one_reversed h.before f k) w free q e in
       let inner_included = first_included IsConstant shown m content l judged.contents (body_part (in_turn (map judging xs) u)).contents j in
@@ -231,7 +231,7 @@ module _ (IsConstant : Value → Type 0) (shown : QName → Option Desc) (m : Ty
       let grown : Grows bind.own m.types = grows_then bind.own h.around.own m.types ch.back (grows_then h.around.own (types_of_all h.before ++ base.own) m.types (grows_as h.around.own (types_of_all h.before ++ base.own) behind) (grows_both (types_of_all h.before) base.own m.types made_grown g.around.grown)) in
       let heads_made : (t : TypedType) → IsOneOf h.around.own t → IsMade content t = λ t k. ⊎_elim (λ y. inl (inner_included.made t (made t y))) (λ y. g.around.within.own t y) (one_joined (types_of_all h.before) base.own t (behind t k)) in
       let heads_lie : Lies start.own content.types → Lies h.around.own content.types = λ f t k. ⊎_elim (λ y. inner_included.made t (made t y)) (λ y. ⊎_elim (λ z. (first_included IsConstant shown m content l d.part.contents (together no_contents (together bound c)) i).made t z) (λ z. f t z) (one_joined d.part.contents.types start.own t (g.lies t y))) (one_joined (types_of_all h.before) base.own t (behind t k)) in
-      let only_bound : (block_declared outer ps (map judging xs) d).contents.bound ≡ bind.own = ap (λ ts. ts ++ (bind.own ++ c.bound)) g.bound ∙ ap (λ ts. bind.own ++ ts) (two_empty judged.contents.bound [] (procedures_bound IsConstant shown m content out u ps all) refl) ∙ append_none bind.own in
+      let only_bound : (block_declared outer ps (map judging xs) d).contents.bound ≡ bind.own = ap (λ ts. ts ++ (bind.own ++ c.bound)) g.bound ∙ ap (λ ts. bind.own ++ ts) (both_empty judged.contents.bound [] (procedures_bound IsConstant shown m content out u ps all) refl) ∙ append_none bind.own in
       let rest_included = second_included IsConstant shown m content l no_contents (together bound c) (second_included IsConstant shown m content l d.part.contents (together no_contents (together bound c)) i) in
       let bound_made : (t : TypedType) → IsOneOf bind.own t → IsMade content t = binding_made l outer placed h.around all heads_made bound refl (first_included IsConstant shown m content l bound c rest_included).bound in
       let heads_bound : AllByRecursion (HeadBound IsConstant shown m content out) h.before =

@@ -16,7 +16,8 @@ use Rattle.ob_rules.specs.Types.{with_types}
 use Rattle.law_simulation_relation.proofs.Names.{bytes_same}
 use Rattle.law_typing_forms.specs.Said.{IsOneOf}
 use Rattle.law_body_context.specs.Knows.{HasName, Grows, StandsBy, Stands, IsDescribed, EntityStands, Knows}
-use Rattle.law_body_context.proofs.Lists.{one_left, one_right, one_joined, all_of, all_both}
+use Rattle.law_body_context.proofs.Lists.{one_left, one_right, one_joined, all_of}
+use Rattle.law_lists.proofs.Lists.{all_both}
 
 -- each of these is one of those
 abbrev pub Lies : List TypedType → List TypedType → Type 0

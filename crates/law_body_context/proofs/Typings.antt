@@ -26,9 +26,9 @@ use Rattle.ob_rules.specs.Types.{Typing, Written, typed_as, with_types, base_nam
 use Rattle.law_methods_described.proofs.Nodes.{Has, then_has, both_have, first_has, second_has, also_has, unless_has}
 use Rattle.law_body_context.specs.Knows.{Stands, LengthIs, IsDescribed, Knows}
 use Rattle.law_body_context.specs.Order.{IsOver}
-use Rattle.law_body_context.proofs.Lists.{all_both}
 use Rattle.law_body_context.proofs.Standing.{own_stands}
 use Rattle.law_body_context.proofs.Named.{type_named_stands}
+use Rattle.law_lists.proofs.Lists.{all_both}
 
 module _ (IsConstant : Value → Type 0) (unit : List ℕ) (shown : QName → Option Desc) (out : is_out unit ≡ false) where
   abbrev pub AreDescribed : List TypedType → Type 0

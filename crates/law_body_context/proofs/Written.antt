@@ -15,10 +15,10 @@ use Rattle.ob_rules.specs.Names.{is_out}
 use Rattle.ob_rules.specs.Expressions.{phrase_of}
 use Rattle.ob_rules.specs.Types.{Written, WrittenFields, WrittenParameters, WrittenSection, base_if, is_later, node_rule, fields_rule, parameters_rule, section_rule, written, written_parameters}
 use Rattle.law_typing.specs.Spelled.{all_true, is_spelled}
-use Rattle.law_simulation_relation.proofs.Names.{and_both}
 use Rattle.law_body_context.specs.Spelled.{node_layer, fields_layer, parameters_layer, section_layer, type_spelled, fields_spelled, parameters_spelled, section_spelled}
 use Rattle.law_body_context.proofs.Typings.{IsGood, AreConstant, ConstantPhrase, AreGoodFields, array_good, record_good, pointer_good, name_good}
 use Rattle.law_body_context.proofs.Sections.{AreGoodSections, type_good}
+use Rattle.law_lists.proofs.Lists.{and_parts}
 
 abbrev written_fields : FieldList → WrittenFields
 written_fields = fold-FieldList Written WrittenFields WrittenParameters WrittenSection node_rule fields_rule parameters_rule section_rule
@@ -59,22 +59,22 @@ module _ (IsConstant : Value → Type 0) (unit : List ℕ) (shown : QName → Op
 
   fields_are : (xs : List SF) → all_true (map fields_spelled (map (λ (x : SF). x.0) xs)) ≡ true → AreGoodFields IsConstant unit shown out (map written_fields (map (λ (x : SF). x.0) xs))
   fields_are [] e = tt
-  fields_are (x ∷ xs) e = let p = and_both (fields_spelled x.0) (all_true (map fields_spelled (map (λ (x : SF). x.0) xs))) e in (x.1 p.0, fields_are xs p.1)
+  fields_are (x ∷ xs) e = let p = and_parts (fields_spelled x.0) (all_true (map fields_spelled (map (λ (x : SF). x.0) xs))) e in (x.1 p.0, fields_are xs p.1)
 
   sections_are : (xs : List SS) → all_true (map section_spelled (map (λ (x : SS). x.0) xs)) ≡ true → GoodSections (map written_section (map (λ (x : SS). x.0) xs))
   sections_are [] e = tt
-  sections_are (x ∷ xs) e = let p = and_both (section_spelled x.0) (all_true (map section_spelled (map (λ (x : SS). x.0) xs))) e in (x.1 p.0, sections_are xs p.1)
+  sections_are (x ∷ xs) e = let p = and_parts (section_spelled x.0) (all_true (map section_spelled (map (λ (x : SS). x.0) xs))) e in (x.1 p.0, sections_are xs p.1)
 
   lengths_are : (ls : List Expr) → all_true (map is_spelled ls) ≡ true → AreConstant IsConstant unit shown out (map phrase_of ls)
   lengths_are [] e = tt
-  lengths_are (l ∷ ls) e = let p = and_both (is_spelled l) (all_true (map is_spelled ls)) e in (constants l p.0, lengths_are ls p.1)
+  lengths_are (l ∷ ls) e = let p = and_parts (is_spelled l) (all_true (map is_spelled ls)) e in (constants l p.0, lengths_are ls p.1)
 
   node_part : (x : TypeNode-F TypeNode FieldList FormalPars Section) → (node_layer (map-TypeNode TypeNode FieldList FormalPars Section Bool Bool Bool Bool type_spelled fields_spelled parameters_spelled section_spelled x) ≡ true → Good (node_rule (map-TypeNode TypeNode FieldList FormalPars Section Written WrittenFields WrittenParameters WrittenSection written written_fields written_parameters written_section x))) → PN (roll-TypeNode x)
   node_part x h e = subst Good (sym (fold-roll-TypeNode Written WrittenFields WrittenParameters WrittenSection node_rule fields_rule parameters_rule section_rule x)) (h (sym (fold-roll-TypeNode Bool Bool Bool Bool node_layer fields_layer parameters_layer section_layer x) ∙ e))
 
   node_cases : (y : TypeNode-F SN SF SP SS) → PN (roll-TypeNode (map-TypeNode SN SF SP SS TypeNode FieldList FormalPars Section (λ x. x.0) (λ x. x.0) (λ x. x.0) (λ x. x.0) y))
   node_cases (TypeNode-F.Named q) = node_part (TypeNode-F.Named q) (λ e u k name m ok. name_good IsConstant unit shown out q u k ok)
-  node_cases (TypeNode-F.Array at ls t) = node_part (TypeNode-F.Array at ls t.0) (λ e u k name m ok. let p = and_both (all_true (map is_spelled ls)) (type_spelled t.0) e in array_good IsConstant unit shown out (map phrase_of ls) (lengths_are ls p.0) at (written t.0) (t.1 p.1) u k name m ok)
+  node_cases (TypeNode-F.Array at ls t) = node_part (TypeNode-F.Array at ls t.0) (λ e u k name m ok. let p = and_parts (all_true (map is_spelled ls)) (type_spelled t.0) e in array_good IsConstant unit shown out (map phrase_of ls) (lengths_are ls p.0) at (written t.0) (t.1 p.1) u k name m ok)
   node_cases (TypeNode-F.Record at base ls) = node_part (TypeNode-F.Record at base (map (λ (x : SF). x.0) ls)) (λ e u k name m ok. record_good IsConstant unit shown out u k name m (map written_fields (map (λ (x : SF). x.0) ls)) (fields_are ls e) (base_if u base))
   node_cases (TypeNode-F.Pointer at b) = node_part (TypeNode-F.Pointer at b.0) (λ e u k name m ok. pointer_good IsConstant unit shown out u k name m (written b.0) (b.1 e) (is_later u (written b.0).name))
   node_cases (TypeNode-F.Procedure at p) = node_part (TypeNode-F.Procedure at p.0) (λ e u k name m ok. type_good IsConstant unit shown out u k name m (written_parameters p.0) (p.1 e))

@@ -1,13 +1,13 @@
 -- A walk that left some interfaces leaves them again where there are no others.
-use Rattle.std.proofs.Common.{◌≡◌, ℕ, ◌+◌, List, [], ◌∷◌, ◌++◌, length, Bool, true, false, cond, refl, sym, ap, ◌∙◌, subst, Option, Some, None, ⊎_elim, inl, inr}
-use Rattle.std.specs.Prelude.{zero, suc, bytes_eq, nat_le, ◌||◌, ◌⊎◌, codes}
+use Rattle.std.proofs.Common.{◌≡◌, ℕ, ◌+◌, List, [], ◌∷◌, ◌++◌, length, Bool, true, false, cond, refl, sym, ap, ◌∙◌, subst, Option, Some, None}
+use Rattle.std.specs.Prelude.{zero, suc, bytes_eq, nat_le, ◌||◌, codes}
 use Rattle.std.specs.List.{AllByRecursion, list_any}
 use Rattle.std.proofs.lemmas.Bool.{false≢true}
 use Rattle.std.proofs.lemmas.Slice.Eq.{bytes_eq-Decides}
 use Rattle.ob_env.specs.Faces.{Face, face_named}
 use Rattle.ob_env_walk.specs.Walk.{Entry, Missing, Junk, Holds, Walked, Left, NoInterface, Damaged, Cycle, TooMany, go_on, is_among, is_passed_over, through, entered, at_entry, at_module, importer_of, entering, visit, walk}
 use Rattle.ob_builds.specs.Builds.{Text, entry_of}
-use Rattle.law_builds.proofs.Faces.{same_name}
+use Rattle.law_lists.proofs.Lists.{bytes_same, second_false}
 
 abbrev left_or : List (Face Text) → Walked Text → List (Face Text)
 left_or d (Left faces) = faces
@@ -43,7 +43,7 @@ extends_more (x ∷ xs) ys n f e = go (bytes_eq n x.«module») e (extends_more 
 
 -- an interface behind others, none of which has its name
 last_named : (xs : List (Face Text)) (f : Face Text) (n : List ℕ) → f.«module» ≡ n → list_any (λ g. bytes_eq n g.«module») xs ≡ false → face_named (xs ++ f ∷ []) n ≡ Some f
-last_named [] f n e h = ap (λ b. cond b (Some f) None) (same_name n f.«module» (sym e))
+last_named [] f n e h = ap (λ b. cond b (Some f) None) (bytes_same n f.«module» (sym e))
 last_named (x ∷ xs) f n e h = go (bytes_eq n x.«module») h (last_named xs f n e)
   where
     go : (b : Bool) → b || list_any (λ g. bytes_eq n g.«module») xs ≡ false → (list_any (λ g. bytes_eq n g.«module») xs ≡ false → face_named (xs ++ f ∷ []) n ≡ Some f) → cond b (Some x) (face_named (xs ++ f ∷ []) n) ≡ Some f
@@ -93,7 +93,7 @@ other : (a b : List ℕ) → bytes_eq a b ≡ false → bytes_eq b a ≡ false
 other a b e = go (bytes_eq b a) refl
   where
     go : (t : Bool) → bytes_eq b a ≡ t → bytes_eq b a ≡ false
-    go true h = absurd (false≢true (sym e ∙ same_name a b (sym ((bytes_eq-Decides b a).0 h))))
+    go true h = absurd (false≢true (sym e ∙ bytes_same a b (sym ((bytes_eq-Decides b a).0 h))))
     go false h = h
 
 fresh_last : (path : List (List ℕ)) (xs : List (Face Text)) (f : Face Text) (m : List ℕ) → f.«module» ≡ m → is_among m path ≡ false → Fresh path xs → Fresh path (xs ++ f ∷ [])
@@ -143,10 +143,6 @@ through_again find k path at (m ∷ ms) left more fresh held e = go (visit find 
 
 -- ---- a module
 
-not_second : (a b : Bool) → a || b ≡ false → b ≡ false
-not_second true b e = absurd (false≢true (sym e))
-not_second false b e = e
-
 abbrev room_for : List (List ℕ) → List (Face Text) → Bool
 room_for path left = nat_le (length left + length path) 255
 
@@ -179,7 +175,7 @@ through_entry find named k path below m left more fresh held passed among Junk h
 through_entry find named k path below m left more fresh held passed among (Holds face) holds e = by_room (room_for path left) refl e
   where
     unseen : Fresh (m ∷ path) left
-    unseen = (not_second (bytes_eq m (codes "Out") || bytes_eq m (codes "SYSTEM")) (list_any (λ g. bytes_eq m g.«module») left) passed, fresh)
+    unseen = (second_false (bytes_eq m (codes "Out") || bytes_eq m (codes "SYSTEM")) (list_any (λ g. bytes_eq m g.«module») left) passed, fresh)
 
     by_walk : room_for path left ≡ true → (w : Walked Text) → into find k path m left face.imports ≡ w → go_on w (λ next. Left (next ++ face ∷ [])) ≡ Left more → Again find path left more (redone k path m left)
     by_walk room (Left mid) i h = left_again find named k path m left mid more face passed among fresh holds room (through_again find k (m ∷ path) (below m) face.imports left mid unseen held i) h

@@ -1,8 +1,7 @@
 -- What a build and its interface are read back as.
 use Rattle.std.proofs.Common.{◌≡◌, ℕ, ◌<◌, ◌≤◌, List, [], ◌∷◌, length, Bool, true, false, refl, ap, ◌∙◌, arith, Some}
-use Rattle.std.specs.Prelude.{map, nat_le, bytes_eq}
+use Rattle.std.specs.Prelude.{map, nat_le}
 use Rattle.std.proofs.lemmas.Bool.{leb-true}
-use Rattle.std.proofs.lemmas.Slice.Eq.{bytes_eq-Decides}
 use Rattle.ob_tree.specs.declared.print.Print.{Print}
 use Rattle.ob_format.specs.Format.{whole}
 use Rattle.ob_format.specs.Exact.{whole_again}
@@ -47,16 +46,6 @@ not_beyond n limit h = go (nat_le n limit) refl
 
 pub within_limit : (n limit : ℕ) → n ≤ limit → nat_le n limit ≡ true
 within_limit n limit h = grind (arith, h)
-
-pub same_name : (a b : List ℕ) → a ≡ b → bytes_eq a b ≡ true
-same_name a b e = (bytes_eq-Decides a b).1 e
-
-pub other_name : (a b : List ℕ) → (a ≡ b → ⊥) → bytes_eq a b ≡ false
-other_name a b n = go (bytes_eq a b) refl
-  where
-    go : (t : Bool) → bytes_eq a b ≡ t → bytes_eq a b ≡ false
-    go true e = absurd (n ((bytes_eq-Decides a b).0 e))
-    go false e = e
 
 -- ---- the symbol file of a build
 

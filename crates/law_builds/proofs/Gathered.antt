@@ -25,6 +25,7 @@ use Rattle.law_builds.proofs.Compiled.{Comes, comes, err_no}
 use Rattle.law_builds.proofs.Faces.{of_is}
 use Rattle.law_builds.proofs.Kept.{none_no}
 use Rattle.law_builds.proofs.Again.{extends_more}
+use Rattle.law_lists.proofs.Lists.{all_last}
 
 -- THE TREE OF A BUILD
 
@@ -71,10 +72,6 @@ wanted_more xs ys (u ∷ us) h = (text_more xs ys u.object u.aspect u.kept h.0, 
 all_more_wanted : (xs ys fs : List (Face Text)) → AllByRecursion (λ f. AreAsWanted xs f.uses) fs → AllByRecursion (λ f. AreAsWanted (xs ++ ys) f.uses) fs
 all_more_wanted xs ys [] h = tt
 all_more_wanted xs ys (f ∷ fs) h = (wanted_more xs ys f.uses h.0, all_more_wanted xs ys fs h.1)
-
-all_last : {A : Type 0} (P : A → Type 0) (xs : List A) (x : A) → AllByRecursion P xs → P x → AllByRecursion P (xs ++ x ∷ [])
-all_last P [] x h p = (p, tt)
-all_last P (y ∷ ys) x h p = (h.0, all_last P ys x h.1 p)
 
 -- ---- none is named Out
 

@@ -1,5 +1,5 @@
 -- Builds that a plan brings in go together with the loaded ones.
-use Rattle.std.proofs.Common.{◌≡◌, ℕ, suc, ◌+◌, ◌≤◌, List, [], ◌∷◌, ◌++◌, map, length, Bool, true, false, cond, refl, sym, ap, ◌∙◌, subst, append_assoc, arith, Option, Some, None, Ok, Err, ⊎_elim, inl, inr}
+use Rattle.std.proofs.Common.{◌≡◌, ℕ, suc, ◌+◌, List, [], ◌∷◌, ◌++◌, map, Bool, true, false, cond, refl, sym, ap, ◌∙◌, subst, append_assoc, arith, Option, Some, None, inl, inr}
 use Rattle.std.specs.Prelude.{◌||◌, bytes_eq, codes, Contains, ◌⊎◌}
 use Rattle.std.specs.List.{AllByRecursion}
 use Rattle.std.proofs.lemmas.Bool.{false≢true}
@@ -17,7 +17,7 @@ use Rattle.ob_builds.specs.Builds.{Text, Build, IsValid, shows_of, name_of, asks
 use Rattle.ob_builds.specs.Local.{AreAsWanted}
 use Rattle.ob_builds.specs.Afresh.{IsBehind, AreTogether}
 use Rattle.law_builds.proofs.Members.{has_head, has_more, to_in, of_in, In}
-use Rattle.law_builds.proofs.Faces.{same_name}
+use Rattle.law_lists.proofs.Lists.{bytes_same, second_false}
 
 -- NAMES
 
@@ -31,7 +31,7 @@ named_in n (b ∷ bs) e = go (bytes_eq n (name_of b)) refl e (named_in n bs)
 
 in_named : (n : List ℕ) (bs : List Build) → In (map name_of bs) n → is_there (named asks n bs) ≡ true
 in_named n [] i = absurd i
-in_named n (b ∷ bs) (inl e) = ap (λ t. is_there (cond t (Some b) (named asks n bs))) (same_name n (name_of b) (sym e))
+in_named n (b ∷ bs) (inl e) = ap (λ t. is_there (cond t (Some b) (named asks n bs))) (bytes_same n (name_of b) (sym e))
 in_named n (b ∷ bs) (inr i) = go (bytes_eq n (name_of b)) (in_named n bs i)
   where
     go : (t : Bool) → is_there (named asks n bs) ≡ true → is_there (cond t (Some b) (named asks n bs)) ≡ true
@@ -49,12 +49,8 @@ all_among : (ns : List (List ℕ)) (bs : List Build) → AllByRecursion (IsAmong
 all_among [] bs h = tt
 all_among (n ∷ ns) bs h = (among n bs h.0, all_among ns bs h.1)
 
-not_second : (a b : Bool) → a || b ≡ false → b ≡ false
-not_second true b e = absurd (false≢true (sym e))
-not_second false b e = e
-
 not_among : (n : List ℕ) (bs : List Build) → is_among asks bs n ≡ false → Contains (map name_of bs) n → ⊥
-not_among n bs e c = false≢true (sym (not_second (bytes_eq n (codes "Out")) (is_there (named asks n bs)) e) ∙ in_named n bs (to_in (map name_of bs) n c))
+not_among n bs e c = false≢true (sym (second_false (bytes_eq n (codes "Out")) (is_there (named asks n bs)) e) ∙ in_named n bs (to_in (map name_of bs) n c))
 
 -- TEXTS
 
@@ -70,7 +66,7 @@ present_is (b ∷ bs) q a = go (bytes_eq q.«module» (name_of b)) refl (present
   where
     go : (t : Bool) → bytes_eq q.«module» (name_of b) ≡ t → kept_by asks (named asks q.«module» bs) q.object a ≡ text_in (map shows_of bs) q a → kept_by asks (cond t (Some b) (named asks q.«module» bs)) q.object a ≡ of_found q a (cond t (Some (shows_of b)) (face_named (map shows_of bs) q.«module»))
     go true i rest =
-        ap (λ t. of_found (within (name_of b) q.object) a (cond t (Some (shows_of b)) None)) (same_name (name_of b) (name_of b) refl)
+        ap (λ t. of_found (within (name_of b) q.object) a (cond t (Some (shows_of b)) None)) (bytes_same (name_of b) (name_of b) refl)
         ∙ ap (λ m. of_found (within m q.object) a (Some (shows_of b))) (sym ((bytes_eq-Decides q.«module» (name_of b)).0 i))
     go false i rest = rest
 

@@ -1,6 +1,6 @@
 -- The texts that the uses of a build keep.
-use Rattle.std.proofs.Common.{◌≡◌, ℕ, List, [], ◌∷◌, ◌++◌, Bool, true, false, cond, refl, sym, ap, ◌∙◌, subst, Option, Some, None, Ok, inl, inr}
-use Rattle.std.specs.Prelude.{bytes_eq, Contains, ◌⊎◌}
+use Rattle.std.proofs.Common.{◌≡◌, ℕ, List, [], ◌∷◌, Bool, true, false, cond, refl, sym, ap, ◌∙◌, subst, Option, Some, None, inr}
+use Rattle.std.specs.Prelude.{bytes_eq, Contains}
 use Rattle.std.specs.Option.{option_map}
 use Rattle.std.specs.List.{AllByRecursion, flat_map}
 use Rattle.std.proofs.lemmas.Bool.{false≢true}
@@ -19,6 +19,7 @@ use Rattle.ob_builds.specs.Local.{AreAsWanted}
 use Rattle.ob_builds.specs.Apart.{IsTextOf, IsTextOfBuild}
 use Rattle.law_builds.proofs.Members.{has_head, has_more}
 use Rattle.law_builds.proofs.Compiled.{Comes, comes}
+use Rattle.law_lists.proofs.Lists.{all_both}
 
 abbrev is_some : {A : Type 0} → Option A → Bool
 is_some None = false
@@ -26,10 +27,6 @@ is_some (Some x) = true
 
 pub none_no : {A : Type 0} (t : A) → None ≡ Some t → ⊥
 none_no t e = false≢true (ap is_some e)
-
-all_behind : {A : Type 0} (P : A → Type 0) (xs ys : List A) → AllByRecursion P xs → AllByRecursion P ys → AllByRecursion P (xs ++ ys)
-all_behind P [] ys a b = b
-all_behind P (x ∷ xs) ys a b = (a.0, all_behind P xs ys a.1 b)
 
 abbrev wanted : Pair → Text → Wanted Text
 wanted p k = record { object = p.object; aspect = p.aspect; kept = k }
@@ -40,7 +37,7 @@ one_kept has p (Some k) e = (e, tt)
 
 all_kept : (has : QName → Aspect → Option Text) (ps : List Pair) → AllByRecursion (λ u. has u.object u.aspect ≡ Some u.kept) (flat_map (with_kept has) ps)
 all_kept has [] = tt
-all_kept has (p ∷ ps) = all_behind (λ u. has u.object u.aspect ≡ Some u.kept) (with_kept has p) (flat_map (with_kept has) ps) (one_kept has p (has p.object p.aspect) refl) (all_kept has ps)
+all_kept has (p ∷ ps) = all_both (λ u. has u.object u.aspect ≡ Some u.kept) (with_kept has p) (flat_map (with_kept has) ps) (one_kept has p (has p.object p.aspect) refl) (all_kept has ps)
 
 -- each use of a valid build has its text in the interfaces that it was compiled against
 pub uses_kept : (b : Build) (c : Compiled Text) → IsValid b c → AreAsWanted c.against c.shows.uses

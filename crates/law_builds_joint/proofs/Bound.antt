@@ -16,7 +16,6 @@ use Rattle.ob_rules.specs.Names.{Around}
 use Rattle.ob_rules.specs.Operators.{signatures_match}
 use Rattle.ob_rules.specs.Headings.{Head, BoundAs, Binding, signature_if, same_kind, introduced_sound, change_desc, changed_if, change_type, with_method, new_method, introduce, redefined, bind_method, bind_by, bind_one, bind_all, of_record, bind_records, counted, reversed, bindings}
 use Rattle.law_typing_forms.specs.Said.{IsOneOf}
-use Rattle.law_body_context.proofs.Lists.{all_both}
 use Rattle.law_methods_introduced.proofs.Grown.{none_within, no_field}
 use Rattle.law_methods_introduced.proofs.Binding.{desc_in, at_own}
 use Rattle.law_local_methods.specs.Laws.{with_own}
@@ -25,6 +24,7 @@ use Rattle.law_methods_bound.specs.Bound.{methods_of}
 use Rattle.law_methods_bound.proofs.Typings.{AreRaw}
 use Rattle.law_methods_bound.proofs.Binding.{one_filtered}
 use Rattle.law_methods_bound.proofs.Introduced.{IsReady, one_found}
+use Rattle.law_lists.proofs.Lists.{all_both}
 
 -- ---- lists
 

@@ -98,10 +98,6 @@ own_found (k ∷ ks) m rest h q e =
     let other : bytes_eq q.«module» k.name ≡ false = other_name q.«module» k.name (λ i. h.0 (sym i ∙ bytes_true q.«module» m.name e)) in
     ap (λ (b : Bool). if b then type_named k.types q.object else description (ks ++ m ∷ rest) q) other ∙ own_found ks m rest h.1 q e
 
-pub each_joined : {A B : Type 0} (f : A → B) (xs ys : List A) → each f (xs ++ ys) ≡ each f xs ++ each f ys
-each_joined f [] ys = refl
-each_joined f (x ∷ xs) ys = ap (λ r. f x ∷ r) (each_joined f xs ys)
-
 -- ---- one build
 
 module _ (b : Build) (c : Compiled Text) (valid : IsValid b c) (names : AreDistinct (λ t. t.name) c.tree.types) (tree : Tree) (from : ComesOf tree c) where

@@ -1,5 +1,5 @@
 -- Builds that are loaded together: the law.
-use Rattle.std.proofs.Common.{◌≡◌, List, [], ◌∷◌, ◌++◌, map as each, Some, refl, sym, ap, subst, ◌∙◌, inl, inr, append_assoc}
+use Rattle.std.proofs.Common.{◌≡◌, List, [], ◌∷◌, ◌++◌, map as each, Some, sym, ap, subst, ◌∙◌, inl, inr, append_assoc}
 use Rattle.std.specs.List.{AllByRecursion}
 use Rattle.ob_tree.specs.declared.names.QName.{QName}
 use Rattle.ob_types.specs.declared.desc.Desc.{Desc}
@@ -24,7 +24,8 @@ use Rattle.law_builds_seen.proofs.Builds.{modules_see}
 use Rattle.law_builds_joint.specs.Joint.{LoadedAreSame}
 use Rattle.law_builds_joint.proofs.Shown.{FieldsDiffer}
 use Rattle.law_builds_joint.proofs.Apart.{named_apart}
-use Rattle.law_builds_joint.proofs.Builds.{has_at, none_of_out, own_found, each_joined, same_by}
+use Rattle.law_builds_joint.proofs.Builds.{has_at, none_of_out, own_found, same_by}
+use Rattle.law_lists.proofs.Lists.{all_last, append_none, each_both}
 
 -- the fields of the records of a sound program have different names
 fields_sound : (program : Program) → IsSound program → (q : QName) (y : Desc) → description program q ≡ Some y → FieldsDiffer y
@@ -38,17 +39,9 @@ fields_sound program s q (desc.OpenArray m t) e = tt
 fields_sound program s q (desc.Pointer m t) e = tt
 fields_sound program s q (desc.ProcType m x) e = tt
 
-all_joined : {A : Type 0} (P : A → Type 0) (xs : List A) (x : A) → AllByRecursion P xs → P x → AllByRecursion P (xs ++ x ∷ [])
-all_joined P [] x h p = (p, tt)
-all_joined P (y ∷ ys) x h p = (h.0, all_joined P ys x h.1 p)
-
 together_front : (before bs more : List Build) → AreTogether before (bs ++ more) → AreTogether before bs
 together_front before [] more h = tt
 together_front before (x ∷ bs) more h = (h.0, together_front (before ++ x ∷ []) bs more h.1)
-
-append_none : {A : Type 0} (xs : List A) → xs ++ [] ≡ xs
-append_none [] = refl
-append_none (x ∷ xs) = ap (λ r. x ∷ r) (append_none xs)
 
 module _ (written : BuildsAreWritten) (ruled : BuildsAreRuled) where
   before_all : (before bs : List Build) → Before before → AreTogether before bs → Before (before ++ bs)
@@ -69,7 +62,7 @@ module _ (written : BuildsAreWritten) (ruled : BuildsAreRuled) where
       same_by b (of b) w (ruled b (of b) w).names c.tree (comes_of b (of b) c.tree w c.read)
       (each shows_of before) k.spelled (have_no_out (each shows_of before) k.out) h.uses
       (description (program_of (before ++ b ∷ after)))
-      (λ q i. ap (λ p. description p q) (each_joined tree_of before (b ∷ after)) ∙ own_found (program_of before) (tree_of b) (program_of after) u.over.name q i)
+      (λ q i. ap (λ p. description p q) (each_both tree_of before (b ∷ after)) ∙ own_found (program_of before) (tree_of b) (program_of after) u.over.name q i)
       (λ q x e. has_at before (b ∷ after) k.showing n q x (λ y f. fields_sound (program_of (before ++ b ∷ after)) sound q y f) e)
       (λ q e. none_of_out (before ++ b ∷ after) whole.showing whole.out q e)
       (modules_see b (of b) w)
@@ -80,7 +73,7 @@ module _ (written : BuildsAreWritten) (ruled : BuildsAreRuled) where
   same_all before (x ∷ bs) k n h sound b (inr i) =
       let e : (before ++ x ∷ []) ++ bs ≡ before ++ x ∷ bs = append_assoc before (x ∷ []) bs in
       subst (λ (xs : List Build). Same xs b) e
-      (same_all (before ++ x ∷ []) bs (before_more written ruled before x k h.0) (all_joined (λ y. AreNamedApart (tree_of y)) before x n (apart_here before x h.0)) h.1 (subst (λ xs. IsSound (program_of xs)) (sym e) sound) b i)
+      (same_all (before ++ x ∷ []) bs (before_more written ruled before x k h.0) (all_last (λ y. AreNamedApart (tree_of y)) before x n (apart_here before x h.0)) h.1 (subst (λ xs. IsSound (program_of xs)) (sym e) sound) b i)
 
 -- THE LAW
 pub loaded_are_same : LoadedAreSame

@@ -21,7 +21,7 @@ use Rattle.law_typing.specs.Makes.{IfThere}
 use Rattle.law_names_distinct.specs.Distinct.{AreDistinct}
 use Rattle.law_names_distinct.proofs.Blocks.{not_out}
 use Rattle.law_spelling.specs.Raw.{decl_named}
-use Rattle.law_body_context.proofs.Lists.{one_all, all_both}
+use Rattle.law_body_context.proofs.Lists.{one_all}
 use Rattle.law_body_context.proofs.Blocks.{procedures_bound}
 use Rattle.law_body_context.proofs.Modules.{unbroken_is}
 use Rattle.law_methods_introduced.proofs.Binding.{HasRecord}
@@ -38,6 +38,7 @@ use Rattle.law_methods_bound.proofs.Introduced.{IsReady}
 use Rattle.law_local_files.specs.Agreeing.{Map}
 use Rattle.law_builds_joint.specs.Named.{MethodsDiffer}
 use Rattle.law_builds_joint.proofs.Bound.{Named, bindings_named}
+use Rattle.law_lists.proofs.Lists.{all_both}
 
 -- ---- a module that breaks no rule
 

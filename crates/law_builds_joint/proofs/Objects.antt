@@ -24,7 +24,7 @@ use Rattle.law_typing_forms.proofs.Modules.{of_all}
 use Rattle.law_typing_env.proofs.Shown.{one_joined, one_mapped}
 use Rattle.law_names_distinct.specs.Named.{all_true, decl_named}
 use Rattle.law_names_distinct.specs.Parts.{IsWord}
-use Rattle.law_names_distinct.proofs.Fresh.{back_empty, is_known}
+use Rattle.law_names_distinct.proofs.Fresh.{is_known}
 use Rattle.law_names_distinct.proofs.Blocks.{unbroken_is}
 use Rattle.law_names_distinct.proofs.Scopes.{IsOfName, IsPlaced, import_placed, order_placed, sequence_types}
 use Rattle.law_names_types.specs.Once.{HasNoForward, AreQuiet}
@@ -38,6 +38,7 @@ use Rattle.law_names_types.proofs.Order.{HasFacts, headings_all}
 use Rattle.law_names_compiled.proofs.Past.{ArePast, none_forward, order_past, imports_past}
 use Rattle.law_builds_joint.proofs.Sequences.{IsObject, IsSequence, named_at, sequence_apart}
 use Rattle.law_builds_joint.proofs.Words.{NoWord, headed_good, decls_good}
+use Rattle.law_lists.proofs.Lists.{back_empty, both_empty}
 
 none_of : {A : Type 0} (xs : List A) (x : A) → xs ≡ [] → IsOneOf xs x → ⊥
 none_of xs x e i = subst (λ ys. IsOneOf ys x) e i
@@ -73,9 +74,6 @@ judged_only : (u : Around) (p : Written_procedure) (h : Head) (f : Bool) → Has
 judged_only u p h true = record { constants = refl; variables = refl }
 judged_only u p h false = record { constants = refl; variables = refl }
 
-both_none : {A : Type 0} (xs ys : List A) → xs ≡ [] → ys ≡ [] → xs ++ ys ≡ []
-both_none xs ys e f = ap (λ zs. zs ++ ys) e ∙ f
-
 procedures_only : (u : Around) (ps : List Written_procedure) (hs : List Head) → HasOnlyTypes (procedures_judged u ps hs).contents
 procedures_only u [] hs = record { constants = refl; variables = refl }
 procedures_only u (p ∷ ps) [] = record { constants = refl; variables = refl }
@@ -84,7 +82,7 @@ procedures_only u (p ∷ ps) (h ∷ hs) =
     let b = procedures_judged u ps hs in
     let k = judged_only u p h p.forward in
     let r = procedures_only u ps hs in
-    record { constants = both_none a.contents.constants b.contents.constants k.constants r.constants; variables = both_none a.contents.variables b.contents.variables k.variables r.variables }
+    record { constants = both_empty a.contents.constants b.contents.constants k.constants r.constants; variables = both_empty a.contents.variables b.contents.variables k.variables r.variables }
 
 -- ---- headings
 

@@ -28,6 +28,7 @@ use Rattle.law_local_files.proofs.Agreed.{shapes_met, layouts_met, plain_met}
 use Rattle.law_builds_joint.specs.Named.{MethodsDiffer}
 use Rattle.law_builds_joint.proofs.Shown.{FieldsDiffer, Told, same, plain, shown, ToldWhole, same_whole, plain_whole, shown_whole}
 use Rattle.law_builds_joint.proofs.Alike.{AreTold}
+use Rattle.law_lists.proofs.Lists.{clash}
 
 -- what a map has of a name of which this is shown
 pub data Declares (x : Desc) (o : Option Desc) : Type 0 where
@@ -55,10 +56,6 @@ flat_same b (desc.Proc s) e = refl
 flat_same b (desc.Pointer k t) e = refl
 flat_same b (desc.ProcType k s) e = refl
 flat_same b (desc.Record r) e = absurd cc
-
-both_ways : (b : Bool) → b ≡ true → b ≡ false → ⊥
-both_ways true e f = absurd cc
-both_ways false e f = absurd cc
 
 some_is : (x y : Desc) → Some x ≡ Some y → x ≡ y
 some_is x y e = cc
@@ -119,12 +116,12 @@ module _ (faces others : List (Face Text)) (m : Module) (spelled : AreSpelled fa
 
   laid_near : (q : QName) → L q → is_own m q ≡ false → S q
   laid_near q (flat f) other = tied.flat q f
-  laid_near q (own r i e) other = absurd (both_ways (is_own m q) i other)
+  laid_near q (own r i e) other = absurd (clash (is_own m q) i other)
   laid_near q (told n h) other = n
 
   layout_met : (q : QName) → L q → is_own m q ≡ false → described faces q ≡ described others q
   layout_met q (flat f) other = layouts_met faces others M spelled spelled_too no_out no_out_too met q f (tied.flat q f) (tied.held q (tied.flat q f)) other
-  layout_met q (own r i e) other = absurd (both_ways (is_own m q) i other)
+  layout_met q (own r i e) other = absurd (clash (is_own m q) i other)
   layout_met q (told n (room d e r next)) other = plain_met faces others M spelled spelled_too no_out no_out_too met q d n other (sym (foreign_view q other) ∙ e) r
 
   layout_of : (q : QName) (d : Desc) → V q ≡ Some d → Declares d (b q) → ToldWhole (V q) (b q)
@@ -146,7 +143,7 @@ module _ (faces others : List (Face Text)) (m : Module) (spelled : AreSpelled fa
 
   flat_on : (q r : QName) (d : Desc) → L q → V q ≡ Some d → is_record d ≡ false → is_among (names_of (flat_types (is_of m.name q) d)) r ≡ true → L r
   flat_on q r d (flat f) e n i = flat (onward f (ap (λ (o : Option Desc). is_among (of_found (desc_leads way.Flat m.name q) o) r) e ∙ i))
-  flat_on q r d (own k o e') e n i = absurd (both_ways true refl (ap is_record (some_is (desc.Record k) d (sym e' ∙ e)) ∙ n))
+  flat_on q r d (own k o e') e n i = absurd (clash true refl (ap is_record (some_is (desc.Record k) d (sym e' ∙ e)) ∙ n))
   flat_on q r d (told near (room d' e' n' next)) e n i = told
       (onward near (ap (λ (o : Option Desc). is_among (of_found (desc_leads way.Near m.name q) o) r) e ∙ plain_near (is_of m.name q) d n r i))
       (next r (ap (λ (o : Option Desc). is_among (of_found (desc_leads way.Flat m.name q) o) r) e ∙ i))

@@ -1,5 +1,5 @@
 -- Exported procedures of a checked module that are not bound have not the names of its types.
-use Rattle.std.proofs.Common.{◌≡◌, ◌≢◌, inl, inr, refl, sym, ap, ◌∙◌, subst, ℕ, Bool, true, false, List, [], ◌∷◌, map, Option, Some, None}
+use Rattle.std.proofs.Common.{◌≡◌, ◌≢◌, inl, inr, refl, sym, ap, ◌∙◌, subst, ℕ, true, false, List, [], ◌∷◌, map, Option, Some, None}
 use Rattle.std.specs.Prelude.{◌&&◌, not, is_none}
 use Rattle.std.specs.List.{AllByRecursion}
 use Rattle.std.proofs.lemmas.Bool.{and_parts, false≢true}
@@ -30,15 +30,12 @@ use Rattle.law_methods_introduced.proofs.Blocks.{IsHidden, So, start, ps, behind
 use Rattle.law_names_types.proofs.Items.{IsAmong}
 use Rattle.law_names_types.proofs.Once.{reversed_among}
 use Rattle.law_builds_joint.proofs.Objects.{head_new, word_known, described_of}
+use Rattle.law_lists.proofs.Lists.{clash}
 
 to_among : {A : Type 0} (xs : List A) (x : A) → Among x xs → IsAmong x xs
 to_among [] x i = i
 to_among (y ∷ ys) x (inl e) = inl (sym e)
 to_among (y ∷ ys) x (inr i) = inr (to_among ys x i)
-
-clash : (b : Bool) → b ≡ true → b ≡ false → ⊥
-clash true e f = absurd cc
-clash false e f = absurd cc
 
 module _ (shown : QName → Option Desc) (tree : Tree) (m : TypedModule) (words : all_true (map decl_named tree.decls) ≡ true) (named : AllByRecursion (λ d. raw.decl_named d ≡ true) tree.decls) (e : checked shown tree ≡ Some m) where
   abbrev Free : List ℕ → Type 0

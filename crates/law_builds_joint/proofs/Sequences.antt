@@ -25,12 +25,12 @@ use Rattle.law_typing_forms.proofs.Modules.{of_all}
 use Rattle.law_typing_env.proofs.Shown.{one_joined}
 use Rattle.law_names_distinct.specs.Named.{is_word, are_words, all_true, type_named, decl_layer, decl_named}
 use Rattle.law_names_distinct.specs.Parts.{is_mark, IsWord, IsTail, IsPart}
-use Rattle.law_names_distinct.proofs.Fresh.{front_empty, back_empty, all_both, is_known, is_declared, once, not_before}
-use Rattle.law_names_distinct.proofs.Quiet.{IfThere}
+use Rattle.law_names_distinct.proofs.Fresh.{is_known, is_declared, once, not_before}
 use Rattle.law_names_distinct.proofs.Typings.{IsIn}
 use Rattle.law_names_distinct.proofs.Written.{IsNode, written_good, words_are}
 use Rattle.law_names_distinct.proofs.Scopes.{IsOfName, IsPlaced, decls_placed, order_placed}
 use Rattle.law_names_distinct.proofs.Blocks.{variables_declared_fresh}
+use Rattle.law_lists.proofs.Lists.{IfThere, all_both, back_empty, clash, front_empty}
 
 -- a constant or a variable of that name
 abbrev pub IsObject : Contents → List ℕ → Type 0
@@ -194,10 +194,6 @@ pub record IsSequence (u : Around) (d : Declared) : Type 0 where
   pub word : (x : List ℕ) → IsObject d.part.contents x → IsWord x
   pub new : d.part.notes.broken ≡ [] → (x : List ℕ) → IsObject d.part.contents x → (is_known u x ≡ false) × (is_known d.around x ≡ true)
   pub apart : d.part.notes.broken ≡ [] → u.path ≡ [] → (x : List ℕ) → IsObject d.part.contents x → (t : TypedType) → IsOneOf d.part.contents.types t → t.name ≢ x
-
-clash : (b : Bool) → b ≡ true → b ≡ false → ⊥
-clash true e f = absurd cc
-clash false e f = absurd cc
 
 module _ (u : Around) (a : Declared) (f : Around → Declared) (g : IsItem u a) (p : IsPlaced u a) (h : IsSequence a.around (f a.around)) (q : IsPlaced a.around (f a.around)) where
   abbrev d : Declared

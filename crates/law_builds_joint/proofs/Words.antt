@@ -16,13 +16,12 @@ use Rattle.ob_rules.specs.Headings.{Head, Heads, head_of, declared_head, known_b
 use Rattle.ob_rules.specs.Declarations.{Declaration, Plain, Procedure, plain_of, procedure_of, type_name_of, in_order, headings_in_order, Written_procedure, around_body, types_of_head, closing_judged, procedure_judged, procedures_judged, body_part, with_bound, binding_at, all_judged, field_judged, heads_later, pointers_judged, block, decl_rule, declaration}
 use Rattle.law_names_distinct.specs.Named.{is_word, all_true, parameters_named, decl_layer, decl_named}
 use Rattle.law_names_distinct.specs.Parts.{is_mark, IsWord}
-use Rattle.law_names_distinct.proofs.Fresh.{front_empty, back_empty, all_both, all_from}
 use Rattle.law_names_distinct.proofs.FieldHeads.{reversed_good}
-use Rattle.law_names_distinct.proofs.Quiet.{IfThere}
 use Rattle.law_names_distinct.proofs.Typings.{IsOfSection, ParametersIn, AreGoodSections, names_of}
 use Rattle.law_names_distinct.proofs.Scopes.{IsOfName, sequence_types}
 use Rattle.law_names_types.proofs.Written.{parameters_are_nested}
 use Rattle.law_names_types.proofs.Heads.{head_types}
+use Rattle.law_lists.proofs.Lists.{IfThere, all_both, all_from, back_empty, front_empty}
 
 abbrev pub NoWord : TypedType → Type 0
 NoWord t = IsWord t.name → ⊥

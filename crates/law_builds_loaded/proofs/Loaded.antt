@@ -52,16 +52,9 @@ use Rattle.law_builds_loaded.proofs.Closed.{all_closed}
 use Rattle.law_builds_loaded.proofs.Shown.{Showing, builds_show}
 use Rattle.law_builds_loaded.proofs.Staying.{record_stays, ordered_stay}
 use Rattle.law_builds_loaded.proofs.Used.{IsInside, ShownNow, near, variables_near, held_near, parameters_near, insides_near, are_used, shown_now}
+use Rattle.law_lists.proofs.Lists.{all_last, each_last}
 
 -- ---- lists
-
-pub map_last : {A B : Type 0} (f : A → B) (xs : List A) (x : A) → each f (xs ++ x ∷ []) ≡ each f xs ++ f x ∷ []
-map_last f [] x = refl
-map_last f (y ∷ ys) x = ap (λ r. f y ∷ r) (map_last f ys x)
-
-all_last : {A : Type 0} (P : A → Type 0) (xs : List A) (x : A) → AllByRecursion P xs → P x → AllByRecursion P (xs ++ x ∷ [])
-all_last P [] x h p = (p, tt)
-all_last P (y ∷ ys) x h p = (h.0, all_last P ys x h.1 p)
 
 -- ---- the builds before one
 
@@ -226,7 +219,7 @@ module _ (written : BuildsAreWritten) (ruled : BuildsAreRuled) where
   pub before_more : (before : List Build) (b : Build) → Before before → IsBehind before b → Before (before ++ b ∷ [])
   before_more before b k h =
       let s = showing b h.valid.0 h.valid.1 in
-      let e : each shows_of before ++ shows_of b ∷ [] ≡ each shows_of (before ++ b ∷ []) = sym (map_last shows_of before b) in
+      let e : each shows_of before ++ shows_of b ∷ [] ≡ each shows_of (before ++ b ∷ []) = sym (each_last shows_of before b) in
       record {
         showing = all_last Showing before b k.showing s;
         spelled = subst (λ fs. AllByRecursion IsSpelled fs) e (all_last IsSpelled (each shows_of before) (shows_of b) k.spelled (written b (of b) (valid_of b h.valid.0 h.valid.1)).symbols);
@@ -313,11 +306,11 @@ module _ (written : BuildsAreWritten) (ruled : BuildsAreRuled) where
       append_none (y ∷ ys) = ap (λ r. y ∷ r) (append_none ys)
   more_all before (b ∷ bs) k h q d e =
       subst (λ xs. description (program_of xs) q ≡ Some d) (append_assoc before (b ∷ []) bs)
-      (more_all (before ++ b ∷ []) bs (before_more before b k h.0) h.1 q d (subst (λ p. description p q ≡ Some d) (sym (map_last tree_of before b)) (has_more (program_of before) (tree_of b) (stands before b k h.0) q d e)))
+      (more_all (before ++ b ∷ []) bs (before_more before b k h.0) h.1 q d (subst (λ p. description p q ≡ Some d) (sym (each_last tree_of before b)) (has_more (program_of before) (tree_of b) (stands before b k h.0) q d e)))
 
   stand_all : (before bs : List Build) → Before before → AreTogether before bs → StandInOrder (program_of before) (program_of bs)
   stand_all before [] k h = tt
-  stand_all before (b ∷ bs) k h = (stands before b k h.0, subst (λ p. StandInOrder p (program_of bs)) (map_last tree_of before b) (stand_all (before ++ b ∷ []) bs (before_more before b k h.0) h.1))
+  stand_all before (b ∷ bs) k h = (stands before b k h.0, subst (λ p. StandInOrder p (program_of bs)) (each_last tree_of before b) (stand_all (before ++ b ∷ []) bs (before_more before b k h.0) h.1))
 
   append_none : (xs : List Build) → xs ++ [] ≡ xs
   append_none [] = refl
@@ -326,7 +319,7 @@ module _ (written : BuildsAreWritten) (ruled : BuildsAreRuled) where
   kept_all : (before bs : List Build) → Before before → Kept (program_of before) → AreTogether before bs → Kept (program_of (before ++ bs))
   kept_all before [] k kept h = subst (λ xs. Kept (program_of xs)) (sym (append_none before)) kept
   kept_all before (b ∷ bs) k kept h =
-      subst (λ xs. Kept (program_of xs)) (append_assoc before (b ∷ []) bs) (kept_all (before ++ b ∷ []) bs (before_more before b k h.0) (subst Kept (sym (map_last tree_of before b)) (kept_here before b k h.0 kept)) h.1)
+      subst (λ xs. Kept (program_of xs)) (append_assoc before (b ∷ []) bs) (kept_all (before ++ b ∷ []) bs (before_more before b k h.0) (subst Kept (sym (each_last tree_of before b)) (kept_here before b k h.0 kept)) h.1)
 
   pub none : Before []
   none = record { showing = tt; spelled = tt; out = tt; met = tt }

@@ -21,6 +21,7 @@ use Rattle.law_typing_forms.proofs.Staying.{form_stays, more_described, more_typ
 use Rattle.law_typing_env.proofs.Ordered.{AreSound, program_sound}
 use Rattle.law_builds.proofs.Members.{In, to_in}
 use Rattle.law_builds_loaded.specs.Staying.{OrderedStay}
+use Rattle.law_lists.proofs.Lists.{length_each}
 
 -- ---- the names of a program's types
 
@@ -39,10 +40,6 @@ one_left (y ∷ xs) ys x (inr k) = inr (one_left xs ys x k)
 one_right : {A : Type 0} (xs ys : List A) (x : A) → IsOneOf ys x → IsOneOf (xs ++ ys) x
 one_right [] ys x h = h
 one_right (y ∷ xs) ys x h = inr (one_right xs ys x h)
-
-length_each : {A B : Type 0} (f : A → B) (xs : List A) → length (each f xs) ≡ length xs
-length_each f [] = refl
-length_each f (x ∷ xs) = ap suc (length_each f xs)
 
 as_many : (program : Program) → length (names_of program) ≡ number_of_types program
 unfolding names_of

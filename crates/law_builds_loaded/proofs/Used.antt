@@ -45,20 +45,9 @@ use Rattle.law_typing_env.proofs.Ordered.{seen_bare}
 use Rattle.ob_compile_model.specs.Compiling.{Compiled}
 use Rattle.ob_builds.specs.Builds.{Text}
 use Rattle.law_builds_ruled.specs.ruled_laws.Ruled.{types_of, bound_types, IsRuled}
+use Rattle.law_lists.proofs.Lists.{all_both, all_front}
 
 -- ---- lists and truths
-
-front : {A : Type 0} (P : A → Type 0) (xs ys : List A) → AllByRecursion P (xs ++ ys) → AllByRecursion P xs
-front P [] ys h = tt
-front P (x ∷ xs) ys h = (h.0, front P xs ys h.1)
-
-back : {A : Type 0} (P : A → Type 0) (xs ys : List A) → AllByRecursion P (xs ++ ys) → AllByRecursion P ys
-back P [] ys h = h
-back P (x ∷ xs) ys h = back P xs ys h.1
-
-join : {A : Type 0} (P : A → Type 0) (xs ys : List A) → AllByRecursion P xs → AllByRecursion P ys → AllByRecursion P (xs ++ ys)
-join P [] ys h k = k
-join P (x ∷ xs) ys h k = (h.0, join P xs ys h.1 k)
 
 both_true : (a b : Bool) → a && b ≡ true → (a ≡ true) × (b ≡ true)
 both_true true b e = (refl, e)
@@ -148,7 +137,7 @@ near_named P (desc.Array m n t) ty h = h
 near_named P (desc.OpenArray m t) ty h = h
 near_named P (desc.Pointer m t) ty h = h
 near_named P (desc.ProcType m s) ty h = h
-near_named P (desc.Record r) ty h = front P (listed r.base) (each (λ f. f.of) r.fields) (front P (listed r.base ++ each (λ f. f.of) r.fields) (flat_map (λ m. signature_types m.signature) r.methods) h)
+near_named P (desc.Record r) ty h = all_front P (listed r.base) (each (λ f. f.of) r.fields) (all_front P (listed r.base ++ each (λ f. f.of) r.fields) (flat_map (λ m. signature_types m.signature) r.methods) h)
 
 -- types of the module are found by their names
 own_found : (m : Module) (t : TypedType) → type_named m.types t.name ≡ Some t.desc → (map : QName → Option Desc) → cond (is_own m (own_name m t)) (type_named m.types t.name) (map (own_name m t)) ≡ Some t.desc
@@ -222,8 +211,8 @@ module _ (c : Compiled Text) (ruled : IsRuled c) (found : AllByRecursion (λ t. 
   named_near q (desc.Pointer k t) n e ty on bound = leads_near q (desc.Pointer k t) n e
   named_near q (desc.ProcType k s) n e ty on bound = leads_near q (desc.ProcType k s) n e
   named_near q (desc.Record r) n e ty on bound =
-      join (On Near) (listed r.base ++ each (λ f. f.of) r.fields) (flat_map (λ m. signature_types m.signature) r.methods)
-      (join (On Near) (listed r.base) (each (λ f. f.of) r.fields) (leads_near q (desc.Record r) n e) (fields_count Near r.fields (starts_back Near (flat_map both (listed r.base)) (flat_map (λ f. both f.of) r.fields) on)))
+      all_both (On Near) (listed r.base ++ each (λ f. f.of) r.fields) (flat_map (λ m. signature_types m.signature) r.methods)
+      (all_both (On Near) (listed r.base) (each (λ f. f.of) r.fields) (leads_near q (desc.Record r) n e) (fields_count Near r.fields (starts_back Near (flat_map both (listed r.base)) (flat_map (λ f. both f.of) r.fields) on)))
       bound
 
   types_near : (ts : List TypedType) → AllByRecursion (λ t. type_named c.tree.types t.name ≡ Some t.desc) ts → AllByRecursion (λ t. is_type t.desc ≡ true) ts → AllByRecursion (λ t. AllByRecursion (On Near) (bound_types t.desc)) ts → AllByRecursion (On Near) (shape_starts (flat_map (counts_of_type c.tree) ts)) → AllByRecursion (λ t. AllByRecursion (declares.IsNear c.tree near) (named_by t.desc)) ts

@@ -11,11 +11,11 @@ use Rattle.ob_tree.specs.declared.stmt.Stmt.TheFolds.{ind-Stmt, fold-roll-Stmt, 
 use Rattle.ob_rules.specs.Expressions.{phrase_of, named_of}
 use Rattle.ob_rules.specs.Statements.{Judging, Conditional, Labelled, GuardedBody, stmt_rule, branch_rule, case_rule, guarded_rule, judging, conditional_of, labelled_of, guarded_of, phrase_if}
 use Rattle.ob_rules.specs.Shapes.{Map}
-use Rattle.law_builds_seen.proofs.Setting.{IfThere}
 use Rattle.law_builds_seen.proofs.Calls.{PhraseOk}
 use Rattle.law_builds_seen.proofs.Expressions.{expr_ok, designator_named}
 use Rattle.law_builds_seen.proofs.Statements.{JudgingOk, AreJudging, ConditionalOk, assignment_keeps, call_keeps, if_keeps, while_keeps, repeat_keeps, loop_keeps, exit_keeps, return_keeps}
 use Rattle.law_builds_seen.proofs.Branching.{LabelledOk, case_keeps, for_keeps, with_keeps}
+use Rattle.law_lists.proofs.Lists.{IfThere}
 
 module _ (k : Map) where
   abbrev PS : Stmt → Type 0

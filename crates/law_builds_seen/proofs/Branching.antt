@@ -41,10 +41,11 @@ use Rattle.ob_rules.specs.Statements as rules
 use Rattle.ob_rules.specs.Statements.{Judging, in_turn, in_turn_if, Labelled, labels, case_of, cases, selects_if, case_value, case_judged, for_variable, integer_place, for_bound, bound_if, for_with, for_step, with_module, with_named, with_qualified_by, with_qualified, with_meant, with_place, with_guard, guard_test, variable_meant, guarded_around, type_if, guarded_body, GuardedBody, tested, with_variable, with_test, with_branch, with_branches, with_statement}
 use Rattle.law_builds_seen.specs.Seen.{StmtsSeen, CasesSeen}
 use Rattle.law_builds_seen.specs.Laws.{KeepsMembers}
-use Rattle.law_builds_seen.proofs.Setting.{Stands, E, S, PlaceOk, ValuedOk, MeantOk, IfThere, Anything, Keeps, any_keeps, then_keeps, both_keep, made_keeps, wants_keeps, named_e, named_s, tree_ok}
+use Rattle.law_builds_seen.proofs.Setting.{Stands, E, S, PlaceOk, ValuedOk, MeantOk, Keeps, any_keeps, then_keeps, both_keep, made_keeps, wants_keeps, named_e, named_s, tree_ok}
 use Rattle.law_builds_seen.proofs.Calls.{PhraseOk}
 use Rattle.law_builds_seen.proofs.Designators.{variable_keeps, designates_keeps}
 use Rattle.law_builds_seen.proofs.Statements.{AreOk, JudgingOk, AreJudging, stmts_seen, turn_keeps, turn_if_keeps, BranchOk, branch_keeps, branches_seen}
+use Rattle.law_lists.proofs.Lists.{Anything, IfThere}
 
 -- ---- CASE
 

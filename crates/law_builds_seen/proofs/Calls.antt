@@ -37,8 +37,9 @@ use Rattle.ob_rules.specs.Values.{computed}
 use Rattle.ob_rules.specs.Phrases.{Phrase, record_receiver, receiver_place}
 use Rattle.ob_rules.specs.Calls.{actual_of, unless_guarded, unless_read_only, variable_actual, meant_actual, var_actual, tree_for, value_actual, actual, actuals, misplaced, called_with, called, call_procedure, call_variable, out_signature, call_out, bound_callee, receiver_actual, nearest_sound, where_from, call_bound_sound, call_bound, takes_value}
 use Rattle.law_builds_seen.specs.Seen.{ExprSeen, ActualsSeen, CalleeSeen}
-use Rattle.law_builds_seen.proofs.Setting.{Stands, E, PlaceOk, ValuedOk, ChosenOk, MeantOk, Anything, Keeps, any_keeps, then_keeps, both_keep, wants_keeps, also_keeps, named_e, named_d, tree_ok}
+use Rattle.law_builds_seen.proofs.Setting.{Stands, E, PlaceOk, ValuedOk, ChosenOk, MeantOk, Keeps, any_keeps, then_keeps, both_keep, wants_keeps, also_keeps, named_e, named_d, tree_ok}
 use Rattle.law_builds_seen.proofs.Values.{text_tree_ok}
+use Rattle.law_lists.proofs.Lists.{Anything}
 
 -- a phrase names what is there, whatever stands around
 abbrev pub MeantKeeps : Map → Option (Around → Judged Meant) → Type 0

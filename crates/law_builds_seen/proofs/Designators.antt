@@ -36,10 +36,11 @@ use Rattle.ob_rules.specs.Values.{is_integer, tree}
 use Rattle.ob_rules.specs.Phrases.{dereferenced, Phrase, Behind, Dot, Index, Up, Round}
 use Rattle.ob_rules.specs.Calls.{call_procedure, call_variable, call_out, call_bound}
 use Rattle.ob_rules.specs.Designators.{variable_at, guard_of, guarded_by, with_guard, guard_if, guard_same, same_variable, with_guards, variable_named, guard, if_so_held, dereference_of, dereference, through_if, implicitly, indexed, index_into, index_if, index, field_of, chosen, with_receiver, not_there, comes, member_found, member_of, select_of, select, super_of, super_in, super_if, super, type_in_round, as_call, place_round, call_meant, takes_type, is_callable, is_guardable, other_round, step_dot, step_index, step_up, step_round, step, where_of, nothing_behind, go_on_with, through, of_variable, exported_meant, out_meant, in_module, dot_of, module_front, front_of, is_module, behind, front, from_front_with, designates}
-use Rattle.law_builds_seen.proofs.Setting.{Stands, PlaceOk, ValuedOk, ChosenOk, MeantOk, IfThere, Anything, Keeps, any_keeps, then_keeps, made_keeps, wants_keeps, named_d, tree_ok}
+use Rattle.law_builds_seen.proofs.Setting.{Stands, PlaceOk, ValuedOk, ChosenOk, MeantOk, Keeps, any_keeps, then_keeps, made_keeps, wants_keeps, named_d, tree_ok}
 use Rattle.law_builds_seen.proofs.Calls.{PhraseOk, ArePhrases, call_procedure_keeps, call_variable_keeps, call_out_keeps, call_bound_keeps}
 use Rattle.law_builds_seen.proofs.Functions.{predeclared_keeps}
 use Rattle.law_builds_seen.specs.Seen.{FieldSeen}
+use Rattle.law_lists.proofs.Lists.{Anything, IfThere}
 
 -- ---- variables and guards
 

@@ -37,10 +37,11 @@ use Rattle.ob_rules.specs.Operators.{combined, opposite, signed, related, elemen
 use Rattle.ob_rules.specs.Designators.{guard_of, if_extends}
 use Rattle.ob_rules.specs.Phrases.{Phrase, Behind}
 use Rattle.ob_rules.specs.Expressions.{procedure_value, value_meant, Named, meant_by, designator_phrase, testable, record_if, record_test, pointer_test, test_record, test_of, test, untestable, is_test, Tailed, combine_all, bracketed, Ranged, value_if, element_value, relation_of, expr_rule, selector_rule, designator_rule, element_rule, tail_rule, phrase_of, named_of, ranged_of, tailed_of, behind_of}
-use Rattle.law_builds_seen.proofs.Setting.{Stands, PlaceOk, ValuedOk, MeantOk, IfThere, Anything, Keeps, any_keeps, then_keeps, both_keep, made_keeps, each_keep, wants_keeps, also_keeps, found_keeps, named_e, tree_ok}
+use Rattle.law_builds_seen.proofs.Setting.{Stands, PlaceOk, ValuedOk, MeantOk, Keeps, any_keeps, then_keeps, both_keep, made_keeps, each_keep, wants_keeps, also_keeps, found_keeps, named_e, tree_ok}
 use Rattle.law_builds_seen.proofs.Values.{combined_keeps, opposite_keeps, signed_keeps, related_keeps, ElementOk, element_keeps, set_keeps}
 use Rattle.law_builds_seen.proofs.Calls.{PhraseOk, ArePhrases}
 use Rattle.law_builds_seen.proofs.Designators.{BehindOk, designates_keeps}
+use Rattle.law_lists.proofs.Lists.{Anything, IfThere}
 
 -- ---- designators
 

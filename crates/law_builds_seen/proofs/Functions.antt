@@ -36,9 +36,10 @@ use Rattle.ob_rules.specs.Operators.{monadic, dyadic, only_value, and_so}
 use Rattle.ob_rules.specs.Calls.{misplaced}
 use Rattle.ob_rules.specs.Phrases.{Phrase}
 use Rattle.ob_rules.specs.Predeclared.{changed_meant, changed_as, values, asked_first, asked_second, parameter, parameters_behind, parameters, is_function, value, if_is, on_width, longer, shorter, dimension, length_of, len_at, len_of, number_in, one, step, element_step, is_text, new_array, new_fixed, new_elements, if_held, new_one, new_many, fit_one, fit_two, fit, if_fit, call_fit, type_parameter, extreme_of, basic_if, extreme_call, call_predeclared}
-use Rattle.law_builds_seen.proofs.Setting.{Stands, S, PlaceOk, ValuedOk, MeantOk, IfThere, Anything, Keeps, any_keeps, then_keeps, made_keeps, each_keep, unless_keeps, wants_keeps, also_keeps, named_e, named_s, tree_ok}
+use Rattle.law_builds_seen.proofs.Setting.{Stands, S, PlaceOk, ValuedOk, MeantOk, Keeps, any_keeps, then_keeps, made_keeps, each_keep, unless_keeps, wants_keeps, also_keeps, named_e, named_s, tree_ok}
 use Rattle.law_builds_seen.proofs.Values.{monadic_keeps, dyadic_keeps, text_tree_ok, only_ok}
 use Rattle.law_builds_seen.proofs.Calls.{MeantKeeps, PhraseOk, ArePhrases}
+use Rattle.law_lists.proofs.Lists.{Anything, IfThere}
 
 changed_meant_keeps : (k : Map) (start : Pos) (m : Meant) → MeantOk k m → Keeps (ValuedOk k) (changed_meant start m)
 changed_meant_keeps k start (means.Place p) h = unless_keeps (ValuedOk k) p.read_only 26 start (value_at p) h

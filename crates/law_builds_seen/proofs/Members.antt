@@ -2,7 +2,6 @@
 use Rattle.std.proofs.Common.{◌≡◌, ◌⊎◌, inl, inr, ℕ, zero, suc, Bool, true, false, cond, List, [], ◌∷◌, map as each, Option, Some, None, refl, sym, ap, subst, ◌∙◌}
 use Rattle.std.specs.Prelude.{bytes_eq, IsSome}
 use Rattle.std.specs.List.{find}
-use Rattle.std.proofs.lemmas.Slice.Eq.{bytes_eq-Decides}
 use Rattle.ob_tree.specs.declared.names.QName.{QName}
 use Rattle.ob_types.specs.declared.desc.Desc.{Desc}
 use Rattle.ob_types.specs.declared.desc.Desc.TheVariants as desc
@@ -13,7 +12,7 @@ use Rattle.ob_layout.specs.Members.{field_named, method_named}
 use Rattle.ob_rules.specs.Shapes.{Map, Member, AField, AMethod, field_or, own_member, base_record, or_in_base, member_within, member}
 use Rattle.law_builds_seen.specs.Seen.{HasField, HasMethod, FieldSeen}
 use Rattle.law_builds_seen.specs.Laws.{KeepsMembers}
-use Rattle.law_builds_seen.proofs.Setting.{IfThere}
+use Rattle.law_lists.proofs.Lists.{IfThere, bytes_same, same_bytes}
 
 -- ---- names in lists
 
@@ -21,12 +20,6 @@ use Rattle.law_builds_seen.proofs.Setting.{IfThere}
 abbrev pub IsNamed : List ℕ → List (List ℕ) → Type 0
 IsNamed x [] = ⊥
 IsNamed x (y ∷ ys) = (y ≡ x) ⊎ IsNamed x ys
-
-pub same_true : (x y : List ℕ) → bytes_eq x y ≡ true → x ≡ y
-same_true x y e = (bytes_eq-Decides x y).0 e
-
-pub true_same : (x y : List ℕ) → x ≡ y → bytes_eq x y ≡ true
-true_same x y e = (bytes_eq-Decides x y).1 e
 
 module _ {A : Type 0} (name : A → List ℕ) (x : List ℕ) where
   abbrev Is : A → Bool
@@ -38,7 +31,7 @@ module _ {A : Type 0} (name : A → List ℕ) (x : List ℕ) where
   found_name (a ∷ xs) y e = by (bytes_eq (name a) x) refl e (λ i. found_name xs y i)
     where
       by : (b : Bool) → bytes_eq (name a) x ≡ b → cond b (Some a) (find Is xs) ≡ Some y → (find Is xs ≡ Some y → name y ≡ x) → name y ≡ x
-      by true i e rest = let same : a ≡ y = cc in ap name (sym same) ∙ same_true (name a) x i
+      by true i e rest = let same : a ≡ y = cc in ap name (sym same) ∙ same_bytes (name a) x i
       by false i e rest = rest e
 
   pub found_named : (xs : List A) (y : A) → find Is xs ≡ Some y → IsNamed x (each name xs)
@@ -46,7 +39,7 @@ module _ {A : Type 0} (name : A → List ℕ) (x : List ℕ) where
   found_named (a ∷ xs) y e = by (bytes_eq (name a) x) refl e (λ i. found_named xs y i)
     where
       by : (b : Bool) → bytes_eq (name a) x ≡ b → cond b (Some a) (find Is xs) ≡ Some y → (find Is xs ≡ Some y → IsNamed x (each name xs)) → IsNamed x (each name (a ∷ xs))
-      by true i e rest = inl (same_true (name a) x i)
+      by true i e rest = inl (same_bytes (name a) x i)
       by false i e rest = inr (rest e)
 
 some_if : {A : Type 0} (b : Bool) (a : A) (o : Option A) → (b ≡ true) ⊎ IsSome o → IsSome (cond b (Some a) o)
@@ -56,12 +49,12 @@ some_if false a o (inr h) = h
 
 pub named_field : (x : List ℕ) (fs : List Field) → IsNamed x (each (λ f. f.name) fs) → IsSome (field_named x fs)
 named_field x [] h = absurd h
-named_field x (f ∷ fs) (inl e) = some_if (bytes_eq x f.name) f (field_named x fs) (inl (true_same x f.name (sym e)))
+named_field x (f ∷ fs) (inl e) = some_if (bytes_eq x f.name) f (field_named x fs) (inl (bytes_same x f.name (sym e)))
 named_field x (f ∷ fs) (inr h) = some_if (bytes_eq x f.name) f (field_named x fs) (inr (named_field x fs h))
 
 pub named_method : (x : List ℕ) (ms : List Method) → IsNamed x (each (λ m. m.name) ms) → IsSome (method_named x ms)
 named_method x [] h = absurd h
-named_method x (m ∷ ms) (inl e) = some_if (bytes_eq x m.name) m (method_named x ms) (inl (true_same x m.name (sym e)))
+named_method x (m ∷ ms) (inl e) = some_if (bytes_eq x m.name) m (method_named x ms) (inl (bytes_same x m.name (sym e)))
 named_method x (m ∷ ms) (inr h) = some_if (bytes_eq x m.name) m (method_named x ms) (inr (named_method x ms h))
 
 -- ---- what a record has is its own

@@ -21,6 +21,7 @@ use Rattle.ob_rules.specs.Values.{tree}
 use Rattle.ob_rules.specs.Calls.{family_of}
 use Rattle.law_builds_seen.specs.Seen.{DesigSeen, ExprSeen, StmtSeen, FamilySeen}
 use Rattle.law_builds_seen.specs.Laws.{KeepsMembers}
+use Rattle.law_lists.proofs.Lists.{Anything, IfThere}
 
 -- what stands around: the map keeps the members of its types
 abbrev pub Stands : Map → Around → Type 0
@@ -56,16 +57,9 @@ MeantOk k (means.Call x) = ValuedOk k x
 MeantOk k (means.Statement s) = S k s.inner
 MeantOk k m = Unit {0}
 
-abbrev pub IfThere : {A : Type 0} → (A → Type 0) → Option A → Type 0
-IfThere Q None = Unit {0}
-IfThere Q (Some x) = Q x
-
 -- a node, where there is one, has the property
 abbrev pub Keeps : {A : Type 0} → (A → Type 0) → Judged A → Type 0
 Keeps Q j = IfThere Q j.node
-
-abbrev pub Anything : {A : Type 0} → A → Type 0
-Anything x = Unit {0}
 
 sure : {A : Type 0} (o : Option A) → IfThere Anything o
 sure None = tt

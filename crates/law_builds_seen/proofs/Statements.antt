@@ -31,11 +31,12 @@ use Rattle.ob_rules.specs.Statements as rules
 use Rattle.ob_rules.specs.Statements.{Judging, in_turn, in_turn_if, target, assignment_of, assigned_tree, assigns, assignment, call_value, done, place_called, called, condition, branch_of, empty_if_none, returned, return_none, Conditional, in_loop, conditional, conditionals, if_statement, while_statement, repeat_statement, loop_statement, call_statement}
 use Rattle.law_builds_seen.specs.Seen.{ExprSeen, StmtsSeen, BranchesSeen}
 use Rattle.law_builds_seen.specs.Laws.{KeepsMembers}
-use Rattle.law_builds_seen.proofs.Setting.{Stands, E, S, PlaceOk, ValuedOk, MeantOk, IfThere, Keeps, then_keeps, both_keep, made_keeps, unless_keeps, wants_keeps, named_s, tree_ok}
+use Rattle.law_builds_seen.proofs.Setting.{Stands, E, S, PlaceOk, ValuedOk, MeantOk, Keeps, then_keeps, both_keep, made_keeps, unless_keeps, wants_keeps, named_s, tree_ok}
 use Rattle.law_builds_seen.proofs.Values.{text_tree_ok}
 use Rattle.law_builds_seen.proofs.Calls.{PhraseOk, call_variable_keeps}
 use Rattle.law_builds_seen.proofs.Designators.{call_meant_keeps}
 use Rattle.law_builds_seen.proofs.Expressions.{NamedOk, meant_keeps}
+use Rattle.law_lists.proofs.Lists.{IfThere, all_both}
 
 abbrev pub AreOk : Map → List TypedStmt → Type 0
 AreOk k ss = AllByRecursion (S k) ss
@@ -45,10 +46,6 @@ JudgingOk k f = (u : Around) → Stands k u → Keeps (AreOk k) (f u)
 
 abbrev pub AreJudging : Map → List Judging → Type 0
 AreJudging k fs = AllByRecursion (JudgingOk k) fs
-
-all_both : {A : Type 0} (Q : A → Type 0) (xs ys : List A) → AllByRecursion Q xs → AllByRecursion Q ys → AllByRecursion Q (xs ++ ys)
-all_both Q [] ys h g = g
-all_both Q (x ∷ xs) ys h g = (h.0, all_both Q xs ys h.1 g)
 
 pub stmts_seen : (k : Map) (ss : List TypedStmt) → AreOk k ss → StmtsSeen k (stmts_view ss)
 stmts_seen k [] h = tt

@@ -33,7 +33,8 @@ use Rattle.ob_rules.specs.Shapes.{Map}
 use Rattle.ob_rules.specs.Constants.{fold_one, fold_two, fold_texts, fold_logical}
 use Rattle.ob_rules.specs.Values.{computed, is, width, is_integer, as_text, text_tree, tree, constant_in}
 use Rattle.ob_rules.specs.Operators.{folded, one_of, monadic, two_of, dyadic, logical, texts, if_fit, are, binary_of, connected, combined, negated, opposite, only_value, signed_as, signed, comparison_of, is_equality, compared_as, compare_as, contained, compare, related, element_folded, single, ranged, if_integer, if_integers, element, union_of, all_constant, set_from, set_of}
-use Rattle.law_builds_seen.proofs.Setting.{E, ValuedOk, IfThere, Keeps, named_e, tree_ok}
+use Rattle.law_builds_seen.proofs.Setting.{E, ValuedOk, Keeps, named_e, tree_ok}
+use Rattle.law_lists.proofs.Lists.{IfThere}
 
 folded_keeps : (k : Map) (at : Pos) (o : Option Value) → Keeps (ValuedOk k) (folded at o)
 folded_keeps k at None = tt

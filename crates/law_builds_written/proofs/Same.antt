@@ -19,10 +19,10 @@ use Rattle.ob_rules.specs.Names.{out_string}
 use Rattle.ob_rules.specs.Depth.{chain_of, is_within}
 use Rattle.ob_env.specs.Fit as fit
 use Rattle.ob_env.specs.Shown.{unplaced, unnumbered, blank}
-use Rattle.law_simulation_relation.proofs.Names.{and_both}
 use Rattle.law_body_context.proofs.Lists.{all_of}
 use Rattle.law_acyclic.specs.Laws.{IsNotOut}
 use Rattle.law_acyclic.proofs.Maps.{stood_on}
+use Rattle.law_lists.proofs.Lists.{and_parts}
 
 abbrev pub blanked : Option Desc → Option Desc
 blanked None = None
@@ -390,7 +390,7 @@ module _ (A B : QName → Option Desc) (agree : (q : QName) → same_name q out_
     where
       all : (ts : List TypeRef) → NO ts → ((t : TypeRef) → IsNotOut t → is_within A n t ≡ true → fit.is_within B n t ≡ true) → list_all (λ t. is_within A n t) ts ≡ true → list_all (fit.is_within B n) ts ≡ true
       all [] o f h = refl
-      all (t ∷ ts) o f h = let p = and_both (is_within A n t) (list_all (λ t. is_within A n t) ts) h in ap (λ b. b && list_all (fit.is_within B n) ts) (f t o.0 p.0) ∙ all ts o.1 f p.1
+      all (t ∷ ts) o f h = let p = and_parts (is_within A n t) (list_all (λ t. is_within A n t) ts) h in ap (λ b. b && list_all (fit.is_within B n) ts) (f t o.0 p.0) ∙ all ts o.1 f p.1
 
       by : (x : Option Desc) → A q ≡ x → chain_of (λ t. is_within A n t) x ≡ true → ((t : TypeRef) → IsNotOut t → is_within A n t ≡ true → fit.is_within B n t ≡ true) → fit.chain_described (fit.is_within B n) (B q) ≡ true
       by None g h f = absurd cc

@@ -26,12 +26,13 @@ use Rattle.ob_rules.specs.Shapes.{Map, same_name}
 use Rattle.ob_rules.specs.Names.{Around, type_desc, own_desc, is_out, out_string}
 use Rattle.ob_rules.specs.Depth.{is_within}
 use Rattle.ob_rules.specs.Declarations.{declaration, module_part, typed_module}
-use Rattle.law_simulation_relation.proofs.Names.{bytes_true, bytes_sym, bytes_same, and_both}
+use Rattle.law_simulation_relation.proofs.Names.{bytes_true, bytes_sym, bytes_same}
 use Rattle.law_names_distinct.proofs.Blocks.{unbroken_is, not_out}
 use Rattle.law_acyclic.specs.Laws.{IsApart, around_types, types_of, IsChecked, IsNotOut, AreGrounded}
 use Rattle.law_acyclic.proofs.Grounded.{modules_are_grounded}
 use Rattle.law_builds_written.specs.Laws.{Text, IsCheckedOver, laid, AreShort, ViewsAreGrounded, ViewsAreShort}
 use Rattle.law_builds_written.proofs.Same.{blanked, blank_twice, same_grounded, short_to}
+use Rattle.law_lists.proofs.Lists.{and_parts}
 
 -- ---- records that are laid out are the same but for places, numbers and words
 
@@ -60,7 +61,7 @@ shown_blank (Some d) = ap (λ d. Some d) (sym (blank_twice d))
 
 out_same : (q : QName) → same_name q out_string ≡ true → q ≡ out_string
 out_same q e =
-    let p = and_both (bytes_eq q.«module» out_string.«module») (bytes_eq q.object out_string.object) e in
+    let p = and_parts (bytes_eq q.«module» out_string.«module») (bytes_eq q.object out_string.object) e in
     ap (λ (n : List ℕ). let p : QName = record { «module» = n; object = q.object } in p) (bytes_true q.«module» out_string.«module» p.0) ∙ ap (λ (n : List ℕ). let p : QName = record { «module» = out_string.«module»; object = n } in p) (bytes_true q.object out_string.object p.1)
 
 no_face : (faces : List (Face Text)) (unit x : List ℕ) → AllByRecursion (λ (f : Face Text). bytes_eq f.«module» unit ≡ false) faces → bytes_eq x unit ≡ true → face_named faces x ≡ None

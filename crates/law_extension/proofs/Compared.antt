@@ -4,7 +4,6 @@ use Rattle.std.specs.Prelude.{◌⊎◌, bytes_eq, cond}
 use Rattle.std.specs.Option.{option_map}
 use Rattle.std.specs.List.{AllByRecursion, flat_map}
 use Rattle.std.specs.Ordering.{nat_cmp}
-use Rattle.std.specs.declared.cmp.Ordering.{Ordering}
 use Rattle.std.specs.declared.cmp.Ordering.TheVariants.{Less, Equal, Greater}
 use Rattle.std.specs.Cmp.Lexicographic.{slice_cmp}
 use Rattle.std.proofs.lemmas.Bool.{false≢true}
@@ -27,15 +26,13 @@ use Rattle.ob_cmp.specs.declared.verdict.Verdict.{Verdict}
 use Rattle.ob_cmp.specs.Verdicts.{Texts, texts_in, kinds_between, text_kinds, layouts_agree, kinds_in, names_in, verdict_of, verdicts, unless}
 use Rattle.law_extension.specs.Gained.{text_of_object, OnlyGains, AreSeen, OnlyAdded}
 use mathlib.Core.Logic.{inl, inr}
+use Rattle.law_lists.proofs.Lists.{some_is}
 
 abbrev Objects : Type 0
 Objects = List (List ℕ × Desc)
 
 none_no : {A B : Type 0} (x : A) → (let n : Option A = None in n) ≡ Some x → B
 none_no x e = absurd cc
-
-some_is : {A : Type 0} (x y : A) → Some x ≡ Some y → x ≡ y
-some_is x y e = cc
 
 -- NAMES
 

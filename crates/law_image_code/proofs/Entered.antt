@@ -1,7 +1,6 @@
 -- A file that is entered has its module in the image, and keeps it when others follow.
 use Rattle.std.proofs.Common.{◌≡◌, ℕ, zero, suc, List, [], ◌∷◌, ◌++◌, length, refl, ap, ◌∙◌, subst, Some, Option}
 use Rattle.std.specs.Prelude.{false, bytes_eq, if◌then◌else◌, slice_get}
-use Rattle.std.proofs.lemmas.Option.{none-some}
 use Rattle.ob_tree.specs.declared.names.QName.{QName}
 use Rattle.ob_types.specs.declared.desc.Desc.{Desc}
 use Rattle.ob_types.specs.declared.face.Use.{Use}
@@ -25,6 +24,7 @@ use Rattle.law_image_code.specs.Fits.{AmongTypes}
 use Rattle.law_image_code.specs.Descriptors.{DescriptorsFit, IsDescriptor, FilesFit}
 use Rattle.law_image_code.specs.Compiled.{module_scope, IsCompiled}
 use Rattle.law_image_code.proofs.Types.{types_fit, types_stay}
+use Rattle.law_lists.proofs.Lists.{get_front}
 
 -- A MODULE AMONG THOSE OF A PROGRAM
 
@@ -47,18 +47,13 @@ procedures_here program (k ∷ front) m back ok = ap (λ b. if b then k.procedur
 
 -- IMAGES
 
-item_front : {A : Type 0} (l r : List A) (n : ℕ) (x : A) → slice_get l n ≡ Some x → slice_get (l ++ r) n ≡ Some x
-item_front [] r n x e = absurd (none-some _ e)
-item_front (y ∷ l) r zero x e = e
-item_front (y ∷ l) r (suc n) x e = item_front l r n x e
-
 item_last : {A : Type 0} (l : List A) (x : A) → slice_get (l ++ x ∷ []) (length l) ≡ Some x
 item_last [] x = refl
 item_last (y ∷ l) x = item_last l x
 
 pub module_stays : (img : Image) (files : List ObjFile) (n : ℕ) (u : ModuleImage) → slice_get img.modules n ≡ Some u → slice_get (image_of img files).modules n ≡ Some u
 module_stays img [] n u e = e
-module_stays img (f ∷ files) n u e = module_stays (entered img f) files n u (item_front img.modules (module_of img f ∷ []) n u e)
+module_stays img (f ∷ files) n u e = module_stays (entered img f) files n u (get_front img.modules (module_of img f ∷ []) n u e)
 
 pub descriptors_fit : (program : Program) (img : Image) (files : List ObjFile) → DescriptorsFit program img.types → FilesFit program files → DescriptorsFit program (image_of img files).types
 descriptors_fit program img [] d f = d

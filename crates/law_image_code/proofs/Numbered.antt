@@ -11,9 +11,10 @@ use Rattle.ob_obj.specs.declared.parts.Link.{Link}
 use Rattle.ob_scheme.specs.Lines.{Operand, Number, StringHere, OtherVariable, OtherProcedure, OtherType, Line, behind}
 use Rattle.ob_scheme.specs.Numbers.{Named, same_link, same_type, link_to, number_among, with_one, number_in, with_operand, instr_in, with_line, instrs_in, with_lines, with_position, positions_at}
 use Rattle.law_simulation_relation.specs.Stands.{Scope}
-use Rattle.law_simulation_relation.proofs.Names.{bytes_true, and_both}
+use Rattle.law_simulation_relation.proofs.Names.{bytes_true}
 use Rattle.law_image_code.specs.Standing.{past, StringIs, StringsStand, IsNumber, OperandIs, PositionIs, LineStands, LinesStand}
 use Rattle.law_image_code.specs.Resolved.{LinksResolve}
+use Rattle.law_lists.proofs.Lists.{and_parts}
 
 -- NUMBERS IN LISTS
 
@@ -42,12 +43,12 @@ one_kept same [] x k y e = absurd (none-some _ e)
 
 link_is : (a b : Link) → same_link a b ≡ true → a ≡ b
 link_is a b e =
-    let h = and_both (bytes_eq a.name b.name) (bytes_eq a.«module» b.«module») e in
+    let h = and_parts (bytes_eq a.name b.name) (bytes_eq a.«module» b.«module») e in
     ap (λ z. link_to z a.name) (bytes_true a.«module» b.«module» h.1) ∙ ap (λ z. link_to b.«module» z) (bytes_true a.name b.name h.0)
 
 type_is : (a b : QName) → same_type a b ≡ true → a ≡ b
 type_is a b e =
-    let h = and_both (bytes_eq a.object b.object) (bytes_eq a.«module» b.«module») e in
+    let h = and_parts (bytes_eq a.object b.object) (bytes_eq a.«module» b.«module») e in
     ap (λ z. name z a.object) (bytes_true a.«module» b.«module» h.1) ∙ ap (λ z. name b.«module» z) (bytes_true a.object b.object h.0)
   where
     name : List ℕ → List ℕ → QName

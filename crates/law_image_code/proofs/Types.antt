@@ -15,8 +15,9 @@ use Rattle.law_simulation_relation.specs.Layout.{type_number}
 use Rattle.law_simulation_relation.specs.Relation.{OrElse}
 use Rattle.law_simulation_relation.specs.Setting.{Setting}
 use Rattle.law_simulation_relation.specs.Linked.{TypesStand}
-use Rattle.law_simulation_relation.proofs.Names.{bytes_true, and_both}
+use Rattle.law_simulation_relation.proofs.Names.{bytes_true}
 use Rattle.law_image_code.specs.Descriptors.{named, DescriptorsFit, IsDescriptor, RecordsFit, DescFits, DeclarationsFit, TypesThere}
+use Rattle.law_lists.proofs.Lists.{and_parts}
 
 -- a descriptor that was found, with its words
 pub record Found (program : Program) (ds : List Descriptor) (q : QName) : Type 0 where
@@ -30,7 +31,7 @@ found_in program (d ∷ ds) q f i = go (bytes_eq q.«module» d.«module» && by
   where
     go : (b : Bool) → (bytes_eq q.«module» d.«module» && bytes_eq q.object d.name) ≡ b → OrElse b (Unit {0}) (IsDescriptor ds q) → (IsDescriptor ds q → Found program ds q) → Found program (d ∷ ds) q
     go true e i more =
-        let h = and_both (bytes_eq q.«module» d.«module») (bytes_eq q.object d.name) e in
+        let h = and_parts (bytes_eq q.«module» d.«module») (bytes_eq q.object d.name) e in
         let is : named d.«module» d.name ≡ q = ap (λ x. named x d.name) (sym (bytes_true q.«module» d.«module» h.0)) ∙ ap (λ x. named q.«module» x) (sym (bytes_true q.object d.name h.1)) in
         record { descriptor = d; found = ap (λ b. slice_get (d ∷ ds) (if b then 0 else suc (type_number ds q))) e; size = f.0 ∙ ap (λ x. words (record_in program x)) is }
     go false e i more =

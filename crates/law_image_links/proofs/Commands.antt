@@ -22,11 +22,12 @@ use Rattle.ob_scheme.specs.Procedures.{has_result, end_procedure, row_of, rows_o
 use Rattle.ob_scheme.specs.Object.{is_full, is_free, commands_among, commands}
 use Rattle.law_simulation_relation.specs.Layout.{procedure_number, procedure_index}
 use Rattle.law_simulation_relation.specs.Relation.{OrElse}
-use Rattle.law_simulation_relation.proofs.Names.{bytes_true, and_both}
+use Rattle.law_simulation_relation.proofs.Names.{bytes_true}
 use Rattle.law_image_code.specs.Fits.{IsNamed}
 use Rattle.law_image_links.specs.Contents.{FilesHaveCommands}
 use Rattle.law_image_links.proofs.Lookup.{same_is, all_at, order_numbered, named_is}
 use Rattle.law_image_links.proofs.Modules.{procedures_differ, index_named, commands_all_numbered}
+use Rattle.law_lists.proofs.Lists.{and_parts}
 
 -- NAMES IN LISTS OF COMMANDS
 
@@ -142,10 +143,10 @@ nothing_given (Some t) e = absurd (cc)
 
 is_one : (p : Procedure) → is_command p ≡ true → Command_of p
 is_one p e =
-    let a = and_both (not (is_hidden p.mark)) (is_identifier p.name && (is_none p.binding && (is_none_of p.parameters && is_none p.result))) e in
-    let b = and_both (is_identifier p.name) (is_none p.binding && (is_none_of p.parameters && is_none p.result)) a.1 in
-    let d = and_both (is_none p.binding) (is_none_of p.parameters && is_none p.result) b.1 in
-    let f = and_both (is_none_of p.parameters) (is_none p.result) d.1 in
+    let a = and_parts (not (is_hidden p.mark)) (is_identifier p.name && (is_none p.binding && (is_none_of p.parameters && is_none p.result))) e in
+    let b = and_parts (is_identifier p.name) (is_none p.binding && (is_none_of p.parameters && is_none p.result)) a.1 in
+    let d = and_parts (is_none p.binding) (is_none_of p.parameters && is_none p.result) b.1 in
+    let f = and_parts (is_none_of p.parameters) (is_none p.result) d.1 in
     record { seen = a.0; free = unbound p.binding d.0; params = no_items p.parameters f.0; result = nothing_given p.result f.1 }
 
 record Chosen (o : Option Procedure) (p : Procedure) : Type 0 where

@@ -17,10 +17,10 @@ use Rattle.law_simulation_relation.specs.Setting.{Setting}
 use Rattle.law_simulation_operators.specs.Procedures.{ValuesNumbered}
 use Rattle.law_image_links.specs.Files.{Build, file_of, empty, AreFiles}
 use Rattle.law_image_links.specs.Records.{ValuesThere}
-use Rattle.law_image_links.proofs.Lookup.{length_one}
 use Rattle.law_image_links.proofs.TypeNumbers.{AreOf, added, length_named}
 use Rattle.law_image_links.proofs.Described.{units}
 use Rattle.law_image_links.proofs.Linked.{sound, few_types}
+use Rattle.law_lists.proofs.Lists.{length_last}
 
 -- TYPES
 
@@ -36,7 +36,7 @@ types_few img (f ∷ files) l k h =
     let a = added f.head.«module» (length img.types) (type_links img f) (length img.modules) img.types f.body.types in
     let own = as_many f.head.«module» (map (λ t. t.name) f.body.types) a.descriptors a.are ∙ length_named f.body.types in
     let all = ap length a.is ∙ length-append img.types a.descriptors in
-    let one = length_one img.modules (module_of img f) in
+    let one = length_last img.modules (module_of img f) in
     let few = few_types f h.0.fits in
     let room = h.0.few in
     types_few (entered img f) files (omega (arith, l, own, all, one, few)) (omega (arith, one, room)) h.1
@@ -52,7 +52,7 @@ tags c builds more files n l = tag_fits n (length c.img.types) l (subst (λ i. l
 modules_few : (img : Image) (bs : List Build) (more : List ObjFile) → length img.modules ≤ 255 → AreEnterable img (map file_of bs ++ more) → length bs + length img.modules ≤ 255
 modules_few img [] more k h = omega (arith, k)
 modules_few img (b ∷ bs) more k h =
-    let one = length_one img.modules (module_of img (file_of b)) in
+    let one = length_last img.modules (module_of img (file_of b)) in
     let few = h.0.few in
     let r = modules_few (entered img (file_of b)) bs more (omega (arith, one, few)) h.1 in
     omega (arith, one, r)

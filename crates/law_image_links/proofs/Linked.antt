@@ -17,7 +17,8 @@ use Rattle.ob_meaning.specs.Values.{type_named}
 use Rattle.ob_scheme.specs.Context.{is_own}
 use Rattle.ob_scheme.specs.Numbers.{same_type, number_among, with_one}
 use Rattle.ob_scheme.specs.Object.{own, base_type, with_base, with_record, with_bases}
-use Rattle.law_simulation_relation.proofs.Names.{bytes_same, bytes_true, and_both}
+use Rattle.law_simulation_relation.proofs.Names.{bytes_same, bytes_true}
+use Rattle.law_lists.proofs.Lists.{and_parts}
 
 -- WHAT A FILE KEEPS
 
@@ -34,11 +35,11 @@ pub base_before : (many n : ℕ) (ts : List RecordType) (k : ℕ) (t : RecordTyp
 base_before many n [] k t j h e f = absurd (none-some _ e)
 base_before many n (u ∷ ts) zero t j h e f =
     let i : u ≡ t = ap (λ o. unwrap_or o u) e in
-    let both = and_both (base_stands many n u.base) (bases_stand many (n + 1) ts) h in
+    let both = and_parts (base_stands many n u.base) (bases_stand many (n + 1) ts) h in
     let l : nat_lt j n ≡ true = subst (λ b. base_stands many n b ≡ true) (ap (λ r. r.base) i ∙ f) both.0 in
     grind (arith, nat_tests)
 base_before many n (u ∷ ts) (suc k) t j h e f =
-    let both = and_both (base_stands many n u.base) (bases_stand many (n + 1) ts) h in
+    let both = and_parts (base_stands many n u.base) (bases_stand many (n + 1) ts) h in
     let r = base_before many (n + 1) ts k t j both.1 e f in
     omega (arith, r)
 
@@ -49,7 +50,7 @@ HasLink l q = slice_get l (number_among same_type l q) ≡ Some q
 
 same_true : (a b : QName) → same_type a b ≡ true → a ≡ b
 same_true a b e =
-    let h = and_both (bytes_eq a.object b.object) (bytes_eq a.«module» b.«module») e in
+    let h = and_parts (bytes_eq a.object b.object) (bytes_eq a.«module» b.«module») e in
     ap (λ m. name m a.object) (bytes_true a.«module» b.«module» h.1) ∙ ap (λ x. name b.«module» x) (bytes_true a.object b.object h.0)
   where
     name : List ℕ → List ℕ → QName

@@ -10,6 +10,7 @@ use Rattle.ob_instr.specs.Image.{ModuleImage}
 use Rattle.ob_obj.specs.Images.{same, named, module_from, module_at}
 use Rattle.ob_layout.specs.Lists.{put_before, put_in, in_order}
 use Rattle.law_simulation_relation.proofs.Names.{bytes_same, bytes_true}
+use Rattle.law_lists.proofs.Lists.{length_last}
 
 pub same_is : (a b : List ℕ) → same a b ≡ bytes_eq a b
 same_is a b = is_eq-slice_cmp a b
@@ -74,14 +75,10 @@ pub item_at : {A : Type 0} (front : List A) (x : A) (back : List A) → slice_ge
 item_at [] x back = refl
 item_at (y ∷ front) x back = item_at front x back
 
-pub length_one : {A : Type 0} (l : List A) (x : A) → length (l ++ x ∷ []) ≡ suc (length l)
-length_one [] x = refl
-length_one (y ∷ l) x = ap suc (length_one l x)
-
 found_from : (front us : List ModuleImage) (name : List ℕ) → module_at (front ++ us) (module_from (length front) us name) ≡ find us name
 found_from front [] name = refl
 found_from front (u ∷ us) name =
-    let more : module_at (front ++ u ∷ us) (module_from (suc (length front)) us name) ≡ find us name = subst (λ l. module_at l (module_from (suc (length front)) us name) ≡ find us name) (append_assoc front (u ∷ []) us) (subst (λ n. module_at ((front ++ u ∷ []) ++ us) (module_from n us name) ≡ find us name) (length_one front u) (found_from (front ++ u ∷ []) us name)) in
+    let more : module_at (front ++ u ∷ us) (module_from (suc (length front)) us name) ≡ find us name = subst (λ l. module_at l (module_from (suc (length front)) us name) ≡ find us name) (append_assoc front (u ∷ []) us) (subst (λ n. module_at ((front ++ u ∷ []) ++ us) (module_from n us name) ≡ find us name) (length_last front u) (found_from (front ++ u ∷ []) us name)) in
     go (same name u.name) more
   where
     go : (b : Bool) → module_at (front ++ u ∷ us) (module_from (suc (length front)) us name) ≡ find us name → module_at (front ++ u ∷ us) (if b then Some (length front) else module_from (suc (length front)) us name) ≡ (if b then Some u else find us name)

@@ -22,6 +22,7 @@ use Rattle.law_image_code.specs.Fits.{AmongTypes}
 use Rattle.law_image_links.specs.Files.{Build, file_of}
 use Rattle.law_image_links.proofs.TypeNumbers.{typed, AreMade, names_of, place_of, is_named, own_number, past_others}
 use Rattle.law_image_links.proofs.Entering.{TypesIn}
+use Rattle.law_lists.proofs.Lists.{get_front}
 
 is_record_of : (s r : RecordDesc) → Some (desc.Record s) ≡ Some (desc.Record r) → s ≡ r
 is_record_of s r f = ap (λ o. take_record s (unwrap_or o (desc.Record s))) f
@@ -84,11 +85,6 @@ module _ (types : QName → Option Desc) (md : Module) (named : List QName) (fir
 get_past : {A : Type 0} (l k : List A) (n : ℕ) → slice_get (l ++ k) (length l + n) ≡ slice_get k n
 get_past [] k n = ap (slice_get k) (let e : 0 + n ≡ n = omega arith in e)
 get_past (x ∷ l) k n = ap (slice_get (x ∷ (l ++ k))) (let e : suc (length l) + n ≡ suc (length l + n) = omega arith in e) ∙ get_past l k n
-
-get_front : {A : Type 0} (l r : List A) (n : ℕ) (x : A) → slice_get l n ≡ Some x → slice_get (l ++ r) n ≡ Some x
-get_front [] r n x e = absurd (none-some _ e)
-get_front (y ∷ l) r zero x e = e
-get_front (y ∷ l) r (suc n) x e = get_front l r n x e
 
 -- the descriptor of a record type has its number
 pub record Stands (b : Build) (img : Image) (all : List Descriptor) (x : List ℕ) (r : RecordDesc) : Type 0 where

@@ -22,7 +22,8 @@ use Rattle.law_image_code.specs.Fits.{IsNamed}
 use Rattle.law_image_code.specs.Compiled.{ProceduresChecked}
 use Rattle.law_image_code.proofs.Words.{globals_before}
 use Rattle.law_image_links.specs.Files.{Build, KeepsRules, AllKeepRules}
-use Rattle.law_image_links.proofs.Lookup.{same_is, Numbered, order_numbered, named_is, find, found, length_one}
+use Rattle.law_image_links.proofs.Lookup.{same_is, Numbered, order_numbered, named_is, find, found}
+use Rattle.law_lists.proofs.Lists.{length_last}
 
 -- PROCEDURES OF A MODULE BY THEIR NAMES
 
@@ -59,7 +60,7 @@ module _ (types : QName → Option Desc) (md : Module) where
   commands_all_numbered front [] n e d h = tt
   commands_all_numbered front (p ∷ ps) n e d h =
       let is = append_assoc front (p ∷ []) ps in
-      let rest = commands_all_numbered (front ++ p ∷ []) ps (suc n) (ap suc (e ∙ sym (length_one front p))) (subst ProceduresDiffer (sym is) d) h.1 in
+      let rest = commands_all_numbered (front ++ p ∷ []) ps (suc n) (ap suc (e ∙ sym (length_last front p))) (subst ProceduresDiffer (sym is) d) h.1 in
       go (is_full p.mark && is_free p.binding)
       (e ∙ ap suc (sym (number_here front p ps d)) ∙ index_named (front ++ p ∷ ps) p.name h.0)
       (subst (λ l. Numbered (λ x. x.name) (λ x. x.procedure) (procedure_index l) (commands_among types md ps (suc n))) is rest)

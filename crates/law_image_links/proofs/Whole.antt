@@ -24,9 +24,10 @@ use Rattle.law_image_code.proofs.Entered.{entered_stands}
 use Rattle.law_image_links.specs.Files.{Build, file_of, empty, AreFiles, KeepsRules, AllKeepRules, CompiledStand}
 use Rattle.law_image_links.proofs.Lines.{lines_strings}
 use Rattle.law_image_links.proofs.Statements.{module_words}
-use Rattle.law_image_links.proofs.Lookup.{all_at, map_at, length_one}
+use Rattle.law_image_links.proofs.Lookup.{all_at, map_at}
 use Rattle.law_image_links.proofs.Modules.{ModulesAre, one_more, variable_link, procedure_link}
 use Rattle.law_image_links.proofs.Entering.{IsApart, apart_more, types_in, own_is, types_are, links_are, offset_here, all_more, own_strings}
+use Rattle.law_lists.proofs.Lists.{length_last}
 
 -- THE WORDS OF A MODULE'S GLOBALS
 
@@ -86,7 +87,7 @@ module _ (c : Setting) where
         let first = h.next in
         record {
           modules = one_more c bs img.modules b u h.modules (record { name = refl; first = place; variables = refl; commands = refl });
-          number = ap length (units_one bs b) ∙ length_one (units bs) b.unit ∙ ap suc h.number ∙ sym (length_one img.modules u);
+          number = ap length (units_one bs b) ∙ length_last (units bs) b.unit ∙ ap suc h.number ∙ sym (length_last img.modules u);
           next = omega (arith, first, words, more) ∙ ap (λ l. suc (all_globals c.program l)) (sym (units_one bs b));
           types = apart_more img f h.types;
           rules = rules_more bs b h.rules rules;

@@ -8,16 +8,17 @@ use Rattle.ob_meaning.specs.Values.{same_name, Program, RecordForm, Fields, join
 use Rattle.law_simulation_relation.specs.Layout.{type_number}
 use Rattle.law_simulation_relation.specs.Relation.{OrElse, Sub, extended}
 use Rattle.law_simulation_relation.specs.Typed.{IsRecordType}
-use Rattle.law_simulation_relation.proofs.Names.{bytes_true, and_both, name_true}
+use Rattle.law_simulation_relation.proofs.Names.{bytes_true, name_true}
 use Rattle.law_simulation_relation.specs.Setting.{Setting}
 use Rattle.law_simulation_records.specs.Bases.{LineStands, BasesStand}
 use Rattle.law_simulation_records.proofs.Tags.{sub_sub}
 use Rattle.law_image_code.specs.Descriptors.{IsDescriptor}
 use Rattle.law_image_tables.specs.Declared.{above, typed, BasesBuilt}
+use Rattle.law_lists.proofs.Lists.{and_parts}
 
 pub typed_is : (q : QName) (m x : List ℕ) → (bytes_eq q.«module» m && bytes_eq q.object x) ≡ true → typed m x ≡ q
 typed_is q m x e =
-    let h = and_both (bytes_eq q.«module» m) (bytes_eq q.object x) e in
+    let h = and_parts (bytes_eq q.«module» m) (bytes_eq q.object x) e in
     ap (λ z. typed z x) (sym (bytes_true q.«module» m h.0)) ∙ ap (λ z. typed q.«module» z) (sym (bytes_true q.object x h.1))
 
 module _ (program : Program) (types : List Descriptor) where

@@ -13,6 +13,7 @@ use Rattle.ob_obj.specs.Grammar.{by_number}
 use Rattle.ob_obj.specs.Images.{with_own}
 use Rattle.ob_layout.specs.Lists.{put_before, put_in, in_order}
 use Rattle.law_simulation_relation.proofs.Names.{nat_same}
+use Rattle.law_lists.proofs.Lists.{get_front}
 
 -- the procedure of a number
 abbrev pub found : List Definition → ℕ → Option ℕ
@@ -125,11 +126,6 @@ module _ (m : ℕ) where
           not_both : (b : Bool) → b ≡ false → b ≡ true → ⊥
           not_both b f t = absurd (cc)
 
-pub front_at : {A : Type 0} (l r : List A) (n : ℕ) (x : A) → slice_get l n ≡ Some x → slice_get (l ++ r) n ≡ Some x
-front_at [] r n x e = absurd (none-some _ e)
-front_at (y ∷ l) r zero x e = e
-front_at (y ∷ l) r (suc n) x e = front_at l r n x e
-
 take_at : {A : Type 0} (l : List A) (k n : ℕ) (x : A) → slice_get l n ≡ Some x → n < k → slice_get (take k l) n ≡ Some x
 take_at [] k n x e lt = absurd (none-some _ e)
 take_at (y ∷ l) zero n x e lt = absurd (omega (arith, lt))
@@ -143,7 +139,7 @@ take_length (y ∷ l) (suc k) le = ap suc (take_length l k (omega (arith, le)))
 
 -- the entries of a base, cut to so many, with none where it has no more
 pub taken : (l : List (Option ProcRef)) (k n : ℕ) (x : Option ProcRef) → slice_get l n ≡ Some x → n < k → slice_get (take k (l ++ replicate k None)) n ≡ Some x
-taken l k n x e lt = take_at (l ++ replicate k None) k n x (front_at l (replicate k None) n x e) lt
+taken l k n x e lt = take_at (l ++ replicate k None) k n x (get_front l (replicate k None) n x e) lt
 
 pub taken_length : (l : List (Option ProcRef)) (k : ℕ) → length (take k (l ++ replicate k None)) ≡ k
 taken_length l k = let a = length-append l (replicate k None) in let r = length-replicate {A = Option ProcRef} k None in take_length (l ++ replicate k None) k (omega (arith, a, r))

@@ -14,17 +14,17 @@ use Rattle.ob_scheme.specs.Descriptions.{method_number}
 use Rattle.ob_scheme.specs.Object.{is_bound_to, bound_number, definitions_among}
 use Rattle.law_simulation_relation.specs.Layout.{procedure_index}
 use Rattle.law_simulation_relation.specs.Typed.{IsRecordType}
-use Rattle.law_simulation_relation.proofs.Names.{nat_same, and_both, bytes_same, bytes_true, name_true, name_same}
+use Rattle.law_simulation_relation.proofs.Names.{nat_same, bytes_same, bytes_true, name_true, name_same}
 use Rattle.law_image_code.specs.Fits.{IsNamed}
-use Rattle.law_image_links.proofs.Lookup.{length_one}
 use Rattle.law_image_links.proofs.Modules.{ProceduresDiffer, index_named, number_here}
 use Rattle.law_image_tables.specs.Declared.{typed}
 use Rattle.law_image_tables.specs.Families.{HasFamily, NumbersDiffer, NumbersAgree, IsBoundOnce, AreBoundOnce}
 use Rattle.law_image_tables.proofs.Definitions.{found, Differ, differs}
+use Rattle.law_lists.proofs.Lists.{and_parts, length_last}
 
 family_true : (f g : Family) → same_family f g ≡ true → f ≡ g
 family_true f g e =
-    let h = and_both (same_name f.owner g.owner) (bytes_eq f.name g.name) e in
+    let h = and_parts (same_name f.owner g.owner) (bytes_eq f.name g.name) e in
     ap (λ (o : QName). record { owner = o; name = f.name }) (name_true f.owner g.owner h.0) ∙ ap (λ (x : List ℕ). record { owner = g.owner; name = x }) (bytes_true f.name g.name h.1)
 
 family_same : (f : Family) → same_family f f ≡ true
@@ -34,7 +34,7 @@ bound_same : (b : Binding) → is_bound (Some b) b.owner b.family ≡ true
 bound_same b = ap (λ z. z && same_family b.family b.family) (name_same b.owner) ∙ family_same b.family
 
 pub bound_family : (b : Binding) (q : QName) (f : Family) → is_bound (Some b) q f ≡ true → (b.owner ≡ q) × (b.family ≡ f)
-bound_family b q f e = let h = and_both (same_name b.owner q) (same_family b.family f) e in (name_true b.owner q h.0, family_true b.family f h.1)
+bound_family b q f e = let h = and_parts (same_name b.owner q) (same_family b.family f) e in (name_true b.owner q h.0, family_true b.family f h.1)
 
 -- what is said of a list's first procedure
 none_first : (p : Procedure) (ps : List Procedure) (q : QName) (f : Family) → declared_among (p ∷ ps) q f ≡ None → is_bound p.binding q f ≡ false
@@ -115,7 +115,7 @@ module _ (program : Program) (number : Family → ℕ) (differ : NumbersDiffer p
     pub some_found : (front ps : List Procedure) (n : ℕ) → n ≡ suc (length front) → md.procedures ≡ front ++ ps → ProceduresDiffer md.procedures → AllNamed ps → AreBoundOnce md.name ps → (f : Family) → HasFamily program q f → (r : QName) → declared_among ps q f ≡ Some r → found (Definitions ps n) (number f) ≡ Some (procedure_index md.procedures r.object)
     some_found front [] n at whole apart named once f has r e = absurd (none-some _ e)
     some_found front (p ∷ ps) n at whole apart named once f has r e =
-        go p.binding refl once.0 e (λ g. some_found (front ++ p ∷ []) ps (suc n) (ap suc at ∙ ap suc (sym (length_one front p))) (whole ∙ sym (append_assoc front (p ∷ []) ps)) apart named.1 once.1 f has r g)
+        go p.binding refl once.0 e (λ g. some_found (front ++ p ∷ []) ps (suc n) (ap suc at ∙ ap suc (sym (length_last front p))) (whole ∙ sym (append_assoc front (p ∷ []) ps)) apart named.1 once.1 f has r g)
       where
         D : List Definition
         D = Definitions ps (suc n)

@@ -11,8 +11,8 @@ use Rattle.ob_obj.specs.Grammar.{file, body, IsSound}
 use Rattle.ob_obj.specs.Images.{type_links, module_of, entered, image_of, AreEnterable}
 use Rattle.ob_scheme.specs.Procedures.{rows_of, all_procedures}
 use Rattle.law_image_links.specs.Files.{Build, file_of}
-use Rattle.law_image_links.proofs.Lookup.{length_one}
 use Rattle.law_image_tables.proofs.Added.{AreAdded, added}
+use Rattle.law_lists.proofs.Lists.{length_last}
 
 -- WHAT A SPELLING SAYS
 
@@ -42,7 +42,7 @@ few_from img (f ∷ files) h can =
     let a = added f.head.«module» (length img.types) (type_links img f) (length img.modules) img.types f.body.types in
     let n = ap length a.is ∙ length-append img.types a.descriptors in
     let m = as_many f.head.«module» (length img.types) (type_links img f) (length img.modules) img.types f.body.types a.descriptors a.are in
-    let one = length_one img.modules (module_of img f) in
+    let one = length_last img.modules (module_of img f) in
     let few = few_types f can.0.fits in
     let room = can.0.few in
     let before = h.types in

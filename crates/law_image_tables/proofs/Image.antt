@@ -26,11 +26,11 @@ use Rattle.law_image_tables.specs.Families.{NumbersAgree, AllFamiliesDeclared}
 use Rattle.law_image_tables.specs.Image.{AllDeclarationsFit, AllBodiesChecked, StandsWithTables, BodiesStand, ProgramFromFiles}
 use Rattle.law_image_tables.proofs.Few.{Few, few_from, all_few}
 use Rattle.law_image_tables.proofs.Numbered.{numbered}
-use Rattle.law_image_tables.proofs.Definitions.{front_at}
 use Rattle.law_image_tables.proofs.Declared.{declared_record}
 use Rattle.law_image_tables.proofs.Entering.{behind, units, Front, front_more, bases_from_files}
 use Rattle.law_image_tables.proofs.Loaded.{tables_from_files}
 use Rattle.law_image_tables.proofs.Redefined.{families_stand}
+use Rattle.law_lists.proofs.Lists.{get_front}
 
 -- THE WORDS OF RECORD TYPES
 
@@ -50,7 +50,7 @@ module _ (c : Setting) where
       let d = declared_record (description c.program) (number_of_types c.program) _ q is.0 _ is.1 in
       let there = h.there q d.0 (ap (λ p. description p q) (sym (whole ∙ append-nil ms)) ∙ d.1) in
       let t = found_in c.program img.types q fit there in
-      record { descriptor = t.descriptor; found = ap (λ l. slice_get l (type_number l q)) all ∙ ap (slice_get (img.types ++ l.descriptors)) (number_front img.types l.descriptors q there) ∙ front_at img.types l.descriptors (type_number img.types q) t.descriptor t.found; size = t.size }
+      record { descriptor = t.descriptor; found = ap (λ l. slice_get l (type_number l q)) all ∙ ap (slice_get (img.types ++ l.descriptors)) (number_front img.types l.descriptors q there) ∙ get_front img.types l.descriptors (type_number img.types q) t.descriptor t.found; size = t.size }
   size_from ms img (b ∷ bs) more h fit whole loaded can declared sizes q is =
       let f = file_of b in
       let fit2 = types_fit c.program b.unit.name (length img.types) (type_links img f) (length img.modules) img.types f.body.types fit (records_fit b.types b.unit c.program f.links.types b.unit.types sizes.0) in

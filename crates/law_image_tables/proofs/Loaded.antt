@@ -22,17 +22,16 @@ use Rattle.law_image_code.specs.Descriptors.{IsDescriptor}
 use Rattle.law_image_code.specs.Compiled.{ProceduresChecked}
 use Rattle.law_image_code.proofs.Entered.{number_here, procedures_here}
 use Rattle.law_image_links.specs.Files.{Build, file_of, empty, KeepsRules, AllKeepRules}
-use Rattle.law_image_links.proofs.Lookup.{length_one}
 use Rattle.law_image_links.proofs.Modules.{procedures_differ}
 use Rattle.law_image_tables.specs.Declared.{BasesBuilt, BasesDeclared, typed}
 use Rattle.law_image_tables.specs.Based.{AllBasesDeclared}
 use Rattle.law_image_tables.specs.Families.{NumbersDiffer, NumbersAgree, FamiliesCounted, AreBoundOnce, AllFamiliesDeclared, TablesFromFiles}
 use Rattle.law_image_tables.proofs.Bases.{AreBased}
-use Rattle.law_image_tables.proofs.Definitions.{front_at}
 use Rattle.law_image_tables.proofs.Families.{AllNamed}
 use Rattle.law_image_tables.proofs.Declared.{declared_record}
 use Rattle.law_image_tables.proofs.Entering.{behind, units, Front, front_more, mine, own_based}
 use Rattle.law_image_tables.proofs.Tables.{declared_here, HasTable, HaveTables, tables_two, found_table, of_types, descriptors_tabled}
+use Rattle.law_lists.proofs.Lists.{get_front, length_last}
 
 -- a descriptor that is there has a number among those there
 within : (ds es : List Descriptor) (q : QName) → IsDescriptor ds q → type_number (ds ++ es) q < length ds
@@ -74,7 +73,7 @@ module _ (c : Setting) (built : BasesBuilt c.program) (number : Family → ℕ) 
         record {
           front = front_more c ms img h.front b declared files loaded can;
           tables = subst (HaveTables c number) (sym new.is) (tables_two c number img.types new.descriptors h.tables own);
-          number_is = length_one ms b.unit ∙ ap suc h.number_is ∙ sym (length_one img.modules (module_of img f));
+          number_is = length_last ms b.unit ∙ ap suc h.number_is ∙ sym (length_last img.modules (module_of img f));
         }
 
   -- the descriptor of a record type, with its table
@@ -90,7 +89,7 @@ module _ (c : Setting) (built : BasesBuilt c.program) (number : Family → ℕ) 
       let d = declared_record (description c.program) (number_of_types c.program) _ q is.0 _ is.1 in
       let there = h.front.there q d.0 (ap (λ p. description p q) (sym (whole ∙ append-nil ms)) ∙ d.1) in
       let t = found_table c number img.types l.descriptors q h.tables (within img.types l.descriptors q there) in
-      record { descriptor = t.descriptor; found = ap (λ l. slice_get l (type_number l q)) all ∙ front_at img.types l.descriptors (type_number (img.types ++ l.descriptors) q) t.descriptor t.found; table = t.table }
+      record { descriptor = t.descriptor; found = ap (λ l. slice_get l (type_number l q)) all ∙ get_front img.types l.descriptors (type_number (img.types ++ l.descriptors) q) t.descriptor t.found; table = t.table }
   table_from ms img (b ∷ bs) more h whole loaded can rules declared families q is =
       table_from (ms ++ b.unit ∷ []) (entered img (file_of b)) bs more (tabled_more ms img h b (units c bs) whole rules.0 declared.0 families.0 (map file_of bs ++ more) loaded can) (whole ∙ sym (append_assoc ms (b.unit ∷ []) (units c bs))) loaded can.1 rules.1 declared.1 families.1 q is
 

@@ -27,8 +27,9 @@ use Rattle.law_load_plan.specs.Compiled.{Text, is_variable, is_procedure, is_rec
 use Rattle.law_links.specs.Linked.{types_of, IsCounted, IsOperandCounted, IsLineCounted}
 use Rattle.law_links_names.specs.Trees.{IfOther, VariableNamed, TagNamed, AssignedNamed, MadeNamed, ResultNamed, StmtNamed, StmtsNamed, BranchesNamed, CasesNamed, ElseNamed, DesigNamed, ExprNamed}
 use Rattle.law_links.specs.Trees.{LinksFollowTrees}
-use Rattle.law_links.proofs.Codes.{all_both, OperandOk, LineOk, AreOk, WantOk, type_ok, variable_ok, value_none, desig_ok, expr_ok}
+use Rattle.law_links.proofs.Codes.{OperandOk, LineOk, AreOk, WantOk, type_ok, variable_ok, value_none, desig_ok, expr_ok}
 use Rattle.law_links.proofs.Links.{links_are_used}
+use Rattle.law_lists.proofs.Lists.{all_both}
 
 module _ (x : Context) (Var Proc Rec : QName → Type 0) where
   abbrev L : Line → Type 0

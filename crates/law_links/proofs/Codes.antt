@@ -1,5 +1,5 @@
 -- The code of a tree names what the tree names.
-use Rattle.std.proofs.Common.{◌≡◌, ℕ, suc, Bool, true, false, List, [], ◌∷◌, ◌++◌, pos, Option, Some, None, refl}
+use Rattle.std.proofs.Common.{◌≡◌, ℕ, suc, Bool, true, false, List, [], pos, Option, Some, None, refl}
 use Rattle.std.specs.Prelude.{if◌then◌else◌, bytes_eq}
 use Rattle.std.specs.List.{AllByRecursion}
 use Rattle.ob_tree.specs.declared.pos.Pos.{Pos}
@@ -31,10 +31,7 @@ use Rattle.ob_scheme.specs.Operations.{unary_code, binary_line}
 use Rattle.ob_scheme.specs.Expressions.{wanted, text_code, constant_code, behind_guard, pair_code, measured_behind, length_operand, index_want, guard_want, from_place, from_pointer, index_line, guard_line, from_guard, parameter_code, module_line, variable_code, procedure_line, declared_line, call_line, end_desig, end_expr, desig_code, expr_code, actuals_code}
 use Rattle.ob_scheme.specs.Statements.{is_passed_with_tag, is_tagged_variable}
 use Rattle.law_links_names.specs.Trees.{IfOther, VariableNamed, NameNamed, TypeNamed, TagNamed, GuardNamed, CalleeNamed, PassedNamed, DesigNamed, ExprNamed, ActualsNamed}
-
-pub all_both : {A : Type 0} (P : A → Type 0) (xs ys : List A) → AllByRecursion P xs → AllByRecursion P ys → AllByRecursion P (xs ++ ys)
-all_both P [] ys h k = k
-all_both P (x ∷ xs) ys h k = (h.0, all_both P xs ys h.1 k)
+use Rattle.law_lists.proofs.Lists.{all_both}
 
 module _ (x : Context) (Var Proc Rec : QName → Type 0) where
   abbrev pub OperandOk : Operand → Type 0

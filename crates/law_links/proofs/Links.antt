@@ -16,6 +16,7 @@ use Rattle.ob_link.specs.Files.{linked}
 use Rattle.law_load_plan.specs.Compiled.{Text, is_variable, is_procedure, is_record, IsUsedAs}
 use Rattle.law_links.specs.Linked.{types_of, IsCounted, IsOperandCounted, IsLineCounted, IsBaseCounted, IsTypeCounted, LinksFollow}
 use Rattle.law_links.proofs.Uses.{used}
+use Rattle.law_lists.proofs.Lists.{all_from}
 
 one_if : {A : Type 0} (P : A → Type 0) (b : Bool) (y : A) (ys more : List A) → P y → AllByRecursion P ys → AllByRecursion P more → AllByRecursion P (if b then y ∷ ys else y ∷ more)
 one_if P true y ys more h k l = (h, k)
@@ -24,10 +25,6 @@ one_if P false y ys more h k l = (h, l)
 pub with_one_all : {A : Type 0} (P : A → Type 0) (same : A → A → Bool) (xs : List A) (x : A) → AllByRecursion P xs → P x → AllByRecursion P (with_one same xs x)
 with_one_all P same [] x h k = (k, tt)
 with_one_all P same (y ∷ ys) x h k = one_if P (same x y) y ys (with_one same ys x) h.0 h.1 (with_one_all P same ys x h.1 k)
-
-pub all_from : {A : Type 0} (P Q : A → Type 0) → ((x : A) → P x → Q x) → (xs : List A) → AllByRecursion P xs → AllByRecursion Q xs
-all_from P Q f [] h = tt
-all_from P Q f (x ∷ xs) h = (f x h.0, all_from P Q f xs h.1)
 
 module _ (c : Compiled Text) where
   record AreCounted (n : Named) : Type 0 where

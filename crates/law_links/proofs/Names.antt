@@ -33,11 +33,12 @@ use Rattle.law_links_names.specs.Mentions.{IsVariable, IsProcedure, Any, IsAmong
 use Rattle.law_links_names.proofs.Modules.{modules_mention}
 use Rattle.law_links.specs.Linked.{types_of}
 use Rattle.law_links.specs.Said.{AreNamesUsed, CompiledNamesUsed}
-use Rattle.law_links.proofs.Codes.{all_both, OperandOk, AreOk}
+use Rattle.law_links.proofs.Codes.{OperandOk, AreOk}
 use Rattle.law_links.proofs.Bodies.{stmts_ok}
-use Rattle.law_links.proofs.Links.{with_one_all, all_from}
+use Rattle.law_links.proofs.Links.{with_one_all}
 use Rattle.law_links.proofs.Uses.{used}
 use Rattle.law_links.proofs.Mentioned.{one, variable_counted, procedure_counted}
+use Rattle.law_lists.proofs.Lists.{all_both, all_from}
 
 -- ---- the names in lines
 

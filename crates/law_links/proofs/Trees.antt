@@ -33,14 +33,7 @@ use Rattle.law_links_names.specs.Trees.{VariableNamed, NameNamed, TypeNamed, Tag
 use Rattle.law_links_types.specs.Trees.{StandsForOne, GuardRecorded, CalleeRecorded, PassedRecorded, DesigRecorded, ExprRecorded, ActualsRecorded, AssignedRecorded, MadeRecorded, ResultRecorded, StmtRecorded, StmtsRecorded, BranchesRecorded, CasesRecorded, ElseRecorded}
 use Rattle.law_links.specs.Linked.{types_of, IsCounted}
 use Rattle.law_links.proofs.Near.{IsNear, On, stands_near, points_near, CountIn, AreIn, base_near, counted}
-
-pub all_front : {A : Type 0} (Q : A → Type 0) (xs ys : List A) → AllByRecursion Q (xs ++ ys) → AllByRecursion Q xs
-all_front Q [] ys h = tt
-all_front Q (x ∷ xs) ys h = (h.0, all_front Q xs ys h.1)
-
-pub all_rest : {A : Type 0} (Q : A → Type 0) (xs ys : List A) → AllByRecursion Q (xs ++ ys) → AllByRecursion Q ys
-all_rest Q [] ys h = h
-all_rest Q (x ∷ xs) ys h = all_rest Q xs ys h.1
+use Rattle.law_lists.proofs.Lists.{all_back, all_front}
 
 module _ (c : Compiled Text) (V P : QName → Type 0) (variable_so : (q : QName) → V q → IsCounted is_variable c q) (procedure_so : (q : QName) → P q → IsCounted is_procedure c q) (own : AllByRecursion (λ (t : TypedType). IsNear c (own_name c.tree t)) c.tree.types) (out : (q : QName) (d : Desc) → described c.against q ≡ Some d → bytes_eq q.«module» (codes "Out") ≡ false) where
   abbrev types : QName → Option Desc
@@ -62,7 +55,7 @@ module _ (c : Compiled Text) (V P : QName → Type 0) (variable_so : (q : QName)
   front xs ys h = all_front (CountIn c) xs ys h
 
   rest : (xs ys : List Count) → AreIn c (xs ++ ys) → AreIn c ys
-  rest xs ys h = all_rest (CountIn c) xs ys h
+  rest xs ys h = all_back (CountIn c) xs ys h
 
   -- ---- types
 

@@ -48,21 +48,15 @@ use Rattle.law_links.specs.Types.{CompiledTypesUsed}
 use Rattle.law_links.proofs.Bodies.{trees_are_used}
 use Rattle.law_links.proofs.Mentioned.{one, variable_counted, procedure_counted, described_by}
 use Rattle.law_links.proofs.Near.{IsNear, On, stands_near, CountIn, AreIn, all_in, counted}
-use Rattle.law_links.proofs.Trees.{all_front, all_rest, stmts_named}
+use Rattle.law_links.proofs.Trees.{stmts_named}
 use Rattle.law_links.proofs.Walked.{AreNotOut, LeavesNone, walk_none, not_of_out}
+use Rattle.law_lists.proofs.Lists.{all_back, all_front, differ_false}
 
 -- ---- types of different names
 
-not_equal : (x y : List ℕ) → x ≢ y → bytes_eq x y ≡ false
-not_equal x y n = by (bytes_eq x y) refl
-  where
-    by : (b : Bool) → bytes_eq x y ≡ b → bytes_eq x y ≡ false
-    by true e = absurd (n ((bytes_eq-Decides x y).0 e))
-    by false e = e
-
 skipped : (t : TypedType) (us rest : List TypedType) → AllByRecursion (λ u. u.name ≢ t.name) us → AllByRecursion (λ u. type_named rest u.name ≡ Some u.desc) us → AllByRecursion (λ u. type_named (t ∷ rest) u.name ≡ Some u.desc) us
 skipped t [] rest differ all = tt
-skipped t (u ∷ us) rest differ all = (ap (λ b. cond b (Some t.desc) (type_named rest u.name)) (not_equal u.name t.name differ.0) ∙ all.0, skipped t us rest differ.1 all.1)
+skipped t (u ∷ us) rest differ all = (ap (λ b. cond b (Some t.desc) (type_named rest u.name)) (differ_false u.name t.name differ.0) ∙ all.0, skipped t us rest differ.1 all.1)
 
 found_all : (ts : List TypedType) → AreDistinct (λ t. t.name) ts → AllByRecursion (λ t. type_named ts t.name ≡ Some t.desc) ts
 found_all [] differ = tt
@@ -136,7 +130,7 @@ module _ (faces : List (Face Text)) (clean : AreNotOut faces) (tree : Tree) (m :
 
   own_in : (ts : List TypedType) → AreIn c (flat_map (counts_of_type c.tree) ts) → AllByRecursion (λ (t : TypedType). IsNear c (counted_name c.tree t)) ts
   own_in [] h = tt
-  own_in (t ∷ ts) h = (h.0, own_in ts (all_rest (CountIn c) (counts_of_type c.tree t) (flat_map (counts_of_type c.tree) ts) h))
+  own_in (t ∷ ts) h = (h.0, own_in ts (all_back (CountIn c) (counts_of_type c.tree t) (flat_map (counts_of_type c.tree) ts) h))
 
   body_in : (ps : List TypedProcedure) → AllByRecursion (λ (p : TypedProcedure). StmtsNamed (types_of c) m.name Var Proc Any (stmts_view p.body)) ps → AllByRecursion (λ (p : TypedProcedure). StmtsRecorded (types_of c) m.name (stmts_view p.body)) ps → AllByRecursion (λ (t : TypedType). IsNear c (counted_name c.tree t)) c.tree.types → AreIn c (flat_map (counts_of_procedure (types_of c)) (map procedure_view ps)) → AllByRecursion (λ p. StmtsNamed (types_of c) m.name (IsCounted is_variable c) (IsCounted is_procedure c) (IsCounted is_record c) p.body) (map procedure_view ps)
   body_in [] n r own h = tt
@@ -144,7 +138,7 @@ module _ (faces : List (Face Text)) (clean : AreNotOut faces) (tree : Tree) (m :
       let x = procedure_view p in
       let before = flat_map counts_of_parameter x.parameters ++ shapes (listed x.result) ++ flat_map counts_of_variable x.locals ++ counts_of_binding (types_of c) x.binding in
       let its = all_front (CountIn c) (counts_of_procedure (types_of c) x) (flat_map (counts_of_procedure (types_of c)) (map procedure_view ps)) h in
-      (stmts_named c Var Proc (variable_counted faces m) (procedure_counted faces m) own out (stmts_view p.body) (all_rest (CountIn c) before (counts_of_all x.body) its) n.0 r.0, body_in ps n.1 r.1 own (all_rest (CountIn c) (counts_of_procedure (types_of c) x) (flat_map (counts_of_procedure (types_of c)) (map procedure_view ps)) h))
+      (stmts_named c Var Proc (variable_counted faces m) (procedure_counted faces m) own out (stmts_view p.body) (all_back (CountIn c) before (counts_of_all x.body) its) n.0 r.0, body_in ps n.1 r.1 own (all_back (CountIn c) (counts_of_procedure (types_of c) x) (flat_map (counts_of_procedure (types_of c)) (map procedure_view ps)) h))
 
   base_counted : (t : TypeRef) → On c t → StandsForOne (types_of c) m.name t → IsBaseCounted c (own_name (types_of c) t)
   base_counted t h s = subst (λ w. IsBaseCounted c (name_in w)) (sym s.stands.same) (λ e. counted c out s.name s.stands.type e (stands_near c t s.name h s.stands))
@@ -168,7 +162,7 @@ module _ (faces : List (Face Text)) (clean : AreNotOut faces) (tree : Tree) (m :
   types_counted [] r h = tt
   types_counted (t ∷ ts) r h =
       let its = all_front (CountIn c) (counts_of_type c.tree (laid t)) (flat_map (counts_of_type c.tree) (map laid ts)) h in
-      (desc_counted (record { «module» = m.name; object = t.name }) t.desc r.0 its.1, types_counted ts r.1 (all_rest (CountIn c) (counts_of_type c.tree (laid t)) (flat_map (counts_of_type c.tree) (map laid ts)) h))
+      (desc_counted (record { «module» = m.name; object = t.name }) t.desc r.0 its.1, types_counted ts r.1 (all_back (CountIn c) (counts_of_type c.tree (laid t)) (flat_map (counts_of_type c.tree) (map laid ts)) h))
 
   tree_counted : IsTreeCounted c
   tree_counted =
@@ -179,11 +173,11 @@ module _ (faces : List (Face Text)) (clean : AreNotOut faces) (tree : Tree) (m :
       let b = counts_of_all c.tree.body in
       let Q = CountIn c in
       let front = all_front Q (((n ++ t) ++ v) ++ p) b (all_in c) in
-      let types = all_rest Q n t (all_front Q (n ++ t) v (all_front Q ((n ++ t) ++ v) p front)) in
+      let types = all_back Q n t (all_front Q (n ++ t) v (all_front Q ((n ++ t) ++ v) p front)) in
       let own = own_in c.tree.types types in
       record {
-        body = stmts_named c Var Proc (variable_counted faces m) (procedure_counted faces m) own out (stmts_view m.body) (all_rest Q (((n ++ t) ++ v) ++ p) b (all_in c)) mentioned.body recorded.body;
-        procedures = body_in m.procedures mentioned.procedures recorded.procedures own (all_rest Q ((n ++ t) ++ v) p front);
+        body = stmts_named c Var Proc (variable_counted faces m) (procedure_counted faces m) own out (stmts_view m.body) (all_back Q (((n ++ t) ++ v) ++ p) b (all_in c)) mentioned.body recorded.body;
+        procedures = body_in m.procedures mentioned.procedures recorded.procedures own (all_back Q ((n ++ t) ++ v) p front);
         bases = types_counted m.types recorded.types_are types;
       }
 

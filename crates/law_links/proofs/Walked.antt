@@ -10,7 +10,7 @@ use Rattle.ob_env.specs.Faces.{Face, object_named, face_named, described}
 use Rattle.ob_env_walk.specs.Walk.{Entry, Missing, Junk, Holds, Walked, Left, NoInterface, Damaged, Cycle, TooMany, go_on, is_among, is_passed_over, through, at_entry, at_module, entering, visit, walk}
 use Rattle.law_names_procedures.specs.Named.{AreEntriesNamed}
 use Rattle.law_load_plan.specs.Compiled.{Text}
-use Rattle.law_links.proofs.Codes.{all_both}
+use Rattle.law_lists.proofs.Lists.{all_both, first_false}
 
 abbrev pub IsNotOut : Face Text → Type 0
 IsNotOut f = bytes_eq f.«module» (codes "Out") ≡ false
@@ -36,10 +36,6 @@ through_none : (at : List ℕ → List (Face Text) → Walked Text) → ((m : Li
 through_none at h [] fs k = k
 through_none at h (m ∷ ms) fs k = goes_on (at m fs) (λ more. through at ms more) (h m fs k) (λ gs l. through_none at h ms gs l)
 
-neither : (a b : Bool) → (a || b) ≡ false → a ≡ false
-neither true b e = absurd cc
-neither false b e = refl
-
 module _ (entry : List ℕ → Entry Text) (named : AreEntriesNamed entry) where
   entry_none : (m : List ℕ) (e : Entry Text) → entry m ≡ e → bytes_eq m (codes "Out") ≡ false → (has_room : Bool) (imports : List (List ℕ) → Walked Text) → ((ms : List (List ℕ)) → LeavesNone (imports ms)) → LeavesNone (at_entry e has_room imports m)
   entry_none m Missing e o has_room imports h = tt
@@ -56,7 +52,7 @@ module _ (entry : List ℕ → Entry Text) (named : AreEntriesNamed entry) where
       at true q e below = k
       at false true e below = tt
       at false false e below =
-          entry_none m (entry m) refl (neither (bytes_eq m (codes "Out")) (bytes_eq m (codes "SYSTEM")) (neither (bytes_eq m (codes "Out") || bytes_eq m (codes "SYSTEM")) (list_any (λ f. bytes_eq m f.«module») fs) e)) (nat_le (length fs + length path) 255) (λ imports. through (visit entry n (m ∷ path)) imports fs) below
+          entry_none m (entry m) refl (first_false (bytes_eq m (codes "Out")) (bytes_eq m (codes "SYSTEM")) (first_false (bytes_eq m (codes "Out") || bytes_eq m (codes "SYSTEM")) (list_any (λ f. bytes_eq m f.«module») fs) e)) (nat_le (length fs + length path) 255) (λ imports. through (visit entry n (m ∷ path)) imports fs) below
 
   pub walk_none : (root : List ℕ) (imports : List (List ℕ)) → LeavesNone (walk entry root imports)
   walk_none root imports = through_none (visit entry 257 (root ∷ [])) (visit_none 257 (root ∷ [])) imports [] tt

@@ -10,10 +10,11 @@ use Rattle.ob_tree.specs.declared.stmt.Stmt.TheOpen.{Stmt-F, Branch-F, Case-F, G
 use Rattle.ob_tree.specs.declared.stmt.Stmt.TheFolds.{ind-Stmt, fold-roll-Stmt, fold-roll-Branch, fold-roll-Case, fold-roll-GuardedBranch}
 use Rattle.ob_rules.specs.Expressions.{phrase_of, named_of}
 use Rattle.ob_rules.specs.Statements.{Judging, Conditional, Labelled, GuardedBody, stmt_rule, branch_rule, case_rule, guarded_rule, judging, conditional_of, labelled_of, guarded_of, phrase_if}
-use Rattle.law_links_names.proofs.Setting.{Setting, IfThere}
+use Rattle.law_links_names.proofs.Setting.{Setting}
 use Rattle.law_links_names.proofs.Calls.{PhraseOk}
 use Rattle.law_links_names.proofs.Expressions.{expr_ok, designator_named}
 use Rattle.law_links_names.proofs.Statements.{JudgingOk, AreJudging, ConditionalOk, assignment_keeps, call_keeps, if_keeps, while_keeps, repeat_keeps, loop_keeps, case_keeps, for_keeps, exit_keeps, return_keeps, with_keeps}
+use Rattle.law_lists.proofs.Lists.{IfThere}
 
 module _ (k : Setting) where
   abbrev PS : Stmt → Type 0

@@ -37,8 +37,9 @@ use Rattle.ob_rules.specs.Values.{computed}
 use Rattle.ob_rules.specs.Phrases.{Phrase, record_receiver, receiver_place}
 use Rattle.ob_rules.specs.Calls.{actual_of, unless_guarded, unless_read_only, variable_actual, meant_actual, var_actual, tree_for, value_actual, actual, actuals, misplaced, called_with, called, call_procedure, call_variable, out_signature, call_out, bound_callee, receiver_actual, nearest_sound, where_from, call_bound_sound, call_bound}
 use Rattle.law_links_names.specs.Trees.{ExprNamed, ActualsNamed, CalleeNamed}
-use Rattle.law_links_names.proofs.Setting.{Setting, IsVar, IsProc, Any, E, P, passed_any, Stands, PlaceOk, ValuedOk, MeantOk, Anything, Keeps, any_keeps, then_keeps, both_keep, wants_keeps, also_keeps, named_e, named_d, tree_ok}
+use Rattle.law_links_names.proofs.Setting.{Setting, IsVar, IsProc, Any, E, P, passed_any, Stands, PlaceOk, ValuedOk, MeantOk, Keeps, any_keeps, then_keeps, both_keep, wants_keeps, also_keeps, named_e, named_d, tree_ok}
 use Rattle.law_links_names.proofs.Values.{text_tree_ok}
+use Rattle.law_lists.proofs.Lists.{Anything}
 
 -- a phrase names what it mentions, whatever stands around
 abbrev pub MeantKeeps : Setting → Option (Around → Judged Meant) → Type 0

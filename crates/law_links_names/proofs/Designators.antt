@@ -39,9 +39,10 @@ use Rattle.ob_rules.specs.Values.{is_integer, tree}
 use Rattle.ob_rules.specs.Phrases.{dereferenced, Phrase, Behind, Dot, Index, Up, Round}
 use Rattle.ob_rules.specs.Calls.{call_procedure, call_variable, call_out, call_bound}
 use Rattle.ob_rules.specs.Designators.{variable_at, guard_of, guarded_by, with_guard, guard_if, guard_same, same_variable, with_guards, variable_named, guard, if_so_held, dereference_of, dereference, through_if, implicitly, indexed, index_into, index_if, index, field_of, chosen, with_receiver, not_there, comes, member_found, member_of, select_of, select, super_of, super_in, super_if, super, type_in_round, as_call, place_round, call_meant, takes_type, is_callable, is_guardable, other_round, step_dot, step_index, step_up, step_round, step, where_of, nothing_behind, go_on_with, go_on, through, of_variable, exported_meant, out_meant, in_module, dot_of, module_front, front_of, is_module, behind, front, from_front_with, designates}
-use Rattle.law_links_names.proofs.Setting.{Setting, V, guard_any, Stands, EntityOk, PlaceOk, ValuedOk, MeantOk, IfThere, Anything, AreMentioned, Keeps, all_front, all_rest, any_keeps, then_keeps, made_keeps, wants_keeps, named_d, tree_ok, find_has}
+use Rattle.law_links_names.proofs.Setting.{Setting, V, guard_any, Stands, EntityOk, PlaceOk, ValuedOk, MeantOk, AreMentioned, Keeps, any_keeps, then_keeps, made_keeps, wants_keeps, named_d, tree_ok, find_has}
 use Rattle.law_links_names.proofs.Calls.{PhraseOk, ArePhrases, call_procedure_keeps, call_variable_keeps, call_out_keeps, call_bound_keeps}
 use Rattle.law_links_names.proofs.Functions.{predeclared_keeps}
+use Rattle.law_lists.proofs.Lists.{Anything, IfThere, all_back, all_front}
 
 -- ---- variables and guards
 
@@ -220,7 +221,7 @@ step_keeps k u st w start m h (Up at) g last = up_keeps k u at m h
 step_keeps k u st w start m h (Round at ps) g last = round_keeps k u st w start at ps g m h
 
 on_keeps : (k : Setting) (u : Around) (bs : List Behind) (j : Judged Meant) (f : Meant → Judged Meant) → Keeps k (MeantOk k) j → ((m : Meant) → MeantOk k m → Keeps k (MeantOk k) (f m)) → Keeps k (MeantOk k) (go_on u bs j f)
-on_keeps k u bs j f h g = λ n. with_node j.node (h (all_front k.Mentioned j.notes.objects (go_on_with u bs f j.node).notes.objects n)) (all_rest k.Mentioned j.notes.objects (go_on_with u bs f j.node).notes.objects n)
+on_keeps k u bs j f h g = λ n. with_node j.node (h (all_front k.Mentioned j.notes.objects (go_on_with u bs f j.node).notes.objects n)) (all_back k.Mentioned j.notes.objects (go_on_with u bs f j.node).notes.objects n)
   where
     with_node : (o : Option Meant) → IfThere (MeantOk k) o → AreMentioned k (go_on_with u bs f o).notes.objects → IfThere (MeantOk k) (go_on_with u bs f o).node
     with_node None q n = tt
@@ -326,7 +327,7 @@ front_keeps k u st x bs g =
 pub designates_keeps : (k : Setting) (u : Around) → Stands k u → (w : Where) (x : Ident) (bs : List Behind) → AllByRecursion (BehindOk k) bs → Keeps k (MeantOk k) (designates u w x bs)
 designates_keeps k u st w x bs g = λ n.
     let j = front u x bs (named u x) in
-    with_node j.node (front_keeps k u st x bs g (all_front k.Mentioned j.notes.objects (from_front_with u w x.pos bs j.node).notes.objects n)) (all_rest k.Mentioned j.notes.objects (from_front_with u w x.pos bs j.node).notes.objects n)
+    with_node j.node (front_keeps k u st x bs g (all_front k.Mentioned j.notes.objects (from_front_with u w x.pos bs j.node).notes.objects n)) (all_back k.Mentioned j.notes.objects (from_front_with u w x.pos bs j.node).notes.objects n)
   where
     with_node : (o : Option (Meant × List Behind)) → IfThere (λ (m : Meant × List Behind). MeantOk k m.0 × AllByRecursion (BehindOk k) m.1) o → AreMentioned k (from_front_with u w x.pos bs o).notes.objects → IfThere (MeantOk k) (from_front_with u w x.pos bs o).node
     with_node None q n = tt

@@ -1,5 +1,5 @@
 -- Declarations, procedures and modules name what their notes mention.
-use Rattle.std.proofs.Common.{◌≡◌, ℕ, ◌+◌, Bool, true, false, List, [], ◌∷◌, ◌++◌, length, map, Option, Some, None, refl, sym, subst, ◌∙◌, inl, inr, cond}
+use Rattle.std.proofs.Common.{◌≡◌, ℕ, ◌+◌, Bool, true, false, List, [], ◌∷◌, ◌++◌, length, map, Option, Some, None, refl, sym, subst, ◌∙◌, inl, inr}
 use Rattle.std.specs.Prelude.{bytes_eq}
 use Rattle.std.specs.List.{AllByRecursion, filter, filter_map}
 use Rattle.std.proofs.lemmas.Bool.{false≢true}
@@ -38,17 +38,10 @@ use Rattle.ob_rules.specs.Headings.{WrittenHeading, Head, Heads, BoundAs, head_o
 use Rattle.ob_rules.specs.Declarations.{Contents, no_contents, together, Declared, declare_if, constant_entity, constant_contents, constant_declared, no_nil, type_entity, types_made, type_declared, typing_as, variable_of, variable_entity, variable_contents, paired_typing, variable_marked, variables_with, made_in, variables_typed, Written_procedure, Declaration, Plain, Procedure, plain_of, procedure_of, type_name_of, in_order, headings_in_order, around_body, procedure_contents, closing_judged, procedure_judged, procedures_judged, body_part, stmts_in, with_bound, binding_at, all_judged, field_judged, heads_later, block, pointers_judged, decl_rule, declaration, is_system, import_entity, import_declared, target_of, imports_declared, around_module, module_of, name_judged, typed_module, if_unbroken}
 use Rattle.law_links_names.specs.Trees.{StmtsNamed}
 use Rattle.law_links_names.specs.Mentions.{IsAmong, AreMentioned as Mention, ModulesMention}
-use Rattle.law_links_names.proofs.Setting.{Setting, S, IsVar, IsProc, Any, V, EntityOk, Stands, IfThere, AreMentioned, all_front, all_rest}
+use Rattle.law_links_names.proofs.Setting.{Setting, S, IsVar, IsProc, Any, V, EntityOk, Stands, AreMentioned}
 use Rattle.law_links_names.proofs.Statements.{AreOk, AreJudging, stmts_named, turn_keeps}
 use Rattle.law_links_names.proofs.Bodies.{stmts_ok}
-
-all_both : {A : Type 0} (Q : A → Type 0) (xs ys : List A) → AllByRecursion Q xs → AllByRecursion Q ys → AllByRecursion Q (xs ++ ys)
-all_both Q [] ys h g = g
-all_both Q (x ∷ xs) ys h g = (h.0, all_both Q xs ys h.1 g)
-
-filter_if : {A : Type 0} (Q : A → Type 0) (b : Bool) (x : A) (xs : List A) → Q x → AllByRecursion Q xs → AllByRecursion Q (cond b (x ∷ xs) xs)
-filter_if Q true x xs h g = (h, g)
-filter_if Q false x xs h g = g
+use Rattle.law_lists.proofs.Lists.{IfThere, all_back, all_both, all_front, filter_if}
 
 filter_all : {A : Type 0} (Q : A → Type 0) (test : A → Bool) (xs : List A) → AllByRecursion Q xs → AllByRecursion Q (filter test xs)
 filter_all Q test [] h = tt
@@ -248,7 +241,7 @@ judged_ok : (k : Setting) (u : Around) → Stands k u → (p : Written_procedure
 judged_ok k u s p g h e true n = record { procedures = tt; body = tt }
 judged_ok k u s p g h e false n =
     let i = p.inside (around_body u h) in
-    let m = all_rest k.Mentioned (closing_judged h.name p.closing).objects i.notes.objects (all_rest k.Mentioned h.notes.objects (joined (closing_judged h.name p.closing) i.notes).objects n) in
+    let m = all_back k.Mentioned (closing_judged h.name p.closing).objects i.notes.objects (all_back k.Mentioned h.notes.objects (joined (closing_judged h.name p.closing) i.notes).objects n) in
     typed_ok k (map_of u) h h.parameters i.contents (g (around_body u h) (record { unit = s.unit; shown = s.shown; known = all_both (λ (n : Known). EntityOk k n.what) h.inside h.known e.inside e.known }) m)
 
 procedures_ok : (k : Setting) (u : Around) → Stands k u → (ps : List Written_procedure) → AllByRecursion (GoodProcedure k) ps → (hs : List Head) → AllByRecursion (HeadOk k) hs → AreMentioned k (procedures_judged u ps hs).notes.objects → ContentsOk k (procedures_judged u ps hs).contents
@@ -257,7 +250,7 @@ procedures_ok k u s (p ∷ ps) g [] e n = record { procedures = tt; body = tt }
 procedures_ok k u s (p ∷ ps) g (h ∷ hs) e n =
     let a = procedure_judged u p h p.forward in
     let b = procedures_judged u ps hs in
-    ok_both k a.contents b.contents (judged_ok k u s p g.0 h e.0 p.forward (all_front k.Mentioned a.notes.objects b.notes.objects n)) (procedures_ok k u s ps g.1 hs e.1 (all_rest k.Mentioned a.notes.objects b.notes.objects n))
+    ok_both k a.contents b.contents (judged_ok k u s p g.0 h e.0 p.forward (all_front k.Mentioned a.notes.objects b.notes.objects n)) (procedures_ok k u s ps g.1 hs e.1 (all_back k.Mentioned a.notes.objects b.notes.objects n))
 
 body_ok : (k : Setting) (j : Judged (List TypedStmt)) → IfThere (AreOk k) j.node → ContentsOk k (body_part j).contents
 body_ok k j h = record { procedures = tt; body = by j.node h }
@@ -300,12 +293,12 @@ block_ok k ds g body j u s n =
     let later = d.part.notes.later ++ heads_later hs.before in
     let m = joined b.notes (joined (all_judged (field_judged (map_of U)) later) (forwards_judged (map_of hs.around) (reversed hs.before) (reversed hs.before))) in
     let front = d.part.notes.objects ++ (pointers_judged hs.around later).objects in
-    let two = all_rest k.Mentioned m.objects (Q.notes.objects ++ B.notes.objects) (all_rest k.Mentioned front (m.objects ++ (Q.notes.objects ++ B.notes.objects)) n) in
+    let two = all_back k.Mentioned m.objects (Q.notes.objects ++ B.notes.objects) (all_back k.Mentioned front (m.objects ++ (Q.notes.objects ++ B.notes.objects)) n) in
     let o : DeclaredOk k d = order_good k (filter_map plain_of ds) (plains k ds g) v (record { unit = s.unit; shown = s.shown; known = s.known }) in
     let h : HeadsOk k hs = headings_good k ps start (record { around = o.around; before = tt }) in
     let w : Stands k U = record { unit = h.around.unit; shown = h.around.shown; known = h.around.known } in
     let q : ContentsOk k Q.contents = procedures_ok k U w ps (written_procedures k ds g) (reversed hs.before) (reversed_all (HeadOk k) hs.before h.before) (all_front k.Mentioned Q.notes.objects B.notes.objects two) in
-    let c : ContentsOk k B.contents = body_ok k (in_turn body U) (turn_keeps k U w body j (all_rest k.Mentioned Q.notes.objects B.notes.objects two)) in
+    let c : ContentsOk k B.contents = body_ok k (in_turn body U) (turn_keeps k U w body j (all_back k.Mentioned Q.notes.objects B.notes.objects two)) in
     ok_both k d.part.contents (together no_contents (together (record no_contents { bound = b.own }) (together Q.contents B.contents))) o.contents
     (ok_both k no_contents (together (record no_contents { bound = b.own }) (together Q.contents B.contents)) (record { procedures = tt; body = tt })
     (ok_both k (record no_contents { bound = b.own }) (together Q.contents B.contents) (record { procedures = tt; body = tt }) (ok_both k Q.contents B.contents q c)))
@@ -364,7 +357,7 @@ modules_mention shown types tree m e =
     let d = imports_declared tree.imports u in
     let b = block (map declaration tree.decls) (map judging tree.body) d.around in
     let n : AreMentioned k p.notes.objects = all_among p.notes.objects in
-    let r = all_rest k.Mentioned d.part.notes.objects b.notes.objects (all_rest k.Mentioned (name_judged tree.name tree.closing).objects (d.part.notes.objects ++ b.notes.objects) n) in
+    let r = all_back k.Mentioned d.part.notes.objects b.notes.objects (all_back k.Mentioned (name_judged tree.name tree.closing).objects (d.part.notes.objects ++ b.notes.objects) n) in
     let i : DeclaredOk k d = order_good k (map (λ i. import_declared i (target_of i)) tree.imports) (imports_good k tree.imports) u (record { unit = refl; shown = refl; known = predeclared_known k }) in
     let c : ContentsOk k b.contents = block_ok k (map declaration tree.decls) (decls_good k tree.decls) (map judging tree.body) (stmts_ok k tree.body) d.around i.around r in
     let o : ContentsOk k (together d.part.contents b.contents) = ok_both k d.part.contents b.contents i.contents c in

@@ -1,6 +1,6 @@
 -- What is judged names variables and procedures of other modules that its notes mention: what stands around, and how judgements are
 -- put together.
-use Rattle.std.proofs.Common.{◌≡◌, ℕ, Bool, true, false, List, [], ◌∷◌, ◌++◌, Option, Some, None, sym, subst, cond}
+use Rattle.std.proofs.Common.{◌≡◌, ℕ, Bool, true, false, List, [], ◌∷◌, Option, Some, None, sym, subst, cond}
 use Rattle.std.specs.List.{AllByRecursion, find}
 use Rattle.ob_tree.specs.declared.pos.Pos.{Pos}
 use Rattle.ob_tree.specs.declared.names.QName.{QName}
@@ -32,6 +32,7 @@ use Rattle.ob_rules.specs.Values.{tree}
 pub use Rattle.law_links_names.specs.Mentions.{Any}
 use Rattle.law_links_names.specs.Mentions.{IsVariable, IsProcedure}
 use Rattle.law_links_names.specs.Trees.{IfOther, VariableNamed, NameNamed, TagNamed, GuardNamed, PassedNamed, DesigNamed, ExprNamed, StmtNamed}
+use Rattle.law_lists.proofs.Lists.{Anything, IfThere, all_back, all_front}
 
 pub record Setting : Type 1 where
   pub types : QName → Option Desc
@@ -106,27 +107,12 @@ MeantOk k (means.Call x) = ValuedOk k x
 MeantOk k (means.Statement s) = S k s.inner
 MeantOk k m = Unit {0}
 
-abbrev pub IfThere : {A : Type 0} → (A → Type 0) → Option A → Type 0
-IfThere Q None = Unit {0}
-IfThere Q (Some x) = Q x
-
 abbrev pub AreMentioned : Setting → List QName → Type 0
 AreMentioned k qs = AllByRecursion k.Mentioned qs
 
 -- where all that the notes mention is mentioned, a node has the property
 abbrev pub Keeps : Setting → {A : Type 0} → (A → Type 0) → Judged A → Type 0
 Keeps k Q j = AreMentioned k j.notes.objects → IfThere Q j.node
-
-abbrev pub Anything : {A : Type 0} → A → Type 0
-Anything x = Unit {0}
-
-pub all_front : {A : Type 0} (Q : A → Type 0) (xs ys : List A) → AllByRecursion Q (xs ++ ys) → AllByRecursion Q xs
-all_front Q [] ys h = tt
-all_front Q (x ∷ xs) ys h = (h.0, all_front Q xs ys h.1)
-
-pub all_rest : {A : Type 0} (Q : A → Type 0) (xs ys : List A) → AllByRecursion Q (xs ++ ys) → AllByRecursion Q ys
-all_rest Q [] ys h = h
-all_rest Q (x ∷ xs) ys h = all_rest Q xs ys h.1
 
 pub sure : {A : Type 0} (o : Option A) → IfThere Anything o
 sure None = tt
@@ -140,7 +126,7 @@ if_keeps k Q R None f h g = λ n. tt
 if_keeps k Q R (Some x) f h g = g x h
 
 pub then_keeps : (k : Setting) {A B : Type 0} (Q : A → Type 0) (R : B → Type 0) (j : Judged A) (f : A → Judged B) → Keeps k Q j → ((x : A) → Q x → Keeps k R (f x)) → Keeps k R (j ▷ f)
-then_keeps k Q R j f h g = λ n. if_keeps k Q R j.node f (h (all_front k.Mentioned j.notes.objects (if_sound j.node f).notes.objects n)) g (all_rest k.Mentioned j.notes.objects (if_sound j.node f).notes.objects n)
+then_keeps k Q R j f h g = λ n. if_keeps k Q R j.node f (h (all_front k.Mentioned j.notes.objects (if_sound j.node f).notes.objects n)) g (all_back k.Mentioned j.notes.objects (if_sound j.node f).notes.objects n)
 
 paired_has : {A B : Type 0} (Q : A → Type 0) (R : B → Type 0) (a : Option A) (b : Option B) → IfThere Q a → IfThere R b → IfThere (λ (p : A × B). Q p.0 × R p.1) (paired a b)
 paired_has Q R None b h g = tt
@@ -148,7 +134,7 @@ paired_has Q R (Some x) None h g = tt
 paired_has Q R (Some x) (Some y) h g = (h, g)
 
 pub both_keep : (k : Setting) {A B : Type 0} (Q : A → Type 0) (R : B → Type 0) (a : Judged A) (b : Judged B) → Keeps k Q a → Keeps k R b → Keeps k (λ (p : A × B). Q p.0 × R p.1) (both a b)
-both_keep k Q R a b h g = λ n. paired_has Q R a.node b.node (h (all_front k.Mentioned a.notes.objects b.notes.objects n)) (g (all_rest k.Mentioned a.notes.objects b.notes.objects n))
+both_keep k Q R a b h g = λ n. paired_has Q R a.node b.node (h (all_front k.Mentioned a.notes.objects b.notes.objects n)) (g (all_back k.Mentioned a.notes.objects b.notes.objects n))
 
 pub made_keeps : (k : Setting) {A B : Type 0} (Q : A → Type 0) (R : B → Type 0) (f : A → B) (j : Judged A) → Keeps k Q j → ((x : A) → Q x → R (f x)) → Keeps k R (made f j)
 made_keeps k Q R f j h g = then_keeps k Q R j (λ x. sound (f x)) h (λ x q. λ n. g x q)
@@ -174,7 +160,7 @@ also_keeps k Q true rule at j h = λ n. tt
 also_keeps k Q false rule at j h = h
 
 pub noted_keeps : (k : Setting) {A : Type 0} (Q : A → Type 0) (n : Notes) (j : Judged A) → Keeps k Q j → Keeps k Q (noted n j)
-noted_keeps k Q n j h = λ m. h (all_rest k.Mentioned n.objects j.notes.objects m)
+noted_keeps k Q n j h = λ m. h (all_back k.Mentioned n.objects j.notes.objects m)
 
 pub later_keeps : (k : Setting) {A : Type 0} (Q : A → Type 0) (ls : List Later) (j : Judged A) → Keeps k Q j → Keeps k Q (judge_later ls j)
 later_keeps k Q [] j h = h

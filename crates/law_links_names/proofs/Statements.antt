@@ -45,12 +45,13 @@ use Rattle.ob_rules.specs.Types.{first_of}
 use Rattle.ob_rules.specs.Statements as rules
 use Rattle.ob_rules.specs.Statements.{Judging, in_turn, in_turn_if, target, assignment_of, assigned_tree, assigns, assignment, call_value, done, place_called, called, condition, branch_of, empty_if_none, Labelled, labels, case_of, cases, selects_if, case_value, case_judged, for_variable, integer_place, for_bound, bound_if, for_with, for_step, returned, return_none, with_module, with_named, with_qualified_by, with_qualified, with_meant, with_place, with_guard, guard_test, variable_meant, guarded_around, type_if, guarded_body, GuardedBody, tested, with_variable, with_test, with_branch, Conditional, in_loop, conditional, conditionals, with_branches, if_statement, while_statement, repeat_statement, loop_statement, with_statement, call_statement}
 use Rattle.law_links_names.specs.Trees.{StmtsNamed, BranchesNamed, CasesNamed, ExprNamed, AssignedNamed}
-use Rattle.law_links_names.proofs.Setting.{Setting, IsVar, IsProc, Any, E, S, Stands, EntityOk, PlaceOk, ValuedOk, MeantOk, IfThere, Anything, Keeps, all_front, all_rest, any_keeps, then_keeps, both_keep, made_keeps, unless_keeps, wants_keeps, named_e, tree_ok}
+use Rattle.law_links_names.proofs.Setting.{Setting, IsVar, IsProc, Any, E, S, Stands, EntityOk, PlaceOk, ValuedOk, MeantOk, Keeps, any_keeps, then_keeps, both_keep, made_keeps, unless_keeps, wants_keeps, named_e, tree_ok}
 use Rattle.law_links_names.proofs.Values.{text_tree_ok}
 use Rattle.law_links_names.proofs.Calls.{PhraseOk, call_variable_keeps}
 use Rattle.law_links_names.proofs.Functions.{named_s}
 use Rattle.law_links_names.proofs.Designators.{variable_keeps, call_meant_keeps, named_keeps, designates_keeps}
 use Rattle.law_links_names.proofs.Expressions.{NamedOk, meant_keeps}
+use Rattle.law_lists.proofs.Lists.{Anything, IfThere, all_back, all_both, all_front}
 
 abbrev pub AreOk : Setting → List TypedStmt → Type 0
 AreOk k ss = AllByRecursion (S k) ss
@@ -60,10 +61,6 @@ JudgingOk k f = (u : Around) → Stands k u → Keeps k (AreOk k) (f u)
 
 abbrev pub AreJudging : Setting → List Judging → Type 0
 AreJudging k fs = AllByRecursion (JudgingOk k) fs
-
-all_both : {A : Type 0} (Q : A → Type 0) (xs ys : List A) → AllByRecursion Q xs → AllByRecursion Q ys → AllByRecursion Q (xs ++ ys)
-all_both Q [] ys h g = g
-all_both Q (x ∷ xs) ys h g = (h.0, all_both Q xs ys h.1 g)
 
 pub stmts_named : (k : Setting) (ss : List TypedStmt) → AreOk k ss → StmtsNamed k.types k.unit (IsVar k) (IsProc k) Any (stmts_view ss)
 stmts_named k [] h = tt
@@ -240,7 +237,7 @@ for_keeps k u s at x a b step body g h i = λ n.
     let j = named u x ▷ for_variable u at x in
     let f = for_with (map_of u) at j.node (a.value u) (b.value u) (for_step u at step) (in_turn body u) in
     let p : IfThere (PlaceOk k) j.node = then_keeps k (EntityOk k) (PlaceOk k) (named u x) (for_variable u at x) (named_keeps k u s x) (λ e q. for_variable_keeps k u s at x e q) (all_front k.Mentioned j.notes.objects f.notes.objects n) in
-    for_with_keeps k (map_of u) at j.node (a.value u) (b.value u) (for_step u at step) (in_turn body u) p (g.0 u s) (h.0 u s) (turn_keeps k u s body i) (all_rest k.Mentioned j.notes.objects f.notes.objects n)
+    for_with_keeps k (map_of u) at j.node (a.value u) (b.value u) (for_step u at step) (in_turn body u) p (g.0 u s) (h.0 u s) (turn_keeps k u s body i) (all_back k.Mentioned j.notes.objects f.notes.objects n)
 
 -- ---- EXIT and RETURN
 

@@ -39,8 +39,9 @@ use Rattle.ob_rules.specs.Values.{computed}
 use Rattle.ob_rules.specs.Phrases.{Phrase, record_receiver, receiver_place}
 use Rattle.ob_rules.specs.Calls.{both_records, takes_variable, actual_of, unless_guarded, unless_read_only, variable_actual, meant_actual, var_actual, tree_for, value_actual, actual, actuals, misplaced, called_with, called, call_procedure, call_variable, out_signature, call_out, bound_callee, receiver_actual, nearest_sound, where_from, call_bound_sound, call_bound}
 use Rattle.law_links_types.specs.Trees.{StandsForOne, IsBase, ExprRecorded, ActualsRecorded, CalleeRecorded, PassedRecorded}
-use Rattle.law_links_types.proofs.Setting.{Setting, E, Stands, one_stands, IfThere, PlaceOk, ValuedOk, ChosenOk, MeantOk, Anything, Keeps, any_keeps, then_keeps, both_keep, wants_keeps, also_keeps, also_so, named_e, typed_d, tree_ok}
+use Rattle.law_links_types.proofs.Setting.{Setting, E, Stands, one_stands, PlaceOk, ValuedOk, ChosenOk, MeantOk, Keeps, any_keeps, then_keeps, both_keep, wants_keeps, also_keeps, also_so, named_e, typed_d, tree_ok}
 use Rattle.law_links_types.proofs.Values.{text_tree_ok}
+use Rattle.law_lists.proofs.Lists.{Anything, IfThere}
 
 -- a phrase names record types, whatever stands around
 abbrev pub MeantKeeps : Setting → Option (Around → Judged Meant) → Type 0

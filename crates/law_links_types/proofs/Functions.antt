@@ -38,9 +38,10 @@ use Rattle.ob_rules.specs.Calls.{misplaced}
 use Rattle.ob_rules.specs.Phrases.{Phrase}
 use Rattle.ob_rules.specs.Predeclared.{changed_meant, changed_as, values, asked_first, asked_second, parameter, parameters_behind, parameters, is_function, value, if_is, on_width, longer, shorter, dimension, length_of, len_at, len_of, number_in, one, step, element_step, is_text, new_array, new_fixed, new_elements, if_held, new_one, new_many, fit_one, fit_two, fit, if_fit, call_fit, type_parameter, extreme_of, basic_if, extreme_call, call_predeclared}
 use Rattle.law_links_types.specs.Trees.{PointsTo, StmtRecorded}
-use Rattle.law_links_types.proofs.Setting.{Setting, S, Stands, record_points, PlaceOk, ValuedOk, MeantOk, IfThere, Anything, Keeps, any_keeps, then_keeps, made_keeps, each_keep, unless_keeps, wants_keeps, also_keeps, named_e, tree_ok}
+use Rattle.law_links_types.proofs.Setting.{Setting, S, Stands, record_points, PlaceOk, ValuedOk, MeantOk, Keeps, any_keeps, then_keeps, made_keeps, each_keep, unless_keeps, wants_keeps, also_keeps, named_e, tree_ok}
 use Rattle.law_links_types.proofs.Values.{monadic_keeps, dyadic_keeps, only_ok, text_tree_ok}
 use Rattle.law_links_types.proofs.Calls.{PhraseOk, ArePhrases, MeantKeeps}
+use Rattle.law_lists.proofs.Lists.{Anything, IfThere}
 
 -- ---- parameters
 

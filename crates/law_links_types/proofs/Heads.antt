@@ -22,17 +22,10 @@ use Rattle.ob_rules.specs.Types.{Parameters, written_parameters, is_module_level
 use Rattle.ob_rules.specs.Headings.{heading_of, Head, Heads, BoundAs, Binding, is_own, if_own, own_record, received_record, silent_base, bound_to, owner_of, owner_if, bound_in, as_parameters, head_of, heading_parameters, knows_receiver, declared_head, knows_procedure, known_behind, name_twice, types_of, add_heading, counted, change_desc, changed_if, change_type, with_method, new_method, redefined, bind_method, bind_by, bind_one, bind_all, of_record, bind_records, reversed}
 use Rattle.ob_rules.specs.Declarations.{Written_procedure, headings_in_order, received_by, binding_at}
 use Rattle.law_links_types.specs.Told.{core}
-use Rattle.law_links_types.proofs.Setting.{Setting, HasType, Stands, IfThere, Anything, Keeps, any_keeps, then_keeps, both_keep, made_keeps}
-use Rattle.law_links_types.proofs.Typings.{all_both, Have, AreMade, ParametersOk, parameters_good, typed_stands}
+use Rattle.law_links_types.proofs.Setting.{Setting, HasType, Stands, Keeps, any_keeps, then_keeps, both_keep, made_keeps}
+use Rattle.law_links_types.proofs.Typings.{Have, AreMade, ParametersOk, parameters_good, typed_stands}
 use Rattle.law_links_types.proofs.Written.{written_parameters_good}
-
-pub front_empty : {A : Type 0} (xs ys : List A) → xs ++ ys ≡ [] → xs ≡ []
-front_empty [] ys h = refl
-front_empty (x ∷ xs) ys h = absurd cc
-
-pub back_empty : {A : Type 0} (xs ys : List A) → xs ++ ys ≡ [] → ys ≡ []
-back_empty [] ys h = h
-back_empty (x ∷ xs) ys h = absurd cc
+use Rattle.law_lists.proofs.Lists.{Anything, IfThere, all_both, back_empty}
 
 -- ---- receivers
 

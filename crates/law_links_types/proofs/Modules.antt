@@ -38,12 +38,13 @@ use Rattle.std.specs.Prelude.{codes}
 use Rattle.law_names_distinct.specs.Distinct.{AreDistinct}
 use Rattle.law_links_types.specs.Trees.{StmtsRecorded, TypeRecorded, ModuleRecorded}
 use Rattle.law_links_types.specs.Told.{core, is_linked, IsTold, AreTold, ModulesRecorded}
-use Rattle.law_links_types.proofs.Setting.{Setting, HasType, S, Stands, IfThere, Anything, Keeps, any_keeps, both_keep, made_keeps, IsFound, found_in}
+use Rattle.law_links_types.proofs.Setting.{Setting, HasType, S, Stands, Keeps, any_keeps, both_keep, made_keeps, IsFound, found_in}
 use Rattle.law_links_types.proofs.Statements.{AreOk, AreJudging, stmts_named, turn_keeps}
 use Rattle.law_links_types.proofs.Bodies.{stmts_ok}
-use Rattle.law_links_types.proofs.Typings.{all_both, all_front, all_rest, Have, AreMade, TypingOk, IsGood, typed_stands}
+use Rattle.law_links_types.proofs.Typings.{Have, AreMade, TypingOk, IsGood, typed_stands}
 use Rattle.law_links_types.proofs.Written.{written_good}
-use Rattle.law_links_types.proofs.Heads.{front_empty, back_empty, received_ok, HeadOk, IsSettled, AreSettled, IsWritten, HeadsOk, headings_ok, reversed_all, reversed_back, as_many, binding_has}
+use Rattle.law_links_types.proofs.Heads.{received_ok, HeadOk, IsSettled, AreSettled, IsWritten, HeadsOk, headings_ok, reversed_all, reversed_back, as_many, binding_has}
+use Rattle.law_lists.proofs.Lists.{Anything, IfThere, all_back, all_both, all_front, back_empty, differ_false, front_empty}
 
 -- ---- what a part adds
 
@@ -132,7 +133,7 @@ order_good : (k : Setting) (fs : List (Around → Declared)) → AllByRecursion 
 order_good k [] g u s h = record { contents = record { types = tt; procedures = tt; body = tt; bound = tt }; around = s }
 order_good k (f ∷ fs) g u s h =
     let a = g.0 u s (all_front (HasType k) (f u).part.contents.types (in_order fs (f u).around).part.contents.types h) in
-    let b = order_good k fs g.1 (f u).around a.around (all_rest (HasType k) (f u).part.contents.types (in_order fs (f u).around).part.contents.types h) in
+    let b = order_good k fs g.1 (f u).around a.around (all_back (HasType k) (f u).part.contents.types (in_order fs (f u).around).part.contents.types h) in
     record { contents = ok_both k (f u).part.contents (in_order fs (f u).around).part.contents a.contents b.contents; around = b.around }
 
 imports_good : (k : Setting) (is : List Import) → AllByRecursion (GoodPlain k) (map (λ i. import_declared i (target_of i)) is)
@@ -163,7 +164,7 @@ judged_ok k u s p g h e false n t =
     let i = p.inside v in
     let quiet = back_empty (closing_judged h.name p.closing).broken i.notes.broken (back_empty h.notes.broken (joined (closing_judged h.name p.closing) i.notes).broken n) in
     typed_ok k (map_of u) h h.parameters i.contents (same_made k h.parameters e.types)
-    (g v (record { unit = s.unit; shown = s.shown; own = s.own; receiver = received_ok k h.self h.bound e.bound }) quiet (all_rest (HasType k) (types_of_head h.parameters) i.contents.types t))
+    (g v (record { unit = s.unit; shown = s.shown; own = s.own; receiver = received_ok k h.self h.bound e.bound }) quiet (all_back (HasType k) (types_of_head h.parameters) i.contents.types t))
 
 procedures_ok : (k : Setting) (u : Around) → Stands k u → (ps : List Written_procedure) → AllByRecursion (GoodProcedure k) ps → (hs : List Head) → AllByRecursion (HeadOk k) hs → (procedures_judged u ps hs).notes.broken ≡ [] → Have k (procedures_judged u ps hs).contents.types → ContentsOk k (procedures_judged u ps hs).contents
 procedures_ok k u s [] g hs e n t = record { types = tt; procedures = tt; body = tt; bound = tt }
@@ -172,7 +173,7 @@ procedures_ok k u s (p ∷ ps) g (h ∷ hs) e n t =
     let a = procedure_judged u p h p.forward in
     let b = procedures_judged u ps hs in
     ok_both k a.contents b.contents (judged_ok k u s p g.0 h e.0 p.forward (front_empty a.notes.broken b.notes.broken n) (all_front (HasType k) a.contents.types b.contents.types t))
-    (procedures_ok k u s ps g.1 hs e.1 (back_empty a.notes.broken b.notes.broken n) (all_rest (HasType k) a.contents.types b.contents.types t))
+    (procedures_ok k u s ps g.1 hs e.1 (back_empty a.notes.broken b.notes.broken n) (all_back (HasType k) a.contents.types b.contents.types t))
 
 -- where nothing is broken, and all types are the module's, each heading is settled
 settled : (k : Setting) (u : Around) (p : Written_procedure) (h : Head) (f : Bool) → (procedure_judged u p h f).notes.broken ≡ [] → Have k (procedure_judged u p h f).contents.types → IsSettled k h
@@ -186,7 +187,7 @@ all_settled k u (p ∷ ps) [] l n t = tt
 all_settled k u (p ∷ ps) (h ∷ hs) l n t =
     let a = procedure_judged u p h p.forward in
     let b = procedures_judged u ps hs in
-    (settled k u p h p.forward (front_empty a.notes.broken b.notes.broken n) (all_front (HasType k) a.contents.types b.contents.types t), all_settled k u ps hs (omega (arith, l)) (back_empty a.notes.broken b.notes.broken n) (all_rest (HasType k) a.contents.types b.contents.types t))
+    (settled k u p h p.forward (front_empty a.notes.broken b.notes.broken n) (all_front (HasType k) a.contents.types b.contents.types t), all_settled k u ps hs (omega (arith, l)) (back_empty a.notes.broken b.notes.broken n) (all_back (HasType k) a.contents.types b.contents.types t))
 
 body_ok : (k : Setting) (j : Judged (List TypedStmt)) → IfThere (AreOk k) j.node → ContentsOk k (body_part j).contents
 body_ok k j h = record { types = tt; procedures = tt; body = by j.node h; bound = tt }
@@ -237,7 +238,7 @@ block_ok k ds g body j u s n t =
     let front = d.part.notes.broken ++ (pointers_judged hs.around later).broken in
     let two = back_empty m.broken (Q.notes.broken ++ B.notes.broken) (back_empty front (m.broken ++ (Q.notes.broken ++ B.notes.broken)) n) in
     let quiet = front_empty Q.notes.broken B.notes.broken two in
-    let its = all_front (HasType k) Q.contents.types [] (all_rest (HasType k) d.part.contents.types (Q.contents.types ++ []) t) in
+    let its = all_front (HasType k) Q.contents.types [] (all_back (HasType k) d.part.contents.types (Q.contents.types ++ []) t) in
     let o : DeclaredOk k d = order_good k (filter_map plain_of ds) (plains k ds g) v (record { unit = s.unit; shown = s.shown; own = s.own; receiver = s.receiver }) (all_front (HasType k) d.part.contents.types (Q.contents.types ++ []) t) in
     let begun : AreSettled k [] → HeadsOk k start = λ i. record { around = o.around; before = tt } in
     let done = reversed_back (IsSettled k) hs.before (all_settled k U ps heads (as_many ps d.around) quiet its) in
@@ -301,17 +302,10 @@ another [] x y c h i = absurd i
 another (t ∷ ts) x y c h (inl e) = λ k. h.0 (e.0 ∙ k)
 another (t ∷ ts) x y c h (inr i) = another ts x y c h.1 i
 
-not_equal : (x y : List ℕ) → x ≢ y → bytes_eq x y ≡ false
-not_equal x y n = by (bytes_eq x y) refl
-  where
-    by : (b : Bool) → bytes_eq x y ≡ b → bytes_eq x y ≡ false
-    by true e = absurd (n ((bytes_eq-Decides x y).0 e))
-    by false e = e
-
 first_is : (ts : List TypedType) → AreDistinct (λ t. t.name) ts → (x : List ℕ) (c : Desc) → IsOf ts x c → (e : Desc) × ((first ts x ≡ Some e) × (core e ≡ c))
 first_is [] d x c i = absurd i
 first_is (t ∷ ts) d x c (inl e) = (t.desc, (ap (λ b. cond b (Some t.desc) (first ts x)) ((bytes_eq-Decides x t.name).1 (sym e.0)), e.1))
-first_is (t ∷ ts) d x c (inr i) = let r = first_is ts d.1 x c i in (r.0, (ap (λ b. cond b (Some t.desc) (first ts x)) (not_equal x t.name (another ts x t.name c d.0 i)) ∙ r.1.0, r.1.1))
+first_is (t ∷ ts) d x c (inr i) = let r = first_is ts d.1 x c i in (r.0, (ap (λ b. cond b (Some t.desc) (first ts x)) (differ_false x t.name (another ts x t.name c d.0 i)) ∙ r.1.0, r.1.1))
 
 one_core : (ts : List TypedType) → AreDistinct (λ t. t.name) ts → (x : List ℕ) (a b : Desc) → IsOf ts x a → IsOf ts x b → a ≡ b
 one_core ts d x a b i j =
@@ -421,7 +415,7 @@ module _ (shown : QName → Option Desc) (tree : Tree) where
       let b = block ds (map judging tree.body) d.around in
       let rest = back_empty d.part.notes.broken b.notes.broken (back_empty (name_judged tree.name tree.closing).broken (d.part.notes.broken ++ b.notes.broken) e) in
       let i : DeclaredOk k d = order_good k (map (λ i. import_declared i (target_of i)) tree.imports) (imports_good k tree.imports) u (record { unit = sym n; shown = sym s; own = tt; receiver = tt }) (all_front (HasType k) d.part.contents.types b.contents.types t) in
-      ok_both k d.part.contents b.contents i.contents (block_ok k ds (decls_good k tree.decls) (map judging tree.body) (stmts_ok k tree.body) d.around i.around rest (all_rest (HasType k) d.part.contents.types b.contents.types t))
+      ok_both k d.part.contents b.contents i.contents (block_ok k ds (decls_good k tree.decls) (map judging tree.body) (stmts_ok k tree.body) d.around i.around rest (all_back (HasType k) d.part.contents.types b.contents.types t))
 
   abbrev its : TypedModule
   its = typed_module shown tree.name tree.imports ds (module_of shown tree.name tree.imports ds (map judging tree.body) tree.closing)

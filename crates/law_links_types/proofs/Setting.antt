@@ -35,6 +35,7 @@ use Rattle.ob_rules.specs.Phrases.{receiver_place}
 use Rattle.law_links_types.specs.Trees.{StandsFor, StandsForOne, PointsTo, IsBase, DesigRecorded, ExprRecorded, StmtRecorded}
 use Rattle.law_links_types.specs.Told.{core, is_linked, IsTold}
 use Rattle.law_links_types.proofs.Telling.{record_told, points_told, base_told}
+use Rattle.law_lists.proofs.Lists.{Anything, IfThere}
 
 -- the descriptions of code; what the imported modules show; and of each type of the module what they tell of its name and core
 pub record Setting : Type 1 where
@@ -56,10 +57,6 @@ E k e = ExprRecorded k.types k.unit (expr_view e)
 
 abbrev pub S : Setting → TypedStmt → Type 0
 S k s = StmtRecorded k.types k.unit (stmt_view s)
-
-abbrev pub IfThere : {A : Type 0} → (A → Type 0) → Option A → Type 0
-IfThere Q None = Unit {0}
-IfThere Q (Some x) = Q x
 
 -- ---- what stands around
 
@@ -146,9 +143,6 @@ MeantOk k m = Unit {0}
 -- a node, where there is one, has the property
 abbrev pub Keeps : Setting → {A : Type 0} → (A → Type 0) → Judged A → Type 0
 Keeps k Q j = IfThere Q j.node
-
-abbrev pub Anything : {A : Type 0} → A → Type 0
-Anything x = Unit {0}
 
 pub sure : {A : Type 0} (o : Option A) → IfThere Anything o
 sure None = tt

@@ -44,12 +44,13 @@ use Rattle.ob_rules.specs.Types.{first_of}
 use Rattle.ob_rules.specs.Statements as rules
 use Rattle.ob_rules.specs.Statements.{Judging, in_turn, in_turn_if, target, assigned_as, assignment_of, assigned_tree, assigns, assignment, call_value, done, place_called, called, condition, branch_of, empty_if_none, Labelled, labels, case_of, cases, selects_if, case_value, case_judged, for_variable, integer_place, for_bound, bound_if, for_with, for_step, returned, return_none, with_module, with_named, with_qualified_by, with_qualified, with_meant, with_place, with_guard, guard_test, variable_meant, guarded_around, type_if, guarded_body, GuardedBody, tested, with_variable, with_test, with_branch, Conditional, in_loop, conditional, conditionals, with_branches, if_statement, while_statement, repeat_statement, loop_statement, with_statement, call_statement}
 use Rattle.law_links_types.specs.Trees.{IsRecordType, StandsFor, StmtsRecorded, BranchesRecorded, CasesRecorded, ExprRecorded, AssignedRecorded}
-use Rattle.law_links_types.proofs.Setting.{Setting, E, S, Stands, record_stands, PlaceOk, ValuedOk, MeantOk, IfThere, Anything, Keeps, any_keeps, then_keeps, both_keep, made_keeps, unless_keeps, wants_keeps, named_e, tree_ok}
+use Rattle.law_links_types.proofs.Setting.{Setting, E, S, Stands, record_stands, PlaceOk, ValuedOk, MeantOk, Keeps, any_keeps, then_keeps, both_keep, made_keeps, unless_keeps, wants_keeps, named_e, tree_ok}
 use Rattle.law_links_types.proofs.Values.{text_tree_ok}
 use Rattle.law_links_types.proofs.Calls.{PhraseOk, call_variable_keeps}
 use Rattle.law_links_types.proofs.Functions.{named_s}
 use Rattle.law_links_types.proofs.Designators.{GuardOk, guard_ok, variable_keeps, call_meant_keeps, designates_keeps}
 use Rattle.law_links_types.proofs.Expressions.{NamedOk, meant_keeps}
+use Rattle.law_lists.proofs.Lists.{Anything, IfThere, all_both}
 
 abbrev pub AreOk : Setting → List TypedStmt → Type 0
 AreOk k ss = AllByRecursion (S k) ss
@@ -59,10 +60,6 @@ JudgingOk k f = (u : Around) → Stands k u → Keeps k (AreOk k) (f u)
 
 abbrev pub AreJudging : Setting → List Judging → Type 0
 AreJudging k fs = AllByRecursion (JudgingOk k) fs
-
-all_both : {A : Type 0} (Q : A → Type 0) (xs ys : List A) → AllByRecursion Q xs → AllByRecursion Q ys → AllByRecursion Q (xs ++ ys)
-all_both Q [] ys h g = g
-all_both Q (x ∷ xs) ys h g = (h.0, all_both Q xs ys h.1 g)
 
 pub stmts_named : (k : Setting) (ss : List TypedStmt) → AreOk k ss → StmtsRecorded k.types k.unit (stmts_view ss)
 stmts_named k [] h = tt

@@ -21,20 +21,9 @@ use Rattle.ob_rules.specs.Phrases.{Phrase}
 use Rattle.ob_rules.specs.Shapes.{record_of, is_structured, is_pointer}
 use Rattle.ob_rules.specs.Types.{Typing, Written, typed_as, with_types, base_name, element_name, field_name, section_name, base_of, base_if, fields_joined, named_typing, array_length, fixed_array, array, first_of, names_behind, WrittenFields, first_name, Fields, fields_of, with_fields, field_lists, record_with, record_desc, pointer_to, base_judged, pointer_base, pointer_by, Parameters, WrittenSection, WrittenParameters, mode_of, knows, parameter_as, declare_all, parameters_of, parameters_joined, with_made, sections, result_of, with_result, parameters_in, inner, procedure_type}
 use Rattle.law_links_types.specs.Trees.{BaseRecorded, TypeRecorded}
-use Rattle.law_links_types.proofs.Setting.{Setting, HasType, Stands, one_stands, IfThere, Anything, Keeps, any_keeps, then_keeps, both_keep, made_keeps, unless_keeps, wants_so, also_keeps, later_keeps}
+use Rattle.law_links_types.proofs.Setting.{Setting, HasType, Stands, one_stands, Keeps, any_keeps, then_keeps, both_keep, made_keeps, unless_keeps, wants_so, also_keeps, later_keeps}
 use Rattle.law_links_types.proofs.Calls.{stands_if}
-
-pub all_both : {A : Type 0} (Q : A → Type 0) (xs ys : List A) → AllByRecursion Q xs → AllByRecursion Q ys → AllByRecursion Q (xs ++ ys)
-all_both Q [] ys h g = g
-all_both Q (x ∷ xs) ys h g = (h.0, all_both Q xs ys h.1 g)
-
-pub all_front : {A : Type 0} (Q : A → Type 0) (xs ys : List A) → AllByRecursion Q (xs ++ ys) → AllByRecursion Q xs
-all_front Q [] ys h = tt
-all_front Q (x ∷ xs) ys h = (h.0, all_front Q xs ys h.1)
-
-pub all_rest : {A : Type 0} (Q : A → Type 0) (xs ys : List A) → AllByRecursion Q (xs ++ ys) → AllByRecursion Q ys
-all_rest Q [] ys h = h
-all_rest Q (x ∷ xs) ys h = all_rest Q xs ys h.1
+use Rattle.law_lists.proofs.Lists.{Anything, IfThere, all_back, all_both, all_front}
 
 abbrev pub Have : Setting → List TypedType → Type 0
 Have k ts = AllByRecursion (HasType k) ts
@@ -47,7 +36,7 @@ abbrev pub MakesOk : Setting → List TypedType → Type 0
 MakesOk k ts = Have k ts → AreMade k ts
 
 makes_both : (k : Setting) (xs ys : List TypedType) → MakesOk k xs → MakesOk k ys → MakesOk k (xs ++ ys)
-makes_both k xs ys f g h = all_both (λ (t : TypedType). TypeRecorded k.types k.unit t.desc) xs ys (f (all_front (HasType k) xs ys h)) (g (all_rest (HasType k) xs ys h))
+makes_both k xs ys f g h = all_both (λ (t : TypedType). TypeRecorded k.types k.unit t.desc) xs ys (f (all_front (HasType k) xs ys h)) (g (all_back (HasType k) xs ys h))
 
 abbrev pub TypingOk : Setting → Typing → Type 0
 TypingOk k t = MakesOk k t.made
@@ -145,7 +134,7 @@ declared_stands k (x ∷ xs) u s m t = declared_stands k xs (knows u x (paramete
 section_ok : (k : Setting) (u : Around) (m : Mode) (xs : List Ident) (o : Option Typing) (r : Option Parameters) → IfThere (TypingOk k) o → ((t : Typing) → o ≡ Some t → Have k t.made → IfThere (ParametersOk k) r) → IfThere (ParametersOk k) (if_sound (paired (if_sound o (λ t. sound (parameters_of u m xs t))).node r) (λ q. sound (parameters_joined q.0 q.1))).node
 section_ok k u m xs None r h g = tt
 section_ok k u m xs (Some t) None h g = tt
-section_ok k u m xs (Some t) (Some p) h g = λ i. let a = all_front (HasType k) t.made p.made i in all_both (λ (t : TypedType). TypeRecorded k.types k.unit t.desc) t.made p.made (h a) (g t refl a (all_rest (HasType k) t.made p.made i))
+section_ok k u m xs (Some t) (Some p) h g = λ i. let a = all_front (HasType k) t.made p.made i in all_both (λ (t : TypedType). TypeRecorded k.types k.unit t.desc) t.made p.made (h a) (g t refl a (all_back (HasType k) t.made p.made i))
 
 made_stands : (k : Setting) (u : Around) → Stands k u → (o : Option Typing) (t : Typing) → o ≡ Some t → Have k t.made → Stands k (with_made u o)
 made_stands k u s None t e h = s

@@ -34,8 +34,9 @@ use Rattle.ob_builds.specs.Written.{BuildsAreWritten}
 use Rattle.law_builds.specs.Linked.{BuildsAreLinked}
 use Rattle.law_builds.proofs.Apart.{build_apart}
 use Rattle.law_builds.proofs.Compiled.{Comes, comes}
-use Rattle.law_builds.proofs.Faces.{of_is, same_name}
+use Rattle.law_builds.proofs.Faces.{of_is}
 use Rattle.law_load_enter.proofs.Limits.{room_kept}
+use Rattle.law_lists.proofs.Lists.{bytes_same}
 
 abbrev pub Compiles : Build → Type 0
 Compiles b = (c : Compiled Text) × IsValid b c
@@ -114,7 +115,7 @@ present_is (b ∷ bs) h q a = go (bytes_eq q.«module» (name_of b)) refl (prese
   where
     go : (t : Bool) → bytes_eq q.«module» (name_of b) ≡ t → kept_by valid_asks (named valid_asks q.«module» (chosen bs h.1)) q.object a ≡ text_in (map shows_of bs) q a → kept_by valid_asks (cond t (Some (record { build = b; valid = h.0 })) (named valid_asks q.«module» (chosen bs h.1))) q.object a ≡ of_found q a (cond t (Some (shows_of b)) (face_named (map shows_of bs) q.«module»))
     go true i rest =
-        ap (λ t. of_found (within (name_of b) q.object) a (cond t (Some (shows_of b)) None)) (same_name (name_of b) (name_of b) refl)
+        ap (λ t. of_found (within (name_of b) q.object) a (cond t (Some (shows_of b)) None)) (bytes_same (name_of b) (name_of b) refl)
         ∙ ap (λ m. of_found (within m q.object) a (Some (shows_of b))) (sym ((bytes_eq-Decides q.«module» (name_of b)).0 i))
     go false i rest = rest
 
@@ -144,7 +145,7 @@ are_met ys client (u ∷ us) f =
     let rest : Option (Refusal Text) = first_of (use_fails valid_asks ys client) us in
     let changed : Refusal Text = Changed client u.object u.aspect u.kept u.kept in
     ap (λ o. or_first (use_against bytes_eq client u o) rest) f.0
-    ∙ ap (λ t. or_first (cond t None (Some changed)) rest) (same_name u.kept u.kept refl)
+    ∙ ap (λ t. or_first (cond t None (Some changed)) rest) (bytes_same u.kept u.kept refl)
     ∙ are_met ys client us f.1
 
 -- so are their prints among the files
@@ -154,5 +155,5 @@ prints_met ys k client (u ∷ us) f =
     let rest : Option (Refusal Print) = first_of (use_fails files.asks (map filed ys) client) (map (wanted_as print_from) us) in
     let changed : Refusal Print = Changed client u.object u.aspect (print_from u.kept) (print_from u.kept) in
     ap (λ o. or_first (use_against agrees client (wanted_as print_from u) o) rest) (file_has ys k u.object u.aspect ∙ ap (option_map print_from) f.0)
-    ∙ ap (λ t. or_first (cond t None (Some changed)) rest) (same_name (print_from u.kept).0 (print_from u.kept).0 refl)
+    ∙ ap (λ t. or_first (cond t None (Some changed)) rest) (bytes_same (print_from u.kept).0 (print_from u.kept).0 refl)
     ∙ prints_met ys k client us f.1

@@ -25,11 +25,12 @@ use Rattle.ob_builds.specs.Afresh.{IsBehind, AreTogether}
 use Rattle.ob_builds.specs.Written.{BuildsAreWritten}
 use Rattle.law_builds.specs.Linked.{BuildsAreLinked}
 use Rattle.law_builds.proofs.Members.{has_head, has_more}
-use Rattle.law_builds.proofs.Faces.{of_is, uses_back, within_limit, other_name}
+use Rattle.law_builds.proofs.Faces.{of_is, uses_back, within_limit}
 use Rattle.law_builds.proofs.Gone.{all_valid}
 use Rattle.law_load_enter.specs.Entered.{FilesEnter}
 use Rattle.law_load_enter.proofs.Law.{files_have}
 use Rattle.law_load_enter.proofs.Chosen.{Compiles, Valid, One, AnyText, kept_of, filed, chosen, chosen_files, known, all_known, links_used, uses_find, are_met, prints_met}
+use Rattle.law_lists.proofs.Lists.{differ_false}
 
 -- ---- nothing refuses the file of a build that stands behind these
 
@@ -66,7 +67,7 @@ no_module n [] h other = refl
 no_module n (b ∷ bs) h other =
     let name : (file_of b).head.«module» ≡ name_of b = (files_have b h.0.0 h.0.1).name in
     ap (λ m. is_there (cond (bytes_eq n m) (Some (member_of (file_of b))) (member_named n (map member_of (map file_of bs))))) name
-    ∙ ap (λ t. is_there (cond t (Some (member_of (file_of b))) (member_named n (map member_of (map file_of bs))))) (other_name n (name_of b) (λ e. other (subst (λ x. Contains (x ∷ map name_of bs) n) e (has_head n (map name_of bs)))))
+    ∙ ap (λ t. is_there (cond t (Some (member_of (file_of b))) (member_named n (map member_of (map file_of bs))))) (differ_false n (name_of b) (λ e. other (subst (λ x. Contains (x ∷ map name_of bs) n) e (has_head n (map name_of bs)))))
     ∙ no_module n bs h.1 (λ c. other (has_more (name_of b) (map name_of bs) n c))
 
 -- ---- all of them

@@ -19,11 +19,12 @@ use Rattle.law_load_plan.proofs.Orders.{all_in_order}
 use Rattle.law_load_plan.proofs.Shown.{object_has}
 use Rattle.ob_builds.specs.Builds.{Text, Build, IsValid, tree_of, shows_of, name_of}
 use Rattle.law_builds.proofs.Compiled.{comes}
-use Rattle.law_builds.proofs.Faces.{of_is, same_name}
+use Rattle.law_builds.proofs.Faces.{of_is}
 use Rattle.law_builds.proofs.Gone.{all_valid}
 use Rattle.law_load_enter.specs.Shown.{ShownAreDeclared}
 use Rattle.law_load_enter.proofs.Law.{files_have}
 use Rattle.law_load_enter.proofs.Chosen.{Compiles}
+use Rattle.law_lists.proofs.Lists.{bytes_same}
 
 abbrev Named : Type 0
 Named = List ℕ × Desc
@@ -40,7 +41,7 @@ named_more t ts (x ∷ xs) h = (named_or (bytes_eq x.name t.name) t.desc (type_n
 
 all_named : (ts : List TypedType) → AllByRecursion (λ x. IsSome (type_named ts x.name)) ts
 all_named [] = tt
-all_named (t ∷ ts) = (subst (λ b. IsSome (cond b (Some t.desc) (type_named ts t.name))) (sym (same_name t.name t.name refl)) refl, named_more t ts ts (all_named ts))
+all_named (t ∷ ts) = (subst (λ b. IsSome (cond b (Some t.desc) (type_named ts t.name))) (sym (bytes_same t.name t.name refl)) refl, named_more t ts ts (all_named ts))
 
 -- ---- the objects of a module that are types
 

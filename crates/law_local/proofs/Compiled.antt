@@ -32,9 +32,9 @@ use Rattle.ob_compile_model.specs.Compiling.{Refusal, Compiled, compiled, texts,
 use Rattle.ob_builds.specs.Builds.{Text, Build, IsValid, entry_of}
 use Rattle.std.proofs.lemmas.Bool.{false≢true, leb-true}
 use Rattle.law_local.proofs.Walked.{IsBelow, LeavesBelow, AreNamed, IsNoRoot, is_built_in, walk_below, walk_other, have_none, only_named}
-use Rattle.law_names_procedures.proofs.Judges.{front_empty}
 use Rattle.law_local_module.specs.Laws.{AreOthers}
 use Rattle.law_local_rules.specs.Laws.{AreApart}
+use Rattle.law_lists.proofs.Lists.{front_empty}
 
 abbrev Answer : Type 0
 Answer = Result (Compiled Text) (Refusal Text)

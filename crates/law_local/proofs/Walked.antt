@@ -8,6 +8,7 @@ use Rattle.ob_env_walk.specs.Walk.{Entry, Missing, Junk, Holds, Walked, Left, No
 use Rattle.ob_uses.proofs.Sorting.{Has, has}
 use Rattle.ob_builds.specs.Builds.{Text, entry_of}
 use Rattle.law_local_files.specs.Laws.{HaveNoOut}
+use Rattle.law_lists.proofs.Lists.{all_both, all_from}
 
 -- what is found for a name is of it
 abbrev pub AreNamed : (List ℕ → Entry Text) → Type 0
@@ -17,10 +18,6 @@ AreNamed find = (n : List ℕ) (f : Face Text) → find n ≡ Holds f → f.«mo
 pub record IsBelow (root : List ℕ) (f : Face Text) : Type 0 where
   pub out : bytes_eq f.«module» (codes "Out") ≡ false
   pub other : bytes_eq f.«module» root ≡ false
-
-join_all : {A : Type 0} (P : A → Type 0) (xs ys : List A) → AllByRecursion P xs → AllByRecursion P ys → AllByRecursion P (xs ++ ys)
-join_all P [] ys a b = b
-join_all P (x ∷ xs) ys a b = (a.0, join_all P xs ys a.1 b)
 
 not_first : (a b c : Bool) → (a || b) || c ≡ false → a ≡ false
 not_first true b c e = absurd cc
@@ -49,7 +46,7 @@ module _ (root : List ℕ) where
   through_below at h (m ∷ ms) left c = go_below (at m left) (λ more. through at ms more) (h m left c) (λ more d. through_below at h ms more d)
 
   entered_below : (b : Bool) (imports : List (List ℕ) → Walked Text) (f : Face Text) → IsBelow root f → ((ms : List (List ℕ)) → LeavesBelow (imports ms)) → LeavesBelow (entered b imports f)
-  entered_below true imports f n h = go_below (imports f.imports) (λ more. Left (more ++ f ∷ [])) (h f.imports) (λ more c. join_all (IsBelow root) more (f ∷ []) c (n, tt))
+  entered_below true imports f n h = go_below (imports f.imports) (λ more. Left (more ++ f ∷ [])) (h f.imports) (λ more c. all_both (IsBelow root) more (f ∷ []) c (n, tt))
   entered_below false imports f n h = tt
 
   entry_below : (e : Entry Text) (b : Bool) (imports : List (List ℕ) → Walked Text) (m : List ℕ) → ((f : Face Text) → e ≡ Holds f → IsBelow root f) → ((ms : List (List ℕ)) → LeavesBelow (imports ms)) → LeavesBelow (at_entry e b imports m)
@@ -163,12 +160,8 @@ not_there [] m c h = h
 not_there (f ∷ fs) m c (inl e) = let never : true ≡ false = sym ((bytes_decides f.«module» m).1 (sym e)) ∙ c.0 in absurd cc
 not_there (f ∷ fs) m c (inr h) = not_there fs m c.1 h
 
-every : {A : Type 0} (P Q : A → Type 0) → ((x : A) → P x → Q x) → (xs : List A) → AllByRecursion P xs → AllByRecursion Q xs
-every P Q f [] all = tt
-every P Q f (x ∷ xs) all = (f x all.0, every P Q f xs all.1)
-
 pub have_none : (root : List ℕ) (fs : List (Face Text)) → AllByRecursion (IsBelow root) fs → HaveNoOut fs
-have_none root fs c h = not_there fs (codes "Out") (every (IsBelow root) (λ f. bytes_eq f.«module» (codes "Out") ≡ false) (λ f b. b.out) fs c) (has (each (λ f. f.«module») fs) (codes "Out") h)
+have_none root fs c h = not_there fs (codes "Out") (all_from (IsBelow root) (λ f. bytes_eq f.«module» (codes "Out") ≡ false) (λ f b. b.out) fs c) (has (each (λ f. f.«module») fs) (codes "Out") h)
 
 pub have_no_root : (root : List ℕ) (fs : List (Face Text)) → AllByRecursion (IsBelow root) fs → Has root (each (λ f. f.«module») fs) → ⊥
-have_no_root root fs c h = not_there fs root (every (IsBelow root) (λ f. bytes_eq f.«module» root ≡ false) (λ f b. b.other) fs c) h
+have_no_root root fs c h = not_there fs root (all_from (IsBelow root) (λ f. bytes_eq f.«module» root ≡ false) (λ f b. b.other) fs c) h

@@ -32,10 +32,10 @@ use Rattle.law_local_files.specs.Read.{TypeRead, ModuleRead}
 use Rattle.law_local_files.specs.Tied.{IsTypeOf}
 use Rattle.law_local_files.specs.Checked.{IsChecked, CountsAreEnough}
 use Rattle.law_local_files.proofs.Told.{among_on}
-use Rattle.law_local_files.proofs.Laid.{join_all, to_each}
 use Rattle.law_local_files.proofs.Whole.{some_desc, plain_near}
 use Rattle.law_local_files.proofs.Counted.{CountsOn, counts_front, counts_back, variables_read, procedures_read, stmts_read}
 use Rattle.law_local_files.proofs.Nears.{Any, module_near}
+use Rattle.law_lists.proofs.Lists.{all_both, all_each}
 
 -- ---- what counts, by the names
 
@@ -88,7 +88,7 @@ record_parts P L k (t ∷ ts) on x r e = go (bytes_eq x t.name) (record_parts P 
         let c : CountsOn P L (counts_of_desc (desc.Record r)) = subst (λ d. CountsOn P L (counts_of_desc d)) (some_desc t.desc (desc.Record r) i) (counts_front P L (counts_of_type k t) (flat_map (counts_of_type k) ts) on).1 in
         let b = both_list P L (listed r.base) (counts_front P L (flat_map both (listed r.base)) (flat_map (λ f. both f.of) r.fields) c) in
         let f = both_fields P L r.fields (counts_back P L (flat_map both (listed r.base)) (flat_map (λ f. both f.of) r.fields) c) in
-        join_all (On P) (listed r.base) (each (λ x. x.of) r.fields) b.0 (to_each (λ x. x.of) (On P) r.fields f.0)
+        all_both (On P) (listed r.base) (each (λ x. x.of) r.fields) b.0 (all_each (λ x. x.of) (On P) r.fields f.0)
     go false more i = more i
 
 record_layouts : (P L : QName → Type 0) (k : Module) (ts : List TypedType) → CountsOn P L (flat_map (counts_of_type k) ts) → (x : List ℕ) (r : RecordDesc) → type_named ts x ≡ Some (desc.Record r) → AllByRecursion (On L) (flat_types true (desc.Record r))
@@ -100,7 +100,7 @@ record_layouts P L k (t ∷ ts) on x r e = go (bytes_eq x t.name) (record_layout
         let c : CountsOn P L (counts_of_desc (desc.Record r)) = subst (λ d. CountsOn P L (counts_of_desc d)) (some_desc t.desc (desc.Record r) i) (counts_front P L (counts_of_type k t) (flat_map (counts_of_type k) ts) on).1 in
         let b = both_list P L (listed r.base) (counts_front P L (flat_map both (listed r.base)) (flat_map (λ f. both f.of) r.fields) c) in
         let f = both_fields P L r.fields (counts_back P L (flat_map both (listed r.base)) (flat_map (λ f. both f.of) r.fields) c) in
-        join_all (On L) (listed r.base) (each (λ x. x.of) r.fields) b.1 (to_each (λ x. x.of) (On L) r.fields f.1)
+        all_both (On L) (listed r.base) (each (λ x. x.of) r.fields) b.1 (all_each (λ x. x.of) (On L) r.fields f.1)
     go false more i = more i
 
 own_among : (P L : QName → Type 0) (map : Map) (m : Module) (ts : List TypedType) → CountsOn P L (flat_map (counts_of_type (laid_out map m)) (each (laid_type map m) ts)) → (q : QName) → is_among (each (own_name m) ts) q ≡ true → P q

@@ -1,5 +1,5 @@
 -- A module is laid out the same by maps that agree on what its layout reads.
-use Rattle.std.proofs.Common.{◌≡◌, ℕ, zero, suc, ◌+◌, ◌*◌, List, [], ◌∷◌, ◌++◌, Bool, true, false, cond, length, Option, Some, None, map as each, refl, sym, ap, ◌∙◌, subst}
+use Rattle.std.proofs.Common.{◌≡◌, ℕ, zero, suc, ◌+◌, ◌*◌, List, [], ◌∷◌, Bool, true, false, cond, length, Option, Some, None, map as each, refl, sym, ap, ◌∙◌, subst}
 use Rattle.std.specs.Prelude.{bytes_eq}
 use Rattle.std.specs.Option.{option_map}
 use Rattle.std.specs.List.{AllByRecursion}
@@ -25,27 +25,8 @@ use Rattle.law_local_files.specs.Agreeing.{Map, On, Agree, as_shape}
 use Rattle.law_local_files.specs.Read.{TypeRead, ModuleRead}
 use Rattle.law_local_files.proofs.Joined.{cons}
 use Rattle.law_local_files.proofs.Told.{all_on, among_on, flat_on}
-use Rattle.law_local_files.proofs.Places.{every, sum_told}
-
-pub front_all : {A : Type 0} (P : A → Type 0) (xs ys : List A) → AllByRecursion P (xs ++ ys) → AllByRecursion P xs
-front_all P [] ys all = tt
-front_all P (x ∷ xs) ys all = (all.0, front_all P xs ys all.1)
-
-pub back_all : {A : Type 0} (P : A → Type 0) (xs ys : List A) → AllByRecursion P (xs ++ ys) → AllByRecursion P ys
-back_all P [] ys all = all
-back_all P (x ∷ xs) ys all = back_all P xs ys all.1
-
-pub join_all : {A : Type 0} (P : A → Type 0) (xs ys : List A) → AllByRecursion P xs → AllByRecursion P ys → AllByRecursion P (xs ++ ys)
-join_all P [] ys a b = b
-join_all P (x ∷ xs) ys a b = (a.0, join_all P xs ys a.1 b)
-
-of_each : {A B : Type 0} (f : A → B) (P : B → Type 0) (xs : List A) → AllByRecursion P (each f xs) → AllByRecursion (λ x. P (f x)) xs
-of_each f P [] all = tt
-of_each f P (x ∷ xs) all = (all.0, of_each f P xs all.1)
-
-pub to_each : {A B : Type 0} (f : A → B) (P : B → Type 0) (xs : List A) → AllByRecursion (λ x. P (f x)) xs → AllByRecursion P (each f xs)
-to_each f P [] all = tt
-to_each f P (x ∷ xs) all = (all.0, to_each f P xs all.1)
+use Rattle.law_local_files.proofs.Places.{sum_told}
+use Rattle.law_lists.proofs.Lists.{all_back, all_both, all_each, all_from, all_front, all_made}
 
 pub placed_all : (P : TypeRef → Type 0) (f : TypeRef → ℕ) (at : ℕ) (fs : List Field) → AllByRecursion (λ x. P x.of) fs → AllByRecursion (λ x. P x.of) (placed f at fs)
 placed_all P f at [] all = tt
@@ -68,8 +49,8 @@ module _ (map other : Map) (m : Module) (Shapes Layouts : QName → Type 0) (agr
   record_words_told : (q : QName) (own : Bool) → is_own m q ≡ own → (r : RecordDesc) (f g : TypeRef → ℕ) → ((t : TypeRef) → On Layouts t → f t ≡ g t) → Layouts q → viewed map m q ≡ Some (desc.Record r) → record_words f own r ≡ record_words g own r
   record_words_told q true i r f g same on e =
       let all = parts_on q true i (desc.Record r) on e in
-      let b = base_told Layouts f g same r.base (front_all (On Layouts) (listed r.base) (each (λ x. x.of) r.fields) all) in
-      let s = sum_told (λ x. f x.of) (λ x. g x.of) r.fields (every (λ x. On Layouts x.of) (λ x. f x.of ≡ g x.of) (λ x h. same x.of h) r.fields (of_each (λ x. x.of) (On Layouts) r.fields (back_all (On Layouts) (listed r.base) (each (λ x. x.of) r.fields) all))) in
+      let b = base_told Layouts f g same r.base (all_front (On Layouts) (listed r.base) (each (λ x. x.of) r.fields) all) in
+      let s = sum_told (λ x. f x.of) (λ x. g x.of) r.fields (all_from (λ x. On Layouts x.of) (λ x. f x.of ≡ g x.of) (λ x h. same x.of h) r.fields (all_made (λ x. x.of) (On Layouts) r.fields (all_back (On Layouts) (listed r.base) (each (λ x. x.of) r.fields) all))) in
       ap (λ k. k + sum_of (λ x. f x.of) r.fields) b ∙ ap (λ k. base_of g r.base + k) s
   record_words_told q false i r f g same on e = refl
 
@@ -95,7 +76,7 @@ module _ (map other : Map) (m : Module) (Shapes Layouts : QName → Type 0) (agr
   -- ---- bound procedures
 
   record_count_told : (q : QName) (own : Bool) → is_own m q ≡ own → (r : RecordDesc) (f g : TypeRef → ℕ) → ((t : TypeRef) → On Layouts t → f t ≡ g t) → Layouts q → viewed map m q ≡ Some (desc.Record r) → declared_procedures f own (Some (desc.Record r)) ≡ declared_procedures g own (Some (desc.Record r))
-  record_count_told q true i r f g same on e = ap (λ k. k + length r.methods) (base_told Layouts f g same r.base (front_all (On Layouts) (listed r.base) (each (λ x. x.of) r.fields) (parts_on q true i (desc.Record r) on e)))
+  record_count_told q true i r f g same on e = ap (λ k. k + length r.methods) (base_told Layouts f g same r.base (all_front (On Layouts) (listed r.base) (each (λ x. x.of) r.fields) (parts_on q true i (desc.Record r) on e)))
   record_count_told q false i r f g same on e = refl
 
   declared_count_told : (q : QName) (own : Bool) → is_own m q ≡ own → (f g : TypeRef → ℕ) → ((t : TypeRef) → On Layouts t → f t ≡ g t) → Layouts q → (d : Option Desc) → viewed map m q ≡ d → declared_procedures f own d ≡ declared_procedures g own d
@@ -183,9 +164,9 @@ module _ (map : Map) (m : Module) (Shapes Layouts : QName → Type 0) where
 
   laid_flat : (q : QName) (own : Bool) (d : Desc) → AllByRecursion (On Layouts) (flat_types own d) → AllByRecursion (On Layouts) (flat_types own (laid_desc (words_in map m) (procedures_in map m) q d))
   laid_flat q true (desc.Record r) all =
-      join_all (On Layouts) (listed r.base) (each (λ x. x.of) (placed (words_in map m) (base_of (words_in map m) r.base) r.fields)) (front_all (On Layouts) (listed r.base) (each (λ x. x.of) r.fields) all)
-      (to_each (λ x. x.of) (On Layouts) (placed (words_in map m) (base_of (words_in map m) r.base) r.fields)
-      (placed_all (On Layouts) (words_in map m) (base_of (words_in map m) r.base) r.fields (of_each (λ x. x.of) (On Layouts) r.fields (back_all (On Layouts) (listed r.base) (each (λ x. x.of) r.fields) all))))
+      all_both (On Layouts) (listed r.base) (each (λ x. x.of) (placed (words_in map m) (base_of (words_in map m) r.base) r.fields)) (all_front (On Layouts) (listed r.base) (each (λ x. x.of) r.fields) all)
+      (all_each (λ x. x.of) (On Layouts) (placed (words_in map m) (base_of (words_in map m) r.base) r.fields)
+      (placed_all (On Layouts) (words_in map m) (base_of (words_in map m) r.base) r.fields (all_made (λ x. x.of) (On Layouts) r.fields (all_back (On Layouts) (listed r.base) (each (λ x. x.of) r.fields) all))))
   laid_flat q false (desc.Record r) all = all
   laid_flat q own (desc.Const v) all = all
   laid_flat q own (desc.Var k t) all = all

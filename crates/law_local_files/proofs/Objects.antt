@@ -36,8 +36,9 @@ use Rattle.law_local_files.specs.Agreeing.{Map, On, Agree}
 use Rattle.law_local_files.specs.Read.{PassedRead, ParameterRead, BindingRead, ProcedureRead, TypeRead, ModuleRead}
 use Rattle.law_local_files.proofs.Joined.{after, join, cons}
 use Rattle.law_local_files.proofs.Told.{words_told, open_words_told, own_name_told, method_number_told}
-use Rattle.law_local_files.proofs.Places.{every, sum_told, variable_place_told, local_words_told}
+use Rattle.law_local_files.proofs.Places.{sum_told, variable_place_told, local_words_told}
 use Rattle.law_local_files.proofs.Statements.{stmts_end, stmts_are, stmts_next}
+use Rattle.law_lists.proofs.Lists.{all_from}
 
 module _ (map other : Map) (m : Module) (Shapes Layouts : QName → Type 0) (agree : Agree map other m.name Shapes Layouts) (read : ModuleRead Shapes Layouts m) where
   -- ---- one procedure
@@ -101,7 +102,7 @@ module _ (map other : Map) (m : Module) (Shapes Layouts : QName → Type 0) (agr
   -- ---- variables, commands and definitions
 
   pub own_words_told : own_words map m ≡ own_words other m
-  own_words_told = sum_told (λ v. words_of map v.of) (λ v. words_of other v.of) m.variables (every (λ v. On Layouts v.of) (λ v. words_of map v.of ≡ words_of other v.of) (λ v on. words_told map other m.name Shapes Layouts agree v.of on) m.variables globals)
+  own_words_told = sum_told (λ v. words_of map v.of) (λ v. words_of other v.of) m.variables (all_from (λ v. On Layouts v.of) (λ v. words_of map v.of ≡ words_of other v.of) (λ v on. words_told map other m.name Shapes Layouts agree v.of on) m.variables globals)
 
   place_told : (x : List ℕ) → variable_place (own map m) x ≡ variable_place (own other m) x
   place_told x = variable_place_told map other m Shapes Layouts agree globals [] [] tt x

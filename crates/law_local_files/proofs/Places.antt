@@ -28,6 +28,7 @@ use Rattle.law_local_files.specs.Agreeing.{Map, On, Agree}
 use Rattle.law_local_files.specs.Read.{CalleeRead}
 use Rattle.law_local_files.proofs.Joined.{cons}
 use Rattle.law_local_files.proofs.Told.{words_told, own_name_told, elements_told, method_number_told}
+use Rattle.law_lists.proofs.Lists.{all_from}
 
 -- what the scheme looks up with a map
 abbrev pub with_map : Map → Module → List TypedParameter → List TypedVariable → Context
@@ -45,10 +46,6 @@ pub sum_told : {A : Type 0} (f g : A → ℕ) (xs : List A) → AllByRecursion (
 sum_told f g [] all = refl
 sum_told f g (a ∷ xs) all = ap (λ k. k + sum_of f xs) all.0 ∙ ap (λ k. g a + k) (sum_told f g xs all.1)
 
-pub every : {A : Type 0} (P Q : A → Type 0) → ((x : A) → P x → Q x) → (xs : List A) → AllByRecursion P xs → AllByRecursion Q xs
-every P Q f [] all = tt
-every P Q f (x ∷ xs) all = (f x all.0, every P Q f xs all.1)
-
 module _ (map other : Map) (m : Module) (Shapes Layouts : QName → Type 0) (agree : Agree map other m.name Shapes Layouts) (globals : AllByRecursion (λ v. On Layouts v.of) m.variables) (ps : List TypedParameter) (vs : List TypedVariable) (locals : AllByRecursion (λ v. On Layouts v.of) vs) where
   abbrev here : Context
   here = with_map map m ps vs
@@ -60,10 +57,10 @@ module _ (map other : Map) (m : Module) (Shapes Layouts : QName → Type 0) (agr
   sizes_told t on = words_told map other m.name Shapes Layouts agree t on
 
   pub variable_place_told : (x : List ℕ) → variable_place (with_map map m ps vs) x ≡ variable_place (with_map other m ps vs) x
-  variable_place_told x = before_told (λ v. v.name) (λ v. words here v.of) (λ v. words there v.of) m.variables x (every (λ v. On Layouts v.of) (λ v. words here v.of ≡ words there v.of) (λ v on. sizes_told v.of on) m.variables globals)
+  variable_place_told x = before_told (λ v. v.name) (λ v. words here v.of) (λ v. words there v.of) m.variables x (all_from (λ v. On Layouts v.of) (λ v. words here v.of ≡ words there v.of) (λ v on. sizes_told v.of on) m.variables globals)
 
   sizes_locals : AllByRecursion (λ v. words here v.of ≡ words there v.of) vs
-  sizes_locals = every (λ v. On Layouts v.of) (λ v. words here v.of ≡ words there v.of) (λ v on. sizes_told v.of on) vs locals
+  sizes_locals = all_from (λ v. On Layouts v.of) (λ v. words here v.of ≡ words there v.of) (λ v on. sizes_told v.of on) vs locals
 
   pub local_slot_told : (x : List ℕ) → local_slot (with_map map m ps vs) x ≡ local_slot (with_map other m ps vs) x
   local_slot_told x = ap (λ k. all_slots here + k) (before_told (λ v. v.name) (λ v. words here v.of) (λ v. words there v.of) vs x sizes_locals)

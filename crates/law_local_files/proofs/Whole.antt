@@ -39,10 +39,11 @@ use Rattle.law_local_files.specs.Agreeing.{Map, On, Agree, IsNear, as_shape}
 use Rattle.law_local_files.specs.Read.{TypeRead, ModuleRead}
 use Rattle.law_local_files.specs.Laws.{Text, AreSpelled, HaveNoOut, AreMet, room, IsLaid, flat, own, told, over, view, IsTied, IsSame, ModulesAreLocal}
 use Rattle.law_local_files.proofs.Told.{among_on}
-use Rattle.law_local_files.proofs.Laid.{join_all, to_each, laid_is, laid_read, near_named, agree_laid}
+use Rattle.law_local_files.proofs.Laid.{laid_is, laid_read, near_named, agree_laid}
 use Rattle.law_local_files.proofs.Objects.{object_is}
 use Rattle.law_local_files.proofs.Reached.{each_only, pairs_told, kept_told, wanted_in}
 use Rattle.law_local_files.proofs.Agreed.{names_held, all_held, count_held, has_layout, shapes_met, layouts_met, plain_met}
+use Rattle.law_lists.proofs.Lists.{all_both, all_each, clash}
 
 -- ---- types of the module
 
@@ -76,7 +77,7 @@ plain_named map m (t ∷ ts) x d e r = go (bytes_eq x t.name) (λ i. plain_named
 
 module _ (Shapes Layouts : QName → Type 0) where
   parts_read : (q : QName) (r : RecordDesc) → TypeRead Shapes Layouts q (desc.Record r) → AllByRecursion (On Layouts) (flat_types true (desc.Record r))
-  parts_read q r on = join_all (On Layouts) (listed r.base) (each (λ x. x.of) r.fields) on.2 (to_each (λ x. x.of) (On Layouts) r.fields on.3)
+  parts_read q r on = all_both (On Layouts) (listed r.base) (each (λ x. x.of) r.fields) on.2 (all_each (λ x. x.of) (On Layouts) r.fields on.3)
 
   record_read : (m : Module) (ts : List TypedType) → AllByRecursion (λ t. TypeRead Shapes Layouts (own_name m t) t.desc) ts → (x : List ℕ) (r : RecordDesc) → type_named ts x ≡ Some (desc.Record r) → AllByRecursion (On Layouts) (flat_types true (desc.Record r))
   record_read m [] all x r e = absurd cc
@@ -96,10 +97,6 @@ plain_near b (desc.Proc s) e q i = absurd cc
 plain_near b (desc.Pointer k t) e q i = absurd cc
 plain_near b (desc.ProcType k s) e q i = absurd cc
 plain_near b (desc.Record r) e q i = absurd cc
-
-both_ways : (b : Bool) → b ≡ true → b ≡ false → ⊥
-both_ways true e f = absurd cc
-both_ways false e f = absurd cc
 
 text_there : (o : Option Desc) → IsSome o → (q : QName) → (t : Text) × ((o >>= λ d. text_of q d Shape) ≡ Some t)
 text_there None some q = let none : false ≡ true = some in absurd cc
@@ -130,7 +127,7 @@ module _ (faces others : List (Face Text)) (m : Module) (spelled : AreSpelled fa
 
   foreign_layout : (q : QName) → L q → is_own m q ≡ false → described faces q ≡ described others q
   foreign_layout q (flat f) other = layouts_met faces others M spelled spelled_too no_out no_out_too met q f (tied.flat q f) (tied.held q (tied.flat q f)) other
-  foreign_layout q (own r i e) other = absurd (both_ways (is_own m q) i other)
+  foreign_layout q (own r i e) other = absurd (clash (is_own m q) i other)
   foreign_layout q (told n (room d e r next)) other = plain_met faces others M spelled spelled_too no_out no_out_too met q d n other (sym (foreign_view q other) ∙ e) r
 
   shape_case : (q : QName) (b : Bool) → is_own m q ≡ b → S q → option_map as_shape (cond b (type_named m.types q.object) (described faces q)) ≡ option_map as_shape (cond b (type_named m.types q.object) (described others q))
@@ -155,7 +152,7 @@ module _ (faces others : List (Face Text)) (m : Module) (spelled : AreSpelled fa
   plain_case : (p q : QName) → L p → is_own m p ≡ true → (d : Desc) → is_record d ≡ false → type_named m.types p.object ≡ Some d → is_among (of_found (desc_leads way.Flat m.name p) (Some d)) q ≡ true → L q
   plain_case p q on o d r e i =
       let at : V p ≡ Some d = ap (λ b. cond b (type_named M.types p.object) (described faces p)) o ∙ plain_named (described faces) m m.types p.object d e r in
-      goes_on p q on (λ s o f. both_ways true refl (ap is_record (some_desc (desc.Record s) d (sym f ∙ at)) ∙ r)) (ap (λ x. is_among (of_found (desc_leads way.Flat m.name p) x) q) at ∙ i)
+      goes_on p q on (λ s o f. clash true refl (ap is_record (some_desc (desc.Record s) d (sym f ∙ at)) ∙ r)) (ap (λ x. is_among (of_found (desc_leads way.Flat m.name p) x) q) at ∙ i)
 
   own_case : (p q : QName) → L p → is_own m p ≡ true → (o : Option Desc) → type_named m.types p.object ≡ o → is_among (of_found (desc_leads way.Flat m.name p) o) q ≡ true → L q
   own_case p q on o None e i = absurd cc
@@ -171,7 +168,7 @@ module _ (faces others : List (Face Text)) (m : Module) (spelled : AreSpelled fa
 
   flat_case : (p q : QName) (b : Bool) → is_own m p ≡ b → L p → is_among (of_found (desc_leads way.Flat m.name p) (cond b (type_named m.types p.object) (described faces p))) q ≡ true → L q
   flat_case p q true o on i = own_case p q on o (type_named m.types p.object) refl i
-  flat_case p q false o on i = goes_on p q on (λ r t e. both_ways (is_own m p) t o) (ap (λ x. is_among (of_found (desc_leads way.Flat m.name p) x) q) (foreign_view p o) ∙ i)
+  flat_case p q false o on i = goes_on p q on (λ r t e. clash (is_own m p) t o) (ap (λ x. is_among (of_found (desc_leads way.Flat m.name p) x) q) (foreign_view p o) ∙ i)
 
   agree : Agree (viewed (described faces) m) (viewed (described others) m) m.name S L
   agree = record {

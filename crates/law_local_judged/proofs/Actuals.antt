@@ -34,10 +34,11 @@ use Rattle.law_local_judged.specs.Agreement.{IsIn, Agree}
 use Rattle.law_local_judged.specs.Said.{KindIn, CountsIn, ExprIn, SaidIn, PlaceIn, ValuedIn, ValuedTied, PlaceTied, MeantIn, MeantTied, ActualIn}
 use Rattle.law_local_judged.specs.Followed.{beside, Agrees, Follows}
 use Rattle.law_local_judged.proofs.Tests.{two, shape_same, open_element_in, same_same, record_same, record_in, extends_same, passing_same, is_array_same}
-use Rattle.law_local_judged.proofs.Following.{none_is, follows_none, follows_sound, follows_to, follows_wants, follows_also, follows_then, follows_weaker, none_then, then_node, front_said}
+use Rattle.law_local_judged.proofs.Following.{follows_none, follows_sound, follows_to, follows_wants, follows_also, follows_then, follows_weaker, none_then, then_node, front_said}
 use Rattle.law_local_judged.proofs.Mentioned.{counts_left, counts_right, value_of_mentions, tree_mentions, text_tree_mentions}
 use Rattle.law_local_judged.proofs.Names.{maps_agree}
 use Rattle.law_local_judged.proofs.Values.{three, elements_same, fits_same, type_in_in}
+use Rattle.law_lists.proofs.Lists.{none_some}
 
 actual_seen : (how : Passing) (t : TypeRef) (x : TypedExpr) → actual_view (actual_of how t x) ≡ record { passing = how; formal = t; e = expr_view x }
 actual_seen how t x = fold-roll-Actual Desig Expr OneActual designator_layer expr_layer actual_layer (record { passing = how; formal = t; value = x })
@@ -190,7 +191,7 @@ module _ (P : QName → Type 0) where
         (λ x k. value_actual_follows (map_of u) (map_of v) maps t p.start x k)
 
     var_named : (t : TypeRef) (p : Phrase) (o : Option (Around → Judged Meant)) → MeantNamed p.name o → (x : Actual) → (var_actual u t p o).node ≡ Some x → SaidIn P (var_actual u t p o).notes → NameSame p.name
-    var_named t p None h x e said = none_is (sym (none_then (p.value u) (λ x. breaks 25 p.start) (λ x. refl)) ∙ e)
+    var_named t p None h x e said = none_some (sym (none_then (p.value u) (λ x. breaks 25 p.start) (λ x. refl)) ∙ e)
     var_named t p (Some w) h x e said =
         let n = then_node (w u) (meant_actual (map_of u) t p.start) x e in
         h n.0 n.1 (front_said P (w u) (meant_actual (map_of u) t p.start) said)

@@ -20,15 +20,15 @@ use Rattle.law_local_judged.specs.Followed.{beside, Agrees}
 use Rattle.law_local_judged.specs.Declared.{MadeIn}
 use Rattle.law_local_judged.specs.Headed.{BoundIn, ThereIn, HeadIn, StepIn, StepsIn, RecordsIn, BindingsIn}
 use Rattle.law_local_judged.proofs.Tests.{two, same_same, member_same}
-use Rattle.law_local_judged.proofs.Following.{none_is, some_same}
 use Rattle.law_local_judged.proofs.Names.{maps_agree, found}
 use Rattle.law_local_judged.proofs.Values.{signatures_match_same}
 use Rattle.law_local_judged.proofs.Parameters.{signature_near}
 use Rattle.law_local_judged.proofs.Heading.{kept_filter}
+use Rattle.law_lists.proofs.Lists.{none_some, some_same}
 
 module _ (P : QName → Type 0) (f g : Map) (agree : Agree P f g) where
   signature_there : (o : Option Parameters) (s : Signature) → ThereIn P o → signature_if o ≡ Some s → SignatureIn P s
-  signature_there None s h e = none_is e
+  signature_there None s h e = none_some e
   signature_there (Some p) s h e = subst (SignatureIn P) (some_same e) (signature_near P p h)
 
   receiver_same : (o p : Option BoundAs) → BoundIn P o → BoundIn P p → same_receiver g o p ≡ same_receiver f o p

@@ -26,8 +26,9 @@ use Rattle.ob_rules.specs.Names.{Around}
 use Rattle.ob_rules.specs.Statements.{Judging, in_turn, in_turn_if, branch_of}
 use Rattle.law_local_judged.specs.Said.{CountsIn, DesignatorIn, ExprIn, StmtIn}
 use Rattle.law_local_judged.specs.Followed.{beside, Agrees, Follows}
-use Rattle.law_local_judged.proofs.Following.{all_left, all_right, follows_sound, follows_weaker, follows_made, follows_both}
+use Rattle.law_local_judged.proofs.Following.{follows_sound, follows_weaker, follows_made, follows_both}
 use Rattle.law_local_judged.proofs.Mentioned.{counts_left, counts_right}
+use Rattle.law_lists.proofs.Lists.{all_back, all_front}
 
 module _ (P : QName → Type 0) where
   abbrev pub StmtsIn : List TypedStmt → Type 0
@@ -169,7 +170,7 @@ module _ (P : QName → Type 0) where
   in_turn_follows [] h u s a = follows_sound P (λ ys. Unit {0}) (AllByRecursion (StmtIn P)) (Unit {0}) [] tt (λ m. tt)
   in_turn_follows (f ∷ fs) h u s a =
       two_made (λ ys. Unit {0}) (AllByRecursion (StmtIn P)) (λ ys. Unit {0}) (AllByRecursion (StmtIn P)) (λ ys. Unit {0}) (AllByRecursion (StmtIn P)) (λ p. p.0 ++ p.1) (f u) (f (beside u s)) (in_turn fs u) (in_turn fs (beside u s)) (h.0 u s a) (in_turn_follows fs h.1 u s a)
-      (λ p t. tt) (λ p m. (all_left (StmtIn P) p.0 p.1 m, all_right (StmtIn P) p.0 p.1 m))
+      (λ p t. tt) (λ p m. (all_front (StmtIn P) p.0 p.1 m, all_back (StmtIn P) p.0 p.1 m))
 
   abbrev pub IfFollows : Option (List Judging) → Type 0
   IfFollows None = Unit {0}

@@ -40,10 +40,11 @@ use Rattle.ob_rules.specs.Calls.{actual, actuals, misplaced, called_with, called
 use Rattle.law_local_judged.specs.Said.{KindIn, CountsIn, ExprIn, SaidIn, PlaceIn, ValuedIn, ValuedTied, ActualIn, ChosenIn}
 use Rattle.law_local_judged.specs.Followed.{beside, Agrees, Follows}
 use Rattle.law_local_judged.proofs.Tests.{base_same, base_record_in}
-use Rattle.law_local_judged.proofs.Following.{none_is, said_left, follows_none, follows_sound, follows_with, follows_wants, follows_also, follows_then, follows_both, none_then, then_node, both_nodes, front_said}
+use Rattle.law_local_judged.proofs.Following.{said_left, follows_none, follows_sound, follows_with, follows_wants, follows_also, follows_then, follows_both, none_then, then_node, both_nodes, front_said}
 use Rattle.law_local_judged.proofs.Mentioned.{counts_left, counts_right, value_of_mentions, deref_mentions}
 use Rattle.law_local_judged.proofs.Names.{maps_agree}
 use Rattle.law_local_judged.proofs.Actuals.{actual_expr, actuals_mention, PhraseFollows, PhrasesFollow, NameSame, actual_follows, actual_named}
+use Rattle.law_lists.proofs.Lists.{none_some}
 
 nat_is : (n m : ℕ) → nat_eq n m ≡ true → n ≡ m
 nat_is n m e = grind (arith, nat_tests)
@@ -207,7 +208,7 @@ module _ (P : QName → Type 0) where
     called_named w at g p F h x k said = by g.params refl
       where
         by : (fs : List (Mode × TypeRef)) → g.params ≡ fs → NameSame P u s a p.name
-        by [] e = none_is (sym (none_then (actuals u g.params (p ∷ [])) (called_with w at g 1 F) (λ xs. ap (λ fs. (wants (nat_eq 1 (length fs)) 24 at xs ▷ λ ys. also (misplaced w (is_some g.result)) 27 at (sound (computed (F ys) (result_type g.result)))).node) e)) ∙ k)
+        by [] e = none_some (sym (none_then (actuals u g.params (p ∷ [])) (called_with w at g 1 F) (λ xs. ap (λ fs. (wants (nat_eq 1 (length fs)) 24 at xs ▷ λ ys. also (misplaced w (is_some g.result)) 27 at (sound (computed (F ys) (result_type g.result)))).node) e)) ∙ k)
         by (f ∷ fs) e =
             let n = then_node (actuals u g.params (p ∷ [])) (called_with w at g 1 F) x k in
             let m : (actuals u (f ∷ fs) (p ∷ [])).node ≡ Some n.0 = sym (ap (λ gs. (actuals u gs (p ∷ [])).node) e) ∙ n.1 in

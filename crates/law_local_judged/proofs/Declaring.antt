@@ -31,14 +31,7 @@ use Rattle.law_local_judged.proofs.Expressions.{expr_follows, constant_value_fol
 use Rattle.law_local_judged.proofs.Typings.{TF, agrees_with}
 use Rattle.law_local_judged.proofs.Parameters.{agrees_known}
 use Rattle.law_local_judged.proofs.Written.{written_follows}
-
-empty_right : {A : Type 0} (xs ys : List A) → xs ++ ys ≡ [] → ys ≡ []
-empty_right [] ys e = e
-empty_right (x ∷ xs) ys e = absurd cc
-
-empty_left : {A : Type 0} (xs ys : List A) → xs ++ ys ≡ [] → xs ≡ []
-empty_left [] ys e = refl
-empty_left (x ∷ xs) ys e = absurd cc
+use Rattle.law_lists.proofs.Lists.{back_empty, front_empty}
 
 not_empty : {A B : Type 0} {x : A} {xs : List A} → x ∷ xs ≡ [] → B
 not_empty {A} {B} {x} {xs} e = absurd cc
@@ -100,7 +93,7 @@ module _ (P : QName → Type 0) (s : QName → Option Desc) where
     constant_same d x quiet said h =
         let j = both (marked u false d) (constant_value u (phrase_of x) ▷ no_nil (phrase_of x).start) in
         let o = found_in_scope u d.ident.name in
-        let t = constant_there j.node (declared_sound o u d.ident (constant_entity j.node) (empty_right j.notes.broken (twice u d.ident).broken quiet) h) in
+        let t = constant_there j.node (declared_sound o u d.ident (constant_entity j.node) (back_empty j.notes.broken (twice u d.ident).broken quiet) h) in
         let same = ((constant_follows d x).same t.0 t.1 (said_left P j.notes (twice u d.ident) said) (tt, tt)).1 in
         let moved : constant_declared d (phrase_of x) v ≡ constant_with v d.ident j = ap (constant_with v d.ident) same in
         record {
@@ -132,7 +125,7 @@ module _ (P : QName → Type 0) (s : QName → Option Desc) where
         let j = both (marked u false d) (typing_as u (u.path ++ d.ident.name) (mark_or_hidden (marked u false d).node) (written n) (written n).name) in
         let w = with_types u (types_made j.node) in
         let o = found_in_scope w d.ident.name in
-        let t = type_there j.node (declared_sound o w d.ident (type_entity j.node) (empty_right j.notes.broken (twice u d.ident).broken quiet) h) in
+        let t = type_there j.node (declared_sound o w d.ident (type_entity j.node) (back_empty j.notes.broken (twice u d.ident).broken quiet) h) in
         let f = type_follows d n in
         let said_j = said_left P j.notes (twice u d.ident) said in
         let same = (f.same t.0 t.1 said_j (tt, tt)).1 in
@@ -201,8 +194,8 @@ module _ (P : QName → Type 0) (s : QName → Option Desc) where
   typed_there d ds None u quiet h =
       let m = marked u true d in
       let x = variable_marked u d.ident m None in
-      let first = empty_left x.part.notes.broken (variables_with ds None x.around).part.notes.broken quiet in
-      absurd (no_type m.node u d.ident (declared_sound (found_in_scope u d.ident.name) u d.ident (variable_entity u d.ident (paired_typing m.node None)) (empty_right m.notes.broken (twice u d.ident).broken first) (variables_grow ds None x.around h)))
+      let first = front_empty x.part.notes.broken (variables_with ds None x.around).part.notes.broken quiet in
+      absurd (no_type m.node u d.ident (declared_sound (found_in_scope u d.ident.name) u d.ident (variable_entity u d.ident (paired_typing m.node None)) (back_empty m.notes.broken (twice u d.ident).broken first) (variables_grow ds None x.around h)))
 
   variables_same : (u : Around) → Agrees P u s → OwnIn P u.unit → (d : IdentDef) (ds : List IdentDef) (n : TypeNode) → (variables_declared (d ∷ ds) (written n) u).part.notes.broken ≡ [] → SaidIn P (variables_declared (d ∷ ds) (written n) u).part.notes → AreSound (variables_declared (d ∷ ds) (written n) u).around.known
       → DeclaredSame P u s (variables_declared (d ∷ ds) (written n) u) (variables_declared (d ∷ ds) (written n) (beside u s))
@@ -212,7 +205,7 @@ module _ (P : QName → Type 0) (s : QName → Option Desc) where
       let j = (written n).typing u name mark.Hidden false in
       let w = with_types u (made_in j.node) in
       let rest = variables_with (d ∷ ds) j.node w in
-      let t = typed_there d ds j.node w (empty_right j.notes.broken rest.part.notes.broken quiet) h in
+      let t = typed_there d ds j.node w (back_empty j.notes.broken rest.part.notes.broken quiet) h in
       let f = written_follows P n u s a own name mark.Hidden false in
       let said_j = said_left P j.notes rest.part.notes said in
       let tied = f.keeps t.0 t.1 said_j in
@@ -253,8 +246,8 @@ module _ (P : QName → Type 0) (s : QName → Option Desc) where
       let x = f u in
       let y = f (beside u s) in
       let rest = in_order fs x.around in
-      let k = plain_same f p.0 u a own (empty_left x.part.notes.broken rest.part.notes.broken quiet) (said_left P x.part.notes rest.part.notes said) (order_grows fs p.1 x.around h) in
-      let g = order_same fs p.1 x.around k.agrees (subst (OwnIn P) (sym k.unit) own) (empty_right x.part.notes.broken rest.part.notes.broken quiet) (said_right P x.part.notes rest.part.notes said) h in
+      let k = plain_same f p.0 u a own (front_empty x.part.notes.broken rest.part.notes.broken quiet) (said_left P x.part.notes rest.part.notes said) (order_grows fs p.1 x.around h) in
+      let g = order_same fs p.1 x.around k.agrees (subst (OwnIn P) (sym k.unit) own) (back_empty x.part.notes.broken rest.part.notes.broken quiet) (said_right P x.part.notes rest.part.notes said) h in
       let moved = ap (λ w. in_order fs w) k.around in
       record {
         part = ap (λ p. with_part p (in_order fs y.around).part) k.part ∙ ap (λ (z : Declared). with_part x.part z.part) moved ∙ ap (with_part x.part) g.part;

@@ -23,10 +23,11 @@ use Rattle.ob_rules.specs.Phrases.{Phrase, Behind}
 use Rattle.ob_rules.specs.Expressions.{Named, Ranged, Tailed, integer_text, marked, expr_rule, selector_rule, designator_rule, element_rule, tail_rule, phrase_of, named_of, ranged_of, tailed_of, behind_of, constant_of, constant_if, constant_judged, constant_value}
 use Rattle.law_local_judged.specs.Said.{SaidIn, ValuedIn, ValuedTied}
 use Rattle.law_local_judged.specs.Followed.{beside, Agrees, Follows}
-use Rattle.law_local_judged.proofs.Following.{none_is, said_left}
+use Rattle.law_local_judged.proofs.Following.{said_left}
 use Rattle.law_local_judged.proofs.Actuals.{PhraseFollows, PhrasesFollow}
 use Rattle.law_local_judged.proofs.Through.{BehindFollows, AreBehind}
 use Rattle.law_local_judged.proofs.Nodes.{RangedFollows, integer_follows, char_follows, constant_phrase, designator_follows, paren_follows, not_follows, sign_follows, chain_follows, relate_follows, set_follows}
+use Rattle.law_lists.proofs.Lists.{none_some}
 
 module _ (P : QName → Type 0) (u : Around) (s : QName → Option Desc) (a : Agrees P u s) where
   abbrev Ph : Phrase → Type 0
@@ -151,13 +152,13 @@ module _ (P : QName → Type 0) where
   constant_judged_follows start i j h = record { keeps = λ c e said. tt; same = λ c e said m. (tt, by c i.node refl e said) }
     where
       unsaid : (b : Bool) (c : Value) → (constant_if start None b).node ≡ Some c → constant_judged start j ≡ constant_judged start i
-      unsaid true c e = none_is e
-      unsaid false c e = none_is e
+      unsaid true c e = none_some e
+      unsaid false c e = none_some e
 
       value : (x : Valued) (c : Value) → i.node ≡ Some x → (constant_of start (constant_in x)).node ≡ Some c → SaidIn P i.notes → j ≡ i
       value (valued.Constant k) c l e said = (h.same (valued.Constant k) l said tt).1
-      value (valued.Place p) c l e said = none_is e
-      value (valued.Node n) c l e said = none_is e
+      value (valued.Place p) c l e said = none_some e
+      value (valued.Node n) c l e said = none_some e
 
       by : (c : Value) (o : Option Valued) → i.node ≡ o → (constant_if start o (is_quiet i.notes.broken)).node ≡ Some c → SaidIn P (noted i.notes (constant_if start o (is_quiet i.notes.broken))).notes → constant_judged start j ≡ constant_judged start i
       by c None l e said = unsaid (is_quiet i.notes.broken) c e

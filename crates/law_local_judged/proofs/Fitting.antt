@@ -41,10 +41,11 @@ use Rattle.law_local_judged.specs.Agreement.{IsIn, Agree}
 use Rattle.law_local_judged.specs.Said.{KindIn, CountsIn, DesignatorIn, ExprIn, StmtIn, PlaceIn, ValuedIn, ValuedTied, MeantIn, MeantTied}
 use Rattle.law_local_judged.specs.Followed.{Follows}
 use Rattle.law_local_judged.proofs.Tests.{two, array_same, pointed_same, pointed_in, elements_in, record_same, held_same}
-use Rattle.law_local_judged.proofs.Following.{none_is, some_same, follows_none, follows_sound, follows_made}
+use Rattle.law_local_judged.proofs.Following.{follows_none, follows_sound, follows_made}
 use Rattle.law_local_judged.proofs.Mentioned.{counts_left, counts_right, length_mentions, tree_mentions, text_tree_mentions, constant_kind}
 use Rattle.law_local_judged.proofs.Values.{three, is_same, width_same, integer_same, chars_same}
 use Rattle.law_local_judged.proofs.Operators.{monadic_follows, dyadic_follows}
+use Rattle.law_lists.proofs.Lists.{none_some, some_same}
 
 pub and_same : {A B : Type 0} (o : Option A) (F G : A → Option B) → ((x : A) → o ≡ Some x → F x ≡ G x) → and_so o F ≡ and_so o G
 and_same None F G h = refl
@@ -58,13 +59,13 @@ module _ (P : QName → Type 0) where
   VK x = KindIn P (type x)
 
   pub place_mentions : (x : Valued) (p : Place) → place_in x ≡ Some p → PlaceIn P p → VM x
-  place_mentions (valued.Constant c) p k m = none_is k
-  place_mentions (valued.Node n) p k m = none_is k
+  place_mentions (valued.Constant c) p k m = none_some k
+  place_mentions (valued.Node n) p k m = none_some k
   place_mentions (valued.Place q) p k m = subst (PlaceIn P) (sym (some_same k)) m
 
   pub place_kind : (x : Valued) (p : Place) → place_in x ≡ Some p → VK x → IsIn P p.of
-  place_kind (valued.Constant c) p k m = none_is k
-  place_kind (valued.Node n) p k m = none_is k
+  place_kind (valued.Constant c) p k m = none_some k
+  place_kind (valued.Node n) p k m = none_some k
   place_kind (valued.Place q) p k m = subst (λ (p : Place). IsIn P p.of) (some_same k) m
 
   -- ---- what is done mentions its parts
@@ -210,8 +211,8 @@ module _ (P : QName → Type 0) where
       where
         constant_only : (x : Valued) (z : ℤ) → number_in (constant_in x) ≡ Some z → VM x
         constant_only (valued.Constant c) z k = tt
-        constant_only (valued.Place p) z k = none_is k
-        constant_only (valued.Node n) z k = none_is k
+        constant_only (valued.Place p) z k = none_some k
+        constant_only (valued.Node n) z k = none_some k
 
         fit_halt : (x : Valued) → FF (VM x) (and_so (number_in (constant_in x)) (λ z. does (stmt.Halt z at)))
         fit_halt x = fit_and (VM x) (number_in (constant_in x)) (λ z. does (stmt.Halt z at)) (λ z k. fit_does (VM x) (stmt.Halt z at) (λ m. constant_only x z k))
@@ -227,8 +228,8 @@ module _ (P : QName → Type 0) where
 
     number_constant : (x : Valued) (z : ℤ) → number_in (constant_in x) ≡ Some z → VM x
     number_constant (valued.Constant c) z k = tt
-    number_constant (valued.Place p) z k = none_is k
-    number_constant (valued.Node n) z k = none_is k
+    number_constant (valued.Place p) z k = none_some k
+    number_constant (valued.Node n) z k = none_some k
 
     two_self : (map : Map) (f : Predeclared) (x n : Valued) → FF (VM x × VM n) (fit_two map f at x n)
     two_self map pre.Ash x n = fit_and (VM x × VM n) (if_is (is_integer map x && is_integer map n) binary.Ash) (λ op. value (dyadic op at x n)) (λ op k. fit_value (VM x × VM n) (dyadic op at x n) (dyadic_follows P op at x n))

@@ -1,6 +1,5 @@
 -- Judgements that follow one another, of parts that do.
-use Rattle.std.proofs.Common.{◌≡◌, refl, sym, ap, ◌∙◌, subst, ℕ, List, [], ◌∷◌, ◌++◌, Option, Some, None, Bool, true, false}
-use Rattle.std.specs.List.{AllByRecursion}
+use Rattle.std.proofs.Common.{◌≡◌, refl, sym, ap, ◌∙◌, subst, ℕ, List, [], ◌∷◌, Option, Some, None, Bool, true, false}
 use Rattle.ob_tree.specs.declared.pos.Pos.{Pos}
 use Rattle.ob_tree.specs.declared.names.QName.{QName}
 use Rattle.ob_rules.specs.Judged.{Judged, Notes, sound, breaks, noted, joined, if_sound, paired, both, made, wants, also, unless, found_or, ◌▷◌}
@@ -8,20 +7,7 @@ use Rattle.law_local_judged.specs.Agreement.{IsIn}
 use Rattle.law_local_judged.specs.Said.{DesignatorIn, SaidIn}
 use Rattle.law_local_judged.specs.Followed.{Follows}
 use Rattle.law_local_judged.proofs.Tests.{two}
-
-pub none_is : {A B : Type 0} {x : A} → None ≡ Some x → B
-none_is {A} {B} {x} e = absurd cc
-
-pub some_same : {A : Type 0} {x y : A} → Some x ≡ Some y → x ≡ y
-some_same {A} {x} {y} e = cc
-
-pub all_left : {A : Type 0} (P : A → Type 0) (xs ys : List A) → AllByRecursion P (xs ++ ys) → AllByRecursion P xs
-all_left P [] ys h = tt
-all_left P (x ∷ xs) ys h = (h.0, all_left P xs ys h.1)
-
-pub all_right : {A : Type 0} (P : A → Type 0) (xs ys : List A) → AllByRecursion P (xs ++ ys) → AllByRecursion P ys
-all_right P [] ys h = h
-all_right P (x ∷ xs) ys h = all_right P xs ys h.1
+use Rattle.law_lists.proofs.Lists.{all_back, all_front, none_some, some_same}
 
 pub none_then : {A B : Type 0} (j : Judged A) (f : A → Judged B) → ((x : A) → (f x).node ≡ None) → (j ▷ f).node ≡ None
 none_then {A} {B} j f h = by j.node
@@ -42,7 +28,7 @@ pub then_node : {A B : Type 0} (j : Judged A) (f : A → Judged B) (y : B) → (
 then_node {A} {B} j f y = by j.node refl
   where
     by : (o : Option A) → j.node ≡ o → (if_sound o f).node ≡ Some y → (x : A) × (j.node ≡ Some x)
-    by None k e = none_is e
+    by None k e = none_some e
     by (Some x) k e = (x, k)
 
 -- what a node is made of
@@ -50,38 +36,38 @@ pub made_node : {A B : Type 0} (f : A → B) (j : Judged A) (y : B) → (made f 
 made_node {A} {B} f j y = by j.node refl
   where
     by : (o : Option A) → j.node ≡ o → (if_sound o (λ x. sound (f x))).node ≡ Some y → (x : A) × ((j.node ≡ Some x) × (f x ≡ y))
-    by None k e = none_is e
+    by None k e = none_some e
     by (Some x) k e = (x, (k, some_same e))
 
 pub both_node : {A B : Type 0} (a : Judged A) (b : Judged B) (y : A × B) → (both a b).node ≡ Some y → (a.node ≡ Some y.0) × (b.node ≡ Some y.1)
 both_node {A} {B} a b y = by a.node b.node refl refl
   where
     by : (o : Option A) (p : Option B) → a.node ≡ o → b.node ≡ p → paired o p ≡ Some y → (a.node ≡ Some y.0) × (b.node ≡ Some y.1)
-    by None p k l e = none_is e
-    by (Some x) None k l e = none_is e
+    by None p k l e = none_some e
+    by (Some x) None k l e = none_some e
     by (Some x) (Some z) k l e = (k ∙ ap (λ (w : A × B). Some w.0) (some_same e), l ∙ ap (λ (w : A × B). Some w.1) (some_same e))
 
 pub both_nodes : {A B : Type 0} (a : Judged A) (b : Judged B) (y : A × B) → (both a b).node ≡ Some y → ((x : A) × (a.node ≡ Some x)) × ((x : B) × (b.node ≡ Some x))
 both_nodes {A} {B} a b y = by a.node b.node refl refl
   where
     by : (o : Option A) (p : Option B) → a.node ≡ o → b.node ≡ p → paired o p ≡ Some y → ((x : A) × (a.node ≡ Some x)) × ((x : B) × (b.node ≡ Some x))
-    by None p k l e = none_is e
-    by (Some x) None k l e = none_is e
+    by None p k l e = none_some e
+    by (Some x) None k l e = none_some e
     by (Some x) (Some z) k l e = ((x, k), (z, l))
 
 module _ (P : QName → Type 0) where
   pub said_left : (a b : Notes) → SaidIn P (joined a b) → SaidIn P a
-  said_left a b h = record { objects = all_left P a.objects b.objects h.objects; types = all_left (IsIn P) a.types b.types h.types; lengths = all_left (DesignatorIn P) a.lengths b.lengths h.lengths }
+  said_left a b h = record { objects = all_front P a.objects b.objects h.objects; types = all_front (IsIn P) a.types b.types h.types; lengths = all_front (DesignatorIn P) a.lengths b.lengths h.lengths }
 
   pub said_right : (a b : Notes) → SaidIn P (joined a b) → SaidIn P b
-  said_right a b h = record { objects = all_right P a.objects b.objects h.objects; types = all_right (IsIn P) a.types b.types h.types; lengths = all_right (DesignatorIn P) a.lengths b.lengths h.lengths }
+  said_right a b h = record { objects = all_back P a.objects b.objects h.objects; types = all_back (IsIn P) a.types b.types h.types; lengths = all_back (DesignatorIn P) a.lengths b.lengths h.lengths }
 
   pub front_said : {A B : Type 0} (j : Judged A) (f : A → Judged B) → SaidIn P (j ▷ f).notes → SaidIn P j.notes
   front_said j f h = said_left j.notes (if_sound j.node f).notes h
 
   -- what has no node is followed by all
   pub follows_none : {A : Type 0} (T M : A → Type 0) (R : Type 0) (a b : Judged A) → a.node ≡ None → Follows P T M R a b
-  follows_none T M R a b e = record { keeps = λ x k s. none_is (sym e ∙ k); same = λ x k s m. none_is (sym e ∙ k) }
+  follows_none T M R a b e = record { keeps = λ x k s. none_some (sym e ∙ k); same = λ x k s m. none_some (sym e ∙ k) }
 
   pub follows_sound : {A : Type 0} (T M : A → Type 0) (R : Type 0) (x : A) → T x → (M x → R) → Follows P T M R (sound x) (sound x)
   follows_sound T M R x t r = record { keeps = λ y k s. subst T (some_same k) t; same = λ y k s m. (r (subst M (sym (some_same k)) m), refl) }
@@ -110,11 +96,11 @@ module _ (P : QName → Type 0) where
   follows_then {A} {B} T M U N R j k f g h i = record { keeps = λ y e s. kept j.node refl y e s; same = λ y e s n. same j.node refl y e s n }
     where
       kept : (o : Option A) → j.node ≡ o → (y : B) → (if_sound o f).node ≡ Some y → SaidIn P (joined j.notes (if_sound o f).notes) → U y
-      kept None l y e s = none_is e
+      kept None l y e s = none_some e
       kept (Some x) l y e s = (i x (h.keeps x l (said_left j.notes (f x).notes s))).keeps y e (said_right j.notes (f x).notes s)
 
       same : (o : Option A) → j.node ≡ o → (y : B) → (if_sound o f).node ≡ Some y → SaidIn P (joined j.notes (if_sound o f).notes) → N y → R × (k ▷ g ≡ noted j.notes (if_sound o f))
-      same None l y e s n = none_is e
+      same None l y e s n = none_some e
       same (Some x) l y e s n =
           let r = (i x (h.keeps x l (said_left j.notes (f x).notes s))).same y e (said_right j.notes (f x).notes s) n in
           let q = h.same x l (said_left j.notes (f x).notes s) r.0 in
@@ -127,13 +113,13 @@ module _ (P : QName → Type 0) where
   follows_both {A} {B} T M U N Q R a c b d h i = record { keeps = λ y e s. kept a.node b.node refl refl y e s; same = λ y e s n. same a.node b.node refl refl y e s n }
     where
       kept : (o : Option A) (p : Option B) → a.node ≡ o → b.node ≡ p → (y : A × B) → paired o p ≡ Some y → SaidIn P (joined a.notes b.notes) → T y.0 × U y.1
-      kept None p k l y e s = none_is e
-      kept (Some x) None k l y e s = none_is e
+      kept None p k l y e s = none_some e
+      kept (Some x) None k l y e s = none_some e
       kept (Some x) (Some z) k l y e s = subst (λ (y : A × B). T y.0 × U y.1) (some_same e) (h.keeps x k (said_left a.notes b.notes s), i.keeps z l (said_right a.notes b.notes s))
 
       same : (o : Option A) (p : Option B) → a.node ≡ o → b.node ≡ p → (y : A × B) → paired o p ≡ Some y → SaidIn P (joined a.notes b.notes) → M y.0 × N y.1 → (Q × R) × (both c d ≡ both a b)
-      same None p k l y e s n = none_is e
-      same (Some x) None k l y e s n = none_is e
+      same None p k l y e s n = none_some e
+      same (Some x) None k l y e s n = none_some e
       same (Some x) (Some z) k l y e s n =
           let m : M x × N z = subst (λ (y : A × B). M y.0 × N y.1) (sym (some_same e)) n in
           let q = h.same x k (said_left a.notes b.notes s) m.0 in

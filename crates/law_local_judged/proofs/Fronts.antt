@@ -21,11 +21,12 @@ use Rattle.ob_rules.specs.Phrases.{Behind, Dot}
 use Rattle.ob_rules.specs.Designators.{variable_named, through, of_variable, is_read_only, exported_meant, out_meant, in_module, dot_of, module_front, front_of, is_module, behind, front, from_front_with, from_front, designates}
 use Rattle.law_local_judged.specs.Said.{SaidIn, MeantIn, MeantTied}
 use Rattle.law_local_judged.specs.Followed.{beside, EntityIn, Agrees, Follows}
-use Rattle.law_local_judged.proofs.Following.{none_is, said_left, said_right, follows_none, follows_sound, follows_made, follows_then, then_node, front_said}
+use Rattle.law_local_judged.proofs.Following.{said_left, said_right, follows_none, follows_sound, follows_made, follows_then, then_node, front_said}
 use Rattle.law_local_judged.proofs.Names.{named_follows, exported_follows}
 use Rattle.law_local_judged.proofs.Actuals.{NameSame}
 use Rattle.law_local_judged.proofs.Selecting.{of_variable_follows, variable_follows}
 use Rattle.law_local_judged.proofs.Through.{AreBehind, through_follows, exported_in, shown_same}
+use Rattle.law_lists.proofs.Lists.{none_some}
 
 module _ (P : QName → Type 0) (u : Around) (s : QName → Option Desc) (a : Agrees P u s) where
   abbrev v : Around
@@ -117,13 +118,13 @@ module _ (P : QName → Type 0) (u : Around) (s : QName → Option Desc) (a : Ag
       f = whole_front x bs h
 
       kept : (o : Option (Meant × List Behind)) → i.node ≡ o → (y : Meant) → (from_front_with u w x.pos bs o).node ≡ Some y → SaidIn P (noted i.notes (from_front_with u w x.pos bs o)).notes → MeantTied P y
-      kept None l y e said = none_is e
+      kept None l y e said = none_some e
       kept (Some m) l y e said =
           let t = f.keeps m l (said_left P i.notes (through u w x.pos m.1 m.0).notes said) in
           (through_follows P u s a w x.pos m.1 m.0 t.0 t.1).keeps y e (said_right P i.notes (through u w x.pos m.1 m.0).notes said)
 
       same : (o : Option (Meant × List Behind)) → i.node ≡ o → (y : Meant) → (from_front_with u w x.pos bs o).node ≡ Some y → SaidIn P (noted i.notes (from_front_with u w x.pos bs o)).notes → MeantIn P y → Unit {0} × (from_front v w x.pos bs j ≡ noted i.notes (from_front_with u w x.pos bs o))
-      same None l y e said m = none_is e
+      same None l y e said m = none_some e
       same (Some n) l y e said m =
           let t = f.keeps n l (said_left P i.notes (through u w x.pos n.1 n.0).notes said) in
           let r = (through_follows P u s a w x.pos n.1 n.0 t.0 t.1).same y e (said_right P i.notes (through u w x.pos n.1 n.0).notes said) m in
@@ -164,7 +165,7 @@ module _ (P : QName → Type 0) (u : Around) (s : QName → Option Desc) (a : Ag
   from_node w x bs j y = by j.node refl
     where
       by : (o : Option (Meant × List Behind)) → j.node ≡ o → (from_front_with u w x.pos bs o).node ≡ Some y → (m : Meant × List Behind) × (j.node ≡ Some m)
-      by None k e = none_is e
+      by None k e = none_some e
       by (Some m) k e = (m, k)
 
   -- a designator that is a qualified name tells whether that is a type's

@@ -1,5 +1,5 @@
 -- IF, loops and WITH, with other interfaces around.
-use Rattle.std.proofs.Common.{◌≡◌, refl, sym, ap, ◌∙◌, subst, List, [], ◌∷◌, ◌++◌, Option, Some, None}
+use Rattle.std.proofs.Common.{◌≡◌, refl, sym, ap, ◌∙◌, subst, List, [], ◌∷◌, Option, Some, None}
 use Rattle.std.specs.Prelude.{◌||◌, is_some}
 use Rattle.std.specs.List.{AllByRecursion}
 use Rattle.ob_tree.specs.declared.pos.Pos.{Pos}
@@ -34,7 +34,7 @@ use Rattle.law_local_judged.specs.Agreement.{IsIn, Agree}
 use Rattle.law_local_judged.specs.Said.{SaidIn, ExprIn, StmtIn, PlaceIn, PlaceTied, MeantIn, MeantTied}
 use Rattle.law_local_judged.specs.Followed.{beside, EntityIn, TypeIn, Agrees, Follows}
 use Rattle.law_local_judged.proofs.Tests.{pointed_same}
-use Rattle.law_local_judged.proofs.Following.{some_same, said_left, follows_none, follows_sound, follows_to, follows_wants, follows_then, follows_made, follows_both, follows_weaker, made_node, both_node, front_said}
+use Rattle.law_local_judged.proofs.Following.{said_left, follows_none, follows_sound, follows_to, follows_wants, follows_then, follows_made, follows_both, follows_weaker, made_node, both_node, front_said}
 use Rattle.law_local_judged.proofs.Mentioned.{value_of_mentions, is_pointer_mentions, is_record_mentions}
 use Rattle.law_local_judged.proofs.Names.{maps_agree, named_follows, type_named_follows}
 use Rattle.law_local_judged.proofs.Selecting.{guard_of_same}
@@ -42,10 +42,7 @@ use Rattle.law_local_judged.proofs.Actuals.{PhraseFollows}
 use Rattle.law_local_judged.proofs.Fronts.{designates_follows}
 use Rattle.law_local_judged.proofs.Bodies.{SF, BF, StmtsIn, BranchIn, IfIn, BodyFollows, IfFollows, in_turn_follows, in_turn_if_follows, two_made, branch_follows, branch_mentions, if_mentions, while_mentions, repeat_mentions, loop_mentions, with_mentions}
 use Rattle.law_local_judged.proofs.Simple.{condition_follows}
-
-all_behind : {A : Type 0} (P : A → Type 0) (xs : List A) (y : A) → AllByRecursion P xs → P y → AllByRecursion P (xs ++ y ∷ [])
-all_behind P [] y h k = (k, tt)
-all_behind P (x ∷ xs) y h k = (h.0, all_behind P xs y h.1 k)
+use Rattle.law_lists.proofs.Lists.{all_last, some_same}
 
 module _ (P : QName → Type 0) where
   -- ---- what stands around a body
@@ -55,7 +52,7 @@ module _ (P : QName → Type 0) where
 
   pub agrees_guarded : (u : Around) (s : QName → Option Desc) (o : Option Variable) (t : Option TypeRef) → Agrees P u s → TypeIn P t → Agrees P (guarded_around u o t) s
   agrees_guarded u s None t a h = a
-  agrees_guarded u s (Some w) t a h = record { same = a.same; near = a.near; out = a.out; own = a.own; known = a.known; guards = all_behind (λ g. TypeIn P g.1) u.guards (w, t) a.guards h; receiver = a.receiver; result = a.result }
+  agrees_guarded u s (Some w) t a h = record { same = a.same; near = a.near; out = a.out; own = a.own; known = a.known; guards = all_last (λ g. TypeIn P g.1) u.guards (w, t) a.guards h; receiver = a.receiver; result = a.result }
 
   guarded_beside : (u : Around) (s : QName → Option Desc) (o : Option Variable) (t : Option TypeRef) → guarded_around (beside u s) o t ≡ beside (guarded_around u o t) s
   guarded_beside u s None t = refl

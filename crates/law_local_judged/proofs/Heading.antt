@@ -23,11 +23,12 @@ use Rattle.law_local_judged.specs.Followed.{beside, EntityIn, TypeIn, ReceivedIn
 use Rattle.law_local_judged.specs.Declared.{MadeIn, OwnIn}
 use Rattle.law_local_judged.specs.Headed.{KnownIn, BoundIn, ThereIn, FromGrammar, HeadSaid, HeadIn, HeadsSame}
 use Rattle.law_local_judged.proofs.Tests.{two, held_same, pointed_same, pointed_in, record_same, record_in, pointed_record_same, pointed_record_in}
-use Rattle.law_local_judged.proofs.Following.{none_is, some_same, said_left, said_right, follows_none, follows_sound, follows_to, follows_then, follows_made, both_node}
+use Rattle.law_local_judged.proofs.Following.{said_left, said_right, follows_none, follows_sound, follows_to, follows_then, follows_made, both_node}
 use Rattle.law_local_judged.proofs.Names.{maps_agree, type_named_follows}
-use Rattle.law_local_judged.proofs.Typings.{TF, agrees_with, all_both}
+use Rattle.law_local_judged.proofs.Typings.{TF, agrees_with}
 use Rattle.law_local_judged.proofs.Parameters.{agrees_known, agrees_inner, knows_agrees, parameters_follow}
 use Rattle.law_local_judged.proofs.Written.{written_parameters_follow}
+use Rattle.law_lists.proofs.Lists.{all_both, none_some, some_same}
 
 pub kept_filter : {A : Type 0} (P : A → Type 0) (f : A → Bool) (xs : List A) → AllByRecursion P xs → AllByRecursion P (filter f xs)
 kept_filter P f [] h = tt
@@ -72,10 +73,10 @@ module _ (P : QName → Type 0) (s : QName → Option Desc) where
 
     if_in : (b : Bool) (q r : QName) → P q → if_own b q ≡ Some r → P r
     if_in true q r h e = subst P (some_same e) h
-    if_in false q r h e = none_is e
+    if_in false q r h e = none_some e
 
     own_in : (o : Option QName) (r : QName) → ((q : QName) → o ≡ Some q → P q) → own_record u o ≡ Some r → P r
-    own_in None r h e = none_is e
+    own_in None r h e = none_some e
     own_in (Some q) r h e = if_in (is_own u q && is_module_level u) q r (h q refl) e
 
     bound_self : (at : Pos) (b : Bool) (t : TypeRef) (c : Bool) (o : Option QName) → IsIn P t → ((q : QName) → o ≡ Some q → P q) → TF P OwnerIn (bound_to at b t c o) (bound_to at b t c o)
@@ -116,7 +117,7 @@ module _ (P : QName → Type 0) (s : QName → Option Desc) where
   receiver_unit u (Some r) None = refl
 
   parameters_there : (o : Option ((Mark × Option BoundAs) × Parameters)) (p : Parameters) → as_parameters o ≡ Some p → (q : (Mark × Option BoundAs) × Parameters) × ((o ≡ Some q) × (q.1 ≡ p))
-  parameters_there None p e = none_is e
+  parameters_there None p e = none_some e
   parameters_there (Some q) p e = (q, (refl, some_same e))
 
   -- ---- a heading
@@ -195,7 +196,7 @@ module _ (P : QName → Type 0) (s : QName → Option Desc) where
   procedure_unit u h false = refl
 
   twice_none : (h : Head) (u : Around) → HeadSaid P (declared_head true h u) → ⊥
-  twice_none h u k = none_is k.parameters.1
+  twice_none h u k = none_some k.parameters.1
 
   name_same : (u : Around) (hs : List Head) (h : Head) → name_twice (beside u s) hs h ≡ name_twice u hs h
   name_same u hs h = by h.is_bound h.bound

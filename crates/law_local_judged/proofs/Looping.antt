@@ -40,7 +40,7 @@ use Rattle.law_local_judged.specs.Agreement.{IsIn, Agree}
 use Rattle.law_local_judged.specs.Said.{CountsIn, DesignatorIn, ExprIn, StmtIn, SaidIn, PlaceIn, ValuedIn, ValuedTied}
 use Rattle.law_local_judged.specs.Followed.{beside, EntityIn, TypeIn, Agrees, Follows}
 use Rattle.law_local_judged.proofs.Tests.{two, target_basics, pointed_record_in, record_in}
-use Rattle.law_local_judged.proofs.Following.{none_is, some_same, said_left, said_right, follows_none, follows_sound, follows_wants, follows_then, follows_made, follows_both, made_node, both_node, front_said}
+use Rattle.law_local_judged.proofs.Following.{said_left, said_right, follows_none, follows_sound, follows_wants, follows_then, follows_made, follows_both, made_node, both_node, front_said}
 use Rattle.law_local_judged.proofs.Mentioned.{tree_mentions}
 use Rattle.law_local_judged.proofs.Names.{maps_agree, named_follows}
 use Rattle.law_local_judged.proofs.Values.{is_same, width_same, fits_same}
@@ -49,6 +49,7 @@ use Rattle.law_local_judged.proofs.Selecting.{variable_follows}
 use Rattle.law_local_judged.proofs.Nodes.{RangedFollows, IfFollows as IfPhrase}
 use Rattle.law_local_judged.proofs.Expressions.{constant_value_follows}
 use Rattle.law_local_judged.proofs.Bodies.{SF, StmtsIn, CaseIn, IfIn, BodyFollows, IfFollows, in_turn_follows, in_turn_if_follows, two_made, case_mentions, case_stmt_mentions, for_mentions}
+use Rattle.law_lists.proofs.Lists.{none_some, some_same}
 
 module _ (P : QName → Type 0) where
   -- what mentions nothing
@@ -81,34 +82,34 @@ module _ (P : QName → Type 0) where
   module _ (f g : Map) (agree : Agree P f g) where
     so_in : (b : Bool) (x k : Guarded × QName) → P x.1 → if_so b x ≡ Some k → P k.1
     so_in true x k h e = subst (λ (y : Guarded × QName). P y.1) (some_same e) h
-    so_in false x k h e = none_is e
+    so_in false x k h e = none_some e
 
     extends_in : (c : Guarded) (o p : Option QName) (k : Guarded × QName) → ((q : QName) → p ≡ Some q → P q) → if_extends f c o p ≡ Some k → P k.1
     extends_in c (Some a) (Some b) k h e = so_in (extends_record f b a) (c, b) k (h b refl) e
-    extends_in c None p k h e = none_is e
-    extends_in c (Some a) None k h e = none_is e
+    extends_in c None p k h e = none_some e
+    extends_in c (Some a) None k h e = none_some e
 
     on_record_in : (b : Bool) (p : Place) (t : TypeRef) (k : Guarded × QName) → IsIn P t → on_record b f p t ≡ Some k → P k.1
     on_record_in true p t k h e = extends_in guarded.Record (record_of f p.of) (record_of f t) k (λ q e. record_in P f g agree t q h e) e
-    on_record_in false p t k h e = none_is e
+    on_record_in false p t k h e = none_some e
 
     kind_in : (p : Place) (t : TypeRef) (o : Option QName) (k : Guarded × QName) → IsIn P t → guard_kind f p t o ≡ Some k → P k.1
     kind_in p t (Some a) k h e = extends_in guarded.Pointer (Some a) (pointed_record f t) k (λ q e. pointed_record_in P f g agree t q h e) e
     kind_in p t None k h e = on_record_in p.var_record p t k h e
 
     with_known : (at : Pos) (p q : Place) (o : Option (Guarded × QName)) (t : TypeRef) → PlaceKnown p → IsIn P t → ((k : Guarded × QName) → o ≡ Some k → P k.1) → (with_guard f at p o t).node ≡ Some q → PlaceKnown q
-    with_known at p q None t h i k e = none_is e
+    with_known at p q None t h i k e = none_some e
     with_known at p q (Some x) t h i k e = subst PlaceKnown (some_same e) (guarded_in p.designator.inner x.0 x.1 at t h.0 i (k x refl), i)
 
     if_known : (at : Pos) (p q : Place) (o : Option TypeRef) → PlaceKnown p → TypeIn P o → (guard_if f at p o).node ≡ Some q → PlaceKnown q
-    if_known at p q None h i e = none_is e
+    if_known at p q None h i e = none_some e
     if_known at p q (Some t) h i e = with_known at p q (guard_of f p t) t h i (λ k e. kind_in p t (pointed_record f p.of) k i e) e
 
     then_known : (at : Pos) (i : Judged Place) (o : Option TypeRef) → AllKnown i → TypeIn P o → AllKnown (i ▷ λ q. guard_if f at q o)
     then_known at i o h t q e = by i.node refl e
       where
         by : (m : Option Place) → i.node ≡ m → (if_sound m (λ q. guard_if f at q o)).node ≡ Some q → PlaceKnown q
-        by None k e = none_is e
+        by None k e = none_some e
         by (Some p) k e = if_known at p q o (h p k) t e
 
     same_known : (b : Bool) (at : Pos) (i : Judged Place) (o : Option TypeRef) → AllKnown i → TypeIn P o → AllKnown (guard_same b f at i o)
@@ -282,7 +283,7 @@ module _ (P : QName → Type 0) where
         by : (p : Option Place) → (named u x ▷ for_variable u at x).node ≡ p → (y : List TypedStmt) → (for_with (map_of u) at p (b.value u) (c.value u) (for_step u at o) (in_turn body u)).node ≡ Some y
             → SaidIn P (joined (named u x ▷ for_variable u at x).notes (for_with (map_of u) at p (b.value u) (c.value u) (for_step u at o) (in_turn body u)).notes) → AllByRecursion (StmtIn P) y
             → for v at x b c o body ≡ noted (named u x ▷ for_variable u at x).notes (for_with (map_of u) at p (b.value u) (c.value u) (for_step u at o) (in_turn body u))
-        by None k y e said m = none_is e
+        by None k y e said m = none_some e
         by (Some p) k y e said m =
             let i = named u x ▷ for_variable u at x in
             let w = for_with (map_of u) at (Some p) (b.value u) (c.value u) (for_step u at o) (in_turn body u) in

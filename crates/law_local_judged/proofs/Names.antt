@@ -19,10 +19,11 @@ use Rattle.ob_rules.specs.Shapes.{same_name}
 use Rattle.ob_rules.specs.Names.{Around, own_desc, out_string, type_desc, map_of, find_name, variable_known, is_enclosing, entity_known, name_known, named, shown_of, export_known, exported, out_procedure, is_out, type_of_desc, out_type, type_in, type_of_entity, type_behind, unless_variable_is, unless_variable, type_by, type_named}
 use Rattle.law_local_judged.specs.Agreement.{IsIn, DescIn, Agree}
 use Rattle.law_local_judged.specs.Followed.{beside, EntityIn, Agrees, Follows}
-use Rattle.law_local_judged.proofs.Following.{none_is, some_same, follows_none, follows_then}
+use Rattle.law_local_judged.proofs.Following.{follows_none, follows_then}
+use Rattle.law_lists.proofs.Lists.{none_some, some_same}
 
 pub found : {A : Type 0} (P : A → Type 0) (test : A → Bool) (xs : List A) (y : A) → AllByRecursion P xs → find test xs ≡ Some y → P y
-found P test [] y all e = none_is e
+found P test [] y all e = none_some e
 found P test (x ∷ xs) y all e = by (test x) e (λ e. found P test xs y all.1 e)
   where
     by : (b : Bool) → cond b (Some x) (find test xs) ≡ Some y → (find test xs ≡ Some y → P y) → P y
@@ -72,7 +73,7 @@ module _ (P : QName → Type 0) (u : Around) (s : QName → Option Desc) (a : Ag
   entity_same at scope entity.Unsound = refl
 
   variable_in : (b : Bool) (at : Pos) (e x : Entity) → EntityIn P e → (variable_known b at e).node ≡ Some x → EntityIn P x
-  variable_in true at e x h k = none_is k
+  variable_in true at e x h k = none_some k
   variable_in false at e x h k = subst (EntityIn P) (some_same k) h
 
   entity_in : (at : Pos) (scope : ℕ) (e x : Entity) → EntityIn P e → (entity_known u at scope e).node ≡ Some x → EntityIn P x
@@ -83,8 +84,8 @@ module _ (P : QName → Type 0) (u : Around) (s : QName → Option Desc) (a : Ag
   entity_in at scope (entity.Forward n g) x h k = subst (EntityIn P) (some_same k) h
   entity_in at scope (entity.Predeclared f) x h k = subst (EntityIn P) (some_same k) h
   entity_in at scope (entity.Module m) x h k = subst (EntityIn P) (some_same k) h
-  entity_in at scope entity.LeftOut x h k = none_is k
-  entity_in at scope entity.Unsound x h k = none_is k
+  entity_in at scope entity.LeftOut x h k = none_some k
+  entity_in at scope entity.Unsound x h k = none_some k
 
   pub entity_follows : (at : Pos) (scope : ℕ) (e : Entity) → EntityIn P e → Follows P (EntityIn P) (λ x. Unit {0}) (Unit {0}) (entity_known u at scope e) (entity_known v at scope e)
   entity_follows at scope e h = record { keeps = λ x k said. entity_in at scope e x h k; same = λ x k said m. (tt, entity_same at scope e) }

@@ -10,12 +10,7 @@ use Rattle.ob_types.specs.Tests.{target_of, base_of, pointer_of, element_of, sig
 use Rattle.ob_rules.specs.Shapes.{array_at, open_at, base_type}
 use Rattle.law_local_judged.specs.Agreement.{IsIn, AreIn, DescIn}
 use Rattle.law_local_judged.specs.Said.{SignatureIn}
-
-pub none_some : {A B : Type 0} {x : A} → None ≡ Some x → B
-none_some {A} {B} {x} e = absurd cc
-
-pub some_is : {A : Type 0} {x y : A} → Some x ≡ Some y → x ≡ y
-some_is {A} {x} {y} e = cc
+use Rattle.law_lists.proofs.Lists.{none_some, some_same}
 
 -- ---- parts of lists
 
@@ -31,7 +26,7 @@ right_in P (t ∷ ts) us h = right_in P ts us h.1
 
 module _ (P : QName → Type 0) where
   pub alias_in : (o : Option Desc) (u : TypeRef) → DescIn P o → target_of o ≡ Some u → IsIn P u
-  alias_in (Some (desc.Alias m t)) u h e = subst (IsIn P) (some_is e) h.0
+  alias_in (Some (desc.Alias m t)) u h e = subst (IsIn P) (some_same e) h.0
   alias_in None u h e = none_some e
   alias_in (Some (desc.Const c)) u h e = none_some e
   alias_in (Some (desc.Var k t)) u h e = none_some e
@@ -67,7 +62,7 @@ module _ (P : QName → Type 0) where
   record_base_in (Some (desc.ProcType k s)) u h e = none_some e
 
   pub pointer_in : (o : Option Desc) (u : TypeRef) → DescIn P o → pointer_of o ≡ Some u → IsIn P u
-  pointer_in (Some (desc.Pointer m t)) u h e = subst (IsIn P) (some_is e) h.0
+  pointer_in (Some (desc.Pointer m t)) u h e = subst (IsIn P) (some_same e) h.0
   pointer_in None u h e = none_some e
   pointer_in (Some (desc.Alias m t)) u h e = none_some e
   pointer_in (Some (desc.Const c)) u h e = none_some e
@@ -79,7 +74,7 @@ module _ (P : QName → Type 0) where
   pointer_in (Some (desc.Record r)) u h e = none_some e
 
   pub element_in : (o : Option Desc) (u : TypeRef) → DescIn P o → element_of o ≡ Some u → IsIn P u
-  element_in (Some (desc.OpenArray m t)) u h e = subst (IsIn P) (some_is e) h.0
+  element_in (Some (desc.OpenArray m t)) u h e = subst (IsIn P) (some_same e) h.0
   element_in None u h e = none_some e
   element_in (Some (desc.Alias m t)) u h e = none_some e
   element_in (Some (desc.Const c)) u h e = none_some e
@@ -91,8 +86,8 @@ module _ (P : QName → Type 0) where
   element_in (Some (desc.Record r)) u h e = none_some e
 
   pub array_in : (o : Option Desc) (a : Option ℕ × TypeRef) → DescIn P o → array_at o ≡ Some a → IsIn P a.1
-  array_in (Some (desc.OpenArray m t)) a h e = subst (λ (a : Option ℕ × TypeRef). IsIn P a.1) (some_is e) h.0
-  array_in (Some (desc.Array m n t)) a h e = subst (λ (a : Option ℕ × TypeRef). IsIn P a.1) (some_is e) h.0
+  array_in (Some (desc.OpenArray m t)) a h e = subst (λ (a : Option ℕ × TypeRef). IsIn P a.1) (some_same e) h.0
+  array_in (Some (desc.Array m n t)) a h e = subst (λ (a : Option ℕ × TypeRef). IsIn P a.1) (some_same e) h.0
   array_in None u h e = none_some e
   array_in (Some (desc.Alias m t)) u h e = none_some e
   array_in (Some (desc.Const c)) u h e = none_some e
@@ -103,7 +98,7 @@ module _ (P : QName → Type 0) where
   array_in (Some (desc.Record r)) u h e = none_some e
 
   pub open_in : (o : Option Desc) (u : TypeRef) → DescIn P o → open_at o ≡ Some u → IsIn P u
-  open_in (Some (desc.OpenArray m t)) u h e = subst (IsIn P) (some_is e) h.0
+  open_in (Some (desc.OpenArray m t)) u h e = subst (IsIn P) (some_same e) h.0
   open_in None u h e = none_some e
   open_in (Some (desc.Alias m t)) u h e = none_some e
   open_in (Some (desc.Const c)) u h e = none_some e
@@ -115,7 +110,7 @@ module _ (P : QName → Type 0) where
   open_in (Some (desc.Record r)) u h e = none_some e
 
   pub signature_in : (o : Option Desc) (s : Signature) → DescIn P o → signature_of o ≡ Some s → SignatureIn P s
-  signature_in (Some (desc.ProcType m t)) s h e = subst (SignatureIn P) (some_is e) h
+  signature_in (Some (desc.ProcType m t)) s h e = subst (SignatureIn P) (some_same e) h
   signature_in None u h e = none_some e
   signature_in (Some (desc.Alias m t)) u h e = none_some e
   signature_in (Some (desc.Const c)) u h e = none_some e

@@ -39,7 +39,7 @@ use Rattle.law_local_judged.specs.Agreement.{IsIn, Agree}
 use Rattle.law_local_judged.specs.Said.{KindIn, SaidIn, PlaceIn, ValuedIn, ValuedTied, MeantIn, MeantTied, ElementIn}
 use Rattle.law_local_judged.specs.Followed.{beside, Agrees, Follows}
 use Rattle.law_local_judged.proofs.Tests.{pointed_record_same, pointed_record_in}
-use Rattle.law_local_judged.proofs.Following.{none_is, some_same, follows_none, follows_sound, follows_weaker, follows_wants, follows_found, follows_then, follows_made, follows_both, none_then, then_node, front_said, Both}
+use Rattle.law_local_judged.proofs.Following.{follows_none, follows_sound, follows_weaker, follows_wants, follows_found, follows_then, follows_made, follows_both, none_then, then_node, front_said, Both}
 use Rattle.law_local_judged.proofs.Mentioned.{constant_kind, procedure_mentions, is_pointer_mentions, is_record_mentions, tree_mentions}
 use Rattle.law_local_judged.proofs.Names.{maps_agree, type_named_follows}
 use Rattle.law_local_judged.proofs.Values.{points_same, type_in_in}
@@ -49,6 +49,7 @@ use Rattle.law_local_judged.proofs.Fitting.{place_mentions, place_kind}
 use Rattle.law_local_judged.proofs.Selecting.{extends_if_same, guard_of_same}
 use Rattle.law_local_judged.proofs.Through.{AreBehind}
 use Rattle.law_local_judged.proofs.Fronts.{designates_follows, designates_named}
+use Rattle.law_lists.proofs.Lists.{none_some, some_same}
 
 module _ (P : QName → Type 0) where
   abbrev VF : Type 0 → Judged Valued → Judged Valued → Type 0
@@ -94,7 +95,7 @@ module _ (P : QName → Type 0) where
     record_if_same (Some t) h = pointed_record_same P f g agree t (h t refl)
 
     record_if_in : (o : Option TypeRef) (q : QName) → ((t : TypeRef) → o ≡ Some t → IsIn P t) → record_if f o ≡ Some q → P q
-    record_if_in None q h e = none_is e
+    record_if_in None q h e = none_some e
     record_if_in (Some t) q h e = pointed_record_in P f g agree t q (h t refl) e
 
     test_record_same : (x : Valued) (t : TypeRef) → KindIn P (type x) → IsIn P t → test_record g (place_in x) t ≡ test_record f (place_in x) t
@@ -118,11 +119,11 @@ module _ (P : QName → Type 0) where
     Tests x y = ValuedTied P y × (ValuedIn P y → ValuedIn P x)
 
     pointer_tests : (x : Valued) (o : Option (Guarded × QName)) (y : Valued) → pointer_test x o ≡ Some y → Tests x y
-    pointer_tests x None y e = none_is e
+    pointer_tests x None y e = none_some e
     pointer_tests x (Some k) y e = subst (Tests x) (some_same e) ((λ m. tt), (λ m. tree_mentions P x (is_pointer_mentions P (tree x) k.1 m).0))
 
     record_tests : (x : Valued) (p : Place) (o : Option (Guarded × QName)) (y : Valued) → place_in x ≡ Some p → record_test p o ≡ Some y → Tests x y
-    record_tests x p None y i e = none_is e
+    record_tests x p None y i e = none_some e
     record_tests x p (Some k) y i e = subst (Tests x) (some_same e) ((λ m. tt), (λ m. place_mentions P x p i (is_record_mentions P p.designator.inner k.1 m).0))
 
     of_tests : (x : Valued) (t : TypeRef) (o : Option QName) (y : Valued) → test_of f x t o ≡ Some y → Tests x y
@@ -130,7 +131,7 @@ module _ (P : QName → Type 0) where
     of_tests x t None y e = by (place_in x) refl e
       where
         by : (o : Option Place) → place_in x ≡ o → test_record f o t ≡ Some y → Tests x y
-        by None i e = none_is e
+        by None i e = none_some e
         by (Some p) i e = record_tests x p (guard_of f p t) y i e
 
     pub test_follows : (at : Pos) (x : Valued) (t : TypeRef) → ValuedTied P x → IsIn P t → VF (ValuedIn P x × Unit {0}) (test f at x t) (test g at x t)
@@ -286,7 +287,7 @@ module _ (P : QName → Type 0) where
     high_follows (Some p) h = follows_made P (ValuedTied P) (ValuedIn P) HighTied (OM P) (Unit {0}) (λ x. Some x) (p.value u) (p.value v) h.value (λ x t. t) (λ x t m. m)
 
     high_tied : (o : Option Valued) (x : Valued) → HighTied o → o ≡ Some x → ValuedTied P x
-    high_tied None x h e = none_is e
+    high_tied None x h e = none_some e
     high_tied (Some y) x h e = subst (ValuedTied P) (some_same e) h
 
     element_value_follows : (r : Ranged) → RangedFollows r → Follows P (λ x. Unit {0}) (ElementIn P) (Unit {0}) (element_value u r) (element_value v r)

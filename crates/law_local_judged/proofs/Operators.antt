@@ -35,9 +35,10 @@ use Rattle.ob_rules.specs.Operators.{folded, monadic, two_of, dyadic, logical, t
 use Rattle.law_local_judged.specs.Agreement.{Agree}
 use Rattle.law_local_judged.specs.Said.{ExprIn, ValuedIn, ValuedTied, ElementIn, ElementBy}
 use Rattle.law_local_judged.specs.Followed.{Follows}
-use Rattle.law_local_judged.proofs.Following.{none_is, follows_none, follows_sound, follows_to, follows_made, follows_both, Both}
+use Rattle.law_local_judged.proofs.Following.{follows_none, follows_sound, follows_to, follows_made, follows_both, Both}
 use Rattle.law_local_judged.proofs.Mentioned.{unary_mentions, binary_mentions, logical_mentions, texts_mention, value_of_mentions, tree_mentions, text_tree_mentions, constant_kind, unary_kind, binary_kind}
 use Rattle.law_local_judged.proofs.Values.{combined_same, opposite_same, signed_same, related_same, element_same}
+use Rattle.law_lists.proofs.Lists.{none_some}
 
 module _ (P : QName → Type 0) where
   abbrev VT : Valued → Type 0
@@ -210,11 +211,11 @@ module _ (P : QName → Type 0) where
   constant_elements v w (x ∷ xs) h = by x.constant refl h (λ z e. constant_elements z w xs e)
     where
       next : (c : Value) → x.constant ≡ Some c → (o : Option Value) → and_so o (λ w. all_constant w xs) ≡ Some w → ((z : Value) → all_constant z xs ≡ Some w → Elements xs) → Elements (x ∷ xs)
-      next c k None e ih = none_is e
+      next c k None e ih = none_some e
       next c k (Some z) e ih = (subst (λ o. ElementBy P o x.node.inner) (sym k) tt, ih z e)
 
       by : (o : Option Value) → x.constant ≡ o → and_so o (λ c. and_so (fold_two binary.Union v c) (λ w. all_constant w xs)) ≡ Some w → ((z : Value) → all_constant z xs ≡ Some w → Elements xs) → Elements (x ∷ xs)
-      by None k e ih = none_is e
+      by None k e ih = none_some e
       by (Some c) k e ih = next c k (fold_two binary.Union v c) e ih
 
   pub set_tied : (xs : List ElementOf) → VT (set_of xs)

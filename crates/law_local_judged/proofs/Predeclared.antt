@@ -28,12 +28,13 @@ use Rattle.law_local_judged.specs.Agreement.{IsIn, Agree}
 use Rattle.law_local_judged.specs.Said.{KindIn, SaidIn, PlaceIn, ValuedIn, ValuedTied, MeantIn, MeantTied}
 use Rattle.law_local_judged.specs.Followed.{beside, Agrees, Follows}
 use Rattle.law_local_judged.proofs.Tests.{target_basics}
-use Rattle.law_local_judged.proofs.Following.{some_same, said_left, follows_none, follows_sound, follows_to, follows_wants, follows_unless, follows_also, follows_then, follows_made, none_then, twice_none, then_node, both_nodes, front_said, Both}
+use Rattle.law_local_judged.proofs.Following.{said_left, follows_none, follows_sound, follows_to, follows_wants, follows_unless, follows_also, follows_then, follows_made, none_then, twice_none, then_node, both_nodes, front_said, Both}
 use Rattle.law_local_judged.proofs.Mentioned.{constant_kind}
 use Rattle.law_local_judged.proofs.Names.{maps_agree, type_named_follows}
 use Rattle.law_local_judged.proofs.Operators.{only_tied, only_mentions, each_follows}
 use Rattle.law_local_judged.proofs.Actuals.{PhraseFollows, PhrasesFollow, NameSame, MeantFollows, MeantNamed}
 use Rattle.law_local_judged.proofs.Fitting.{fit_self, fit_same}
+use Rattle.law_lists.proofs.Lists.{some_same}
 
 module _ (P : QName → Type 0) where
   abbrev VF : Type 0 → Judged Valued → Judged Valued → Type 0

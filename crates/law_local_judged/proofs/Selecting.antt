@@ -29,10 +29,11 @@ use Rattle.law_local_judged.specs.Agreement.{IsIn, Agree}
 use Rattle.law_local_judged.specs.Said.{PlaceIn, PlaceTied, ValuedIn, ValuedTied, MeantIn, MeantTied, ChosenIn}
 use Rattle.law_local_judged.specs.Followed.{beside, TypeIn, ReceivedIn, Agrees, Follows}
 use Rattle.law_local_judged.proofs.Tests.{two, pointed_same, pointed_in, pointed_record_same, pointed_record_in, record_same, record_in, array_same, is_array_same, held_same, extends_same, base_same, base_record_in, member_same}
-use Rattle.law_local_judged.proofs.Following.{none_is, some_same, follows_none, follows_sound, follows_to, follows_with, follows_wants, follows_found, follows_then}
+use Rattle.law_local_judged.proofs.Following.{follows_none, follows_sound, follows_to, follows_with, follows_wants, follows_found, follows_then}
 use Rattle.law_local_judged.proofs.Mentioned.{variable_mentions, field_mentions, index_mentions, deref_mentions, guard_mentions, tree_mentions}
 use Rattle.law_local_judged.proofs.Names.{maps_agree}
 use Rattle.law_local_judged.proofs.Values.{integer_same}
+use Rattle.law_lists.proofs.Lists.{none_some, some_same}
 
 module _ (P : QName → Type 0) where
   abbrev PF : Type 0 → Judged Place → Judged Place → Type 0
@@ -149,7 +150,7 @@ module _ (P : QName → Type 0) where
 
     held_reached : (b : Bool) (p q r : Place) → Reached p q → (if_so_held b q).node ≡ Some r → Reached p r
     held_reached true p q r h e = subst (Reached p) (some_same e) h
-    held_reached false p q r h e = none_is e
+    held_reached false p q r h e = none_some e
 
     implicit_reached : (wanted : TypeRef → Bool) (at : Pos) (p r : Place) (o : Option TypeRef) → PlaceTied P p → (PlaceIn P p → TypeIn P o) → (implicitly f wanted at p o).node ≡ Some r → Reached p r
     implicit_reached wanted at p r None h i e = subst (Reached p) (some_same e) (record { back = λ m. m; tied = h; typed = h })
@@ -212,7 +213,7 @@ module _ (P : QName → Type 0) where
     found_self start at p q o rec (AField owner d) t r h =
         follows_sound P (MeantTied P) (MeantIn P) (PlaceIn P p) (means.Place (field_of u q owner d)) (λ m. (field_mentions P q.designator.inner owner d.name d.of m).1) (λ m. r.back (field_mentions P q.designator.inner owner d.name d.of m).0)
     found_self start at p q o rec (AMethod owner d) t r h =
-        receiver_self d.receiver (is_some o) at (chosen start p o rec owner d) (λ m. record { receiver = t m; owner = h m; base = λ b e. none_is e })
+        receiver_self d.receiver (is_some o) at (chosen start p o rec owner d) (λ m. record { receiver = t m; owner = h m; base = λ b e. none_some e })
 
     missing_none : (b last : Bool) (start : Pos) (x : Ident) → (not_there b last start x).node ≡ None
     missing_none true true start x = refl

@@ -27,7 +27,8 @@ use Rattle.ob_rules.specs.Values.{takes_value_of, takes_by}
 use Rattle.law_local_judged.specs.Agreement.{IsIn, AreIn, DescIn, Agree}
 use Rattle.law_local_judged.specs.Said.{SignatureIn, KindIn}
 use Rattle.law_local_judged.specs.Laws.{Alike, TypesAgree}
-use Rattle.law_local_judged.proofs.Near.{none_some, some_is, right_in, alias_in, base_in, record_base_in, pointer_in, element_in, array_in, open_in, signature_in}
+use Rattle.law_local_judged.proofs.Near.{right_in, alias_in, base_in, record_base_in, pointer_in, element_in, array_in, open_in, signature_in}
+use Rattle.law_lists.proofs.Lists.{none_some, some_same}
 
 pub two : {A B C : Type 0} {a b : A} {c d : B} (f : A → B → C) → a ≡ b → c ≡ d → f a c ≡ f b d
 two {A} {B} {C} {a} {b} {c} {d} f e k = ap (λ x. f x c) e ∙ ap (f b) k
@@ -97,7 +98,7 @@ module _ (P : QName → Type 0) (f g : Map) (agree : Agree P f g) where
   signature_at_in t s h e = signature_in P (shape f t) s (shape_in t h) e
 
   record_name : (t : TypeRef) (o : Option Desc) (q : QName) → In t → record_at t o ≡ Some q → P q
-  record_name (ref.Named p) (Some (desc.Record r)) q h e = subst P (some_is e) h
+  record_name (ref.Named p) (Some (desc.Record r)) q h e = subst P (some_same e) h
   record_name (ref.Named p) None q h e = none_some e
   record_name (ref.Named p) (Some (desc.Alias m t)) q h e = none_some e
   record_name (ref.Named p) (Some (desc.Const c)) q h e = none_some e

@@ -33,16 +33,17 @@ use Rattle.law_local_judged.specs.Agreement.{IsIn, Agree}
 use Rattle.law_local_judged.specs.Said.{SaidIn, PlaceIn, PlaceTied, ValuedIn, ValuedTied, MeantIn, MeantTied}
 use Rattle.law_local_judged.specs.Followed.{beside, Agrees, Follows}
 use Rattle.law_local_judged.proofs.Tests.{two, signature_same}
-use Rattle.law_local_judged.proofs.Following.{none_is, said_left, said_right, follows_none, follows_sound, follows_with, follows_weaker, follows_then, none_then, then_node, front_said}
+use Rattle.law_local_judged.proofs.Following.{said_left, said_right, follows_none, follows_sound, follows_with, follows_weaker, follows_then, none_then, then_node, front_said}
 use Rattle.law_local_judged.proofs.Names.{maps_agree, type_named_follows}
 use Rattle.law_local_judged.proofs.Actuals.{PhraseFollows, PhrasesFollow, NameSame}
 use Rattle.law_local_judged.proofs.Calls.{call_procedure_follows, call_variable_follows, call_out_follows, call_bound_follows, called_named}
 use Rattle.law_local_judged.proofs.Predeclared.{call_predeclared_follows, predeclared_named}
 use Rattle.law_local_judged.proofs.Selecting.{of_variable_follows, guard_follows, dereference_follows, index_follows, select_follows, super_follows}
+use Rattle.law_lists.proofs.Lists.{none_some}
 
 if_type_is : (b : Bool) (o : Option Qualident) (q : Qualident) → if_type b o ≡ Some q → o ≡ Some q
 if_type_is true o q e = e
-if_type_is false o q e = none_is e
+if_type_is false o q e = none_some e
 
 true_not : {B : Type 0} → true ≡ false → B
 true_not {B} e = absurd cc
@@ -72,7 +73,7 @@ module _ (P : QName → Type 0) (u : Around) (s : QName → Option Desc) (a : Ag
   -- ---- names of types that are found
 
   export_in : (q : QName) (at : Pos) (o : Option Desc) (y : QName × Desc) → (export_known q at o).node ≡ Some y → SaidIn P (export_known q at o).notes → P q
-  export_in q at None y e said = none_is e
+  export_in q at None y e said = none_some e
   export_in q at (Some d) y e said = said.objects.0
 
   pub exported_in : (m : List ℕ) (x : Ident) (y : QName × Desc) → (exported u m x).node ≡ Some y → SaidIn P (exported u m x).notes → P (record { «module» = m; object = x.name })
@@ -147,11 +148,11 @@ module _ (P : QName → Type 0) (u : Around) (s : QName → Option Desc) (a : Ag
       called_named P u s a w at g p F h n.0 n.1 (front_said P (called u w at g (p ∷ []) F) (λ x. sound (means.Call x)) said)
 
   also_named : (b : Bool) (w : Where) (at : Pos) (g : Signature) (p : Phrase) (F : List Actual → TypedExpr) → Ph p → (x : Valued) → (also b 26 at (called u w at g (p ∷ []) F)).node ≡ Some x → SaidIn P (also b 26 at (called u w at g (p ∷ []) F)).notes → Named p.name
-  also_named true w at g p F h x e said = none_is e
+  also_named true w at g p F h x e said = none_some e
   also_named false w at g p F h x e said = called_named P u s a w at g p F h x e said
 
   bound_named : (t : Bool) (w : Where) (at : Pos) (c : Chosen) (p : Phrase) → Ph p → (x : Valued) → (call_bound_sound t u w at c (p ∷ [])).node ≡ Some x → SaidIn P (call_bound_sound t u w at c (p ∷ [])).notes → Named p.name
-  bound_named false w at c p h x e said = none_is (sym (none_then (actuals u [] (p ∷ [])) (λ xs. silent) (λ x. refl)) ∙ e)
+  bound_named false w at c p h x e said = none_some (sym (none_then (actuals u [] (p ∷ [])) (λ xs. silent) (λ x. refl)) ∙ e)
   bound_named true w at c p h x e said =
       also_named (is_record_receiver c.method.receiver && ((receiver_place c).read_only && is_none c.base)) w at c.method.signature p (λ xs. typed.Call (bound_callee c c.base) (receiver_actual c.method.receiver c ∷ xs) at c.method.signature.result) h x e said
 
@@ -162,10 +163,10 @@ module _ (P : QName → Type 0) (u : Around) (s : QName → Option Desc) (a : Ag
       bound_named (nearest_sound u 201 (where_from c c.base) c.method.name) w start c p h n.0 n.1 (front_said P (call_bound u w start c (p ∷ [])) (λ x. sound (means.Call x)) said)
   meant_named w start (means.Out o) p other h y e said = as_call_named w start (out_signature o) p (λ xs. typed.Call (callee.Out o) xs start None) h y e said
   meant_named w start (means.Predeclared f) p other h y e said = predeclared_named P u s a w start f p other h y e said
-  meant_named w start (means.Place q) p other h y e said = none_is e
-  meant_named w start (means.Constant c) p other h y e said = none_is e
-  meant_named w start (means.Call x) p other h y e said = none_is e
-  meant_named w start (means.Statement x) p other h y e said = none_is e
+  meant_named w start (means.Place q) p other h y e said = none_some e
+  meant_named w start (means.Constant c) p other h y e said = none_some e
+  meant_named w start (means.Call x) p other h y e said = none_some e
+  meant_named w start (means.Statement x) p other h y e said = none_some e
 
   all_named : (w : Where) (start : Pos) (m : Meant) (ps : List Phrase) → takes_type m ≡ false → Phs ps → (y : Meant) → (call_meant u w start m ps).node ≡ Some y → SaidIn P (call_meant u w start m ps).notes → OneNamed ps
   all_named w start m [] other h y e said = tt
@@ -189,7 +190,7 @@ module _ (P : QName → Type 0) (u : Around) (s : QName → Option Desc) (a : Ag
   place_round_named w start at p [] None (Some g) h k y e said = tt
   place_round_named w start at p (r ∷ []) None (Some g) h k y e said = as_call_named w start g r (λ xs. typed.CallVariable p.designator.inner xs start g.result) h.0 y e said
   place_round_named w start at p (r ∷ q ∷ ps) None (Some g) h k y e said = tt
-  place_round_named w start at p ps None None h k y e said = none_is e
+  place_round_named w start at p ps None None h k y e said = none_some e
 
   place_follows : (w : Where) (start at : Pos) (p : Place) (ps : List Phrase) → PlaceTied P p → Phs ps → MF (PlaceIn P p) (place_round u w start at p ps (type_in_round u ps) (signature_at (map_of u) p.of)) (place_round v w start at p ps (type_in_round v ps) (signature_at (map_of v) p.of))
   place_follows w start at p ps t h =
@@ -211,10 +212,10 @@ module _ (P : QName → Type 0) (u : Around) (s : QName → Option Desc) (a : Ag
   other_self w start at m ps None false g false k h = meant_none (MeantIn P m) (other_round u w start at m ps None false g false) (other_round v w start at m ps None false g false) refl
 
   other_named : (w : Where) (start at : Pos) (m : Meant) (ps : List Phrase) (q : Option Qualident) (g c : Bool) → takes_type m ≡ false → Phs ps → (y : Meant) → (other_round u w start at m ps q false g c).node ≡ Some y → SaidIn P (other_round u w start at m ps q false g c).notes → OneNamed ps
-  other_named w start at m ps (Some q) true c other h y e said = none_is (sym (none_then (type_named u q) (λ t. breaks 23 at) (λ t. refl)) ∙ e)
-  other_named w start at m ps (Some q) false c other h y e said = none_is e
+  other_named w start at m ps (Some q) true c other h y e said = none_some (sym (none_then (type_named u q) (λ t. breaks 23 at) (λ t. refl)) ∙ e)
+  other_named w start at m ps (Some q) false c other h y e said = none_some e
   other_named w start at m ps None g true other h y e said = all_named w start m ps other h y e said
-  other_named w start at m ps None g false other h y e said = none_is e
+  other_named w start at m ps None g false other h y e said = none_some e
 
   other_by : (w : Where) (start at : Pos) (m : Meant) (ps : List Phrase) (t g c : Bool) → takes_type m ≡ t → MeantTied P m → Phs ps → MF (MeantIn P m) (other_round u w start at m ps (type_in_round u ps) t g c) (other_round v w start at m ps (type_in_round v ps) t g c)
   other_by w start at m ps true g c k t h = call_meant_follows w start m ps t h
@@ -297,11 +298,11 @@ module _ (P : QName → Type 0) (u : Around) (s : QName → Option Desc) (a : Ag
   go_follows R bs i j f g h k = record { keeps = λ y e said. kept i.node refl y e said; same = λ y e said m. same i.node refl y e said m }
     where
       kept : (o : Option Meant) → i.node ≡ o → (y : Meant) → (go_on_with u bs f o).node ≡ Some y → SaidIn P (noted i.notes (go_on_with u bs f o)).notes → MeantTied P y
-      kept None l y e said = none_is e
+      kept None l y e said = none_some e
       kept (Some x) l y e said = (k x (h.keeps x l (said_left P i.notes (f x).notes said))).keeps y e (said_right P i.notes (f x).notes said)
 
       same : (o : Option Meant) → i.node ≡ o → (y : Meant) → (go_on_with u bs f o).node ≡ Some y → SaidIn P (noted i.notes (go_on_with u bs f o)).notes → MeantIn P y → R × (go_on v bs j g ≡ noted i.notes (go_on_with u bs f o))
-      same None l y e said m = none_is e
+      same None l y e said m = none_some e
       same (Some x) l y e said m =
           let r = (k x (h.keeps x l (said_left P i.notes (f x).notes said))).same y e (said_right P i.notes (f x).notes said) m in
           let q = h.same x l (said_left P i.notes (f x).notes said) r.0 in

@@ -34,10 +34,7 @@ use Rattle.law_local_judged.proofs.Names.{maps_agree, type_named_follows}
 use Rattle.law_local_judged.proofs.Actuals.{PhraseFollows}
 use Rattle.law_local_judged.proofs.Operators.{each_follows}
 use Rattle.law_local_judged.proofs.Expressions.{constant_value_follows}
-
-pub all_both : {A : Type 0} (P : A → Type 0) (xs ys : List A) → AllByRecursion P xs → AllByRecursion P ys → AllByRecursion P (xs ++ ys)
-all_both P [] ys h k = k
-all_both P (x ∷ xs) ys h k = (h.0, all_both P xs ys h.1 k)
+use Rattle.law_lists.proofs.Lists.{all_both}
 
 module _ (P : QName → Type 0) where
   -- it is tied, and mentions nothing of its own

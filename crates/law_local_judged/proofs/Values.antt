@@ -26,7 +26,7 @@ use Rattle.ob_rules.specs.Operators.{connected, if_fit, dyadic, wider_of, intege
 use Rattle.law_local_judged.specs.Agreement.{IsIn, Agree}
 use Rattle.law_local_judged.specs.Said.{SignatureIn, KindIn}
 use Rattle.law_local_judged.proofs.Tests.{two, same_same, extends_same, equal_same, signatures_same, pointed_same, elements_in, signature_at_in, taken_same, target_basics, array_same, signature_same}
-use Rattle.law_local_judged.proofs.Following.{none_is, some_same}
+use Rattle.law_lists.proofs.Lists.{none_some, some_same}
 
 pub three : {A B C D : Type 0} {a b : A} {c d : B} {x y : C} (f : A → B → C → D) → a ≡ b → c ≡ d → x ≡ y → f a c x ≡ f b d y
 three {A} {B} {C} {D} {a} {b} {c} {d} {x} {y} f e k l = ap (λ z. f z c x) e ∙ (ap (λ z. f b z x) k ∙ ap (f b d) l)
@@ -91,16 +91,16 @@ module _ (P : QName → Type 0) (f g : Map) (agree : Agree P f g) where
   kind_signature_in : (k : ExprType) (s : Signature) → KindIn P k → signature f k ≡ Some s → SignatureIn P s
   kind_signature_in (kind.Of t) s i e = signature_at_in P f g agree t s i e
   kind_signature_in (kind.Procedure r) s i e = subst (SignatureIn P) (some_same e) i
-  kind_signature_in kind.Nil s i e = none_is e
-  kind_signature_in kind.Str s i e = none_is e
-  kind_signature_in kind.Nothing s i e = none_is e
+  kind_signature_in kind.Nil s i e = none_some e
+  kind_signature_in kind.Str s i e = none_some e
+  kind_signature_in kind.Nothing s i e = none_some e
 
   pub type_in_in : (k : ExprType) (t : TypeRef) → KindIn P k → type_in k ≡ Some t → In t
   type_in_in (kind.Of t) u i e = subst (IsIn P) (some_same e) i
-  type_in_in (kind.Procedure r) u i e = none_is e
-  type_in_in kind.Nil u i e = none_is e
-  type_in_in kind.Str u i e = none_is e
-  type_in_in kind.Nothing u i e = none_is e
+  type_in_in (kind.Procedure r) u i e = none_some e
+  type_in_in kind.Nil u i e = none_some e
+  type_in_in kind.Str u i e = none_some e
+  type_in_in kind.Nothing u i e = none_some e
 
   pub fits_same : (t : TypeRef) (x : Valued) → In t → VK x → fits g t x ≡ fits f t x
   fits_same t x h k = taken_same P f g agree t (constant_in x) (type x) h k

@@ -2,7 +2,6 @@
 use Rattle.std.proofs.Common.{◌≡◌, refl, sym, ap, ◌∙◌, subst, ℕ, zero, suc, ◌+◌, Bool, true, false, List, [], ◌∷◌, ◌++◌, Option, Some, None, cond, arith}
 use Rattle.std.specs.Prelude.{bytes_eq}
 use Rattle.std.specs.List.{find}
-use Rattle.std.proofs.lemmas.Bool.{false≢true}
 use Rattle.std.proofs.lemmas.Slice.Eq.{bytes_eq-Decides}
 use Rattle.ob_tree.specs.declared.names.QName.{QName}
 use Rattle.ob_types.specs.declared.types.TypeRef.{TypeRef}
@@ -18,9 +17,7 @@ use Rattle.ob_rules.specs.Shapes.{Map, Member, AField, AMethod, shape, record_at
 use Rattle.ob_rules.specs.Names.{Around, map_of, own_desc, type_desc, out_string}
 use Rattle.ob_rules.specs.Headings.{with_method, change_desc, changed_if, change_type}
 use Rattle.law_local_methods.specs.Laws.{with_own, MembersStay}
-
-none_some : {A C : Type 0} {x : A} → None ≡ Some x → C
-none_some e = absurd cc
+use Rattle.law_lists.proofs.Lists.{none_some}
 
 -- what a name stands for is the same, or it is the record with one more procedure
 pub data Same (f g : Map) (owner : QName) (m : Method) (q : QName) : Type 0 where

@@ -19,15 +19,15 @@ use Rattle.ob_rules.specs.Statements.{Judging, judging, in_turn}
 use Rattle.ob_rules.specs.Headings.{BoundAs, Head, Heads, Binding, head_of, name_twice, declared_head, known_behind, types_of, forwards_judged, bindings, reversed}
 use Rattle.ob_rules.specs.Declarations.{Contents, Part, no_contents, with_part, Declared, Declaration, Plain, Procedure, plain_of, type_name_of, procedure_of, Written_procedure, in_order, headings_in_order, pointers_judged, field_judged, all_judged, nothing_later, closing_judged, around_body, binding_of, bound_to, typed_procedure, types_of_head, self_parameters, procedure_contents, procedure_part, procedure_judged, procedures_judged, stmts_in, body_part, only_notes, block_inside, with_bound, block_bound, binding_at, heads_later, block_headed, block_behind, block_declared, block}
 use Rattle.law_names_procedures.specs.Procedures.{ShowBases}
-use Rattle.law_names_procedures.proofs.Judges.{Has, front_empty, rest_empty}
-use Rattle.law_names_procedures.proofs.Knowing.{AreKnown, all_both, all_from}
+use Rattle.law_names_procedures.proofs.Judges.{Has}
+use Rattle.law_names_procedures.proofs.Knowing.{AreKnown}
 use Rattle.law_names_procedures.proofs.Plain.{OrderIs, GoodPlain, order_one}
 use Rattle.law_local_judged.specs.Agreement.{DescIn, Agree}
 use Rattle.law_local_judged.specs.Said.{SaidIn, StmtIn}
 use Rattle.law_local_judged.specs.Followed.{beside, Agrees}
 use Rattle.law_local_judged.specs.Declared.{MadeIn, OwnIn, LaterIn, AreSound, IsPlain, DeclaredSame}
 use Rattle.law_local_judged.specs.Headed.{BoundIn, FromGrammar, HeadSaid, HeadIn, HeadsSame, BindingsIn}
-use Rattle.law_local_judged.proofs.Following.{all_left, all_right, said_left, said_right}
+use Rattle.law_local_judged.proofs.Following.{said_left, said_right}
 use Rattle.law_local_judged.proofs.Tests.{two, member_same}
 use Rattle.law_local_judged.proofs.Names.{maps_agree}
 use Rattle.law_local_judged.proofs.Bodies.{in_turn_follows}
@@ -44,6 +44,7 @@ use Rattle.law_local_module.specs.Laws.{LeavesIn, ContentsIn}
 use Rattle.law_local_module.proofs.Steady.{HeldWell, AllHeld, well_to, base_held, based_held, Start, declared_based, known_sound, Names, order_named}
 use Rattle.law_local_module.proofs.Heads.{HeadsAre, HeadOk, GoodHeading, heads_of, heads_are, heads_are_ok}
 use Rattle.law_local_module.proofs.Bound.{Kept, bindings_kept, Signed, bindings_signed, counted_judged}
+use Rattle.law_lists.proofs.Lists.{all_back, all_both, all_from, all_front, back_empty, front_empty}
 
 -- ---- lists
 
@@ -53,7 +54,7 @@ all_reversed Q (x ∷ xs) h = all_both Q (reversed xs) (x ∷ []) (all_reversed 
 
 all_turned : {A : Type 0} (Q : A → Type 0) (xs : List A) → AllByRecursion Q (reversed xs) → AllByRecursion Q xs
 all_turned Q [] h = tt
-all_turned Q (x ∷ xs) h = ((all_right Q (reversed xs) (x ∷ []) h).0, all_turned Q xs (all_left Q (reversed xs) (x ∷ []) h))
+all_turned Q (x ∷ xs) h = ((all_back Q (reversed xs) (x ∷ []) h).0, all_turned Q xs (all_front Q (reversed xs) (x ∷ []) h))
 
 no_level : (x : List ℕ) → nothing (x ++ codes "/") ≡ false
 no_level [] = refl
@@ -68,10 +69,10 @@ module _ (P : QName → Type 0) (s : QName → Option Desc) (leaves : LeavesIn P
   ProceduresIn ps = AllByRecursion (λ (p : TypedProcedure). AllByRecursion (StmtIn P) p.body) ps
 
   contents_left : (a b : Part) → ContentsIn P (with_part a b).contents → ContentsIn P a.contents
-  contents_left a b h = (all_left (λ (p : TypedProcedure). AllByRecursion (StmtIn P) p.body) a.contents.procedures b.contents.procedures h.0, all_left (StmtIn P) a.contents.body b.contents.body h.1)
+  contents_left a b h = (all_front (λ (p : TypedProcedure). AllByRecursion (StmtIn P) p.body) a.contents.procedures b.contents.procedures h.0, all_front (StmtIn P) a.contents.body b.contents.body h.1)
 
   pub contents_right : (a b : Part) → ContentsIn P (with_part a b).contents → ContentsIn P b.contents
-  contents_right a b h = (all_right (λ (p : TypedProcedure). AllByRecursion (StmtIn P) p.body) a.contents.procedures b.contents.procedures h.0, all_right (StmtIn P) a.contents.body b.contents.body h.1)
+  contents_right a b h = (all_back (λ (p : TypedProcedure). AllByRecursion (StmtIn P) p.body) a.contents.procedures b.contents.procedures h.0, all_back (StmtIn P) a.contents.body b.contents.body h.1)
 
   -- a procedure whose inside is judged the same
   pub record GoodProcedure (p : Written_procedure) : Type 0 where
@@ -93,7 +94,7 @@ module _ (P : QName → Type 0) (s : QName → Option Desc) (leaves : LeavesIn P
       let a = f u in
       let rest = in_order (filter_map plain_of ds) a.around in
       let p = g.0.0 u k (front_empty a.part.notes.broken rest.part.notes.broken e) in
-      order_one o (filter_map type_name_of ds) u a rest p (order_good ds g.1 a.around (subst (λ (v : Around). AreKnown v.known) (sym p.around) p.known) (rest_empty a.part.notes.broken rest.part.notes.broken e))
+      order_one o (filter_map type_name_of ds) u a rest p (order_good ds g.1 a.around (subst (λ (v : Around). AreKnown v.known) (sym p.around) p.known) (back_empty a.part.notes.broken rest.part.notes.broken e))
 
   plains_good : (ds : List Declaration) → AreGood ds → AllByRecursion IsPlain (filter_map plain_of ds)
   plains_good [] g = tt
@@ -163,7 +164,7 @@ module _ (P : QName → Type 0) (s : QName → Option Desc) (leaves : LeavesIn P
         let x = p.inside u in
         let c = closing_judged h.name p.closing in
         let b = body_agrees P s U i.agrees h w in
-        let quiet = rest_empty c.broken x.notes.broken (rest_empty h.notes.broken (joined c x.notes).broken e) in
+        let quiet = back_empty c.broken x.notes.broken (back_empty h.notes.broken (joined c x.notes).broken e) in
         let said_x = said_right P c x.notes (said_right P h.notes (joined c x.notes) said) in
         let same = g.inside u (starts h k) (no_level h.path) b.0 i.own quiet said_x (typed_in h h.parameters x.contents k.parameters m.0) in
         ap (λ z. procedure_part V h p.closing (p.inside z)) b.1 ∙ (ap (procedure_part V h p.closing) same ∙ part_same h p.closing x w.bound)
@@ -177,7 +178,7 @@ module _ (P : QName → Type 0) (s : QName → Option Desc) (leaves : LeavesIn P
         let b = procedures_judged U ps hs in
         two with_part
         (one_same p g.0 h k.0 w.0 p.forward (front_empty a.notes.broken b.notes.broken e) (said_left P a.notes b.notes said) (contents_left a b m))
-        (procedures_same ps g.1 hs k.1 w.1 (rest_empty a.notes.broken b.notes.broken e) (said_right P a.notes b.notes said) (contents_right a b m))
+        (procedures_same ps g.1 hs k.1 w.1 (back_empty a.notes.broken b.notes.broken e) (said_right P a.notes b.notes said) (contents_right a b m))
 
   -- what the notes of headings mention
   head_said : (U : Around) (p : Written_procedure) (h : Head) (f : Bool) → SaidIn P (procedure_judged U p h f).notes → SaidIn P h.notes
@@ -265,15 +266,15 @@ module _ (P : QName → Type 0) (s : QName → Option Desc) (leaves : LeavesIn P
       let O : Part = record { notes = no_notes; contents = record no_contents { bound = b.own } } in
       let I = with_part T B in
       -- what is broken: nothing
-      let e1 : n.broken ++ (T.notes.broken ++ B.notes.broken) ≡ [] = rest_empty A.notes.broken (n.broken ++ (T.notes.broken ++ B.notes.broken)) e in
+      let e1 : n.broken ++ (T.notes.broken ++ B.notes.broken) ≡ [] = back_empty A.notes.broken (n.broken ++ (T.notes.broken ++ B.notes.broken)) e in
       let eA : A.notes.broken ≡ [] = front_empty A.notes.broken (n.broken ++ (T.notes.broken ++ B.notes.broken)) e in
       let ed : d.part.notes.broken ≡ [] = front_empty d.part.notes.broken pj.broken eA in
       let en : n.broken ≡ [] = front_empty n.broken (T.notes.broken ++ B.notes.broken) e1 in
       let eb : b.notes.broken ≡ [] = front_empty b.notes.broken (fj.broken ++ wj.broken) en in
-      let ew : wj.broken ≡ [] = rest_empty fj.broken wj.broken (rest_empty b.notes.broken (fj.broken ++ wj.broken) en) in
-      let eI : T.notes.broken ++ B.notes.broken ≡ [] = rest_empty n.broken (T.notes.broken ++ B.notes.broken) e1 in
+      let ew : wj.broken ≡ [] = back_empty fj.broken wj.broken (back_empty b.notes.broken (fj.broken ++ wj.broken) en) in
+      let eI : T.notes.broken ++ B.notes.broken ≡ [] = back_empty n.broken (T.notes.broken ++ B.notes.broken) e1 in
       let eT : T.notes.broken ≡ [] = front_empty T.notes.broken B.notes.broken eI in
-      let eB : j.notes.broken ≡ [] = rest_empty T.notes.broken B.notes.broken eI in
+      let eB : j.notes.broken ≡ [] = back_empty T.notes.broken B.notes.broken eI in
       -- what is mentioned
       let mA : SaidIn P A.notes = said_left P A.notes (joined n (joined no_notes I.notes)) said in
       let md : SaidIn P d.part.notes = as_said d.part.notes (said_left P (nothing_later d.part.notes) pj mA) in

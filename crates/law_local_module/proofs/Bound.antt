@@ -1,5 +1,5 @@
 -- What is bound in a module that breaks no rule.
-use Rattle.std.proofs.Common.{◌≡◌, refl, sym, ap, ◌∙◌, subst, ℕ, Bool, true, false, not, List, [], ◌∷◌, ◌++◌, Option, Some, None, cond}
+use Rattle.std.proofs.Common.{◌≡◌, refl, sym, ap, ◌∙◌, ℕ, Bool, true, false, not, List, [], ◌∷◌, ◌++◌, Option, Some, None, cond}
 use Rattle.std.specs.Prelude.{◌&&◌, bytes_eq, is_some, is_none}
 use Rattle.std.specs.List.{AllByRecursion, find, filter}
 use Rattle.std.proofs.lemmas.Bool.{false≢true, and_parts}
@@ -18,12 +18,13 @@ use Rattle.ob_rules.specs.Names.{Around, map_of, own_desc}
 use Rattle.ob_rules.specs.Operators.{signatures_match}
 use Rattle.ob_rules.specs.Types.{Parameters}
 use Rattle.ob_rules.specs.Headings.{BoundAs, Head, answers, both_sound, signature_if, same_kind, forward_broken, forward_judged, forward_if, forwards_judged, counts_if, counts, counted, Binding, new_method, with_method, change_desc, changed_if, change_type, redefined, redefines, introduced_sound, bind_method, bind_by, bind_one, bind_all, of_record, bind_records, bindings, reversed}
-use Rattle.law_names_procedures.proofs.Judges.{Has, front_empty, rest_empty, not_empty}
+use Rattle.law_names_procedures.proofs.Judges.{Has, not_empty}
 use Rattle.law_names_procedures.proofs.Knowing.{filter_has}
 use Rattle.law_names_procedures.proofs.Points.{holds, Covers}
 use Rattle.law_local_judged.specs.Agreement.{DescIn}
 use Rattle.law_local_judged.specs.Declared.{MadeIn}
 use Rattle.law_local_module.proofs.Steady.{HeldWell}
+use Rattle.law_lists.proofs.Lists.{all_pairs, back_empty, front_empty}
 
 -- ---- those that are bound are no forward declarations
 
@@ -43,7 +44,7 @@ counted_in : (map : Map) (all xs : List Head) → (forwards_judged map all xs).b
 counted_in map all [] e = tt
 counted_in map all (x ∷ xs) e =
     let first = forward_if x.forward map all x in
-    by (counts all x) refl (counted_in map all xs (rest_empty first.broken (forwards_judged map all xs).broken e))
+    by (counts all x) refl (counted_in map all xs (back_empty first.broken (forwards_judged map all xs).broken e))
   where
     by : (c : Bool) → counts all x ≡ c → AllByRecursion (λ (h : Head). h.forward ≡ false) (filter (counts all) xs) → AllByRecursion (λ (h : Head). h.forward ≡ false) (cond c (x ∷ filter (counts all) xs) (filter (counts all) xs))
     by false i h = h
@@ -150,7 +151,7 @@ module _ (u : Around) where
   Added st more = Quiet more → Quiet st × (Signed st.bound → Signed more.bound)
 
   redefined_signed : (b : Bool) (st : Binding) (h : Head) (o : BoundAs) → IsJudged h → Added st (redefined b st h o)
-  redefined_signed true st h o i = λ e. not_empty _ [] (rest_empty st.notes.broken (broken_at 20 h.at).broken e)
+  redefined_signed true st h o i = λ e. not_empty _ [] (back_empty st.notes.broken (broken_at 20 h.at).broken e)
   redefined_signed false st h o i = λ e. (e, λ s. (has_signature h.parameters i.1, s))
 
   method_signed : (b : Bool) (map : Map) (st : Binding) (h : Head) (o : BoundAs) (owner : QName) (m : Method) → IsJudged h → Added st (bind_method b u map st h o owner m)
@@ -159,7 +160,7 @@ module _ (u : Around) where
 
   clash_not : (st : Binding) (h : Head) (f : Bool) → h.forward ≡ f → f ≡ false → st.notes.broken ++ (notes_if (not f) 1 h.at).broken ≡ [] → ⊥
   clash_not st h true e g q = false≢true (sym g)
-  clash_not st h false e g q = not_empty _ [] (rest_empty st.notes.broken (broken_at 1 h.at).broken q)
+  clash_not st h false e g q = not_empty _ [] (back_empty st.notes.broken (broken_at 1 h.at).broken q)
 
   by_signed : (map : Map) (st : Binding) (h : Head) (o : BoundAs) (m : Option Member) → IsJudged h → Added st (bind_by u map st h o m)
   by_signed map st h o None i = λ e. (e, λ s. (has_signature h.parameters i.1, s))
@@ -187,10 +188,6 @@ module _ (u : Around) where
   pub bindings_signed : (hs : List Head) → AllByRecursion IsJudged (counted hs) → (bindings u hs).notes.broken ≡ [] → Signed (bindings u hs).bound
   bindings_signed hs i e = (records_signed (counted hs) i (reversed u.own) (record { own = u.own; bound = []; notes = no_notes }) e).1 tt
 
-both_all : {A : Type 0} (P Q : A → Type 0) (xs : List A) → AllByRecursion P xs → AllByRecursion Q xs → AllByRecursion (λ x. P x × Q x) xs
-both_all P Q [] h k = tt
-both_all P Q (x ∷ xs) h k = ((h.0, k.0), both_all P Q xs h.1 k.1)
-
 -- where no forward declaration stands alone
 pub counted_judged : (map : Map) (all : List Head) → (forwards_judged map all all).broken ≡ [] → AllByRecursion (λ (h : Head). Has (λ p. Unit {0}) h.parameters) all → AllByRecursion IsJudged (counted all)
-counted_judged map all e h = both_all (λ (h : Head). h.forward ≡ false) (λ (h : Head). Has (λ p. Unit {0}) h.parameters) (counted all) (counted_in map all all e) (filter_has (λ (h : Head). Has (λ p. Unit {0}) h.parameters) (counts all) all h)
+counted_judged map all e h = all_pairs (λ (h : Head). h.forward ≡ false) (λ (h : Head). Has (λ p. Unit {0}) h.parameters) (counted all) (counted_in map all all e) (filter_has (λ (h : Head). Has (λ p. Unit {0}) h.parameters) (counts all) all h)

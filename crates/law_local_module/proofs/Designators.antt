@@ -1,8 +1,7 @@
 -- Designators leave nothing for later.
-use Rattle.std.proofs.Common.{◌≡◌, refl, sym, ap, ◌∙◌, subst, ℕ, Bool, true, false, List, [], ◌∷◌, Option, Some, None}
+use Rattle.std.proofs.Common.{◌≡◌, refl, ℕ, Bool, true, false, List, [], ◌∷◌, Option, Some, None}
 use Rattle.std.specs.Prelude.{◌&&◌, not, is_some}
-use Rattle.std.specs.List.{AllByRecursion, list_any}
-use Rattle.std.proofs.lemmas.Bool.{false≢true}
+use Rattle.std.specs.List.{AllByRecursion}
 use Rattle.ob_tree.specs.declared.pos.Pos.{Pos}
 use Rattle.ob_tree.specs.declared.names.QName.{QName}
 use Rattle.ob_tree.specs.declared.ident.Ident.{Ident}
@@ -38,9 +37,10 @@ use Rattle.ob_rules.specs.Values.{is_integer}
 use Rattle.ob_rules.specs.Phrases.{dereferenced, Phrase, Behind, Dot, Index, Up, Round}
 use Rattle.ob_rules.specs.Calls.{call_procedure, call_variable, call_out, call_bound}
 use Rattle.ob_rules.specs.Designators.{variable_at, same_variable, guarded_by, guard_of, with_guard, guard_if, guard_same, with_guards, variable_named, guard, if_so_held, dereference_of, dereference, through_if, implicitly, indexed, index_into, index_if, index, is_read_only, field_of, chosen, with_receiver, select_bound, comes_as, comes, nothing_behind, not_there, member_found, member_of, select_of, select_through, select, super_of, super_in, super_if, super, is_one_type, visit, visited, all_visited, type_in_round, as_call, place_round, call_meant, takes_type, is_callable, is_guardable, other_round, step_dot, step_index, step_up, step_round, step, where_of, go_on_with, go_on, through, of_variable, exported_meant, out_meant, in_module, dot_of, module_front, front_of, is_module, behind, front, from_front_with, from_front, designates}
-use Rattle.law_local_module.proofs.Leaves.{Nil, both_empty, then_nil, made_nil, wants_nil, found_nil, named_nil, exported_nil, type_nil}
+use Rattle.law_local_module.proofs.Leaves.{Nil, then_nil, made_nil, wants_nil, found_nil, named_nil, exported_nil, type_nil}
 use Rattle.law_local_module.proofs.Predeclared.{PhraseNil, PhrasesNil, predeclared_nil}
 use Rattle.law_local_module.proofs.Calls.{procedure_nil, held_nil, out_nil, bound_nil}
+use Rattle.law_lists.proofs.Lists.{both_empty}
 
 noted_nil : {A : Type 0} (n : Notes) (j : Judged A) → n.later ≡ [] → Nil j → Nil (noted n j)
 noted_nil n j h k = both_empty n.later j.notes.later h k

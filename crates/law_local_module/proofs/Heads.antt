@@ -1,5 +1,5 @@
 -- The headings of a block that breaks no rule.
-use Rattle.std.proofs.Common.{◌≡◌, refl, sym, ap, ◌∙◌, subst, ℕ, Bool, true, false, List, [], ◌∷◌, ◌++◌, Option, Some, None, append_assoc, append-nil}
+use Rattle.std.proofs.Common.{◌≡◌, refl, sym, ◌∙◌, subst, ℕ, Bool, true, false, List, [], ◌∷◌, ◌++◌, Option, Some, None, append_assoc, append-nil}
 use Rattle.std.specs.Prelude.{is_some, nat_lt}
 use Rattle.std.specs.List.{AllByRecursion}
 use Rattle.std.proofs.lemmas.Bool.{false≢true}
@@ -20,8 +20,8 @@ use Rattle.ob_rules.specs.Names.{Around, in_unit}
 use Rattle.ob_rules.specs.Types.{Typing, Parameters, WrittenSection, WrittenParameters, mode_of, parameter_as, knows, declare_all, with_made, sections, section_name, parameters_in, inner, marked, with_types}
 use Rattle.ob_rules.specs.Headings.{BoundAs, self_of, knows_receiver, owner_if, WrittenHeading, Head, Heads, path_by, forward_name, heading_parameters, head_of, entity_as, head_entity, name_twice, declared_head, knows_procedure, known_behind, types_of, add_heading, reversed}
 use Rattle.ob_rules.specs.Declarations.{Written_procedure, headings_in_order, around_body, procedure_judged, procedures_judged, closing_judged}
-use Rattle.law_names_procedures.proofs.Judges.{Has, front_empty, rest_empty, has_more}
-use Rattle.law_names_procedures.proofs.Knowing.{IsKnown, AreKnown, all_both, filter_has}
+use Rattle.law_names_procedures.proofs.Judges.{Has, has_more}
+use Rattle.law_names_procedures.proofs.Knowing.{IsKnown, AreKnown, filter_has}
 use Rattle.law_names_procedures.proofs.Points.{Points}
 use Rattle.law_names_procedures.proofs.Typings.{AreWellSections}
 use Rattle.law_names_procedures.proofs.Apart.{IsPlain as IsPlainName}
@@ -30,6 +30,7 @@ use Rattle.law_names_procedures.proofs.Sequences.{types_pointed, not_twice}
 use Rattle.law_local_nodes.specs.Quiet.{IsNamed, AreNamed}
 use Rattle.law_local_module.proofs.Steady.{Names}
 use Rattle.std.specs.Prelude.{◌+◌, length}
+use Rattle.law_lists.proofs.Lists.{all_both, back_empty, front_empty}
 
 -- ---- what is known inside a heading is known under its own name
 
@@ -203,5 +204,5 @@ heads_are_ok unit U (p ∷ ps) g hs k e =
     let n = not_twice t d (known_behind v t d) (head_notes U p h p.forward (front_empty mine.notes.broken rest.notes.broken e)) in
     let i = head_good hs.around p.heading p.forward g.0.well g.0.plain k.known (λ l. k.based) n.1 in
     let one = next_are unit hs k p.heading p.forward i n.1 t n.0 in
-    let more = heads_are_ok unit U ps g.1 next one.0 (rest_empty mine.notes.broken rest.notes.broken e) in
+    let more = heads_are_ok unit U ps g.1 next one.0 (back_empty mine.notes.broken rest.notes.broken e) in
     (more.0, (one.1, more.1))

@@ -1,6 +1,5 @@
 -- What is judged without leaving anything for later.
-use Rattle.std.proofs.Common.{◌≡◌, refl, ℕ, Bool, true, false, List, [], ◌∷◌, ◌++◌, Option, Some, None}
-use Rattle.std.specs.Prelude.{bytes_eq}
+use Rattle.std.proofs.Common.{◌≡◌, refl, ℕ, Bool, true, false, List, [], ◌∷◌, Option, Some, None}
 use Rattle.std.specs.List.{AllByRecursion}
 use Rattle.ob_tree.specs.declared.pos.Pos.{Pos}
 use Rattle.ob_tree.specs.declared.names.QName.{QName}
@@ -15,6 +14,7 @@ use Rattle.ob_rules.specs.declared.entity.Entity.TheVariants as entity
 use Rattle.ob_rules.specs.declared.entity.Known.{Known}
 use Rattle.ob_rules.specs.Judged.{Judged, sound, breaks, if_sound, both, made, each_sound, unless, wants, also, found_or, ◌▷◌}
 use Rattle.ob_rules.specs.Names.{Around, find_name, variable_known, is_enclosing, entity_known, name_known, named, shown_of, export_known, exported, is_out, out_procedure, out_type, type_of_desc, type_in, type_of_entity, type_behind, unless_variable_is, unless_variable, type_by, type_named}
+use Rattle.law_lists.proofs.Lists.{both_empty}
 
 -- nothing is left for later
 abbrev pub Nil : {A : Type 0} → Judged A → Type 0
@@ -22,10 +22,6 @@ Nil j = j.notes.later ≡ []
 
 abbrev pub AllNil : {A : Type 0} → List (Judged A) → Type 0
 AllNil js = AllByRecursion (λ j. j.notes.later ≡ []) js
-
-pub both_empty : {A : Type 0} (xs ys : List A) → xs ≡ [] → ys ≡ [] → xs ++ ys ≡ []
-both_empty [] ys e f = f
-both_empty (x ∷ xs) ys e f = absurd cc
 
 if_nil : {A B : Type 0} (o : Option A) (f : A → Judged B) → ((x : A) → Nil (f x)) → Nil (if_sound o f)
 if_nil None f k = refl

@@ -1,7 +1,7 @@
 -- Each declaration of the grammar, and modules, with other interfaces around.
 use Rattle.std.proofs.Common.{◌≡◌, refl, sym, ap, ◌∙◌, subst, ℕ, Bool, true, false, List, [], ◌∷◌, ◌++◌, map, Option, Some, None}
-use Rattle.std.specs.Prelude.{bytes_eq, not, ◌||◌, ◌==◌, ◌&&◌}
-use Rattle.std.specs.List.{AllByRecursion, filter_map}
+use Rattle.std.specs.Prelude.{bytes_eq, not, ◌||◌, ◌==◌}
+use Rattle.std.specs.List.{AllByRecursion}
 use Rattle.std.proofs.lemmas.Bool.{false≢true, and_parts}
 use Rattle.ob_tree.specs.declared.names.QName.{QName}
 use Rattle.ob_tree.specs.declared.ident.Ident.{Ident}
@@ -27,9 +27,8 @@ use Rattle.ob_rules.specs.Statements.{judging}
 use Rattle.ob_rules.specs.Headings.{reversed}
 use Rattle.ob_rules.specs.Declarations.{Part, Declared, Declaration, with_part, only_notes, declare_if, in_order, headings_in_order, plain_of, procedure_of, type_name_of, block, decl_rule, declaration, is_system, import_entity, import_declared, imports_declared, target_of, around_module, name_judged, module_of, module_part, first_break, typed_module, if_unbroken, checked_part, checked}
 use Rattle.law_names_procedures.specs.Procedures.{ShowBases, is_plain, all_true, heading_layer, is_named_plainly}
-use Rattle.law_names_procedures.proofs.Judges.{front_empty, rest_empty}
 use Rattle.law_names_procedures.proofs.Knowing.{AreKnown}
-use Rattle.law_names_procedures.proofs.Apart.{IsPlain as IsPlainName, or_parts}
+use Rattle.law_names_procedures.proofs.Apart.{IsPlain as IsPlainName}
 use Rattle.law_names_procedures.proofs.Written.{written_well, written_parameters_well}
 use Rattle.law_names_procedures.proofs.Plain.{constant_good, type_good, variables_good, imports_good}
 use Rattle.law_local_judged.specs.Agreement.{DescIn}
@@ -45,12 +44,9 @@ use Rattle.law_local_module.specs.Laws.{LeavesIn, ContentsIn, is_there, variable
 use Rattle.law_local_module.proofs.Steady.{AllHeld, Start, Names}
 use Rattle.law_local_module.proofs.Bound.{Signed}
 use Rattle.law_local_module.proofs.Blocks.{GoodProcedure, GoodDeclaration, AreGood, block_same, contents_right}
+use Rattle.law_lists.proofs.Lists.{back_empty, front_empty, not_false, or_parts}
 
 -- ---- names of procedures
-
-not_false : (b : Bool) → not b ≡ true → b ≡ false
-not_false true e = absurd (false≢true e)
-not_false false e = refl
 
 differs : (b c : ℕ) → (c == c) ≡ true → (b == c) ≡ false → b ≡ c → ⊥
 differs b c r e i = false≢true (sym e ∙ (ap (λ n. n == c) i ∙ r))
@@ -178,8 +174,8 @@ module _ (P : QName → Type 0) (s : QName → Option Desc) (leaves : LeavesIn P
       let b = block ds J d.around in
       let N : Part = only_notes (name_judged tree.name tree.closing) in
       let F = with_part d.part b in
-      let eF = rest_empty N.notes.broken (d.part.notes.broken ++ b.notes.broken) e in
-      let eb = rest_empty d.part.notes.broken b.notes.broken eF in
+      let eF = back_empty N.notes.broken (d.part.notes.broken ++ b.notes.broken) e in
+      let eb = back_empty d.part.notes.broken b.notes.broken eF in
       let mb = said_right P d.part.notes b.notes (said_right P N.notes F.notes said) in
       let cb = contents_right P s leaves d.part b (contents_right P s leaves N F m) in
       let a : Agrees P u s = record { same = w.same; near = w.near; out = w.out; own = tt; known = predeclared_in; guards = tt; receiver = tt; result = tt } in

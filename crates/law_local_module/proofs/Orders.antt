@@ -32,9 +32,8 @@ use Rattle.law_local_judged.specs.Said.{SaidIn, DesignatorIn}
 use Rattle.law_local_judged.specs.Followed.{beside, Agrees}
 use Rattle.law_local_judged.specs.Declared.{OwnIn, LaterIn, AreSound, IsPlain, a_constant, a_type, variables}
 use Rattle.law_local_judged.specs.Headed.{FromGrammar, HeadSaid, HeadIn, HeadsSame}
-use Rattle.law_local_judged.proofs.Following.{none_is, some_same, said_left, said_right, then_node, made_node}
+use Rattle.law_local_judged.proofs.Following.{said_left, said_right, then_node, made_node}
 use Rattle.law_local_judged.proofs.Names.{type_named_follows}
-use Rattle.law_local_judged.proofs.Typings.{all_both}
 use Rattle.law_local_judged.proofs.Parameters.{agrees_inner, knows_agrees}
 use Rattle.law_local_judged.proofs.Written.{written_parameters_follow}
 use Rattle.law_local_judged.proofs.Declaring.{order_same}
@@ -42,10 +41,11 @@ use Rattle.law_local_judged.proofs.Heading.{heading_same}
 use Rattle.law_local_module.specs.Laws.{LeavesIn}
 use Rattle.law_local_module.proofs.Modules.{agree_on}
 use Rattle.law_local_module.specs.DeferredLaws.{LaterIsSaid, ModulesStay}
-use Rattle.law_local_module.proofs.Leaves.{Nil, both_empty, then_nil, both_nil, made_nil, type_nil}
+use Rattle.law_local_module.proofs.Leaves.{Nil, then_nil, both_nil, made_nil, type_nil}
 use Rattle.law_local_module.proofs.Expressions.{expr_nil}
 use Rattle.law_local_module.proofs.Typings.{mark_nil, constant_nil, Left, left_nil, left_both, left_made, left_pair, parameters_left}
 use Rattle.law_local_module.proofs.Written.{written_left, written_parameters_left}
+use Rattle.law_lists.proofs.Lists.{all_both, back_empty, both_empty, front_empty, none_some, some_same}
 
 -- ---- what leaves nothing
 
@@ -104,14 +104,6 @@ order_grows : (fs : List (Around → Declared)) → AllByRecursion IsPlain fs �
 order_grows [] p u h = h
 order_grows (f ∷ fs) p u h = plain_grows f p.0 u (order_grows fs p.1 (f u).around h)
 
-front_empty : {A : Type 0} (xs ys : List A) → xs ++ ys ≡ [] → xs ≡ []
-front_empty [] ys e = refl
-front_empty (x ∷ xs) ys e = absurd cc
-
-rest_empty : {A : Type 0} (xs ys : List A) → xs ++ ys ≡ [] → ys ≡ []
-rest_empty [] ys e = e
-rest_empty (x ∷ xs) ys e = absurd cc
-
 module _ (P : QName → Type 0) (s : QName → Option Desc) where
   -- ---- declarations
 
@@ -149,14 +141,14 @@ module _ (P : QName → Type 0) (s : QName → Option Desc) where
       let said_x = said_left P x.part.notes rest.part.notes said in
       let one = order_same P s (f ∷ []) (p.0, tt) u a own (both_empty x.part.notes.broken [] quiet_x refl) (said_alone x.part.notes said_x) (order_grows fs p.1 x.around h) in
       left_both P x.part.notes rest.part.notes (plain_left f p.0 u a own said_x)
-      (order_left fs p.1 x.around one.agrees (subst (OwnIn P) (sym one.unit) own) (rest_empty x.part.notes.broken rest.part.notes.broken quiet) (said_right P x.part.notes rest.part.notes said) h)
+      (order_left fs p.1 x.around one.agrees (subst (OwnIn P) (sym one.unit) own) (back_empty x.part.notes.broken rest.part.notes.broken quiet) (said_right P x.part.notes rest.part.notes said) h)
 
   -- ---- headings
 
   bound_of : (at : Pos) (var : Bool) (t : TypeRef) (quiet : Bool) (o : Option QName) (b : BoundAs) → (bound_to at var t quiet o).node ≡ Some b → b.of ≡ t
   bound_of at var t quiet (Some q) b e = ap (λ (b : BoundAs). b.of) (sym (some_same e))
-  bound_of at var t true None b e = none_is e
-  bound_of at var t false None b e = none_is e
+  bound_of at var t true None b e = none_some e
+  bound_of at var t false None b e = none_some e
 
   owner_in : (u : Around) → Agrees P u s → (r : RawReceiver) (o : Option BoundAs) → (owner_if u (Some r)).node ≡ Some o → SaidIn P (owner_if u (Some r)).notes → (b : BoundAs) → o ≡ Some b → IsIn P b.of
   owner_in u a r o e said b i =
@@ -184,7 +176,7 @@ module _ (P : QName → Type 0) (s : QName → Option Desc) where
   receiver_unit u (Some r) None = refl
 
   owner_is_in : (u : Around) → Agrees P u s → (r : Option RawReceiver) → SaidIn P (owner_if u r).notes → (x : RawReceiver) (b : BoundAs) → r ≡ Some x → (owner_if u r).node ≡ Some (Some b) → IsIn P b.of
-  owner_is_in u a None said x b e f = none_is e
+  owner_is_in u a None said x b e f = none_some e
   owner_is_in u a (Some r) said x b e f = owner_in u a r (Some b) f said b refl
 
   head_left : (u : Around) → Agrees P u s → OwnIn P u.unit → (h : Heading) (forward : Bool) → SaidIn P (head_of u (heading_of h) forward).notes → Left P (head_of u (heading_of h) forward).notes

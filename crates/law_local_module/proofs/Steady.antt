@@ -1,7 +1,7 @@
 -- What stands around the declarations of a block that breaks no rule.
-use Rattle.std.proofs.Common.{◌≡◌, refl, sym, ap, ◌∙◌, subst, ℕ, Bool, true, false, List, [], ◌∷◌, ◌++◌, Option, Some, None, inl, inr}
+use Rattle.std.proofs.Common.{◌≡◌, refl, sym, subst, ℕ, Bool, true, false, List, [], ◌∷◌, ◌++◌, Option, Some, None, inl, inr}
 use Rattle.std.specs.Prelude.{bytes_eq, is_some, codes}
-use Rattle.std.specs.List.{AllByRecursion, find, filter_map}
+use Rattle.std.specs.List.{AllByRecursion, find}
 use Rattle.std.proofs.lemmas.Bool.{false≢true}
 use Rattle.ob_tree.specs.declared.names.QName.{QName}
 use Rattle.ob_tree.specs.declared.ident.Ident.{Ident}
@@ -27,14 +27,13 @@ use Rattle.ob_rules.specs.Types.{Typing, Written, written, is_module_level, mark
 use Rattle.ob_rules.specs.Headings.{mark_or_hidden}
 use Rattle.ob_rules.specs.Declarations.{Declared, first_name, declare_if, no_nil, constant_entity, constant_declared, typing_as, type_entity, types_made, type_declared, variable_of, variable_entity, paired_typing, variable_marked, variables_with, made_in, variables_declared, in_order}
 use Rattle.law_names_procedures.specs.Procedures.{IsShown, ShowBases}
-use Rattle.law_names_procedures.proofs.Judges.{IfThere}
-use Rattle.law_names_procedures.proofs.Knowing.{IsKnown, AreKnown, all_both, all_from, find_has}
+use Rattle.law_names_procedures.proofs.Knowing.{IsKnown, AreKnown, find_has}
 use Rattle.law_names_procedures.proofs.Points.{holds, Covers, front_covers, back_covers, IsLater, PointsWell, points_alike}
-use Rattle.law_names_procedures.proofs.Typings.{same_itself}
 use Rattle.law_names_procedures.proofs.Headings.{AreBased}
 use Rattle.law_names_procedures.proofs.Plain.{OrderIs}
 use Rattle.law_local_judged.specs.Declared.{IsSound, AreSound, IsPlain, a_constant, a_type, variables}
 use Rattle.law_local_nodes.specs.Quiet.{IsNamed, AreNamed}
+use Rattle.law_lists.proofs.Lists.{IfThere, all_both, all_from, bytes_itself}
 
 -- ---- what is held
 
@@ -113,7 +112,7 @@ own_held u x false c e h = absurd (false≢true e)
 
 points_held : (u : Around) → AreBased u → (d : Desc) → PointsWell u d → HeldWell u d
 points_held u g (desc.Pointer m t) (inl h) = h
-points_held u g (desc.Pointer m t) (inr h) = subst (λ t. is_held (map_of u) t ≡ true) (sym h.2) (own_held u (u.path ++ h.0) (bytes_eq u.unit u.unit) (same_name (in_unit u (u.path ++ h.0)) out_string) (same_itself u.unit) (g.later h.0 h.1))
+points_held u g (desc.Pointer m t) (inr h) = subst (λ t. is_held (map_of u) t ≡ true) (sym h.2) (own_held u (u.path ++ h.0) (bytes_eq u.unit u.unit) (same_name (in_unit u (u.path ++ h.0)) out_string) (bytes_itself u.unit) (g.later h.0 h.1))
 points_held u g (desc.Const x) h = tt
 points_held u g (desc.Var m t) h = tt
 points_held u g (desc.Proc s) h = tt

@@ -1,6 +1,6 @@
 -- Each declaration of variables of a module that is read declares one at least.
-use Rattle.std.proofs.Common.{◌≡◌, ℕ, zero, suc, Bool, true, false, List, [], ◌∷◌, ◌++◌, map, Option, Some, None, Result, Ok, Err, refl, sym, ap, subst, ◌∙◌, inl, inr}
-use Rattle.std.specs.Prelude.{◌&&◌, ◌⊎◌}
+use Rattle.std.proofs.Common.{◌≡◌, ℕ, zero, suc, Bool, true, List, [], ◌∷◌, ◌++◌, map, Option, Some, None, Result, Ok, Err, refl, sym, ap, subst, ◌∙◌, inl, inr}
+use Rattle.std.specs.Prelude.{◌⊎◌}
 use Rattle.std.proofs.lemmas.Bool.{and_parts}
 use Rattle.ob_tree.specs.declared.ident.Ident.{Ident}
 use Rattle.ob_tree.specs.declared.ident.IdentDef.{IdentDef}
@@ -27,12 +27,9 @@ use Rattle.ob_parse_grammar.specs.TextReading.{NoModule, fault_of, parsed, by_fa
 use Rattle.law_names_procedures.specs.Procedures.{all_true}
 use Rattle.law_local_module.specs.Laws.{is_there, variables_layer, declares_variables}
 use Rattle.law_local_module.specs.ReadingLaws.{ReadingsDeclare}
+use Rattle.law_lists.proofs.Lists.{both_true}
 
 -- ---- declarations
-
-both_true : (a b : Bool) → a ≡ true → b ≡ true → (a && b) ≡ true
-both_true true b e f = f
-both_true false b e f = e
 
 all_both_true : (xs ys : List Decl) → all_true (map declares_variables xs) ≡ true → all_true (map declares_variables ys) ≡ true → all_true (map declares_variables (xs ++ ys)) ≡ true
 all_both_true [] ys e f = f

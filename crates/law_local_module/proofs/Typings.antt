@@ -33,11 +33,12 @@ use Rattle.law_local_judged.specs.Agreement.{IsIn}
 use Rattle.law_local_judged.specs.Said.{SaidIn}
 use Rattle.law_local_judged.specs.Followed.{EntityIn, TypeIn, Agrees}
 use Rattle.law_local_judged.specs.Declared.{MadeIn, TypingIn, OwnIn, LaterIn}
-use Rattle.law_local_judged.proofs.Following.{none_is, some_same, said_left, said_right, then_node, made_node}
+use Rattle.law_local_judged.proofs.Following.{said_left, said_right, then_node, made_node}
 use Rattle.law_local_judged.proofs.Names.{type_named_follows}
-use Rattle.law_local_judged.proofs.Typings.{all_both, agrees_with, WrittenFollows}
+use Rattle.law_local_judged.proofs.Typings.{agrees_with, WrittenFollows}
 use Rattle.law_local_judged.proofs.Parameters.{agrees_inner, knows_agrees}
-use Rattle.law_local_module.proofs.Leaves.{Nil, both_empty, then_nil, both_nil, made_nil, unless_nil, wants_nil, type_nil}
+use Rattle.law_local_module.proofs.Leaves.{Nil, then_nil, both_nil, made_nil, unless_nil, wants_nil, type_nil}
+use Rattle.law_lists.proofs.Lists.{all_both, both_empty, none_some, some_same}
 
 -- ---- what leaves nothing
 
@@ -146,7 +147,7 @@ module _ (P : QName → Type 0) where
 
     wanted : (b : Bool) (rule : ℕ) (at : Pos) (t r : TypeRef) → (wants b rule at t).node ≡ Some r → t ≡ r
     wanted true rule at t r e = some_same e
-    wanted false rule at t r e = none_is e
+    wanted false rule at t r e = none_some e
 
     base_in : (q : Qualident) (o : Option TypeRef) → (base_if u (Some q)).node ≡ Some o → SaidIn P (base_if u (Some q)).notes → TypeIn P o
     base_in q o e said =

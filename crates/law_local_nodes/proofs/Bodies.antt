@@ -1,5 +1,5 @@
 -- Statements, of parts that have nodes or break a rule.
-use Rattle.std.proofs.Common.{◌≡◌, refl, sym, ap, ◌∙◌, subst, ℕ, Bool, true, false, not, List, [], ◌∷◌, ◌++◌, map, Option, Some, None}
+use Rattle.std.proofs.Common.{◌≡◌, refl, sym, ap, ◌∙◌, subst, ℕ, Bool, true, false, not, List, [], ◌∷◌, ◌++◌, Option, Some, None}
 use Rattle.std.specs.Prelude.{◌&&◌, ◌||◌, is_some, ℤ, pos, int_le}
 use Rattle.std.specs.List.{AllByRecursion, list_any}
 use Rattle.std.specs.Ordering.{int_eq}
@@ -42,7 +42,7 @@ use Rattle.ob_rules.specs.Designators.{call_meant, is_callable, variable_named, 
 use Rattle.ob_rules.specs.Expressions.{Named, Ranged, meant_by, constant_value}
 use Rattle.ob_rules.specs.Types.{first_of}
 use Rattle.ob_rules.specs.Statements.{Judging, one, in_turn, in_turn_if, target, assigns, assignment, call_value, constant_at, done, place_called, called, condition, branch_of, empty_if_none, selects, case_value, overlaps, range_if, label_ranged, label_of, label_value, label_as, both_ends, high_if, label_both, label, Labels, with_label, labels, Labelled, case_of, cases, selects_if, case_with, case_judged, case, integer_place, for_variable, for_bound, step_value, step_of, for_step, for_made, bound_if, for_parts, for_with, for, exit, returned, return_none, return_of, return, with_module, with_named, with_qualified_by, with_qualified, with_meant, with_place, with_guard, guard_test, variable_in, variable_behind, entity_variable, module_variable, variable_meant, guarded_around, type_if, guarded_body, GuardedBody, with_branch_in, tested, with_variable, with_test, with_branch, Conditional, in_loop, conditional, conditionals, with_branches, if_statement, while_statement, repeat_statement, loop_statement, with_statement, call_statement}
-use Rattle.law_names_procedures.proofs.Judges.{Has, Speaks, Anything, front_empty, rest_empty, speaks_more, has_more, breaks_speaks, then_speaks, paired_has, both_speak, both_after, made_speaks, unless_speaks, wants_speaks}
+use Rattle.law_names_procedures.proofs.Judges.{Has, Speaks, speaks_more, has_more, breaks_speaks, then_speaks, paired_has, both_speak, both_after, made_speaks, unless_speaks, wants_speaks}
 use Rattle.law_names_procedures.proofs.Knowing.{name_speaks}
 use Rattle.law_names_procedures.proofs.Typings.{constant_speaks}
 use Rattle.law_local_nodes.proofs.Operators.{There}
@@ -51,6 +51,7 @@ use Rattle.law_local_nodes.proofs.Guards.{Means, plain, behind as behind_dot, Qu
 use Rattle.law_local_nodes.proofs.Calls.{held_there}
 use Rattle.law_local_nodes.proofs.Designators.{known_there, callable_there, AreBehind, NameIs, named_there, PlaceIs, FrontIs, FrontThere, front_there, from_there}
 use Rattle.law_local_nodes.proofs.Expressions.{meant_there, RangedThere}
+use Rattle.law_lists.proofs.Lists.{Anything, back_empty, front_empty}
 
 -- ---- one after the other
 
@@ -246,7 +247,7 @@ module _ (u : Around) (q : Quiet u) where
       let w = for_with (map_of u) at v.node (a.value u) (b.value u) (for_step u at step) (in_turn body u) in
       λ e.
       let has = then_speaks (NameIs u q x.name) Anything (named u x) (for_variable u at x) (named_there u q x) (λ e h. variable_there at x e h) (front_empty v.notes.broken w.notes.broken e) in
-      with_there at v.node (a.value u) (b.value u) (for_step u at step) (in_turn body u) has h.value k.value (step_there at step) (in_turn_there body l u q) (rest_empty v.notes.broken w.notes.broken e)
+      with_there at v.node (a.value u) (b.value u) (for_step u at step) (in_turn body u) has h.value k.value (step_there at step) (in_turn_there body l u q) (back_empty v.notes.broken w.notes.broken e)
 
   -- ---- EXIT and RETURN
 
@@ -379,7 +380,7 @@ module _ (u : Around) (q : Quiet u) where
       made_speaks (λ p. Unit {0} × Unit {0}) Anything (λ p. roll-TypedBranch (record { test = p.0; body = p.1 })) (both a c) (λ e.
       let first = front_empty a.notes.broken c.notes.broken e in
       let w = test_there b.guard (front_empty j.notes.broken (if_sound j.node (λ p. sound p.0)).notes.broken first) in
-      paired_has Anything Anything a.node c.node (made_speaks (WithIs b.guard) Anything (λ p. p.0) j (test_there b.guard) (λ r t. tt) first) (guarded_there b.guard b.body h j.node w (rest_empty a.notes.broken c.notes.broken e))) (λ p t. tt)
+      paired_has Anything Anything a.node c.node (made_speaks (WithIs b.guard) Anything (λ p. p.0) j (test_there b.guard) (λ r t. tt) first) (guarded_there b.guard b.body h j.node w (back_empty a.notes.broken c.notes.broken e))) (λ p t. tt)
 
   branches_with : (bs : List GuardedBody) → AllByRecursion (λ b. BodyThere b.body) bs → There (with_branches u bs)
   branches_with [] h = λ n. tt

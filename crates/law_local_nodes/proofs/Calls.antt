@@ -1,5 +1,5 @@
 -- Calls of declared and bound procedures, of Out and of what variables hold have a node, or break a rule.
-use Rattle.std.proofs.Common.{◌≡◌, refl, sym, ap, ◌∙◌, subst, ℕ, zero, suc, Bool, true, false, List, [], ◌∷◌, Option, Some, None, length}
+use Rattle.std.proofs.Common.{◌≡◌, refl, sym, subst, ℕ, zero, suc, Bool, true, false, List, [], ◌∷◌, Option, Some, None, length}
 use Rattle.std.specs.Prelude.{not, ◌&&◌, nat_eq, is_some, is_none, bytes_eq}
 use Rattle.std.specs.List.{AllByRecursion}
 use Rattle.ob_tree.specs.declared.pos.Pos.{Pos}
@@ -27,10 +27,11 @@ use Rattle.ob_rules.specs.Names.{Around, map_of, bound_for}
 use Rattle.ob_rules.specs.Values.{computed}
 use Rattle.ob_rules.specs.Phrases.{receiver_place, Phrase}
 use Rattle.ob_rules.specs.Calls.{actual_of, takes_variable, unless_guarded, unless_read_only, variable_actual, meant_actual, var_actual, takes_value, tree_for, value_actual, actual, actuals, misplaced, called_with, called, call_procedure, call_variable, out_signature, call_out, bound_callee, receiver_actual, is_record_receiver, sound_or, nearest_sound, where_from, call_bound_sound, call_bound}
-use Rattle.law_names_procedures.proofs.Judges.{IfThere, Anything, Speaks, breaks_speaks, then_speaks, both_speak, wants_speaks, also_speaks}
+use Rattle.law_names_procedures.proofs.Judges.{Speaks, breaks_speaks, then_speaks, both_speak, wants_speaks, also_speaks}
 use Rattle.law_names_procedures.proofs.Knowing.{find_has}
 use Rattle.law_local_nodes.proofs.Operators.{There}
 use Rattle.law_local_nodes.proofs.Predeclared.{IsNoStatement, PhraseThere, PhrasesThere, MeantThere}
+use Rattle.law_lists.proofs.Lists.{Anything, IfThere}
 
 module _ (u : Around) where
   -- ---- actual parameters

@@ -1,5 +1,5 @@
 -- Designators: a name, and each selector behind it, has a node, or breaks a rule.
-use Rattle.std.proofs.Common.{◌≡◌, refl, sym, ap, ◌∙◌, subst, ℕ, Bool, true, false, List, [], ◌∷◌, Option, Some, None}
+use Rattle.std.proofs.Common.{◌≡◌, refl, sym, ap, subst, ℕ, Bool, true, false, List, [], ◌∷◌, Option, Some, None}
 use Rattle.std.specs.Prelude.{◌&&◌, not, is_some}
 use Rattle.std.specs.List.{AllByRecursion, list_any}
 use Rattle.std.proofs.lemmas.Bool.{false≢true}
@@ -38,16 +38,17 @@ use Rattle.ob_rules.specs.Values.{is_integer}
 use Rattle.ob_rules.specs.Phrases.{dereferenced, Phrase, Behind, Dot, Index, Up, Round}
 use Rattle.ob_rules.specs.Calls.{call_procedure, call_variable, call_out, call_bound}
 use Rattle.ob_rules.specs.Designators.{same_variable, guarded_by, guard_of, variable_named, guard, if_so_held, dereference_of, dereference, through_if, implicitly, indexed, index_into, index_if, index, is_read_only, field_of, chosen, with_receiver, select_bound, comes_as, comes, nothing_behind, not_there, member_found, member_of, select_of, select_through, select, super_of, super_in, super_if, super, visited, all_visited, type_in_round, as_call, place_round, call_meant, takes_type, is_callable, is_guardable, other_round, step_dot, step_index, step_up, step_round, step, where_of, go_on_with, go_on, through, of_variable, exported_meant, out_meant, in_module, dot_of, module_front, front_of, is_module, behind, front, from_front_with, from_front, designates}
-use Rattle.law_names_procedures.proofs.Judges.{IfThere, Has, Speaks, Anything, front_empty, rest_empty, not_empty, has_more, speaks_more, breaks_speaks, then_speaks, made_speaks, wants_speaks}
+use Rattle.law_names_procedures.proofs.Judges.{Has, Speaks, not_empty, has_more, speaks_more, breaks_speaks, then_speaks, made_speaks, wants_speaks}
 use Rattle.law_names_procedures.proofs.Knowing.{IsKnown, find_has, name_speaks}
 use Rattle.law_local_nodes.specs.Quiet.{IsQuiet}
 use Rattle.law_local_nodes.proofs.Operators.{There}
 use Rattle.law_local_nodes.proofs.Predeclared.{IsNoStatement, Fits, fits, IsCall, Comes, calls_come, comes_fits, IsHeld, PhraseThere, PhrasesThere, predeclared_there}
 use Rattle.law_local_nodes.proofs.Calls.{procedure_there, held_there, out_there, bound_there}
 use Rattle.law_local_nodes.proofs.Guards.{Means, plain, behind as behind_dot, Quiet, are_known, found_in}
+use Rattle.law_lists.proofs.Lists.{Anything, back_empty, front_empty}
 
 pub noted_breaks : {A : Type 0} (P : A → Type 0) (n : Notes) (rule : ℕ) (at : Pos) → Speaks P (noted n (breaks {A = A} rule at))
-noted_breaks P n rule at = λ e. not_empty _ [] (rest_empty n.broken _ e)
+noted_breaks P n rule at = λ e. not_empty _ [] (back_empty n.broken _ e)
 
 pub found_there : {A : Type 0} (rule : ℕ) (at : Pos) (o : Option A) → There (found_or rule at o)
 found_there {A} rule at None = breaks_speaks {A = A} Anything rule at
@@ -245,7 +246,7 @@ module _ (u : Around) (q : Quiet u) where
   go_by P Q bs (Some m) f h k = k m h
 
   go_there : (P Q : Meant → Type 0) (bs : List Behind) (j : Judged Meant) (f : Meant → Judged Meant) → Speaks P j → ((m : Meant) → P m → Speaks Q (f m)) → Speaks Q (go_on u bs j f)
-  go_there P Q bs j f h k = λ e. go_by P Q bs j.node f (h (front_empty j.notes.broken (go_on_with u bs f j.node).notes.broken e)) k (rest_empty j.notes.broken (go_on_with u bs f j.node).notes.broken e)
+  go_there P Q bs j f h k = λ e. go_by P Q bs j.node f (h (front_empty j.notes.broken (go_on_with u bs f j.node).notes.broken e)) k (back_empty j.notes.broken (go_on_with u bs f j.node).notes.broken e)
 
   -- what is meant in the end stands where it fits
   abbrev LastFits : Where → List Behind → Meant → Type 0
@@ -357,7 +358,7 @@ module _ (u : Around) (q : Quiet u) where
   from_by P Q w start bs (Some m) h k = k m h
 
   pub from_there : (P : Meant × List Behind → Type 0) (Q : Meant → Type 0) (w : Where) (start : Pos) (bs : List Behind) (j : Judged (Meant × List Behind)) → Speaks P j → ((m : Meant × List Behind) → P m → Speaks Q (through u w start m.1 m.0)) → Speaks Q (from_front u w start bs j)
-  from_there P Q w start bs j h k = λ e. from_by P Q w start bs j.node (h (front_empty j.notes.broken (from_front_with u w start bs j.node).notes.broken e)) k (rest_empty j.notes.broken (from_front_with u w start bs j.node).notes.broken e)
+  from_there P Q w start bs j h k = λ e. from_by P Q w start bs j.node (h (front_empty j.notes.broken (from_front_with u w start bs j.node).notes.broken e)) k (back_empty j.notes.broken (from_front_with u w start bs j.node).notes.broken e)
 
   behind_there : (b : Bool) (bs : List Behind) → AreBehind bs → AreBehind (behind b bs)
   behind_there true [] h = h

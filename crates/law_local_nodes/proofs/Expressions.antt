@@ -1,5 +1,5 @@
 -- Expressions have a node, or break a rule, by induction over the tree of the grammar.
-use Rattle.std.proofs.Common.{◌≡◌, refl, sym, subst, ℕ, Bool, true, false, not, List, [], ◌∷◌, map, Option, Some, None}
+use Rattle.std.proofs.Common.{sym, subst, ℕ, Bool, true, false, not, List, [], ◌∷◌, map, Option, Some, None}
 use Rattle.std.specs.Prelude.{nat_le, pos}
 use Rattle.std.specs.List.{AllByRecursion}
 use Rattle.ob_tree.specs.declared.pos.Pos.{Pos}
@@ -35,12 +35,13 @@ use Rattle.ob_rules.specs.Constants.{text_value}
 use Rattle.ob_rules.specs.Operators.{combined, opposite, signed, related, element, set_of}
 use Rattle.ob_rules.specs.Phrases.{Phrase, Behind}
 use Rattle.ob_rules.specs.Expressions.{integer_literal, char_literal, procedure_value, value_meant, Named, meant_by, designator_phrase, testable, test_of, record_if, test, untestable, type_test, other_test, is_test, phrase, Tailed, combine_all, bracketed, Ranged, value_if, element_value, relation_of, relation_value, integer_text, marked, expr_rule, selector_rule, designator_rule, element_rule, tail_rule, phrase_of, named_of, ranged_of, tailed_of, behind_of}
-use Rattle.law_names_procedures.proofs.Judges.{Speaks, Anything, speaks_more, breaks_speaks, then_speaks, both_speak, made_speaks, each_speaks, wants_speaks, also_speaks}
+use Rattle.law_names_procedures.proofs.Judges.{Speaks, speaks_more, breaks_speaks, then_speaks, both_speak, made_speaks, each_speaks, wants_speaks, also_speaks}
 use Rattle.law_names_procedures.proofs.Knowing.{name_speaks}
 use Rattle.law_local_nodes.proofs.Operators.{There, combined_there, opposite_there, signed_there, related_there, element_there}
 use Rattle.law_local_nodes.proofs.Predeclared.{Fits, PhraseThere, PhrasesThere}
 use Rattle.law_local_nodes.proofs.Guards.{Quiet}
 use Rattle.law_local_nodes.proofs.Designators.{found_there, known_there, BehindThere, AreBehind, designates_there}
+use Rattle.law_lists.proofs.Lists.{Anything}
 
 procedure_there : (b : Bool) (at : Pos) (name : QName) (x : Valued) → There (procedure_value b at name x)
 procedure_there true at name x = λ n. tt

@@ -1,7 +1,7 @@
 -- Variables under their guards: each guard that stands around has a node.
 use Rattle.std.proofs.Common.{◌≡◌, refl, sym, ap, ◌∙◌, subst, ℕ, Bool, true, false, List, [], ◌∷◌, ◌++◌, Option, Some, None, cond}
-use Rattle.std.specs.Prelude.{◌&&◌, is_some, bytes_eq}
-use Rattle.std.specs.List.{AllByRecursion, find}
+use Rattle.std.specs.Prelude.{◌&&◌, bytes_eq}
+use Rattle.std.specs.List.{AllByRecursion}
 use Rattle.std.proofs.lemmas.Bool.{false≢true, and_parts}
 use Rattle.std.proofs.lemmas.Slice.Eq.{bytes_eq-Decides}
 use Rattle.ob_tree.specs.declared.pos.Pos.{Pos}
@@ -23,12 +23,13 @@ use Rattle.ob_rules.specs.Judged.{Judged, if_sound, sound, ◌▷◌}
 use Rattle.ob_rules.specs.Shapes.{Map, record_of, pointed_record}
 use Rattle.ob_rules.specs.Names.{Around, map_of, find_name}
 use Rattle.ob_rules.specs.Designators.{variable_at, same_variable, guarded_by, if_extends, on_record, guard_kind, guard_of, with_guard, guard_if, guard_same, with_guards, variable_named}
-use Rattle.law_names_procedures.proofs.Judges.{IfThere, Has, Anything}
+use Rattle.law_names_procedures.proofs.Judges.{Has}
 use Rattle.law_names_procedures.proofs.Knowing.{IsKnown, AreKnown, find_has}
 use Rattle.law_local_judged.specs.Declared.{IsSound, AreSound}
 use Rattle.law_local_nodes.specs.Quiet.{name_of, IsOfUnit, IsNamed, AreNamed, IsQuiet}
 use Rattle.law_local_nodes.proofs.Maps.{guards_map, loop_map, held_same}
 use Rattle.law_local_nodes.proofs.Maps as maps
+use Rattle.law_lists.proofs.Lists.{Anything, IfThere}
 
 -- ---- what a name, with one behind a dot, means as a variable
 

@@ -1,5 +1,5 @@
 -- Operators: what is applied to values has a node, or breaks a rule.
-use Rattle.std.proofs.Common.{ℕ, Bool, true, false, List, Option, Some, None}
+use Rattle.std.proofs.Common.{ℕ, Bool, true, false, Option, Some, None}
 use Rattle.ob_tree.specs.declared.pos.Pos.{Pos}
 use Rattle.ob_tree.specs.declared.expr.Operator.{Operator}
 use Rattle.ob_tree.specs.declared.expr.Operator.TheVariants as op
@@ -27,8 +27,9 @@ use Rattle.ob_rules.specs.Shapes.{Map}
 use Rattle.ob_rules.specs.Constants.{fold_one, fold_two, fold_texts, fold_logical}
 use Rattle.ob_rules.specs.Values.{computed, is, width as width_of, is_integer, text_tree, tree, constant_in}
 use Rattle.ob_rules.specs.Operators.{folded, one_of, monadic, two_of, dyadic, logical, texts, if_fit, are, binary_of, connected, combined, negated, opposite, signed_as, signed, comparison_of, compared_as, is_equality, is_text, compare_as, contained, compare, related, element_folded, single, ranged, if_integer, if_integers, element}
-use Rattle.law_names_procedures.proofs.Judges.{Speaks, Anything, breaks_speaks}
+use Rattle.law_names_procedures.proofs.Judges.{Speaks, breaks_speaks}
 use Rattle.std.specs.Prelude.{◌&&◌}
+use Rattle.law_lists.proofs.Lists.{Anything}
 
 -- where it breaks no rule it has a node
 abbrev pub There : {A : Type 0} → Judged A → Type 0

@@ -1,5 +1,5 @@
 -- Calls of predeclared procedures have a node, or break a rule.
-use Rattle.std.proofs.Common.{◌≡◌, ℕ, Bool, true, false, List, [], ◌∷◌, Option, Some, None, refl, sym, ◌∙◌}
+use Rattle.std.proofs.Common.{◌≡◌, ℕ, Bool, true, false, List, [], ◌∷◌, Option, Some, None, refl}
 use Rattle.std.specs.Prelude.{◌&&◌, nat_eq, is_some, ℤ, pos, negsuc}
 use Rattle.std.specs.List.{AllByRecursion}
 use Rattle.std.proofs.lemmas.Bool.{false≢true}
@@ -37,9 +37,10 @@ use Rattle.ob_rules.specs.Operators.{monadic, dyadic, only_value, and_so}
 use Rattle.ob_rules.specs.Calls.{misplaced}
 use Rattle.ob_rules.specs.Phrases.{Phrase}
 use Rattle.ob_rules.specs.Predeclared.{changed_meant, changed_as, changed, must_be_constant, values, asked_first, asked_second, parameter, parameters_behind, parameters, is_function, value, does, if_is, on_width, longer, shorter, dimension, length_of, len_at, len_of, number_in, one, step, element_step, is_text, new_array, new_fixed, new_elements, if_held, new_one, new_many, fit_one, fit_two, fit, if_fit, call_fit, type_parameter, extreme_of, basic_if, extreme_call, call_predeclared}
-use Rattle.law_names_procedures.proofs.Judges.{IfThere, Has, Speaks, Anything, not_empty, speaks_more, breaks_speaks, then_speaks, made_speaks, each_speaks, unless_speaks, wants_speaks, also_speaks}
+use Rattle.law_names_procedures.proofs.Judges.{Has, Speaks, not_empty, speaks_more, breaks_speaks, then_speaks, made_speaks, each_speaks, unless_speaks, wants_speaks, also_speaks}
 use Rattle.law_names_procedures.proofs.Knowing.{AreKnown, name_speaks}
 use Rattle.law_local_nodes.proofs.Operators.{There, monadic_there, dyadic_there}
+use Rattle.law_lists.proofs.Lists.{Anything, IfThere}
 
 -- no call of a predeclared procedure without a result
 abbrev pub IsNoStatement : Meant → Type 0

@@ -1,5 +1,5 @@
 -- Statements have a node, or break a rule, by induction over the tree of the grammar.
-use Rattle.std.proofs.Common.{◌≡◌, refl, sym, subst, Bool, true, false, List, [], ◌∷◌, map, Option, Some, None}
+use Rattle.std.proofs.Common.{◌≡◌, refl, sym, subst, true, List, [], ◌∷◌, map, Option, Some, None}
 use Rattle.std.specs.Prelude.{is_some}
 use Rattle.std.specs.List.{AllByRecursion}
 use Rattle.ob_tree.specs.declared.expr.Expr.{Expr}
@@ -13,12 +13,13 @@ use Rattle.ob_types.specs.declared.typed.TypedStmt.{TypedStmt}
 use Rattle.ob_rules.specs.Names.{Around}
 use Rattle.ob_rules.specs.Expressions.{phrase_of, named_of, ranged_of}
 use Rattle.ob_rules.specs.Statements.{Judging, Conditional, Labelled, GuardedBody, in_turn, phrase_if, stmt_rule, branch_rule, case_rule, guarded_rule, judging, conditional_of, labelled_of, guarded_of}
-use Rattle.law_names_procedures.proofs.Judges.{Has, Anything}
+use Rattle.law_names_procedures.proofs.Judges.{Has}
 use Rattle.law_local_nodes.specs.Quiet.{StatementsAreThere}
 use Rattle.law_local_nodes.proofs.Guards.{Quiet, no_guards}
 use Rattle.law_local_nodes.proofs.Predeclared.{PhraseThere}
 use Rattle.law_local_nodes.proofs.Expressions.{expr_there, designator_of_there}
 use Rattle.law_local_nodes.proofs.Bodies.{JudgingThere, BodyThere, in_turn_there, assignment_there, call_there, ConditionThere, if_there, while_there, repeat_there, loop_there, case_there, for_there, exit_there, IfPhrase, return_there, with_statement_there}
+use Rattle.law_lists.proofs.Lists.{Anything}
 
 phrase_there : (u : Around) (q : Quiet u) (o : Option Expr) → IfPhrase u q (phrase_if o)
 phrase_there u q None = tt

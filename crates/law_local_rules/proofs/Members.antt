@@ -15,6 +15,7 @@ use Rattle.ob_layout.specs.LaidOut.{numbered}
 use Rattle.ob_layout.specs.Members.{method_named, from_base, nearest_in, nearest, method_in_record, method_in}
 use Rattle.ob_env.specs.Shown.{unnumbered, blank}
 use Rattle.ob_rules.specs.Shapes.{Map, Member, AMethod, field_or, own_member, base_record, or_in_base, member_within}
+use Rattle.law_lists.proofs.Lists.{bytes_flip}
 
 -- ---- what the rules find
 
@@ -77,15 +78,6 @@ found_name x (k ∷ ms) m e = go (bytes_eq k.name x) refl (λ i. found_name x ms
 
 -- ---- what the view has
 
-pub flip : (x y : List ℕ) → bytes_eq x y ≡ bytes_eq y x
-flip x y = go (bytes_eq x y) refl (bytes_eq y x) refl
-  where
-    go : (b : Bool) → bytes_eq x y ≡ b → (c : Bool) → bytes_eq y x ≡ c → b ≡ c
-    go true e true f = refl
-    go false e false f = refl
-    go true e false f = sym ((bytes_eq-Decides y x).1 (sym ((bytes_eq-Decides x y).0 e))) ∙ f
-    go false e true f = sym (sym ((bytes_eq-Decides x y).1 (sym ((bytes_eq-Decides y x).0 f))) ∙ e)
-
 -- one of this name and signature
 pub record HasNamed (x : List ℕ) (ms : List Method) (m : Method) : Type 0 where
   pub k : Method
@@ -95,10 +87,10 @@ pub record HasNamed (x : List ℕ) (ms : List Method) (m : Method) : Type 0 wher
 named_here : (b : Bool) (x : List ℕ) (a k m : Method) (ms ns : List Method) → bytes_eq a.name x ≡ b → k.name ≡ a.name → k.signature ≡ a.signature → (find (λ k. bytes_eq k.name x) ms ≡ Some m → HasNamed x ns m) → cond b (Some a) (find (λ k. bytes_eq k.name x) ms) ≡ Some m → HasNamed x (k ∷ ns) m
 named_here true x a k m ms ns i n s h e =
     let same : a ≡ m = cc in
-    record { k = k; is = ap (λ b. cond b (Some k) (method_named x ns)) (flip x k.name ∙ ap (λ y. bytes_eq y x) n ∙ i); same = s ∙ ap (λ (z : Method). z.signature) same }
+    record { k = k; is = ap (λ b. cond b (Some k) (method_named x ns)) (bytes_flip x k.name ∙ ap (λ y. bytes_eq y x) n ∙ i); same = s ∙ ap (λ (z : Method). z.signature) same }
 named_here false x a k m ms ns i n s h e =
     let r = h e in
-    record { k = r.k; is = ap (λ b. cond b (Some k) (method_named x ns)) (flip x k.name ∙ ap (λ y. bytes_eq y x) n ∙ i) ∙ r.is; same = r.same }
+    record { k = r.k; is = ap (λ b. cond b (Some k) (method_named x ns)) (bytes_flip x k.name ∙ ap (λ y. bytes_eq y x) n ∙ i) ∙ r.is; same = r.same }
 
 pub found_numbered : (x : List ℕ) (n : ℕ) (ms : List Method) (m : Method) → find (λ k. bytes_eq k.name x) ms ≡ Some m → HasNamed x (numbered n ms) m
 found_numbered x n [] m e = absurd cc

@@ -28,7 +28,6 @@ use Rattle.ob_rules.specs.Declarations.{Contents, Written_procedure, around_body
 use Rattle.law_names_procedures.proofs.Judges.{Has}
 use Rattle.law_local_judged.specs.Agreement.{DescIn, Agree}
 use Rattle.law_local_judged.specs.Said.{CountsIn, SignatureIn}
-use Rattle.law_local_judged.proofs.Following.{all_left, all_right}
 use Rattle.law_local_judged.proofs.Mentioned.{counts_left, counts_right, shapes_in}
 use Rattle.law_local_judged.proofs.Tests.{member_same}
 use Rattle.law_local_files.specs.Laws.{Text, view}
@@ -39,6 +38,7 @@ use Rattle.law_local_rules.specs.Laws.{CountsFor}
 use Rattle.law_local_rules.proofs.Members.{HasMethod, member_at, found_name, found_numbered, found_unnumbered, method_there, shown_of}
 use Rattle.law_local_rules.proofs.Types.{has_name, described_name, Anywhere, anywhere, all_anywhere}
 use Rattle.ob_uses.specs.Uses.{near_types}
+use Rattle.law_lists.proofs.Lists.{all_back, all_front}
 
 declared_forward : (b : Bool) (d : Head) (u : Around) → (declared_head b d u).forward ≡ d.forward
 declared_forward true d u = refl
@@ -128,7 +128,7 @@ module _ (faces : List (Face Text)) (t : TypedModule) where
       let next : Heads = record { around = known_behind v b d; before = h ∷ hs.before } in
       let mine = procedure_judged U p h p.forward in
       let rest = procedures_judged U ps (heads_of ps next) in
-      (λ f. judged_counts U p h k.0 p.forward (sym (declared_forward b d (known_behind v b d)) ∙ f) (all_left Counted mine.contents.procedures rest.contents.procedures a), heads_count U ps next k.1 (all_right Counted mine.contents.procedures rest.contents.procedures a))
+      (λ f. judged_counts U p h k.0 p.forward (sym (declared_forward b d (known_behind v b d)) ∙ f) (all_front Counted mine.contents.procedures rest.contents.procedures a), heads_count U ps next k.1 (all_back Counted mine.contents.procedures rest.contents.procedures a))
 
   -- ---- the view
 

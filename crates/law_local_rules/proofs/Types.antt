@@ -1,8 +1,7 @@
 -- Each type that bound procedures are bound to has the name of a type that the module makes.
-use Rattle.std.proofs.Common.{◌≡◌, ℕ, Bool, true, false, List, [], ◌∷◌, ◌++◌, map, Option, Some, None, refl, sym, ap, ◌∙◌, cond}
+use Rattle.std.proofs.Common.{◌≡◌, ℕ, Bool, true, List, [], ◌∷◌, ◌++◌, map, Option, Some, None, refl, sym, ap, ◌∙◌, cond}
 use Rattle.std.specs.Prelude.{◌≢◌, ◌||◌, bytes_eq}
 use Rattle.std.specs.List.{AllByRecursion, find, list_any}
-use Rattle.std.proofs.lemmas.Slice.Eq.{bytes_eq-Decides}
 use Rattle.ob_tree.specs.declared.names.QName.{QName}
 use Rattle.ob_tree.specs.declared.decl.Module.{Module as Tree}
 use Rattle.ob_types.specs.declared.types.TypeRef.{TypeRef}
@@ -16,12 +15,12 @@ use Rattle.ob_rules.specs.Statements.{judging}
 use Rattle.ob_rules.specs.Declarations.{Part, Declared, declaration, import_declared, target_of, imports_declared, around_module, block, described, all_described}
 use Rattle.law_names_distinct.specs.Distinct.{AreDistinct}
 use Rattle.law_local_judged.specs.Agreement.{IsIn, AreIn}
-use Rattle.law_local_judged.proofs.Following.{all_left, all_right}
 use Rattle.law_local_uses.proofs.Bodies.{stmts_ok}
 use Rattle.law_local_uses.specs.Held.{AreHeld, SaysShown}
 use Rattle.law_local_uses.proofs.Around.{Given, AreKnown, Fine, there}
 use Rattle.law_local_uses.proofs.Heads.{There, AreThere}
 use Rattle.law_local_uses.proofs.Blocks.{order_good, imports_good, decls_good, block_ok}
+use Rattle.law_lists.proofs.Lists.{all_back, all_front, bytes_itself, differ_false, or_second}
 
 -- ---- the first type of each name
 
@@ -31,16 +30,6 @@ has_name ts x = list_any (λ t. bytes_eq x t.name) ts
 
 abbrev map_by : List ℕ → List TypedType → (QName → Option Desc) → Map
 map_by unit ts shown q = cond (bytes_eq q.«module» unit) (own_desc (find (λ t. bytes_eq t.name q.object) ts)) (shown q)
-
-itself : (x : List ℕ) → bytes_eq x x ≡ true
-itself x = (bytes_eq-Decides x x).1 refl
-
-differ_false : (x y : List ℕ) → x ≢ y → bytes_eq x y ≡ false
-differ_false x y d = by (bytes_eq x y) refl
-  where
-    by : (b : Bool) → bytes_eq x y ≡ b → b ≡ false
-    by true e = absurd (d ((bytes_eq-Decides x y).0 e))
-    by false e = refl
 
 abbrev IsFound : List TypedType → TypedType → Type 0
 IsFound ts t = find (λ s. bytes_eq s.name t.name) ts ≡ Some t
@@ -54,7 +43,7 @@ found_behind s ts (u ∷ us) d h = (
 
 all_found : (ts : List TypedType) → AreDistinct (λ t. t.name) ts → AllByRecursion (IsFound ts) ts
 all_found [] d = tt
-all_found (t ∷ ts) d = (ap (λ b. cond b (Some t) (find (λ x. bytes_eq x.name t.name) ts)) (itself t.name), found_behind t ts ts d.0 (all_found ts d.1))
+all_found (t ∷ ts) d = (ap (λ b. cond b (Some t) (find (λ x. bytes_eq x.name t.name) ts)) (bytes_itself t.name), found_behind t ts ts d.0 (all_found ts d.1))
 
 pub described_name : (o : Option TypedType) (t : TypedType) → (described o t).name ≡ t.name
 described_name None t = refl
@@ -69,18 +58,13 @@ pub distinct_back : (bound ts : List TypedType) → AreDistinct (λ t. t.name) (
 distinct_back bound [] h = tt
 distinct_back bound (t ∷ ts) h = (others_back bound (described (find (λ b. bytes_eq b.name t.name) bound) t).name t.name (described_name (find (λ b. bytes_eq b.name t.name) bound) t) ts h.0, distinct_back bound ts h.1)
 
--- each has its own name
-or_true : (a b : Bool) → b ≡ true → (a || b) ≡ true
-or_true true b e = refl
-or_true false b e = e
-
 name_behind : (s : TypedType) (ts us : List TypedType) → AllByRecursion (λ t. has_name ts t.name ≡ true) us → AllByRecursion (λ t. has_name (s ∷ ts) t.name ≡ true) us
 name_behind s ts [] h = tt
-name_behind s ts (u ∷ us) h = (or_true (bytes_eq u.name s.name) (has_name ts u.name) h.0, name_behind s ts us h.1)
+name_behind s ts (u ∷ us) h = (or_second (bytes_eq u.name s.name) (has_name ts u.name) h.0, name_behind s ts us h.1)
 
 all_names : (ts : List TypedType) → AllByRecursion (λ t. has_name ts t.name ≡ true) ts
 all_names [] = tt
-all_names (t ∷ ts) = (ap (λ b. b || has_name ts t.name) (itself t.name), name_behind t ts ts (all_names ts))
+all_names (t ∷ ts) = (ap (λ b. b || has_name ts t.name) (bytes_itself t.name), name_behind t ts ts (all_names ts))
 
 -- ---- all is held
 
@@ -122,7 +106,7 @@ module _ (shown : QName → Option Desc) (tree : Tree) where
   given ts = record { unit = tree.name.name; shown = shown; map = map_by tree.name.name ts shown; Own = λ q. has_name ts q.object ≡ true; Held = Anywhere; held = all_held; says = says_shown ts }
 
   by_name : (ts : List TypedType) (t : TypedType) → IsFound ts t → map_by tree.name.name ts shown (record { «module» = tree.name.name; object = t.name }) ≡ Some t.desc
-  by_name ts t e = ap (λ b. cond b (own_desc (find (λ s. bytes_eq s.name t.name) ts)) (shown (record { «module» = tree.name.name; object = t.name }))) (itself tree.name.name) ∙ ap own_desc e
+  by_name ts t e = ap (λ b. cond b (own_desc (find (λ s. bytes_eq s.name t.name) ts)) (shown (record { «module» = tree.name.name; object = t.name }))) (bytes_itself tree.name.name) ∙ ap own_desc e
 
   all_there : (ts us : List TypedType) → AllByRecursion (IsFound ts) us → AllByRecursion (λ t. has_name ts t.name ≡ true) us → AreThere (given ts) us
   all_there ts [] h k = tt
@@ -142,6 +126,6 @@ module _ (shown : QName → Option Desc) (tree : Tree) where
       let all = all_there made made (all_found made differ) (all_names made) in
       let f : Fine g start = record { unit = refl; shown = refl; own = tt; known = known_anywhere; guards = refl; receiver = λ r e. absurd cc } in
       let d = order_good g (map (λ i. import_declared i (target_of i)) tree.imports) (imports_good g tree.imports) start f in
-      let own = d.own tt (all_left (There g) imports.part.contents.types whole.contents.types all) in
-      let b = block_ok g (map declaration tree.decls) (decls_good g tree.decls) (map judging tree.body) (stmts_ok (there g) tree.body) imports.around d.around own e (all_right (There g) imports.part.contents.types whole.contents.types all) in
+      let own = d.own tt (all_front (There g) imports.part.contents.types whole.contents.types all) in
+      let b = block_ok g (map declaration tree.decls) (decls_good g tree.decls) (map judging tree.body) (stmts_ok (there g) tree.body) imports.around d.around own e (all_back (There g) imports.part.contents.types whole.contents.types all) in
       named whole.contents.bound b.contents.bound.1

@@ -32,15 +32,14 @@ use Rattle.ob_rules.specs.Headings.{Head, Heads, forwards_judged, counts, counte
 use Rattle.ob_rules.specs.Declarations.{Part, Declared, Declaration, Plain, Procedure, plain_of, type_name_of, procedure_of, Written_procedure, in_order, headings_in_order, declare_if, pointers_judged, field_judged, all_judged, nothing_later, heads_later, procedures_judged, body_part, only_notes, with_bound, binding_at, declaration, is_system, import_entity, import_declared, imports_declared, target_of, around_module, name_judged, module_part, typed_module, if_unbroken, checked, all_described, constant_contents, no_nil, first_name, made_in, paired_typing, variable_contents, variable_marked, variables_with}
 use Rattle.law_names_distinct.specs.Distinct.{AreDistinct}
 use Rattle.law_names_procedures.specs.Procedures.{ShowBases, all_true, is_named_plainly}
-use Rattle.law_names_procedures.proofs.Judges.{Has, front_empty, rest_empty}
-use Rattle.law_names_procedures.proofs.Knowing.{AreKnown, all_from}
+use Rattle.law_names_procedures.proofs.Judges.{Has}
+use Rattle.law_names_procedures.proofs.Knowing.{AreKnown}
 use Rattle.law_names_procedures.proofs.Plain.{OrderIs, order_one, imports_good}
 use Rattle.law_names_procedures.proofs.Texts.{headings_are_named}
 use Rattle.law_names_procedures.proofs.Faces.{faces_show}
 use Rattle.law_local_judged.specs.Said.{CountsIn}
 use Rattle.law_local_judged.specs.Declared.{OwnIn, IsPlain, a_constant, a_type, variables}
 use Rattle.law_local_judged.specs.Headed.{BindingsIn}
-use Rattle.law_local_judged.proofs.Following.{all_left, all_right}
 use Rattle.law_local_judged.proofs.Heading.{kept_filter}
 use Rattle.law_local_nodes.specs.Quiet.{IsNamed, AreNamed}
 use Rattle.law_local_files.specs.Laws.{Text, HaveNoOut, view}
@@ -57,12 +56,12 @@ use Rattle.law_local_methods.proofs.Bindings.{bindings_in}
 use Rattle.law_local_methods.proofs.Owned.{heads_are_owned}
 use Rattle.law_local_uses.proofs.Around.{found_has}
 use Rattle.law_local_uses.proofs.Heads.{reversed_all}
-use Rattle.law_local_uses.proofs.Setting.{IfThere}
 use Rattle.law_local_rules.specs.Laws.{CountsFor, ShowAlike, AreApart, RulesAreLocal}
 use Rattle.law_local_rules.proofs.Counting.{not_there, mentions, procedures_count, shows}
 use Rattle.law_local_rules.proofs.Types.{has_name, whole, made, distinct_back, bound_named}
 use Rattle.law_local_rules.proofs.Redefining.{each_counted, HeadCounts, heads_count, AreLaid, laid_types, all_redefine}
 use mathlib.Core.Logic.{inr}
+use Rattle.law_lists.proofs.Lists.{IfThere, all_back, all_from, all_front, back_empty, front_empty}
 
 -- ---- lists
 
@@ -176,7 +175,7 @@ module _ (P : QName → Type 0) (s : QName → Option Desc) (leaves : LeavesIn P
       let a = f u in
       let rest = in_order (filter_map plain_of ds) a.around in
       let p = g.0.0 u k (front_empty a.part.notes.broken rest.part.notes.broken e) in
-      order_one o (filter_map type_name_of ds) u a rest p (order_is ds g.1 a.around (subst (λ (v : Around). AreKnown v.known) (sym p.around) p.known) (rest_empty a.part.notes.broken rest.part.notes.broken e))
+      order_one o (filter_map type_name_of ds) u a rest p (order_is ds g.1 a.around (subst (λ (v : Around). AreKnown v.known) (sym p.around) p.known) (back_empty a.part.notes.broken rest.part.notes.broken e))
 
   plains_are : (ds : List Declaration) → AreGood P s leaves ds → AllByRecursion IsPlain (filter_map plain_of ds)
   plains_are [] g = tt
@@ -249,14 +248,14 @@ module _ (faces others : List (Face Text)) (tree : Tree) (t : TypedModule) (is :
       let A : Part = record { notes = joined (nothing_later d.part.notes) pj; contents = d.part.contents } in
       -- what is broken: nothing
       let N : Part = only_notes (name_judged tree.name tree.closing) in
-      let eF = rest_empty N.notes.broken (D.part.notes.broken ++ W.notes.broken) parts.0 in
+      let eF = back_empty N.notes.broken (D.part.notes.broken ++ W.notes.broken) parts.0 in
       let eD = front_empty D.part.notes.broken W.notes.broken eF in
-      let e = rest_empty D.part.notes.broken W.notes.broken eF in
-      let e1 : n.broken ++ (T.notes.broken ++ B.notes.broken) ≡ [] = rest_empty A.notes.broken (n.broken ++ (T.notes.broken ++ B.notes.broken)) e in
+      let e = back_empty D.part.notes.broken W.notes.broken eF in
+      let e1 : n.broken ++ (T.notes.broken ++ B.notes.broken) ≡ [] = back_empty A.notes.broken (n.broken ++ (T.notes.broken ++ B.notes.broken)) e in
       let ed : d.part.notes.broken ≡ [] = front_empty d.part.notes.broken pj.broken (front_empty A.notes.broken (n.broken ++ (T.notes.broken ++ B.notes.broken)) e) in
       let en : n.broken ≡ [] = front_empty n.broken (T.notes.broken ++ B.notes.broken) e1 in
-      let ew : wj.broken ≡ [] = rest_empty fj.broken wj.broken (rest_empty b.notes.broken (fj.broken ++ wj.broken) en) in
-      let eT : T.notes.broken ≡ [] = front_empty T.notes.broken B.notes.broken (rest_empty n.broken (T.notes.broken ++ B.notes.broken) e1) in
+      let ew : wj.broken ≡ [] = back_empty fj.broken wj.broken (back_empty b.notes.broken (fj.broken ++ wj.broken) en) in
+      let eT : T.notes.broken ≡ [] = front_empty T.notes.broken B.notes.broken (back_empty n.broken (T.notes.broken ++ B.notes.broken) e1) in
       -- what stands around
       let i = imports_good tree.imports u predeclared_known eD in
       let start : Start D.around = record {
@@ -287,7 +286,7 @@ module _ (faces others : List (Face Text)) (tree : Tree) (t : TypedModule) (is :
       -- what procedures count
       let counts_t = each_counted faces t t.procedures (procedures_count faces t) in
       let counts_p : AllByRecursion Counted (D.part.contents.procedures ++ (d.part.contents.procedures ++ (T.contents.procedures ++ []))) = subst (λ (x : TypedModule). AllByRecursion Counted x.procedures) (sym parts.1) counts_t in
-      let counts_T = all_left Counted T.contents.procedures [] (all_right Counted d.part.contents.procedures (T.contents.procedures ++ []) (all_right Counted D.part.contents.procedures (d.part.contents.procedures ++ (T.contents.procedures ++ [])) counts_p)) in
+      let counts_T = all_front Counted T.contents.procedures [] (all_back Counted d.part.contents.procedures (T.contents.procedures ++ []) (all_back Counted D.part.contents.procedures (d.part.contents.procedures ++ (T.contents.procedures ++ [])) counts_p)) in
       let heads = heads_count faces t U ps first have (subst (λ hs. AllByRecursion Counted (procedures_judged U ps hs).contents.procedures) before_is counts_T) in
       let heads_R : AllByRecursion (HeadCounts faces t U) R = subst (AllByRecursion (HeadCounts faces t U)) (sym before_is) heads in
       let have_R = subst (AllByRecursion (λ (h : Head). Has (λ p. Unit {0}) h.parameters)) (sym before_is) have in
@@ -300,7 +299,7 @@ module _ (faces others : List (Face Text)) (tree : Tree) (t : TypedModule) (is :
       let nothing_D = imports_bound tree.imports u in
       let nothing_d = order_bound fs are_plain v in
       let rest = T.contents.bound ++ [] in
-      let names_b : AllByRecursion (λ (y : TypedType). has_name (made (shown faces) tree) y.name ≡ true) b.own = all_left (λ (y : TypedType). has_name (made (shown faces) tree) y.name ≡ true) b.own rest (all_right (λ (y : TypedType). has_name (made (shown faces) tree) y.name ≡ true) d.part.contents.bound (b.own ++ rest) names_W) in
+      let names_b : AllByRecursion (λ (y : TypedType). has_name (made (shown faces) tree) y.name ≡ true) b.own = all_front (λ (y : TypedType). has_name (made (shown faces) tree) y.name ≡ true) b.own rest (all_back (λ (y : TypedType). has_name (made (shown faces) tree) y.name ≡ true) d.part.contents.bound (b.own ++ rest) names_W) in
       let laid : AreLaid faces t b.own = laid_types faces t (D.part.contents.bound ++ W.contents.bound) (made (shown faces) tree) b.own types_are (λ x y f. (
         ap (λ (zs : List TypedType). find (λ (s : TypedType). bytes_eq s.name x) (zs ++ W.contents.bound)) nothing_D ∙ ap (λ (zs : List TypedType). find (λ (s : TypedType). bytes_eq s.name x) (zs ++ (b.own ++ rest))) nothing_d ∙ found_front (λ (s : TypedType). bytes_eq s.name x) b.own rest y f,
         found_named (made (shown faces) tree) x y (find (λ (s : TypedType). bytes_eq s.name x) b.own) f (found_has (λ (y : TypedType). has_name (made (shown faces) tree) y.name ≡ true) (λ (s : TypedType). bytes_eq s.name x) b.own names_b),

@@ -13,8 +13,9 @@ use Rattle.ob_rules.specs.declared.entity.Received.{Received}
 use Rattle.ob_rules.specs.Shapes.{Map, same_name}
 use Rattle.ob_rules.specs.Names.{Around, map_of, type_desc, own_desc, in_unit, out_string}
 use Rattle.law_local_uses.specs.Settled.{Says, open_chars, NamesIn, MeansIn, GuardIn, IsSettled}
-use Rattle.law_local_uses.proofs.Setting.{Setting, IfThere, find_has}
+use Rattle.law_local_uses.proofs.Setting.{Setting, find_has}
 use Rattle.law_local_uses.specs.Held.{AreHeld, IsThere, SaysShown}
+use Rattle.law_lists.proofs.Lists.{IfThere}
 
 -- what is given of the module
 pub record Given : Type 1 where

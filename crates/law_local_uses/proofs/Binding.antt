@@ -17,10 +17,11 @@ use Rattle.ob_rules.specs.Headings.{Head, BoundAs, Binding, signature_if, signat
 use Rattle.law_local_judged.specs.Agreement.{IsIn, AreIn}
 use Rattle.law_local_judged.proofs.Near.{left_in, right_in}
 use Rattle.law_local_uses.specs.Settled.{core, NamesIn}
-use Rattle.law_local_uses.proofs.Setting.{IfThere, none, all_both}
+use Rattle.law_local_uses.proofs.Setting.{none}
 use Rattle.law_local_uses.proofs.Around.{Given}
 use Rattle.law_local_uses.proofs.Typings.{ParametersOk, signature_ok}
 use Rattle.law_local_uses.proofs.Quiet.{Names, if_names, both_name}
+use Rattle.law_lists.proofs.Lists.{IfThere, all_both}
 
 -- what a type keeps where a bound procedure that is held is added to it
 pub record Stays (g : Given) (Q : TypedType → Type 0) : Type 0 where

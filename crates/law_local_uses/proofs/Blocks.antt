@@ -41,11 +41,10 @@ use Rattle.ob_rules.specs.Declarations.{Contents, no_contents, together, Part, n
 use Rattle.law_local_judged.specs.Agreement.{AreIn}
 use Rattle.law_local_files.specs.Tied.{BindingTied}
 use Rattle.law_local_uses.specs.Settled.{core, NamesIn, MeansIn}
-use Rattle.law_local_uses.proofs.Setting.{IfThere, Anything, none, all_both, then_keeps, both_keep, made_keeps}
+use Rattle.law_local_uses.proofs.Setting.{none, then_keeps, both_keep, made_keeps}
 use Rattle.law_local_uses.proofs.Chains.{named_leads, member_leads}
 use Rattle.law_local_uses.proofs.Statements.{AreOk, AreJudging, stmts_named, turn_keeps}
 use Rattle.law_local_uses.proofs.Bodies.{stmts_ok}
-use Rattle.law_names_distinct.proofs.Fresh.{front_empty, back_empty}
 use Rattle.law_local_uses.specs.Held.{ProcedureHeld}
 use Rattle.law_local_uses.proofs.Around.{Given, Named, AreNamed, Fine, base, there, own_in, settled_there}
 use Rattle.law_local_uses.proofs.Typings.{In, Holds, TypingOk, GoodWritten, GoodPhrase, ParametersOk, more_types, marked_held}
@@ -53,6 +52,7 @@ use Rattle.law_local_uses.proofs.Written.{phrase_good, written_good, written_par
 use Rattle.law_local_uses.proofs.Quiet.{Names, if_names, both_name, pointers_name, fields_name, forwards_name, closing_names}
 use Rattle.law_local_uses.proofs.Binding.{Stays, bindings_ok}
 use Rattle.law_local_uses.proofs.Heads.{There, AreThere, BoundOk, HeadOk, IsSound, GoodHeading, headings_good, headings_length, reversed_all, reversed_back, reversed_length}
+use Rattle.law_lists.proofs.Lists.{Anything, IfThere, all_both, back_empty, front_empty}
 
 -- ---- lists
 

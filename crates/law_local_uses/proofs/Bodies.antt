@@ -11,10 +11,11 @@ use Rattle.ob_tree.specs.declared.stmt.Stmt.TheFolds.{ind-Stmt, fold-roll-Stmt, 
 use Rattle.ob_rules.specs.Expressions.{phrase_of, named_of, ranged_of}
 use Rattle.ob_tree.specs.declared.expr.Element.{Element}
 use Rattle.ob_rules.specs.Statements.{Judging, Conditional, Labelled, GuardedBody, stmt_rule, branch_rule, case_rule, guarded_rule, judging, conditional_of, labelled_of, guarded_of, phrase_if}
-use Rattle.law_local_uses.proofs.Setting.{Setting, none, IfThere}
+use Rattle.law_local_uses.proofs.Setting.{Setting, none}
 use Rattle.law_local_uses.proofs.Calls.{PhraseOk}
 use Rattle.law_local_uses.proofs.Expressions.{RangedOk, expr_ok, designator_named, element_ok}
 use Rattle.law_local_uses.proofs.Statements.{LabelledOk, JudgingOk, AreJudging, ConditionalOk, assignment_keeps, call_keeps, if_keeps, while_keeps, repeat_keeps, loop_keeps, case_keeps, for_keeps, exit_keeps, return_keeps, with_keeps}
+use Rattle.law_lists.proofs.Lists.{IfThere}
 
 module _ (k : Setting) where
   abbrev PS : Stmt → Type 0

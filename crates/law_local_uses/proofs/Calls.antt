@@ -43,9 +43,10 @@ use Rattle.law_local_judged.specs.Agreement.{AreIn}
 use Rattle.law_local_judged.specs.Said.{CountsIn}
 use Rattle.law_local_judged.proofs.Near.{left_in, right_in}
 use Rattle.law_local_files.specs.Tied.{RoomTied, ReceiverTied, SuperTied, ActualsTied, CalleeTied}
-use Rattle.law_local_uses.proofs.Setting.{Setting, TE, E, In, Leads, Stands, IfThere, PlaceOk, NodeOk, ValuedOk, CallOk, ChosenOk, MeantOk, Anything, none, Keeps, weaken, then_keeps, both_keep, wants_keeps, also_keeps, counts_both, named_e, node_e, place_of, tree_ok}
+use Rattle.law_local_uses.proofs.Setting.{Setting, TE, E, In, Leads, Stands, PlaceOk, NodeOk, ValuedOk, CallOk, ChosenOk, MeantOk, none, Keeps, weaken, then_keeps, both_keep, wants_keeps, also_keeps, counts_both, named_e, node_e, place_of, tree_ok}
 use Rattle.law_local_uses.proofs.Rooms.{value_room}
 use Rattle.law_local_uses.proofs.Values.{text_tree_ok}
+use Rattle.law_lists.proofs.Lists.{Anything, IfThere}
 
 -- a phrase names what it mentions, whatever stands around
 abbrev pub MeantKeeps : Setting → Option (Around → Judged Meant) → Type 0

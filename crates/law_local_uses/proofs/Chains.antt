@@ -20,14 +20,15 @@ use Rattle.ob_uses.specs.Ways.{desc_leads}
 use Rattle.ob_uses.specs.Reaching.{first, onward}
 use Rattle.ob_rules.specs.Shapes.{Map, Member, AField, AMethod, shape, record_at, record_of, pointed, array_of, field_or, own_member, base_record, or_in_base, member_within, member}
 use Rattle.law_local_judged.specs.Agreement.{IsIn, AreIn, DescIn, Agree}
-use Rattle.law_local_judged.proofs.Near.{none_some, some_is, left_in, right_in}
+use Rattle.law_local_judged.proofs.Near.{left_in, right_in}
 use Rattle.law_local_judged.proofs.Tests.{pointed_in, elements_in, record_in, base_record_in}
 use Rattle.law_local_judged.proofs.Owners.{owner_of, member_owner}
 use Rattle.ob_desc.specs.Grammar.{same_object}
 use Rattle.ob_desc.specs.Laws.{object_decides}
 use Rattle.ob_uses.proofs.Searching.{itself as among_itself, left_of, in_back, either}
 use Rattle.law_local_uses.specs.Settled.{core, Says, SaysAll, NamesIn, open_chars}
-use Rattle.law_local_uses.proofs.Setting.{Setting, Leads, IfThere, find_has}
+use Rattle.law_local_uses.proofs.Setting.{Setting, Leads, find_has}
+use Rattle.law_lists.proofs.Lists.{IfThere, none_some, some_same}
 
 -- ---- names among types
 
@@ -232,7 +233,7 @@ module _ (k : Setting) (f : Map) (says : SaysAll k.map f) where
 
   -- a record that a type is
   record_at_is : (t : TypeRef) (o : Option Desc) (q : QName) → record_at t o ≡ Some q → (r : RecordDesc) × ((t ≡ ref.Named q) × (o ≡ Some (desc.Record r)))
-  record_at_is (ref.Named p) (Some (desc.Record r)) q e = (r, (ap (λ p. ref.Named p) (some_is e), refl))
+  record_at_is (ref.Named p) (Some (desc.Record r)) q e = (r, (ap (λ p. ref.Named p) (some_same e), refl))
   record_at_is (ref.Named p) None q e = none_some e
   record_at_is (ref.Named p) (Some (desc.Alias m t)) q e = none_some e
   record_at_is (ref.Named p) (Some (desc.Const c)) q e = none_some e

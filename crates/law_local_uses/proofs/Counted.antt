@@ -28,8 +28,8 @@ use Rattle.law_local_judged.specs.Agreement.{IsIn, AreIn}
 use Rattle.law_local_judged.specs.Said.{CountsIn, DesignatorIn}
 use Rattle.law_local_judged.proofs.Near.{left_in, right_in}
 use Rattle.law_local_uses.specs.Settled.{NamesIn}
-use Rattle.law_local_uses.proofs.Setting.{IfThere}
 use Rattle.law_local_uses.specs.Held.{ProcedureHeld, ModuleHeld}
+use Rattle.law_lists.proofs.Lists.{IfThere}
 
 module _ (P : QName → Type 0) where
   abbrev In : TypeRef → Type 0

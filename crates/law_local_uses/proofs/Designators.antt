@@ -36,7 +36,7 @@ use Rattle.ob_rules.specs.Values.{is_integer, tree}
 use Rattle.ob_rules.specs.Phrases.{dereferenced, Phrase, Behind, Dot, Index, Up, Round}
 use Rattle.ob_rules.specs.Calls.{call_procedure, call_variable, call_out, call_bound}
 use Rattle.ob_rules.specs.Designators.{variable_at, guard_of, guarded_by, with_guard, guard_if, guard_same, if_so, if_extends, on_record, guard_kind, same_variable, with_guards, variable_named, guard, if_so_held, dereference_of, dereference, through_if, implicitly, indexed, index_into, index_if, index, field_of, chosen, with_receiver, not_there, comes, member_found, member_of, select_of, select_through, select, super_of, super_in, super_if, super, type_in_round, as_call, place_round, call_meant, takes_type, is_callable, is_guardable, other_round, step_dot, step_index, step_up, step_round, step, where_of, nothing_behind, go_on_with, go_on, through, of_variable, exported_meant, out_meant, in_module, dot_of, module_front, front_of, is_module, behind, front, from_front_with, is_one_type, visit, visited, all_visited, designates}
-use Rattle.law_local_uses.proofs.Setting.{Setting, In, Leads, Stands, PlaceOk, ValuedOk, ChosenOk, MeantOk, Said, IfThere, none, Keeps, said_both, then_keeps, made_keeps, wants_keeps, found_keeps, noted_keeps, counts_both, place_of, tree_ok}
+use Rattle.law_local_uses.proofs.Setting.{Setting, In, Leads, Stands, PlaceOk, ValuedOk, ChosenOk, MeantOk, Said, none, Keeps, said_both, then_keeps, made_keeps, wants_keeps, found_keeps, noted_keeps, counts_both, place_of, tree_ok}
 use Rattle.law_local_uses.specs.Settled.{NamesIn, GuardIn}
 use Rattle.law_local_uses.proofs.Names.{EntityOk, ExportOk, exported_keeps, named_keeps, type_keeps}
 use Rattle.law_local_uses.proofs.Chains.{MemberIn, held_agree, member_in, record_leads, member_leads, through_leads, base_leads}
@@ -49,6 +49,7 @@ use Rattle.ob_types.specs.declared.types.TypeRef.TheVariants as ref
 use Rattle.ob_types.specs.declared.typed.Guarded.TheVariants as guarded
 use Rattle.law_local_uses.proofs.Calls.{PhraseOk, ArePhrases, call_procedure_keeps, call_variable_keeps, call_out_keeps, call_bound_keeps}
 use Rattle.law_local_uses.proofs.Functions.{predeclared_keeps}
+use Rattle.law_lists.proofs.Lists.{IfThere}
 
 -- ---- variables and guards
 

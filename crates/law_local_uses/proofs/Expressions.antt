@@ -37,7 +37,7 @@ use Rattle.ob_rules.specs.Operators.{combined, opposite, signed, related, elemen
 use Rattle.ob_rules.specs.Designators.{guard_of, if_extends}
 use Rattle.ob_rules.specs.Phrases.{Phrase, Behind}
 use Rattle.ob_rules.specs.Expressions.{procedure_value, value_meant, Named, meant_by, designator_phrase, testable, record_if, record_test, pointer_test, test_record, test_of, test, untestable, is_test, Tailed, combine_all, bracketed, Ranged, value_if, element_value, relation_of, expr_rule, selector_rule, designator_rule, element_rule, tail_rule, phrase_of, named_of, ranged_of, tailed_of, behind_of}
-use Rattle.law_local_uses.proofs.Setting.{Setting, In, Stands, PlaceOk, ValuedOk, MeantOk, IfThere, none, Keeps, then_keeps, both_keep, made_keeps, each_keep, wants_keeps, also_keeps, found_keeps, counts_both, node_e, tree_ok}
+use Rattle.law_local_uses.proofs.Setting.{Setting, In, Stands, PlaceOk, ValuedOk, MeantOk, none, Keeps, then_keeps, both_keep, made_keeps, each_keep, wants_keeps, also_keeps, found_keeps, counts_both, node_e, tree_ok}
 use Rattle.law_local_uses.specs.Settled.{NamesIn}
 use Rattle.law_local_uses.proofs.Names.{type_keeps}
 use Rattle.ob_uses_roots.specs.Counts.{Shapes, counts_of_designator, counts_of_expr}
@@ -47,6 +47,7 @@ use Rattle.ob_types.specs.declared.types.TypeRef.TheVariants as ref
 use Rattle.law_local_uses.proofs.Values.{combined_keeps, opposite_keeps, signed_keeps, related_keeps, ElementOk, element_keeps, set_keeps}
 use Rattle.law_local_uses.proofs.Calls.{PhraseOk, ArePhrases, shapes_count}
 use Rattle.law_local_uses.proofs.Designators.{BehindOk, guard_tests, pointer_tests, designates_keeps}
+use Rattle.law_lists.proofs.Lists.{IfThere}
 
 -- a value alone
 abbrev ValueOk : Setting → (Around → Judged Valued) → Type 0

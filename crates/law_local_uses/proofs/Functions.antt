@@ -44,11 +44,12 @@ use Rattle.ob_rules.specs.Phrases.{Phrase}
 use Rattle.ob_rules.specs.Predeclared.{changed_meant, changed_as, values, asked_first, asked_second, parameter, parameters_behind, parameters, is_function, value, if_is, on_width, longer, shorter, dimension, length_of, len_at, len_of, number_in, one, step, element_step, is_text, new_array, new_fixed, new_elements, if_held, new_one, new_many, fit_one, fit_two, fit, if_fit, call_fit, type_parameter, extreme_of, basic_if, extreme_call, call_predeclared}
 use Rattle.ob_uses_roots.specs.Counts.{Layouts, counts_of_designator, counts_of_expr}
 use Rattle.law_local_uses.specs.Settled.{SaysAll}
-use Rattle.law_local_uses.proofs.Setting.{Setting, TS, S, Stands, In, Leads, PlaceOk, ValuedOk, MeantOk, IfThere, none, Keeps, then_keeps, made_keeps, each_keep, unless_keeps, wants_keeps, also_keeps, counts_both, node_e, tree_ok}
+use Rattle.law_local_uses.proofs.Setting.{Setting, TS, S, Stands, In, Leads, PlaceOk, ValuedOk, MeantOk, none, Keeps, then_keeps, made_keeps, each_keep, unless_keeps, wants_keeps, also_keeps, counts_both, node_e, tree_ok}
 use Rattle.law_local_uses.proofs.Chains.{pointed_leads, element_leads}
 use Rattle.law_local_uses.proofs.Names.{type_keeps}
 use Rattle.law_local_uses.proofs.Values.{monadic_keeps, dyadic_keeps, only_ok, text_tree_ok}
 use Rattle.law_local_uses.proofs.Calls.{PhraseOk, ArePhrases, MeantKeeps}
+use Rattle.law_lists.proofs.Lists.{IfThere}
 
 -- ---- parameters
 

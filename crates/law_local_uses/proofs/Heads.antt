@@ -1,5 +1,5 @@
 -- Headings in their order: what they come to is held, and what is bound is bound to types of the module.
-use Rattle.std.proofs.Common.{◌≡◌, ◌+◌, suc, Bool, true, false, List, [], ◌∷◌, ◌++◌, length, Option, Some, None, refl, sym, ap, ◌∙◌, subst, cond, arith}
+use Rattle.std.proofs.Common.{◌≡◌, ◌+◌, suc, Bool, true, false, List, [], ◌∷◌, ◌++◌, length, Option, Some, None, refl, sym, ap, ◌∙◌, subst, arith}
 use Rattle.std.specs.Prelude.{bytes_eq, not, ◌&&◌, ◌==◌}
 use Rattle.std.specs.List.{AllByRecursion, filter, find, list_any}
 use Rattle.std.proofs.lemmas.Slice.Eq.{bytes_eq-Decides}
@@ -25,12 +25,12 @@ use Rattle.ob_rules.specs.Headings.{WrittenHeading, Head, Heads, BoundAs, receiv
 use Rattle.ob_rules.specs.Declarations.{Written_procedure, headings_in_order, types_of_head}
 use Rattle.law_local_judged.specs.Agreement.{AreIn}
 use Rattle.law_local_uses.specs.Settled.{MeansIn}
-use Rattle.law_local_uses.proofs.Setting.{IfThere, Anything, none, all_both, then_keeps, both_keep, made_keeps}
+use Rattle.law_local_uses.proofs.Setting.{none, then_keeps, both_keep, made_keeps}
 use Rattle.law_local_uses.specs.Held.{IsThere}
 use Rattle.law_local_uses.proofs.Around.{Given, AreNamed, AreKnown, Fine, base, found_has, name_is}
 use Rattle.law_local_uses.proofs.Typings.{In, Holds, ParametersOk, GoodSections, type_held, more_types, marked_held, signature_ok, parameters_in_good, inner_fine}
 use Rattle.law_local_uses.proofs.Quiet.{Names}
-use Rattle.law_names_distinct.proofs.Fresh.{back_empty}
+use Rattle.law_lists.proofs.Lists.{Anything, IfThere, all_both, back_empty, filter_if, length_last}
 
 abbrev pub There : Given → TypedType → Type 0
 There g t = IsThere g.map g.Own g.unit t
@@ -127,10 +127,6 @@ receiver_fine g u f None b h = f
 receiver_fine g u f (Some r) None h = record { unit = f.unit; shown = f.shown; own = f.own; known = (tt, f.known); guards = f.guards; receiver = f.receiver }
 receiver_fine g u f (Some r) (Some None) h = record { unit = f.unit; shown = f.shown; own = f.own; known = (tt, f.known); guards = f.guards; receiver = f.receiver }
 receiver_fine g u f (Some r) (Some (Some b)) h = record { unit = f.unit; shown = f.shown; own = f.own; known = (h.0, f.known); guards = f.guards; receiver = f.receiver }
-
-filter_if : {A : Type 0} (Q : A → Type 0) (b : Bool) (x : A) (xs : List A) → Q x → AllByRecursion Q xs → AllByRecursion Q (cond b (x ∷ xs) xs)
-filter_if Q true x xs h k = (h, k)
-filter_if Q false x xs h k = k
 
 filter_all : {A : Type 0} (Q : A → Type 0) (test : A → Bool) (xs : List A) → AllByRecursion Q xs → AllByRecursion Q (filter test xs)
 filter_all Q test [] h = tt
@@ -252,10 +248,6 @@ pub reversed_back : {A : Type 0} (Q : A → Type 0) (xs : List A) → AllByRecur
 reversed_back Q [] h = tt
 reversed_back Q (x ∷ xs) h = let r = all_back Q (reversed xs) x h in (r.1, reversed_back Q xs r.0)
 
-back_length : {A : Type 0} (xs : List A) (y : A) → length (xs ++ y ∷ []) ≡ suc (length xs)
-back_length [] y = refl
-back_length (x ∷ xs) y = ap suc (back_length xs y)
-
 pub reversed_length : {A : Type 0} (xs : List A) → length (reversed xs) ≡ length xs
 reversed_length [] = refl
-reversed_length (x ∷ xs) = back_length (reversed xs) x ∙ ap suc (reversed_length xs)
+reversed_length (x ∷ xs) = length_last (reversed xs) x ∙ ap suc (reversed_length xs)

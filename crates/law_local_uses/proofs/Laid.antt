@@ -19,7 +19,7 @@ use Rattle.law_names_distinct.specs.Distinct.{AreDistinct}
 use Rattle.law_local_judged.specs.Agreement.{IsIn, AreIn}
 use Rattle.law_local_judged.proofs.Near.{left_in, right_in}
 use Rattle.law_local_uses.specs.Settled.{core, NamesIn}
-use Rattle.law_local_uses.proofs.Setting.{all_both}
+use Rattle.law_lists.proofs.Lists.{all_both, differ_false}
 
 -- ---- the core stays
 
@@ -113,13 +113,6 @@ module _ (P : QName → Type 0) where
       by false r e = r e
 
 -- ---- types are found by their names, with their layouts
-
-differ_false : (x y : List ℕ) → x ≢ y → bytes_eq x y ≡ false
-differ_false x y d = by (bytes_eq x y) refl
-  where
-    by : (b : Bool) → bytes_eq x y ≡ b → b ≡ false
-    by true e = absurd (d ((bytes_eq-Decides x y).0 e))
-    by false e = refl
 
 abbrev pub IsFound : (QName → Option Desc) → Module → List TypedType → TypedType → Type 0
 IsFound map m ts t = type_named (each (laid_type map m) ts) t.name ≡ Some (laid_type map m t).desc

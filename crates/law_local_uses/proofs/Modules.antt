@@ -1,5 +1,5 @@
 -- Checked modules are tied to the types that they name, all of which are held.
-use Rattle.std.proofs.Common.{◌≡◌, ℕ, Bool, true, false, List, [], ◌∷◌, ◌++◌, map, Option, Some, None, refl, sym, ap, ◌∙◌, subst, cond}
+use Rattle.std.proofs.Common.{◌≡◌, ℕ, true, List, [], ◌∷◌, ◌++◌, map, Option, Some, None, refl, sym, ap, ◌∙◌, subst, cond}
 use Rattle.std.specs.Prelude.{◌≢◌, ◌||◌, bytes_eq}
 use Rattle.std.specs.List.{AllByRecursion, find}
 use Rattle.std.proofs.lemmas.Slice.Eq.{bytes_eq-Decides}
@@ -15,10 +15,8 @@ use Rattle.ob_rules.specs.Names.{Around, own_desc, predeclared, is_out}
 use Rattle.ob_rules.specs.Statements.{judging}
 use Rattle.ob_rules.specs.Declarations.{Part, with_part, Declared, declaration, is_system, closing_judged, only_notes, in_order, import_declared, target_of, imports_declared, around_module, name_judged, module_of, block, checked, typed_module, described, all_described}
 use Rattle.law_names_distinct.specs.Distinct.{AreDistinct}
-use Rattle.law_names_distinct.proofs.Fresh.{back_empty}
 use Rattle.law_names_distinct.proofs.Blocks.{unbroken_is}
 use Rattle.law_local_uses.specs.Settled.{core, Says}
-use Rattle.law_local_uses.proofs.Setting.{IfThere}
 use Rattle.law_local_uses.proofs.Statements.{stmts_named}
 use Rattle.law_local_uses.proofs.Bodies.{stmts_ok}
 use Rattle.law_local_uses.specs.Held.{AreHeld, IsThere, SaysShown, ModuleHeld}
@@ -27,6 +25,7 @@ use Rattle.law_local_uses.proofs.Around.{Given, Named, AreNamed, AreKnown, Fine,
 use Rattle.law_local_uses.proofs.Quiet.{if_names, both_name, closing_names}
 use Rattle.law_local_uses.proofs.Heads.{There, AreThere}
 use Rattle.law_local_uses.proofs.Blocks.{PartOk, part_both, order_good, imports_good, decls_good, block_ok}
+use Rattle.law_lists.proofs.Lists.{IfThere, back_empty, bytes_itself, differ_false}
 
 -- ---- the parts of a module
 
@@ -83,16 +82,6 @@ all_named g bound b (t ∷ ts) h = (described_named g (find (λ b. bytes_eq b.na
 -- the first of that name, of the module; what is shown of others
 abbrev map_by : List ℕ → List TypedType → (QName → Option Desc) → Map
 map_by unit ts shown q = cond (bytes_eq q.«module» unit) (own_desc (find (λ t. bytes_eq t.name q.object) ts)) (shown q)
-
-bytes_itself : (x : List ℕ) → bytes_eq x x ≡ true
-bytes_itself x = (bytes_eq-Decides x x).1 refl
-
-differ_false : (x y : List ℕ) → x ≢ y → bytes_eq x y ≡ false
-differ_false x y d = by (bytes_eq x y) refl
-  where
-    by : (b : Bool) → bytes_eq x y ≡ b → b ≡ false
-    by true e = absurd (d ((bytes_eq-Decides x y).0 e))
-    by false e = refl
 
 -- a type is found by its name
 abbrev IsFound : List TypedType → TypedType → Type 0

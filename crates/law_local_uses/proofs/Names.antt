@@ -22,7 +22,8 @@ use Rattle.ob_types.specs.declared.typed.Variable.{Variable}
 use Rattle.ob_rules.specs.declared.entity.Received.{Received}
 use Rattle.ob_rules.specs.Shapes.{same_name}
 use Rattle.law_local_uses.specs.Settled.{MeansIn, GuardIn, NamesIn}
-use Rattle.law_local_uses.proofs.Setting.{Setting, Stands, In, IfThere, none, Keeps, then_keeps, find_has}
+use Rattle.law_local_uses.proofs.Setting.{Setting, Stands, In, none, Keeps, then_keeps, find_has}
+use Rattle.law_lists.proofs.Lists.{IfThere}
 
 abbrev pub EntityOk : Setting → Entity → Type 0
 EntityOk k e = MeansIn k.Held e

@@ -30,6 +30,7 @@ use Rattle.law_local_judged.specs.Agreement.{IsIn, AreIn}
 use Rattle.law_local_judged.specs.Said.{CountsIn, DesignatorIn}
 use Rattle.law_local_files.specs.Tied.{LeadsTo, DesigTied, ExprTied, StmtTied}
 use Rattle.law_local_uses.specs.Settled.{IsSettled}
+use Rattle.law_lists.proofs.Lists.{Anything, IfThere, all_both}
 
 pub record Setting : Type 1 where
   pub map : Map
@@ -73,10 +74,6 @@ Leads k t q = LeadsTo k.map k.unit k.Own t q
 abbrev pub Stands : Setting → Around → Type 0
 Stands k u = IsSettled k.map k.Own k.Held u
 
-abbrev pub IfThere : {A : Type 0} → (A → Type 0) → Option A → Type 0
-IfThere Q None = Unit {0}
-IfThere Q (Some x) = Q x
-
 -- ---- what is judged
 
 abbrev pub PlaceOk : Setting → Place → Type 0
@@ -117,15 +114,8 @@ Said k n = AllByRecursion k.Held n.objects × AreIn k.Held n.types × AllByRecur
 abbrev pub Keeps : Setting → {A : Type 0} → (A → Type 0) → Judged A → Type 0
 Keeps k Q j = IfThere Q j.node × Said k j.notes
 
-abbrev pub Anything : {A : Type 0} → A → Type 0
-Anything x = Unit {0}
-
 pub none : Unit {0} × Unit {0} × Unit {0}
 none = (tt, tt, tt)
-
-pub all_both : {A : Type 0} (Q : A → Type 0) (xs ys : List A) → AllByRecursion Q xs → AllByRecursion Q ys → AllByRecursion Q (xs ++ ys)
-all_both Q [] ys h g = g
-all_both Q (x ∷ xs) ys h g = (h.0, all_both Q xs ys h.1 g)
 
 pub said_both : (k : Setting) (a b : Notes) → Said k a → Said k b → Said k (joined a b)
 said_both k a b h g = (all_both k.Held a.objects b.objects h.0 g.0, all_both (In k) a.types b.types h.1 g.1, all_both (DesignatorIn k.Held) a.lengths b.lengths h.2 g.2)

@@ -57,12 +57,13 @@ use Rattle.law_local_files.specs.Tied.{StmtsTied, BranchesTied, CasesTied, Assig
 use Rattle.law_local_uses.specs.Settled.{SaysAll, GuardIn}
 use Rattle.law_local_uses.proofs.Names.{EntityOk, named_keeps, type_keeps, stays}
 use Rattle.law_local_uses.proofs.Chains.{record_target}
-use Rattle.law_local_uses.proofs.Setting.{Setting, TE, E, S, In, Stands, PlaceOk, ValuedOk, MeantOk, IfThere, Anything, none, Keeps, all_both, said_both, then_keeps, both_keep, made_keeps, unless_keeps, wants_keeps, noted_keeps, counts_both, named_e, tree_ok}
+use Rattle.law_local_uses.proofs.Setting.{Setting, TE, E, S, In, Stands, PlaceOk, ValuedOk, MeantOk, none, Keeps, said_both, then_keeps, both_keep, made_keeps, unless_keeps, wants_keeps, noted_keeps, counts_both, named_e, tree_ok}
 use Rattle.law_local_uses.proofs.Values.{text_tree_ok}
 use Rattle.law_local_uses.proofs.Calls.{PhraseOk, call_variable_keeps}
 use Rattle.law_local_uses.proofs.Functions.{named_s}
 use Rattle.law_local_uses.proofs.Designators.{variable_keeps, call_meant_keeps, signature_held, guard_tests, designates_keeps}
 use Rattle.law_local_uses.proofs.Expressions.{NamedOk, RangedOk, meant_keeps}
+use Rattle.law_lists.proofs.Lists.{Anything, IfThere, all_both}
 
 abbrev pub AreOk : Setting → List TypedStmt → Type 0
 AreOk k ss = AllByRecursion (S k) ss

@@ -6,10 +6,11 @@ use Rattle.ob_rules.specs.Expressions.{phrase_of, constant_value}
 use Rattle.ob_rules.specs.Statements.{judging, in_turn}
 use Rattle.law_local_judged.specs.Said.{SaidIn}
 use Rattle.law_local_uses.specs.Laws.{StatementsAreTied, ConstantsAreHeld}
-use Rattle.law_local_uses.proofs.Setting.{Setting, Said, IfThere}
+use Rattle.law_local_uses.proofs.Setting.{Setting, Said}
 use Rattle.law_local_uses.proofs.Expressions.{expr_ok}
 use Rattle.law_local_uses.proofs.Statements.{AreOk, stmts_named, turn_keeps, constant_keeps}
 use Rattle.law_local_uses.proofs.Bodies.{stmts_ok}
+use Rattle.law_lists.proofs.Lists.{IfThere}
 
 said_in : (k : Setting) (n : Notes) → Said k n → SaidIn k.Held n
 said_in k n h = record { objects = h.0; types = h.1; lengths = h.2 }

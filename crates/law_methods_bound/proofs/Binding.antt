@@ -15,9 +15,9 @@ use Rattle.ob_rules.specs.Shapes.{Map, Member, AField, AMethod, member}
 use Rattle.ob_rules.specs.Names.{Around, map_of}
 use Rattle.ob_rules.specs.Headings.{Head, BoundAs, Binding, answers, forward_broken, forward_if, forwards_judged, counts_if, counts, counted, change_desc, changed_if, change_type, with_method, new_method, redefined, bind_method, bind_by, bind_one, bind_all, of_record, bind_records, reversed, bindings}
 use Rattle.law_typing_forms.specs.Said.{IsOneOf}
-use Rattle.law_body_context.proofs.Lists.{all_both, first_empty, second_empty}
 use Rattle.law_methods_bound.specs.Bound.{methods_of, HasElements}
 use Rattle.law_methods_bound.proofs.Typings.{AreRaw}
+use Rattle.law_lists.proofs.Lists.{all_both, back_empty, front_empty}
 
 -- ---- the headings that count
 
@@ -47,13 +47,13 @@ pub counted_whole : (map : Map) (all xs : List Head) → (forwards_judged map al
 counted_whole map all [] e h i = absurd i
 counted_whole map all (x ∷ xs) e h i =
     let first = (forward_if x.forward map all x).broken in
-    by (counts all x) refl i (counted_whole map all xs (second_empty first (forwards_judged map all xs).broken e) h)
+    by (counts all x) refl i (counted_whole map all xs (back_empty first (forwards_judged map all xs).broken e) h)
   where
     by : (c : Bool) → counts all x ≡ c → IsOneOf (cond c (x ∷ filter (counts all) xs) (filter (counts all) xs)) h → (IsOneOf (filter (counts all) xs) h → h.forward ≡ false) → h.forward ≡ false
     by false k j r = r j
     by true k (inl s) r =
         let p = and_parts (x.is_bound && is_some x.bound) (counts_if x.forward all x) k in
-        subst (λ (y : Head). y.forward ≡ false) s (forward_not map all x x.forward (first_empty (forward_if x.forward map all x).broken (forwards_judged map all xs).broken e) p.1)
+        subst (λ (y : Head). y.forward ≡ false) s (forward_not map all x x.forward (front_empty (forward_if x.forward map all x).broken (forwards_judged map all xs).broken e) p.1)
     by true k (inr j) r = r j
 
 -- ---- bound procedures

@@ -1,5 +1,5 @@
 -- Declarations in their order, and the procedures among them: the types that they make have no bound procedures yet.
-use Rattle.std.proofs.Common.{◌≡◌, ℕ, Bool, true, false, List, [], ◌∷◌, ◌++◌, map, Option, Some, None, refl, sym, ap, ◌∙◌, subst}
+use Rattle.std.proofs.Common.{◌≡◌, ℕ, Bool, true, false, List, [], ◌∷◌, ◌++◌, map, Option, Some, None, refl, sym, ◌∙◌, subst}
 use Rattle.std.specs.List.{AllByRecursion, cons_option, filter_map}
 use Rattle.ob_tree.specs.declared.ident.Ident.{Ident}
 use Rattle.ob_tree.specs.declared.ident.IdentDef.{IdentDef}
@@ -21,10 +21,11 @@ use Rattle.ob_rules.specs.Types.{Parameters, Typing, Written, written, is_module
 use Rattle.ob_rules.specs.Statements.{Judging, judging}
 use Rattle.ob_rules.specs.Headings.{Head, Heads, add_heading, reversed, mark_or_hidden}
 use Rattle.ob_rules.specs.Declarations.{Declared, declare_if, declare, constant_contents, no_nil, constant_declared, equated, typing_as, types_made, type_declared, variable_contents, paired_typing, variables_with, made_in, variables_typed, variables_declared, Written_procedure, Declaration, Plain, Procedure, plain_of, procedure_of, type_name_of, in_order, headings_in_order, around_body, types_of_head, procedure_judged, procedures_judged, block_declared, block, decl_rule, declaration, import_declared, target_of}
-use Rattle.law_methods_described.proofs.Nodes.{IfThere, Has, all_both, then_has, second_has}
+use Rattle.law_methods_described.proofs.Nodes.{Has, then_has, second_has}
 use Rattle.law_methods_bound.proofs.Typings.{IsRaw, AreRaw, IsGood, AreGoodSections, MakesRaw, MakeRaw}
 use Rattle.law_methods_bound.proofs.Written.{written_good, written_parameters_good}
 use Rattle.law_methods_bound.proofs.Heads.{GoodHead, AreGoodHeads, GoodHeads, add_good, add_raw}
+use Rattle.law_lists.proofs.Lists.{IfThere, all_both, both_empty}
 
 both_raw : (xs ys : List TypedType) → AreRaw xs → AreRaw ys → AreRaw (xs ++ ys)
 both_raw xs ys h k = all_both IsRaw xs ys h k
@@ -92,9 +93,6 @@ variable_types : (x : Ident) (o : Option (Mark × Typing)) → AreRaw (variable_
 variable_types x None = (tt, (refl, refl))
 variable_types x (Some p) = (tt, (refl, refl))
 
-no_bound : {A : Type 0} (xs ys : List A) → xs ≡ [] → ys ≡ [] → xs ++ ys ≡ []
-no_bound xs ys e f = ap (λ l. l ++ ys) e ∙ f
-
 variables_good : (ds : List IdentDef) (t : Option Typing) → GoodPlain (variables_with ds t)
 variables_good [] t u = record { types = tt; bound = refl; procedures = refl; own = λ h. h; path = refl }
 variables_good (d ∷ ds) t u =
@@ -104,8 +102,8 @@ variables_good (d ∷ ds) t u =
     let rest = variables_good ds t v in
     record {
       types = both_raw c.types (variables_with ds t v).part.contents.types one.0 rest.types;
-      bound = no_bound c.bound (variables_with ds t v).part.contents.bound one.1.0 rest.bound;
-      procedures = no_bound c.procedures (variables_with ds t v).part.contents.procedures one.1.1 rest.procedures;
+      bound = both_empty c.bound (variables_with ds t v).part.contents.bound one.1.0 rest.bound;
+      procedures = both_empty c.procedures (variables_with ds t v).part.contents.procedures one.1.1 rest.procedures;
       own = λ h. rest.own (declared_own u d.ident _ h);
       path = rest.path ∙ declared_path u d.ident _;
     }
@@ -140,8 +138,8 @@ order_good (f ∷ fs) h u =
     let b = order_good fs h.1 v in
     record {
       types = both_raw (f u).part.contents.types (in_order fs v).part.contents.types a.types b.types;
-      bound = no_bound (f u).part.contents.bound (in_order fs v).part.contents.bound a.bound b.bound;
-      procedures = no_bound (f u).part.contents.procedures (in_order fs v).part.contents.procedures a.procedures b.procedures;
+      bound = both_empty (f u).part.contents.bound (in_order fs v).part.contents.bound a.bound b.bound;
+      procedures = both_empty (f u).part.contents.procedures (in_order fs v).part.contents.procedures a.procedures b.procedures;
       own = λ r. b.own (a.own r);
       path = b.path ∙ a.path;
     }

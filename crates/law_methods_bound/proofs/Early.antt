@@ -12,12 +12,12 @@ use Rattle.ob_rules.specs.Names.{Around, map_of}
 use Rattle.ob_rules.specs.Operators.{signatures_match}
 use Rattle.ob_rules.specs.Headings.{BoundAs, Head, Binding, signature_if, same_kind, introduced_sound, new_method, with_method, change_desc, changed_if, change_type, redefined, bind_method, bind_by, bind_one, bind_all, of_record, bind_records}
 use Rattle.law_typing_forms.specs.Said.{IsOneOf, IsBoundAmong}
-use Rattle.law_typing_forms.proofs.Within.{all_left}
 use Rattle.law_typing_env.specs.Views.{SaysNoMore, IsEarly}
 use Rattle.law_typing_env.proofs.Shown.{part_itself}
+use Rattle.law_lists.proofs.Lists.{all_front}
 
 says_less : (d e : Desc) (m : Method) → SaysNoMore (change_desc (λ r. with_method r m) d) e → SaysNoMore d e
-says_less (desc.Record r) e m h = (h.0, (h.1.0, record { base = h.1.1.base; fields = h.1.1.fields; methods = all_left (λ k. IsBoundAmong h.0.methods k) r.methods (m ∷ []) h.1.1.methods }))
+says_less (desc.Record r) e m h = (h.0, (h.1.0, record { base = h.1.1.base; fields = h.1.1.fields; methods = all_front (λ k. IsBoundAmong h.0.methods k) r.methods (m ∷ []) h.1.1.methods }))
 says_less (desc.Const v) e m h = h
 says_less (desc.Var k t) e m h = h
 says_less (desc.Proc s) e m h = h

@@ -7,8 +7,9 @@ use Rattle.ob_rules.specs.Judged.{both}
 use Rattle.ob_rules.specs.Names.{Around}
 use Rattle.ob_rules.specs.Types.{Parameters, with_types, marked, inner}
 use Rattle.ob_rules.specs.Headings.{WrittenHeading, Head, BoundAs, Heads, path_by, bound_in, as_parameters, owner_if, heading_parameters, knows_receiver, head_of, declared_head, knows_procedure, known_behind, name_twice, types_of, add_heading}
-use Rattle.law_methods_described.proofs.Nodes.{IfThere, all_both, second_has}
+use Rattle.law_methods_described.proofs.Nodes.{second_has}
 use Rattle.law_methods_bound.proofs.Typings.{IsRaw, AreRaw, AreGoodSections, MakeRaw, parameters_good}
+use Rattle.law_lists.proofs.Lists.{IfThere, all_both}
 
 -- in a scope whose names begin so
 pub record GoodHead (path : List ℕ) (h : Head) : Type 0 where

@@ -16,7 +16,7 @@ use Rattle.ob_rules.specs.Names.{Around, own_desc}
 use Rattle.ob_rules.specs.Operators.{signatures_match}
 use Rattle.ob_rules.specs.Headings.{Head, BoundAs, Binding, signature_if, same_kind, introduced_sound, change_desc, changed_if, change_type, with_method, new_method, introduce, redefined, bind_method, bind_by, bind_one, bind_all, of_record, bind_records, counted, reversed, bindings}
 use Rattle.law_typing_forms.specs.Said.{IsOneOf}
-use Rattle.law_body_context.proofs.Lists.{one_all, all_both, all_of}
+use Rattle.law_body_context.proofs.Lists.{one_all, all_of}
 use Rattle.law_methods_introduced.proofs.Grown.{DescGrows, none_within, no_field, find_last}
 use Rattle.law_methods_introduced.proofs.Binding.{HasRecord, desc_in, one_step, at_own, change_grows, changed_there}
 use Rattle.law_local_methods.specs.Laws.{with_own, IsOwned}
@@ -26,6 +26,7 @@ use Rattle.law_methods_bound.specs.Bound.{methods_of}
 use Rattle.law_methods_bound.proofs.Typings.{AreRaw}
 use Rattle.law_methods_bound.proofs.Binding.{one_filtered}
 use Rattle.law_methods_bound.specs.There.{is_record}
+use Rattle.law_lists.proofs.Lists.{all_both}
 
 -- ---- a record that introduces a procedure has it
 

@@ -1,6 +1,6 @@
 -- A checked module: each method of its records is introduced by one of its procedures.
-use Rattle.std.proofs.Common.{◌≡◌, refl, sym, ap, ◌∙◌, subst, ℕ, Bool, true, false, List, [], ◌∷◌, ◌++◌, map, Option, Some, None, inl, inr}
-use Rattle.std.specs.Prelude.{bytes_eq, codes}
+use Rattle.std.proofs.Common.{◌≡◌, refl, sym, ap, ◌∙◌, subst, ℕ, Bool, true, false, List, [], ◌∷◌, ◌++◌, Option, Some, None, inl, inr}
+use Rattle.std.specs.Prelude.{bytes_eq}
 use Rattle.std.specs.List.{AllByRecursion, find}
 use Rattle.std.specs.Option.{option_map}
 use Rattle.std.proofs.lemmas.Slice.Eq.{bytes_eq-Decides}
@@ -31,7 +31,7 @@ use Rattle.law_names_distinct.proofs.Blocks.{not_out}
 use Rattle.law_spelling.specs.Raw.{decl_named}
 use Rattle.law_names_procedures.proofs.Judges.{Has}
 use Rattle.law_body_context.specs.Judged.{AreOf}
-use Rattle.law_body_context.proofs.Lists.{one_left, one_right, one_all, all_both, all_of}
+use Rattle.law_body_context.proofs.Lists.{one_left, one_right, one_all, all_of}
 use Rattle.law_body_context.proofs.Standing.{Lies}
 use Rattle.law_body_context.proofs.Headings.{Aligned}
 use Rattle.law_body_context.proofs.Receivers.{received_as, IsBoundAmong, bound_in_order}
@@ -54,6 +54,7 @@ use Rattle.law_methods_bound.proofs.Binding.{one_filtered}
 use Rattle.law_methods_bound.proofs.Modules.{parts, M, whole, made, imports, plain, ps, hs, heads, B, w, judged, imports_are, plain_is, level, heads_are, known_raw, aligned, all_types, among, found_has}
 use Rattle.law_methods_bound.specs.There.{passed_as, Receives, IsIntroduced, type_in, MethodsAreIntroduced}
 use Rattle.law_methods_bound.proofs.Introduced.{IsReady, IsNew, AreNew, bindings_new, Says, records_say, found_one, one_found}
+use Rattle.law_lists.proofs.Lists.{all_both}
 
 -- ---- a bound heading has a name for its receiver
 

@@ -8,7 +8,7 @@ use Rattle.ob_rules.specs.Types.{is_module_level, with_types, nothing}
 use Rattle.ob_rules.specs.Statements.{Judging, judging, in_turn}
 use Rattle.ob_rules.specs.Headings.{Head, Heads, head_of, name_twice, declared_head, known_behind, types_of, forwards_judged, counts, reversed}
 use Rattle.ob_rules.specs.Declarations.{Written_procedure, Declaration, declaration, plain_of, procedure_of, type_name_of, in_order, headings_in_order, procedure_judged, procedures_judged, with_part, body_part, with_bound, binding_at, all_judged, field_judged, heads_later, pointers_judged, block, imports_declared, around_module, module_of, name_judged, typed_module}
-use Rattle.law_names_procedures.proofs.Judges.{Has, front_empty, rest_empty, has_more}
+use Rattle.law_names_procedures.proofs.Judges.{Has, has_more}
 use Rattle.law_names_procedures.proofs.Knowing.{AreKnown, filter_has}
 use Rattle.law_names_procedures.proofs.Points.{Points}
 use Rattle.law_names_procedures.proofs.Headings.{IsHead, head_good}
@@ -21,6 +21,7 @@ use Rattle.law_local_methods.proofs.Owned.{heads_are_owned}
 use Rattle.law_methods_introduced.proofs.Blocks.{heads_gain}
 use Rattle.law_local_module.proofs.Bound.{counted_judged}
 use Rattle.law_methods_bound.specs.Matched.{HeadingsAre, HeadingsAreJudged}
+use Rattle.law_lists.proofs.Lists.{back_empty, front_empty}
 
 abbrev HasParameters : Head → Type 0
 HasParameters h = Has (λ p. Unit {0}) h.parameters
@@ -60,7 +61,7 @@ heads_have U (x ∷ ps) g hs k e =
         let typed : GoodHeads (record { around = v; before = hs.before }) = typed_good hs (types_of d.parameters) (types_pointed hs.around d.parameters i.parameters) k in
         let has : Has (λ p. Unit {0}) d.parameters = has_more (λ p. Points hs.around p.made) (λ p. Unit {0}) d.parameters (λ p h. tt) i.parameters in
         let next : GoodHeads (record { around = known_behind v false d; before = h ∷ hs.before }) = added (record { around = v; before = hs.before }) typed d i.plain has i.bound n h refl refl refl in
-        (has, more h (known_behind v false d) next (rest_empty mine.notes.broken theirs.notes.broken e))
+        (has, more h (known_behind v false d) next (back_empty mine.notes.broken theirs.notes.broken e))
 
 all_turned : (P : Head → Type 0) (xs : List Head) → AllByRecursion P xs → AllByRecursion P (reversed xs)
 all_turned P [] h = tt
@@ -90,12 +91,12 @@ block_are ds g body u k s level e =
     let fj = all_judged (field_judged (map_of U)) later in
     let wj = forwards_judged (map_of hs.around) R R in
     let n = joined b.notes (joined fj wj) in
-    let inside : n.broken ++ (P.notes.broken ++ B.notes.broken) ≡ [] = rest_empty (d.part.notes.broken ++ (pointers_judged hs.around later).broken) (n.broken ++ (P.notes.broken ++ B.notes.broken)) e in
+    let inside : n.broken ++ (P.notes.broken ++ B.notes.broken) ≡ [] = back_empty (d.part.notes.broken ++ (pointers_judged hs.around later).broken) (n.broken ++ (P.notes.broken ++ B.notes.broken)) e in
     let first : d.part.notes.broken ≡ [] = front_empty d.part.notes.broken (pointers_judged hs.around later).broken (front_empty (d.part.notes.broken ++ (pointers_judged hs.around later).broken) (n.broken ++ (P.notes.broken ++ B.notes.broken)) e) in
     let second : n.broken ≡ [] = front_empty n.broken (P.notes.broken ++ B.notes.broken) inside in
-    let third : P.notes.broken ≡ [] = front_empty P.notes.broken B.notes.broken (rest_empty n.broken (P.notes.broken ++ B.notes.broken) inside) in
+    let third : P.notes.broken ≡ [] = front_empty P.notes.broken B.notes.broken (back_empty n.broken (P.notes.broken ++ B.notes.broken) inside) in
     let bound : b.notes.broken ≡ [] = front_empty b.notes.broken (fj.broken ++ wj.broken) second in
-    let forwards : wj.broken ≡ [] = rest_empty fj.broken wj.broken (rest_empty b.notes.broken (fj.broken ++ wj.broken) second) in
+    let forwards : wj.broken ≡ [] = back_empty fj.broken wj.broken (back_empty b.notes.broken (fj.broken ++ wj.broken) second) in
     let o : OrderIs names v d = order_good ds g v k first in
     let same : R ≡ heads_of ps start = heads_are ps start in
     let have = heads_have U ps (procedures_good ds g) start (based_behind names u d s o) (subst (λ hs. (procedures_judged U ps hs).notes.broken ≡ []) same third) in
@@ -116,10 +117,10 @@ headings_are_judged shown tree m s n e =
     let u = around_module shown tree.name.name ds in
     let d = imports_declared tree.imports u in
     let b = block ds body d.around in
-    let f = rest_empty (name_judged tree.name tree.closing).broken (d.part.notes.broken ++ b.notes.broken) q in
+    let f = back_empty (name_judged tree.name tree.closing).broken (d.part.notes.broken ++ b.notes.broken) q in
     let i = imports_good tree.imports u known (front_empty d.part.notes.broken b.notes.broken f) in
     let k : AreKnown d.around.known = subst (λ (v : Around). AreKnown v.known) (sym i.around) i.known in
-    block_are ds (decls_good tree.decls n) body d.around k (subst (λ (v : Around). Begins v) (sym i.around) (λ l. (refl, s))) (ap (λ (v : Around). v.path) i.around) (rest_empty d.part.notes.broken b.notes.broken f)
+    block_are ds (decls_good tree.decls n) body d.around k (subst (λ (v : Around). Begins v) (sym i.around) (λ l. (refl, s))) (ap (λ (v : Around). v.path) i.around) (back_empty d.part.notes.broken b.notes.broken f)
   where
     known : AreKnown predeclared
     known = (tt, (tt, (tt, (tt, (tt, (tt, (tt, (tt, (tt, (tt, (tt, (tt, (tt, (tt, (tt, (tt, (tt, (tt, (tt, (tt, (tt, (tt, (tt, (tt, (tt, (tt, (tt, (tt, (tt, (tt, (tt, tt)))))))))))))))))))))))))))))))

@@ -1,6 +1,6 @@
 -- A procedure matches the method that another record introduces.
 use Rattle.std.proofs.Common.{◌≡◌, inl, inr, ℕ, suc, Bool, true, false, List, [], ◌∷◌, ◌++◌, Option, Some, None, refl, sym, ap, subst, ◌∙◌}
-use Rattle.std.specs.Prelude.{◌&&◌, ◌||◌, not, bytes_eq, is_some, cond}
+use Rattle.std.specs.Prelude.{◌&&◌, not, bytes_eq, is_some, cond}
 use Rattle.std.specs.List.{AllByRecursion, find, filter}
 use Rattle.std.proofs.lemmas.Bool.{false≢true, and_parts}
 use Rattle.std.proofs.lemmas.Slice.Eq.{bytes_eq-Decides}
@@ -18,7 +18,7 @@ use Rattle.ob_rules.specs.Names.{Around}
 use Rattle.ob_rules.specs.Operators.{signatures_match}
 use Rattle.ob_rules.specs.Types.{Parameters}
 use Rattle.ob_rules.specs.Headings.{BoundAs, Head, Binding, signature_if, same_kind, sound_in, introduced_sound, new_method, with_method, introduce, redefined, bind_method, bind_by, bind_one, bind_all, of_record, bind_records, counted, bindings, reversed}
-use Rattle.law_names_procedures.proofs.Judges.{Has, rest_empty, not_empty}
+use Rattle.law_names_procedures.proofs.Judges.{Has, not_empty}
 use Rattle.law_names_procedures.proofs.Knowing.{filter_has}
 use Rattle.law_local_judged.proofs.Heading.{kept_filter}
 use Rattle.law_typing_forms.specs.Said.{IsOneOf}
@@ -29,6 +29,7 @@ use Rattle.law_local_methods.proofs.Bindings.{Stay, by_stays, all_stays, records
 use Rattle.law_local_module.proofs.Bound.{Signed, Quiet, IsJudged, one_signed, all_signed, records_signed}
 use Rattle.law_methods_bound.specs.Matched.{Matches, BindingsMatch}
 use Rattle.law_methods_bound.proofs.Early.{early_self, Later, one_back, all_back, records_back}
+use Rattle.law_lists.proofs.Lists.{back_empty, or_second}
 
 -- ---- a record that introduces a procedure has it
 
@@ -46,10 +47,6 @@ gained f g q r m was is x named e =
 
 -- ---- what is bound has its parameters
 
-or_true : (a b : Bool) → b ≡ true → (a || b) ≡ true
-or_true true b e = refl
-or_true false b e = e
-
 sound_found : (test : Bound → Bool) (bs : List Bound) → Signed bs → sound_in (find test bs) ≡ true
 sound_found test [] s = refl
 sound_found test (b ∷ bs) s = by (test b) (sound_found test bs s.1)
@@ -59,7 +56,7 @@ sound_found test (b ∷ bs) s = by (test b) (sound_found test bs s.1)
     by false r = r
 
 introduced_is : (u : Around) (bs : List Bound) (q : QName) (x : List ℕ) → Signed bs → introduced_sound u bs q x ≡ true
-introduced_is u bs q x s = or_true (not (bytes_eq q.«module» u.unit)) (sound_in (find (λ b. bytes_eq b.owner.object q.object && bytes_eq b.name x) bs)) (sound_found (λ b. bytes_eq b.owner.object q.object && bytes_eq b.name x) bs s)
+introduced_is u bs q x s = or_second (not (bytes_eq q.«module» u.unit)) (sound_in (find (λ b. bytes_eq b.owner.object q.object && bytes_eq b.name x) bs)) (sound_found (λ b. bytes_eq b.owner.object q.object && bytes_eq b.name x) bs s)
 
 has_some : (o : Option Parameters) → Has (λ p. Unit {0}) o → is_some o ≡ true
 has_some None h = absurd h
@@ -72,12 +69,12 @@ left_true true false x e f g = absurd (false≢true f)
 left_true false b x e f g = absurd (false≢true e)
 
 quiet_not : (c : Bool) (st : Binding) (h : Head) (b : BoundAs) → Quiet (redefined c st h b) → c ≡ false
-quiet_not true st h b e = not_empty _ [] (rest_empty st.notes.broken (broken_at 20 h.at).broken e)
+quiet_not true st h b e = not_empty _ [] (back_empty st.notes.broken (broken_at 20 h.at).broken e)
 quiet_not false st h b e = refl
 
 clash_not : (st : Binding) (at : Pos) (f : Bool) → f ≡ false → st.notes.broken ++ (notes_if (not f) 1 at).broken ≡ [] → ⊥
 clash_not st at true g q = false≢true (sym g)
-clash_not st at false g q = not_empty _ [] (rest_empty st.notes.broken (broken_at 1 at).broken q)
+clash_not st at false g q = not_empty _ [] (back_empty st.notes.broken (broken_at 1 at).broken q)
 
 module _ (u : Around) (last : List TypedType) (h0 : Head) (b0 : BoundAs) (own : bytes_eq b0.owner.«module» u.unit ≡ true) (bound : h0.bound ≡ Some b0) (judged : IsJudged h0) where
   abbrev at : List TypedType → Map

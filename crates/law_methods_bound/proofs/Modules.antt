@@ -20,7 +20,7 @@ use Rattle.law_typing_forms.specs.Said.{IsOneOf}
 use Rattle.law_typing.specs.Makes.{IfThere}
 use Rattle.law_names_distinct.proofs.Blocks.{not_out}
 use Rattle.law_body_context.specs.Judged.{AreOf}
-use Rattle.law_body_context.proofs.Lists.{one_left, one_right, one_all, all_both, all_of, first_empty, second_empty}
+use Rattle.law_body_context.proofs.Lists.{one_left, one_right, one_all, all_of}
 use Rattle.law_body_context.proofs.Headings.{Aligned, aligned_in_order}
 use Rattle.law_body_context.proofs.Blocks.{procedures_bound, heading_there}
 use Rattle.law_body_context.proofs.Modules.{unbroken_is}
@@ -29,6 +29,7 @@ use Rattle.law_methods_bound.proofs.Typings.{IsRaw, AreRaw, MakeRaw}
 use Rattle.law_methods_bound.proofs.Heads.{GoodHead, GoodHeads}
 use Rattle.law_methods_bound.proofs.Binding.{one_filtered, counted_whole, IsNew, TypeNew, AreNew, bindings_new}
 use Rattle.law_methods_bound.proofs.Blocks.{GoodDeclared, order_good, imports_good, plains_good, all_procedures, decls_good, headings_good, headings_raw, reversed_good, block_good}
+use Rattle.law_lists.proofs.Lists.{all_both, back_empty, front_empty}
 
 -- the parts of a module
 abbrev pub parts : (QName → Option Desc) → Tree → Part
@@ -108,10 +109,10 @@ module _ (shown : QName → Option Desc) (tree : Tree) (out : is_out (M shown tr
   module _ (quiet : whole.notes.broken ≡ []) where
     forwards_quiet : (forwards_judged (map_of hs.around) heads heads).broken ≡ []
     forwards_quiet =
-        let block_quiet = second_empty imports.part.notes.broken _ (second_empty (name_judged tree.name tree.closing).broken _ quiet) in
-        let headed = second_empty (plain.part.notes.broken ++ (pointers_judged hs.around (plain.part.notes.later ++ heads_later hs.before)).broken) _ block_quiet in
-        let told = first_empty (B.notes.broken ++ ((all_judged (field_judged (map_of w)) (plain.part.notes.later ++ heads_later hs.before)).broken ++ (forwards_judged (map_of hs.around) heads heads).broken)) _ headed in
-        second_empty (all_judged (field_judged (map_of w)) (plain.part.notes.later ++ heads_later hs.before)).broken _ (second_empty B.notes.broken _ told)
+        let block_quiet = back_empty imports.part.notes.broken _ (back_empty (name_judged tree.name tree.closing).broken _ quiet) in
+        let headed = back_empty (plain.part.notes.broken ++ (pointers_judged hs.around (plain.part.notes.later ++ heads_later hs.before)).broken) _ block_quiet in
+        let told = front_empty (B.notes.broken ++ ((all_judged (field_judged (map_of w)) (plain.part.notes.later ++ heads_later hs.before)).broken ++ (forwards_judged (map_of hs.around) heads heads).broken)) _ headed in
+        back_empty (all_judged (field_judged (map_of w)) (plain.part.notes.later ++ heads_later hs.before)).broken _ (back_empty B.notes.broken _ told)
 
     pub among : (p : TypedProcedure) → IsOneOf judged.contents.procedures p → IsOneOf made.procedures p
     among p i = one_right imports.part.contents.procedures _ p (one_right plain.part.contents.procedures _ p (one_left judged.contents.procedures [] p i))

@@ -24,8 +24,9 @@ use Rattle.ob_rules.specs.Shapes.{Map, is_structured, is_pointer, is_open, is_re
 use Rattle.ob_rules.specs.Types.{Typing, Written, typed_as, with_types, base_name, element_name, field_name, section_name, named_typing, length_of, array_length, fixed_array, array, first_of, names_behind, WrittenFields, first_name, Fields, fields_of, with_fields, field_lists, record_with, record_desc, pointer_to, base_judged, pointer_base, pointer_by, Parameters, WrittenSection, WrittenParameters, mode_of, declare_all, parameters_of, parameters_joined, with_result, with_made, sections, result_of, parameters_in, inner, procedure_type}
 use Rattle.law_body_context.specs.Judged.{mode_of as mode_behind, AreOf}
 use Rattle.law_methods_bound.specs.Bound.{methods_of, HasElements}
-use Rattle.law_methods_described.proofs.Nodes.{Has, all_both, then_has, any_then, both_have, first_has, second_has, also_has, unless_has}
+use Rattle.law_methods_described.proofs.Nodes.{Has, then_has, any_then, both_have, first_has, second_has, also_has, unless_has}
 use Rattle.ob_rules.specs.Judged.{each_sound}
+use Rattle.law_lists.proofs.Lists.{all_both}
 
 -- as it is declared: without bound procedures; an array has elements
 abbrev pub IsRaw : TypedType → Type 0

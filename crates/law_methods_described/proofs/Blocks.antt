@@ -32,10 +32,11 @@ use Rattle.ob_rules.specs.Statements.{Judging, judging}
 use Rattle.ob_rules.specs.Headings.{Head, Heads, Binding, add_heading, reversed, mark_or_hidden}
 use Rattle.ob_rules.specs.Declarations.{Contents, no_contents, together, Part, Declared, declare_if, declare, constant_contents, no_nil, constant_declared, equated, typing_as, types_made, type_declared, variable_contents, paired_typing, variables_with, made_in, variables_typed, variables_declared, Written_procedure, Declaration, Plain, Procedure, plain_of, procedure_of, type_name_of, in_order, headings_in_order, around_body, typed_procedure, types_of_head, procedure_contents, procedure_judged, procedures_judged, block_inside, with_bound, binding_at, block_bound, heads_later, block_headed, block_declared, block, decl_rule, declaration, import_declared, target_of, imports_declared, around_module, module_of, described, all_described, typed_module, if_unbroken}
 use Rattle.law_methods_described.specs.Described.{AreTypes, AreWhole, is_whole, TypesAreDescribed, ProceduresAreMarked}
-use Rattle.law_methods_described.proofs.Nodes.{IfThere, Has, all_both, then_has, second_has}
+use Rattle.law_methods_described.proofs.Nodes.{Has, then_has, second_has}
 use Rattle.law_methods_described.proofs.Typings.{IsGood, AreGoodSections, MakesTypes, MakeTypes}
 use Rattle.law_methods_described.proofs.Written.{written_good, written_parameters_good}
 use Rattle.law_methods_described.proofs.Heads.{GoodAround, typed_around, GoodHead, AreGoodHeads, GoodHeads, add_good, reversed_good, bindings_good}
+use Rattle.law_lists.proofs.Lists.{IfThere, all_both}
 
 -- ---- what a part adds
 

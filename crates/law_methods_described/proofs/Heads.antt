@@ -18,8 +18,9 @@ use Rattle.ob_rules.specs.Names.{Around, map_of}
 use Rattle.ob_rules.specs.Types.{Parameters, with_types, mark_of, is_module_level, marked, inner}
 use Rattle.ob_rules.specs.Headings.{WrittenHeading, Head, BoundAs, Heads, Binding, mark_or_hidden, as_parameters, owner_if, heading_parameters, knows_receiver, head_of, declared_head, knows_procedure, known_behind, name_twice, types_of, add_heading, counted, change_desc, changed_if, change_type, with_method, new_method, redefined, bind_method, bind_by, bind_one, bind_all, of_record, bind_records, reversed, bindings}
 use Rattle.law_methods_described.specs.Described.{AreTypes, is_whole}
-use Rattle.law_methods_described.proofs.Nodes.{IfThere, all_both, second_has}
+use Rattle.law_methods_described.proofs.Nodes.{second_has}
 use Rattle.law_methods_described.proofs.Typings.{AreGoodSections, MakeTypes, parameters_good}
+use Rattle.law_lists.proofs.Lists.{IfThere, all_both}
 
 abbrev pub GoodAround : Around → Type 0
 GoodAround u = AreTypes u.own

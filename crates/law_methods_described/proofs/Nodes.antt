@@ -1,21 +1,13 @@
 -- What holds of the node that is judged.
-use Rattle.std.proofs.Common.{ℕ, Bool, true, false, List, [], ◌∷◌, ◌++◌, Option, Some, None}
-use Rattle.std.specs.List.{AllByRecursion}
+use Rattle.std.proofs.Common.{ℕ, Bool, true, false, List, [], ◌∷◌, Option, Some, None}
 use Rattle.ob_tree.specs.declared.pos.Pos.{Pos}
 use Rattle.ob_rules.specs.declared.notes.Later.{Later}
 use Rattle.ob_rules.specs.Judged.{Judged, if_sound, paired, both, unless, also, judge_later, ◌▷◌}
-
-abbrev pub IfThere : {A : Type 0} → (A → Type 0) → Option A → Type 0
-IfThere P None = Unit {0}
-IfThere P (Some x) = P x
+use Rattle.law_lists.proofs.Lists.{IfThere}
 
 -- the node has it, where there is one
 abbrev pub Has : {A : Type 0} → (A → Type 0) → Judged A → Type 0
 Has P j = IfThere P j.node
-
-pub all_both : {A : Type 0} (P : A → Type 0) (xs ys : List A) → AllByRecursion P xs → AllByRecursion P ys → AllByRecursion P (xs ++ ys)
-all_both P [] ys h k = k
-all_both P (x ∷ xs) ys h k = (h.0, all_both P xs ys h.1 k)
 
 if_has : {A B : Type 0} (P : A → Type 0) (Q : B → Type 0) (o : Option A) (f : A → Judged B) → IfThere P o → ((x : A) → P x → Has Q (f x)) → Has Q (if_sound o f)
 if_has P Q None f h k = tt

@@ -34,21 +34,13 @@ use Rattle.law_spelling.specs.Files.{NumbersFit}
 use Rattle.law_spelling.proofs.Lists.{all_in_order}
 use Rattle.law_methods_introduced.specs.NumberLaws.{laid_in, seen_in, NumbersAreBelow}
 use Rattle.law_methods_introduced.proofs.Counts.{M, types, F, laid_named, counts_are, base_fewer, found_below}
-
-turned : (a b : List ℕ) → bytes_eq a b ≡ bytes_eq b a
-turned a b = go (bytes_eq a b) (bytes_eq b a) refl refl
-  where
-    go : (c d : Bool) → bytes_eq a b ≡ c → bytes_eq b a ≡ d → c ≡ d
-    go true true e f = refl
-    go false false e f = refl
-    go true false e f = sym ((sym f) ∙ (bytes_eq-Decides b a).1 (sym ((bytes_eq-Decides a b).0 e)))
-    go false true e f = sym e ∙ (bytes_eq-Decides a b).1 (sym ((bytes_eq-Decides b a).0 f))
+use Rattle.law_lists.proofs.Lists.{bytes_flip}
 
 -- ---- a bound procedure by its name
 
 named_found : (x : List ℕ) (ms : List Method) (m : Method) → find (λ (k : Method). bytes_eq k.name x) ms ≡ Some m → method_named x ms ≡ Some m
 named_found x [] m e = absurd cc
-named_found x (k ∷ ms) m e = ap (λ b. cond b (Some k) (method_named x ms)) (turned x k.name) ∙ go (bytes_eq k.name x) e (named_found x ms m)
+named_found x (k ∷ ms) m e = ap (λ b. cond b (Some k) (method_named x ms)) (bytes_flip x k.name) ∙ go (bytes_eq k.name x) e (named_found x ms m)
   where
     go : (b : Bool) → cond b (Some k) (find (λ (k : Method). bytes_eq k.name x) ms) ≡ Some m → (find (λ (k : Method). bytes_eq k.name x) ms ≡ Some m → method_named x ms ≡ Some m) → cond b (Some k) (method_named x ms) ≡ Some m
     go true e up = e
@@ -80,7 +72,7 @@ find_blank x (k ∷ ms) m e = go (bytes_eq k.name x) e (find_blank x ms m)
 
 found_type : (ts : List TypedType) (x : List ℕ) → own_desc (find (λ t. bytes_eq t.name x) ts) ≡ type_named ts x
 found_type [] x = refl
-found_type (t ∷ ts) x = go (bytes_eq t.name x) (found_type ts x) ∙ ap (λ b. cond b (Some t.desc) (type_named ts x)) (turned t.name x)
+found_type (t ∷ ts) x = go (bytes_eq t.name x) (found_type ts x) ∙ ap (λ b. cond b (Some t.desc) (type_named ts x)) (bytes_flip t.name x)
   where
     go : (b : Bool) → own_desc (find (λ t. bytes_eq t.name x) ts) ≡ type_named ts x → own_desc (cond b (Some t) (find (λ t. bytes_eq t.name x) ts)) ≡ cond b (Some t.desc) (type_named ts x)
     go true e = refl

@@ -16,14 +16,7 @@ use Rattle.ob_rules.specs.Names.{Around, map_of, own_desc, type_desc, out_string
 use Rattle.ob_rules.specs.Headings.{Head, BoundAs, Binding, with_method, change_desc, changed_if, change_type, new_method, introduce, redefined, bind_method, bind_by, bind_one, bind_all, owner_is, of_record, bind_records, reversed, bindings, counts, counts_if, counted}
 use Rattle.ob_rules.specs.Declarations.{with_bound, bound_to, binding_of}
 use Rattle.law_methods_introduced.proofs.Grown.{DescGrows, MapGrows, IsMethod, member_grows, member_gained}
-
-pub front_empty : {A : Type 0} (xs ys : List A) → xs ++ ys ≡ [] → xs ≡ []
-front_empty [] ys e = refl
-front_empty (x ∷ xs) ys e = absurd cc
-
-pub back_empty : {A : Type 0} (xs ys : List A) → xs ++ ys ≡ [] → ys ≡ []
-back_empty [] ys e = e
-back_empty (x ∷ xs) ys e = absurd cc
+use Rattle.law_lists.proofs.Lists.{back_empty, bytes_turned, front_empty}
 
 abbrev pub desc_in : List TypedType → List ℕ → Option Desc
 desc_in ts y = own_desc (find (λ t. bytes_eq t.name y) ts)
@@ -86,15 +79,12 @@ abbrev pub Named : List ℕ → List TypedType → Type 0
 Named x [] = ⊥
 Named x (t ∷ ts) = (bytes_eq x t.name ≡ true) ⊎ Named x ts
 
-pub turned : (a b : List ℕ) → bytes_eq a b ≡ true → bytes_eq b a ≡ true
-turned a b e = (bytes_eq-Decides b a).1 (sym ((bytes_eq-Decides a b).0 e))
-
 pub found_named : (x : List ℕ) (ts : List TypedType) (d : Desc) → desc_in ts x ≡ Some d → Named x ts
 found_named x [] d e = absurd cc
 found_named x (t ∷ ts) d e = go (bytes_eq t.name x) refl e (found_named x ts d)
   where
     go : (b : Bool) → bytes_eq t.name x ≡ b → own_desc (cond b (Some t) (find (λ t. bytes_eq t.name x) ts)) ≡ Some d → (desc_in ts x ≡ Some d → Named x ts) → Named x (t ∷ ts)
-    go true i e k = inl (turned t.name x i)
+    go true i e k = inl (bytes_turned t.name x i)
     go false i e k = inr (k e)
 
 pub named_front : (x : List ℕ) (ts us : List TypedType) → Named x ts → Named x (ts ++ us)

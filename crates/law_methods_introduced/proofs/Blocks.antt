@@ -25,10 +25,11 @@ use Rattle.ob_rules.specs.Statements.{Judging, judging, in_turn}
 use Rattle.ob_rules.specs.Headings.{Head, Heads, Binding, head_of, name_twice, declared_head, known_behind, knows_procedure, types_of, add_heading, reversed, bindings}
 use Rattle.ob_rules.specs.Declarations.{checked, Contents, Part, Declared, Written_procedure, Declaration, Plain, Procedure, plain_of, procedure_of, type_name_of, in_order, headings_in_order, around_body, bound_to, typed_procedure, types_of_head, procedure_judged, procedures_judged, block_inside, body_part, with_bound, binding_at, block_bound, heads_later, block_headed, block, decl_rule, declaration, target_of, imports_declared, import_declared, around_module, module_of, described, all_described, typed_module, if_unbroken}
 use Rattle.law_spelling.specs.Raw.{all_true, is_named, parameters_named, heading_named, decl_layer, decl_named}
-use Rattle.law_methods_introduced.proofs.Binding.{front_empty, back_empty, Among}
+use Rattle.law_methods_introduced.proofs.Binding.{Among}
 use Rattle.law_methods_introduced.proofs.Heads.{IsHeaded, headed, headed_more, head_hidden, head_free}
-use Rattle.law_methods_introduced.proofs.Lists.{Differ, all_both, swap, drop, joined_right}
+use Rattle.law_methods_introduced.proofs.Lists.{Differ, swap, drop, joined_right}
 use Rattle.law_methods_introduced.proofs.Order.{Moves, GoodPlain, constant_moves, type_moves, variables_declared_move, order_moves, imports_move}
+use Rattle.law_lists.proofs.Lists.{all_both, back_empty, front_empty}
 
 -- ---- below module level nothing is exported or bound
 

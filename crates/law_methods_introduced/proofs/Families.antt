@@ -28,9 +28,10 @@ use Rattle.ob_rules.specs.Declarations.{body_part, declaration, procedure_judged
 use Rattle.law_names_distinct.specs.Distinct.{AreDistinct}
 use Rattle.law_spelling.specs.Raw.{decl_named}
 use Rattle.law_methods_introduced.specs.Families.{view, Introduces, IsFamily, FamiliesAreThere}
-use Rattle.law_methods_introduced.proofs.Binding.{front_empty, back_empty, Named, named_front, named_back, named_parts, turned, found_named, desc_in}
+use Rattle.law_methods_introduced.proofs.Binding.{Named, named_front, named_back, named_parts, found_named, desc_in}
 use Rattle.law_methods_introduced.proofs.Chains.{Says, member_comes, found_name, line_says, introduces_says}
 use Rattle.law_methods_introduced.proofs.Blocks.{imports, plain, whole, body, imports_are, plain_is, heads_are, heads_gain, next_head, next_twice, next_like, quiet_types, judged_quiet, IsHidden, TypedSo, procedures_good, parts, behind, final, final_is, unbroken_is, heads_of, start, ps, judged}
+use Rattle.law_lists.proofs.Lists.{back_empty, bytes_turned, front_empty}
 
 -- ---- names of types
 
@@ -126,7 +127,7 @@ described_found bound x d e (t ∷ ts) n = go (bytes_eq t.name x) refl n (descri
     go false i n up =
         let here : bytes_eq k.name x ≡ false = ap (λ y. bytes_eq y x) (described_name (find (λ b. bytes_eq b.name t.name) bound) t) ∙ i in
         ap (λ b. own_desc (cond b (Some k) (find (λ t. bytes_eq t.name x) (all_described bound ts)))) here
-        ∙ up (⊎_elim (λ e. absurd (false≢true (sym i ∙ turned x t.name e))) (λ m. m) n)
+        ∙ up (⊎_elim (λ e. absurd (false≢true (sym i ∙ bytes_turned x t.name e))) (λ m. m) n)
 
 -- ---- a checked module
 

@@ -23,8 +23,9 @@ use Rattle.ob_rules.specs.Names.{Around, map_of, own_desc, type_desc, out_string
 use Rattle.ob_rules.specs.Types.{is_module_level, mark_of}
 use Rattle.ob_rules.specs.Headings.{is_own, if_own, own_record, received_record, silent_base, BoundAs, bound_to, owner_of, owner_if, path_by, bound_in, mark_or_hidden, WrittenHeading, Head, head_of}
 use Rattle.law_names_distinct.specs.Distinct.{AreDistinct}
-use Rattle.law_methods_described.proofs.Nodes.{IfThere, Has, any_then, then_has}
+use Rattle.law_methods_described.proofs.Nodes.{Has, any_then, then_has}
 use Rattle.law_methods_introduced.proofs.Binding.{desc_in, HasRecord}
+use Rattle.law_lists.proofs.Lists.{IfThere}
 
 -- ---- a record of the module by its name, among more types
 

@@ -3,17 +3,10 @@ use Rattle.std.proofs.Common.{◌≢◌, List, [], ◌∷◌, ◌++◌, sym, app
 use Rattle.std.specs.List.{AllByRecursion}
 use Rattle.ob_types.specs.declared.typed.TypedType.{TypedType}
 use Rattle.law_names_distinct.specs.Distinct.{AreDistinct}
+use Rattle.law_lists.proofs.Lists.{all_both, all_parts}
 
 abbrev pub Differ : List TypedType → Type 0
 Differ ts = AreDistinct (λ t. t.name) ts
-
-pub all_both : {A : Type 0} (P : A → Type 0) (xs ys : List A) → AllByRecursion P xs → AllByRecursion P ys → AllByRecursion P (xs ++ ys)
-all_both P [] ys h k = k
-all_both P (x ∷ xs) ys h k = (h.0, all_both P xs ys h.1 k)
-
-all_parts : {A : Type 0} (P : A → Type 0) (xs ys : List A) → AllByRecursion P (xs ++ ys) → AllByRecursion P xs × AllByRecursion P ys
-all_parts P [] ys h = (tt, h)
-all_parts P (x ∷ xs) ys h = let k = all_parts P xs ys h.1 in ((h.0, k.0), k.1)
 
 all_swap : {A : Type 0} (P : A → Type 0) (a b c : List A) → AllByRecursion P (a ++ (b ++ c)) → AllByRecursion P ((b ++ a) ++ c)
 all_swap P a b c h =

@@ -1,5 +1,5 @@
 -- Declarations in their order: the types that they make are known behind them, and no procedure is among what they add.
-use Rattle.std.proofs.Common.{⊎_elim, ◌≡◌, Bool, true, false, List, [], ◌∷◌, ◌++◌, map, Option, Some, None, refl, sym, ap, subst, ◌∙◌, ℕ}
+use Rattle.std.proofs.Common.{⊎_elim, ◌≡◌, Bool, true, false, List, [], ◌∷◌, ◌++◌, map, Option, Some, None, refl, sym, subst, ◌∙◌, ℕ}
 use Rattle.std.specs.List.{AllByRecursion}
 use Rattle.ob_tree.specs.declared.ident.Ident.{Ident}
 use Rattle.ob_tree.specs.declared.ident.IdentDef.{IdentDef}
@@ -18,6 +18,7 @@ use Rattle.ob_rules.specs.Headings.{mark_or_hidden}
 use Rattle.ob_rules.specs.Declarations.{Contents, no_contents, Part, Declared, declare_if, declare, constant_contents, no_nil, constant_declared, typing_as, types_made, type_declared, variable_contents, paired_typing, variables_with, made_in, variables_typed, variables_declared, then_declared, in_order, import_declared, target_of}
 use Rattle.law_methods_introduced.proofs.Binding.{Named, named_front, named_back, named_parts}
 use Rattle.law_methods_introduced.proofs.Lists.{Differ, swap, joined_right}
+use Rattle.law_lists.proofs.Lists.{both_empty}
 
 pub record Moves (u : Around) (d : Declared) : Type 0 where
   pub path : d.around.path ≡ u.path
@@ -46,9 +47,6 @@ declared_if None u x e = record { path = refl; unit = refl; shown = refl; own = 
 declared : (u : Around) (x : Ident) (e : Entity) → IsLike u (declare u x e)
 declared u x e = declared_if (found_in_scope u x.name) u x e
 
-none_both : {A : Type 0} (xs ys : List A) → xs ≡ [] → ys ≡ [] → xs ++ ys ≡ []
-none_both xs ys g h = ap (λ zs. zs ++ ys) g ∙ h
-
 pub then_moves : (u : Around) (a : Declared) (f : Around → Declared) → Moves u a → Moves a.around (f a.around) → Moves u (then_declared a f)
 then_moves u a f g h =
     let ts = a.part.contents.types in
@@ -58,8 +56,8 @@ then_moves u a f g h =
       unit = h.unit ∙ g.unit;
       shown = h.shown ∙ g.shown;
       own = λ rest d. h.own rest (g.own ((f a.around).part.contents.types ++ rest) (joined_right u.own a.part.contents.types (f a.around).part.contents.types rest d));
-      procedures = none_both a.part.contents.procedures (f a.around).part.contents.procedures g.procedures h.procedures;
-      bound = none_both a.part.contents.bound (f a.around).part.contents.bound g.bound h.bound;
+      procedures = both_empty a.part.contents.procedures (f a.around).part.contents.procedures g.procedures h.procedures;
+      bound = both_empty a.part.contents.bound (f a.around).part.contents.bound g.bound h.bound;
       names = λ x k. ⊎_elim (λ i. ⊎_elim (λ j. named_front x u.own (ts ++ us) j) (λ j. named_back x u.own (ts ++ us) (named_front x ts us j)) (named_parts x u.own ts (g.names x i))) (λ i. named_back x u.own (ts ++ us) (named_back x ts us i)) (named_parts x a.around.own us (h.names x k));
     }
 

@@ -21,7 +21,6 @@ use Rattle.ob_rules.specs.Statements.{Judging, judging, in_turn}
 use Rattle.ob_rules.specs.Headings.{Head, Heads, forwards_judged, leaves_room, reversed}
 use Rattle.ob_rules.specs.Declarations.{Declared, Declaration, Plain, Procedure, plain_of, procedure_of, type_name_of, in_order, headings_in_order, Written_procedure, around_body, closing_judged, procedure_judged, procedures_judged, body_part, with_bound, binding_at, all_judged, field_judged, heads_later, pointers_judged, block, decl_rule, declaration, target_of, import_declared, imports_declared, around_module, module_of, name_judged, described, all_described, typed_module}
 use Rattle.law_names_distinct.specs.Named.{is_word, all_true, parameters_named, decl_layer, decl_named}
-use Rattle.law_names_distinct.proofs.Fresh.{front_empty, back_empty, all_both, all_from}
 use Rattle.law_names_distinct.proofs.Blocks.{unbroken_is}
 use Rattle.law_names_distinct.proofs.Written.{words_are}
 use Rattle.law_names_distinct.proofs.FieldHeads.{reversed_good}
@@ -38,7 +37,8 @@ use Rattle.law_names_types.proofs.Blocks.{blocks_differ}
 use Rattle.law_names_compiled.specs.Differ.{TypesDiffer, ReadTypesDiffer}
 use Rattle.law_names_compiled.proofs.Past.{ArePast, none_forward, more_past, order_past, decls_past, imports_past, IsInner, ArePastHeads, headings_past}
 use Rattle.law_names_compiled.proofs.Stand.{word_plain, AllStand, IsWellHeading, heads_stand}
-use Rattle.law_names_compiled.proofs.Strokes.{Differ, differ_join, differ_front, differ_back, differ_cross, front_all, back_all, BlockIs, inner_types, AreInside, covered, heading_rest, procedures_unlike}
+use Rattle.law_names_compiled.proofs.Strokes.{Differ, differ_join, differ_front, differ_back, differ_cross, BlockIs, inner_types, AreInside, covered, heading_rest, procedures_unlike}
+use Rattle.law_lists.proofs.Lists.{all_back, all_both, all_from, all_front, back_empty, front_empty}
 
 pub record GoodProcedure (p : Written_procedure) : Type 0 where
   pub heading : IsWellHeading p
@@ -130,8 +130,8 @@ block_good xs named g body u k s l e =
     let heads = types_of_heads (heads_of ps start) in
     let all : Differ (d.part.contents.types ++ heads) = subst (λ hs. Differ (d.part.contents.types ++ types_of_heads hs)) same two.0 in
     let within : AllByRecursion (λ (t : TypedType). IsWithin u.path t.name) (d.part.contents.types ++ heads) = subst (λ hs. AllByRecursion (λ (t : TypedType). IsWithin u.path t.name) (d.part.contents.types ++ types_of_heads hs)) same two.1 in
-    let plain = front_all (λ (t : TypedType). IsWithin u.path t.name) d.part.contents.types heads within in
-    let headed = back_all (λ (t : TypedType). IsWithin u.path t.name) d.part.contents.types heads within in
+    let plain = all_front (λ (t : TypedType). IsWithin u.path t.name) d.part.contents.types heads within in
+    let headed = all_back (λ (t : TypedType). IsWithin u.path t.name) d.part.contents.types heads within in
     let Q : TypedType → Type 0 = λ t. (r : List ℕ) × (t.name ≡ u.path ++ r) in
     let its = (procedures_judged w ps (heads_of ps start)).contents.types in
     let known : BlockIs u.path (d.part.contents.types ++ its) = record {

@@ -24,8 +24,8 @@ use Rattle.ob_rules.specs.Types.{Typing, Written, WrittenSection, written, with_
 use Rattle.ob_rules.specs.Headings.{BoundAs, WrittenHeading, Head, Heads, owner_if, knows_receiver, heading_parameters, head_of, leaves_room, name_twice, declared_head, knows_procedure, known_behind, types_of, add_heading, mark_or_hidden}
 use Rattle.ob_rules.specs.Declarations.{Declared, declare_if, no_nil, constant_entity, constant_declared, typing_as, type_entity, types_made, type_declared, variable_entity, paired_typing, variable_marked, variables_with, made_in, first_name, variables_declared, Written_procedure, Declaration, Plain, Procedure, plain_of, in_order, headings_in_order, decl_rule, declaration, is_system, import_entity, import_declared, target_of}
 use Rattle.std.specs.Prelude.{codes}
-use Rattle.law_names_distinct.proofs.Fresh.{all_both, all_from}
 use Rattle.law_names_types.specs.Once.{HasNoForward}
+use Rattle.law_lists.proofs.Lists.{all_both, all_from}
 
 -- a forward declaration is of a scope below that number
 abbrev pub IsPast : ℕ → Known → Type 0

@@ -9,13 +9,14 @@ use Rattle.ob_rules.specs.Declarations.{Written_procedure}
 use Rattle.law_names_distinct.specs.Parts.{is_mark, IsWord}
 use Rattle.law_names_types.specs.Once.{AreQuiet}
 use Rattle.law_names_procedures.proofs.Judges.{Has, has_more}
-use Rattle.law_names_procedures.proofs.Knowing.{IsKnown, AreKnown, all_both, all_from}
+use Rattle.law_names_procedures.proofs.Knowing.{IsKnown, AreKnown}
 use Rattle.law_names_procedures.proofs.Points.{Points}
 use Rattle.law_names_procedures.proofs.Typings.{AreWellSections}
 use Rattle.law_names_procedures.proofs.Headings.{IsHead, head_good}
 use Rattle.law_names_procedures.proofs.Sequences.{key_of, GoodHeads, keys_differ, types_pointed, typed_good, added, not_twice}
 use Rattle.law_names_procedures.proofs.Apart.{Lacks, IsPlain}
 use Rattle.law_names_procedures.proofs.Blocks.{heads_of, key_lacks, behind_path}
+use Rattle.law_lists.proofs.Lists.{all_both, all_from}
 
 -- ---- keys
 

@@ -8,22 +8,14 @@ use Rattle.ob_rules.specs.Headings.{Head}
 use Rattle.ob_rules.specs.Declarations.{Written_procedure, around_body, types_of_head, procedure_judged, procedures_judged}
 use Rattle.law_names_distinct.specs.Distinct.{AreDistinct}
 use Rattle.law_names_distinct.specs.Parts.{IsInScope}
-use Rattle.law_names_distinct.proofs.Fresh.{all_both, all_from}
 use Rattle.law_names_procedures.proofs.Sequences.{key_of}
-use Rattle.law_names_procedures.proofs.Apart.{Lacks, cancel, keys_agree}
+use Rattle.law_names_procedures.proofs.Apart.{Lacks, keys_agree}
 use Rattle.law_names_procedures.proofs.Blocks.{inner_is}
 use Rattle.law_names_types.specs.Unlike.{types_of_heads, IsWithin}
 use Rattle.law_names_compiled.proofs.Stand.{Stands, AllStand}
+use Rattle.law_lists.proofs.Lists.{all_back, all_both, all_from, all_front, same_behind}
 
 -- ---- lists
-
-pub front_all : {A : Type 0} (P : A → Type 0) (xs ys : List A) → AllByRecursion P (xs ++ ys) → AllByRecursion P xs
-front_all P [] ys h = tt
-front_all P (x ∷ xs) ys h = (h.0, front_all P xs ys h.1)
-
-pub back_all : {A : Type 0} (P : A → Type 0) (xs ys : List A) → AllByRecursion P (xs ++ ys) → AllByRecursion P ys
-back_all P [] ys h = h
-back_all P (x ∷ xs) ys h = back_all P xs ys h.1
 
 abbrev pub Differ : List TypedType → Type 0
 Differ ts = AreDistinct (λ (t : TypedType). t.name) ts
@@ -38,7 +30,7 @@ differ_join (t ∷ ts) us d e c = (all_both (λ (u : TypedType). u.name ≢ t.na
 
 pub differ_front : (ts us : List TypedType) → Differ (ts ++ us) → Differ ts
 differ_front [] us d = tt
-differ_front (t ∷ ts) us d = (front_all (λ (u : TypedType). u.name ≢ t.name) ts us d.0, differ_front ts us d.1)
+differ_front (t ∷ ts) us d = (all_front (λ (u : TypedType). u.name ≢ t.name) ts us d.0, differ_front ts us d.1)
 
 pub differ_back : (ts us : List TypedType) → Differ (ts ++ us) → Differ us
 differ_back [] us d = d
@@ -46,7 +38,7 @@ differ_back (t ∷ ts) us d = differ_back ts us d.1
 
 pub differ_cross : (ts us : List TypedType) → Differ (ts ++ us) → AreUnlike ts us
 differ_cross [] us d = tt
-differ_cross (t ∷ ts) us d = (back_all (λ (u : TypedType). u.name ≢ t.name) ts us d.0, differ_cross ts us d.1)
+differ_cross (t ∷ ts) us d = (all_back (λ (u : TypedType). u.name ≢ t.name) ts us d.0, differ_cross ts us d.1)
 
 unlike_join : (ts us vs : List TypedType) → AreUnlike ts vs → AreUnlike us vs → AreUnlike (ts ++ us) vs
 unlike_join ts us vs c d = all_both (λ (t : TypedType). AllByRecursion (λ (u : TypedType). u.name ≢ t.name) vs) ts us c d
@@ -71,12 +63,12 @@ no_stroke (c ∷ k) r h = no_stroke k r h.1
 
 -- none of the scope is behind a stroke
 pub stem_apart : (path : List ℕ) (before : List Head) (n m : List ℕ) → IsWithin path n → IsStem path before m → n ≢ m
-stem_apart path before n m w s e = no_stroke s.key s.rest (subst IsInScope (cancel path w.rest (s.key ++ 47 ∷ s.rest) (sym w.is ∙ e ∙ s.is)) w.scope)
+stem_apart path before n m w s e = no_stroke s.key s.rest (subst IsInScope (same_behind path w.rest (s.key ++ 47 ∷ s.rest) (sym w.is ∙ e ∙ s.is)) w.scope)
 
 -- those of procedures of different keys differ
 stems_apart : (path key r : List ℕ) (before : List Head) (h : Head) (n m : List ℕ) → key_of h ≡ key → Lacks 47 key → h.forward ≡ false → n ≡ path ++ (key ++ 47 ∷ r) → IsStem path (h ∷ before) m → n ≢ m
 stems_apart path key r before h n m k l f i s e =
-    s.new.0 f (sym (keys_agree key s.key (47 ∷ r) (47 ∷ s.rest) l s.lacks refl refl (cancel path (key ++ 47 ∷ r) (s.key ++ 47 ∷ s.rest) (sym i ∙ e ∙ s.is))) ∙ sym k)
+    s.new.0 f (sym (keys_agree key s.key (47 ∷ r) (47 ∷ s.rest) l s.lacks refl refl (same_behind path (key ++ 47 ∷ r) (s.key ++ 47 ∷ s.rest) (sym i ∙ e ∙ s.is))) ∙ sym k)
 
 fewer : (path : List ℕ) (before : List Head) (h : Head) (n : List ℕ) → IsStem path (h ∷ before) n → IsStem path before n
 fewer path before h n s = record { key = s.key; rest = s.rest; is = s.is; lacks = s.lacks; new = s.new.1 }
@@ -119,9 +111,9 @@ module _ (u : Around) (path : List ℕ) where
       let mine = types_of_head h.parameters in
       let theirs = inner_types p.forward u p h in
       all_both Q (procedure_judged u p h p.forward).contents.types (procedures_judged u ps hs).contents.types
-      (subst (λ ts. AllByRecursion Q ts) (sym (judged_types u p h p.forward)) (all_both Q mine theirs (front_all Q mine (types_of_heads hs) heads)
+      (subst (λ ts. AllByRecursion Q ts) (sym (judged_types u p h p.forward)) (all_both Q mine theirs (all_front Q mine (types_of_heads hs) heads)
       (all_from (IsInner h) Q (λ t b. stems t (inner_stem path before h stand.0.1 t b)) theirs inside.0.behind)))
-      (covered Q (h ∷ before) ps hs stand.1 inside.1 (back_all Q mine (types_of_heads hs) heads) (λ t s. stems t (fewer path before h t.name s)))
+      (covered Q (h ∷ before) ps hs stand.1 inside.1 (all_back Q mine (types_of_heads hs) heads) (λ t s. stems t (fewer path before h t.name s)))
 
   -- those of a heading and those of the procedures behind it
   pub heading_rest : (before : List Head) (ps : List Written_procedure) (hs : List Head) → AllStand path before ps hs → AreInside u ps hs → (ts : List TypedType) → AllByRecursion (λ (t : TypedType). IsWithin path t.name) ts → AreUnlike ts (types_of_heads hs) → AreUnlike ts (procedures_judged u ps hs).contents.types
@@ -152,8 +144,8 @@ module _ (u : Around) (path : List ℕ) where
       let theirs = inner_types p.forward u p h in
       let others = types_of_heads hs in
       let rest = (procedures_judged u ps hs).contents.types in
-      let here = front_all (λ (t : TypedType). IsWithin path t.name) mine others w in
-      let there = back_all (λ (t : TypedType). IsWithin path t.name) mine others w in
+      let here = all_front (λ (t : TypedType). IsWithin path t.name) mine others w in
+      let there = all_back (λ (t : TypedType). IsWithin path t.name) mine others w in
       subst (λ ts. Differ (ts ++ rest)) (sym (judged_types u p h p.forward))
       (differ_join (mine ++ theirs) rest
       (differ_join mine theirs (differ_front mine others d) inside.0.differ (heading_inner path before h stand.0.1 mine theirs here inside.0.behind))

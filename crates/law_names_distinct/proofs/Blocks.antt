@@ -28,7 +28,8 @@ use Rattle.ob_rules.specs.Statements.{Judging, judging}
 use Rattle.ob_rules.specs.Headings.{Head, Heads, Binding, reversed}
 use Rattle.ob_rules.specs.Declarations.{Contents, no_contents, first_name, Part, Declared, declare, twice, constant_contents, no_nil, constant_declared, types_made, type_declared, variable_contents, variable_entity, paired_typing, variable_with, variables_with, made_in, variables_typed, variables_declared, Written_procedure, Declaration, Plain, Procedure, plain_of, procedure_of, type_name_of, in_order, headings_in_order, around_body, typed_procedure, procedure_judged, procedures_judged, block_inside, with_bound, binding_at, block_bound, heads_later, block_headed, block_declared, block, pointers_judged, decl_rule, declaration, import_declared, target_of, imports_declared, around_module, module_of, typed_module, if_unbroken, is_system, name_judged, closing_judged, with_part, behind_part, then_declared}
 use Rattle.law_names_distinct.specs.Distinct.{AreDistinct, VariablesDiffer, ModulesAreNotOut}
-use Rattle.law_names_distinct.proofs.Fresh.{front_empty, back_empty, quiet_if, is_known, stays_known, same_scope, is_declared, once, IsFresh, then_fresh, plain_fresh}
+use Rattle.law_names_distinct.proofs.Fresh.{quiet_if, is_known, stays_known, same_scope, is_declared, once, IsFresh, then_fresh, plain_fresh}
+use Rattle.law_lists.proofs.Lists.{back_empty, first_false, front_empty}
 
 abbrev pub FreshPlain : (Around → Declared) → Type 0
 FreshPlain f = (u : Around) → IsFresh u (f u)
@@ -218,10 +219,6 @@ variables_differ shown tree m e =
     let f = order_fresh (filter_map plain_of (map declaration tree.decls)) (decls_fresh tree.decls) (start shown tree) in
     subst (λ (x : TypedModule). AreDistinct (λ v. v.name) x.variables) k.1 (subst (λ vs. AreDistinct (λ (v : TypedVariable). v.name) vs) (sym (its_variables shown tree)) (f.differ (quiet shown tree k.0)))
 
-not_either : (a b : Bool) → (a || b) ≡ false → a ≡ false
-not_either true b e = absurd cc
-not_either false b e = refl
-
 pub not_out : ModulesAreNotOut
 not_out shown tree m e =
     let p = parts shown tree in
@@ -229,4 +226,4 @@ not_out shown tree m e =
     let judged = notes_if (is_out tree.name.name || is_system tree.name.name) 5 tree.name.pos in
     let a = front_empty (name_judged tree.name tree.closing).broken _ k.0 in
     let b = front_empty judged.broken (closing_judged tree.name.name (Some tree.closing)).broken a in
-    subst (λ (x : TypedModule). is_out x.name ≡ false) k.1 (not_either (is_out tree.name.name) (is_system tree.name.name) (quiet_if (is_out tree.name.name || is_system tree.name.name) 5 tree.name.pos b))
+    subst (λ (x : TypedModule). is_out x.name ≡ false) k.1 (first_false (is_out tree.name.name) (is_system tree.name.name) (quiet_if (is_out tree.name.name || is_system tree.name.name) 5 tree.name.pos b))

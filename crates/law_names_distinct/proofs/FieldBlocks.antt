@@ -1,5 +1,5 @@
 -- Declarations in their order, procedures, and modules: the records that they add have fields of different names.
-use Rattle.std.proofs.Common.{◌≡◌, ℕ, Bool, true, false, List, [], ◌∷◌, ◌++◌, map, Option, Some, None, refl, sym, subst}
+use Rattle.std.proofs.Common.{ℕ, Bool, true, false, List, [], ◌∷◌, ◌++◌, map, Option, Some, None, sym, subst}
 use Rattle.std.specs.Prelude.{bytes_eq, cond}
 use Rattle.std.specs.List.{AllByRecursion, cons_option, find, filter_map}
 use Rattle.ob_tree.specs.declared.names.QName.{QName}
@@ -30,11 +30,12 @@ use Rattle.ob_rules.specs.Statements.{Judging, judging}
 use Rattle.ob_rules.specs.Headings.{Head, Heads, Binding, add_heading, reversed, mark_or_hidden}
 use Rattle.ob_rules.specs.Declarations.{Contents, no_contents, together, Part, Declared, declare_if, declare, constant_contents, no_nil, constant_declared, equated, typing_as, types_made, type_declared, variable_contents, paired_typing, variables_with, made_in, variables_typed, variables_declared, Written_procedure, Declaration, Plain, Procedure, plain_of, procedure_of, type_name_of, in_order, headings_in_order, around_body, typed_procedure, types_of_head, procedure_contents, procedure_judged, procedures_judged, block_inside, with_bound, binding_at, block_bound, heads_later, block_headed, block_declared, block, decl_rule, declaration, import_declared, target_of, imports_declared, around_module, module_of, described, all_described, typed_module, if_unbroken}
 use Rattle.law_names_distinct.specs.Fields.{FieldsDiffer, AreApart, FieldsDifferAll}
-use Rattle.law_methods_described.proofs.Nodes.{IfThere, Has, all_both, then_has, second_has}
+use Rattle.law_methods_described.proofs.Nodes.{Has, then_has, second_has}
 use Rattle.law_names_distinct.proofs.FieldTypings.{IsGood, AreGoodSections, MakesApart, MakeApart}
 use Rattle.law_names_distinct.proofs.FieldWritten.{written_good, written_parameters_good}
 use Rattle.law_names_distinct.proofs.Blocks.{unbroken_is}
 use Rattle.law_names_distinct.proofs.FieldHeads.{GoodAround, typed_around, GoodHead, AreGoodHeads, GoodHeads, add_good, reversed_good, bindings_good}
+use Rattle.law_lists.proofs.Lists.{IfThere, all_both}
 
 -- ---- what a part adds
 

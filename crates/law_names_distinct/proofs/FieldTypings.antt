@@ -18,11 +18,12 @@ use Rattle.ob_rules.specs.Phrases.{Phrase}
 use Rattle.ob_rules.specs.Shapes.{is_structured, is_pointer}
 use Rattle.ob_rules.specs.Types.{Typing, Written, typed_as, with_types, base_name, element_name, field_name, section_name, marked, member_in, record_in, inherits, field_declared, field_if, name_in, fields_joined, named_typing, array_length, fixed_array, array, first_of, names_behind, WrittenFields, first_name, Fields, fields_of, with_fields, field_lists, record_with, record_desc, pointer_to, base_judged, pointer_base, pointer_by, Parameters, WrittenSection, WrittenParameters, mode_of, declare_all, parameters_of, with_made, sections, result_of, parameters_in, inner, procedure_type}
 use Rattle.law_names_distinct.specs.Fields.{FieldsDiffer, AreApart}
-use Rattle.law_methods_described.proofs.Nodes.{Has, all_both, then_has, any_then, both_have, first_has, second_has, also_has, unless_has, later_has}
+use Rattle.law_methods_described.proofs.Nodes.{Has, then_has, any_then, both_have, first_has, second_has, also_has, unless_has, later_has}
 use Rattle.law_names_distinct.specs.Distinct.{AreDistinct}
-use Rattle.law_names_distinct.proofs.Fresh.{bytes_same, all_from, distinct_both}
+use Rattle.law_names_distinct.proofs.Fresh.{distinct_both}
 use Rattle.law_names_distinct.proofs.Typings.{behind_has, not_behind}
 use Rattle.ob_rules.specs.Judged.{each_sound}
+use Rattle.law_lists.proofs.Lists.{all_both, all_from, bytes_itself, or_parts}
 
 abbrev pub MakesApart : Typing → Type 0
 MakesApart t = AreApart t.made
@@ -85,10 +86,6 @@ field_if_is : (u : Around) (base : Option (Option TypeRef)) (before : List (List
 field_if_is u base before d (Some t) = field_is u base before d t.of
 field_if_is u base before d None = any_then (IsField d before) (field_declared u base before d (ref.Named (in_unit u []))) (λ f. silent) (λ f. tt)
 
-not_two : (a b : Bool) → (a || b) ≡ false → (a ≡ false) × (b ≡ false)
-not_two true b e = absurd cc
-not_two false b e = (refl, e)
-
 -- of the names that a list of fields has, each field has its own
 fields_new : (u : Around) (base : Option (Option TypeRef)) (before : List (List ℕ)) (ds : List IdentDef) (t : Option Typing) → Has (λ fs. AreNew before fs × AllByRecursion (λ f. is_among f.name (names_behind ds before) ≡ true) fs) (each_sound (fields_of u base before ds t))
 unfolding IsField
@@ -101,10 +98,10 @@ fields_new u base before (d ∷ ds) t =
     (λ p h.
     let same : p.0.name ≡ d.ident.name = h.0.0 in (
       record {
-        new = (ap (λ x. is_among x before) same ∙ h.0.1, all_from (λ f. is_among f.name (name_in d ∷ before) ≡ false) (λ f. is_among f.name before ≡ false) (λ f n. (not_two (bytes_eq (name_in d) f.name) (is_among f.name before) n).1) p.1 h.1.0.new);
-        differ = (all_from (λ f. is_among f.name (name_in d ∷ before) ≡ false) (λ f. f.name ≢ p.0.name) (λ f n e. let k = (not_two (bytes_eq (name_in d) f.name) (is_among f.name before) n).0 in let bad : true ≡ false = sym (bytes_same (name_in d)) ∙ ap (bytes_eq (name_in d)) (sym (e ∙ same)) ∙ k in absurd cc) p.1 h.1.0.new, h.1.0.differ);
+        new = (ap (λ x. is_among x before) same ∙ h.0.1, all_from (λ f. is_among f.name (name_in d ∷ before) ≡ false) (λ f. is_among f.name before ≡ false) (λ f n. (or_parts (bytes_eq (name_in d) f.name) (is_among f.name before) n).1) p.1 h.1.0.new);
+        differ = (all_from (λ f. is_among f.name (name_in d ∷ before) ≡ false) (λ f. f.name ≢ p.0.name) (λ f n e. let k = (or_parts (bytes_eq (name_in d) f.name) (is_among f.name before) n).0 in let bad : true ≡ false = sym (bytes_itself (name_in d)) ∙ ap (bytes_eq (name_in d)) (sym (e ∙ same)) ∙ k in absurd cc) p.1 h.1.0.new, h.1.0.differ);
       },
-      (ap (λ x. is_among x (names_behind ds (name_in d ∷ before))) same ∙ behind_has ds (name_in d ∷ before) d.ident.name (ap (λ b. b || is_among d.ident.name before) (bytes_same d.ident.name)), h.1.1),
+      (ap (λ x. is_among x (names_behind ds (name_in d ∷ before))) same ∙ behind_has ds (name_in d ∷ before) d.ident.name (ap (λ b. b || is_among d.ident.name before) (bytes_itself d.ident.name)), h.1.1),
     ))
 
 fields_good : (u : Around) (base : Option (Option TypeRef)) (before : List (List ℕ)) (ds : List IdentDef) (t : Judged Typing) → Has MakesApart t → Has (λ (f : Fields). IsGoodFields before f × AllByRecursion (λ g. is_among g.name (names_behind ds before) ≡ true) f.fields) (with_fields u base before ds t)

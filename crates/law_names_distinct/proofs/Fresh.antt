@@ -1,8 +1,8 @@
 -- A declaration leaves known what was known, and its variables are new.
 use Rattle.std.proofs.Common.{◌≡◌, ◌≢◌, ℕ, Bool, true, false, List, [], ◌∷◌, ◌++◌, Option, Some, None, refl, sym, ap, subst, ◌∙◌}
 use Rattle.std.proofs.lemmas.Bool.{eq-eqb}
-use Rattle.std.specs.Prelude.{nat_eq, bytes_eq, ◌&&◌, cond, is_some}
-use Rattle.std.specs.List.{AllByRecursion, find}
+use Rattle.std.specs.Prelude.{bytes_eq, ◌&&◌, cond, is_some}
+use Rattle.std.specs.List.{AllByRecursion}
 use Rattle.ob_tree.specs.declared.pos.Pos.{Pos}
 use Rattle.ob_tree.specs.declared.ident.Ident.{Ident}
 use Rattle.ob_types.specs.declared.typed.TypedVariable.{TypedVariable}
@@ -13,28 +13,9 @@ use Rattle.ob_rules.specs.Judged.{notes_if}
 use Rattle.ob_rules.specs.Names.{Around, in_scope, found_in_scope}
 use Rattle.ob_rules.specs.Declarations.{Part, Declared, declare_if, declare, twice, with_part, then_declared}
 use Rattle.law_names_distinct.specs.Distinct.{AreDistinct}
-
-pub bytes_same : (a : List ℕ) → bytes_eq a a ≡ true
-bytes_same [] = refl
-bytes_same (x ∷ xs) = ap (λ b. b && bytes_eq xs xs) (eq-eqb x x refl) ∙ bytes_same xs
+use Rattle.law_lists.proofs.Lists.{all_both, all_from, back_empty, bytes_itself, front_empty}
 
 -- ---- lists
-
-pub front_empty : {A : Type 0} (xs ys : List A) → xs ++ ys ≡ [] → xs ≡ []
-front_empty [] ys e = refl
-front_empty (x ∷ xs) ys e = absurd cc
-
-pub back_empty : {A : Type 0} (xs ys : List A) → xs ++ ys ≡ [] → ys ≡ []
-back_empty [] ys e = e
-back_empty (x ∷ xs) ys e = absurd cc
-
-pub all_both : {A : Type 0} (P : A → Type 0) (xs ys : List A) → AllByRecursion P xs → AllByRecursion P ys → AllByRecursion P (xs ++ ys)
-all_both P [] ys h k = k
-all_both P (x ∷ xs) ys h k = (h.0, all_both P xs ys h.1 k)
-
-pub all_from : {A : Type 0} (P Q : A → Type 0) → ((x : A) → P x → Q x) → (xs : List A) → AllByRecursion P xs → AllByRecursion Q xs
-all_from P Q f [] h = tt
-all_from P Q f (x ∷ xs) h = (f x h.0, all_from P Q f xs h.1)
 
 -- the names of the first are known, and those of the others are not
 pub distinct_both : {A : Type 0} (name : A → List ℕ) (known : List ℕ → Bool) (xs ys : List A) → AreDistinct name xs → AreDistinct name ys → AllByRecursion (λ x. known (name x) ≡ true) xs → AllByRecursion (λ y. known (name y) ≡ false) ys → AreDistinct name (xs ++ ys)
@@ -67,7 +48,7 @@ pub is_declared : (o : Option Known) (u : Around) (x : Ident) (e : Entity) → f
 is_declared (Some k) u x e h = ap is_some h
 is_declared None u x e h =
     let k : Known = record { name = x.name; scope = u.scope; what = e } in
-    let here : in_scope u.scope k x.name ≡ true = ap (λ b. b && bytes_eq x.name x.name) (eq-eqb u.scope u.scope refl) ∙ bytes_same x.name in
+    let here : in_scope u.scope k x.name ≡ true = ap (λ b. b && bytes_eq x.name x.name) (eq-eqb u.scope u.scope refl) ∙ bytes_itself x.name in
     ap (λ b. is_some (cond b (Some k) (found_in_scope u x.name))) here
 
 pub quiet_if : (b : Bool) (rule : ℕ) (at : Pos) → (notes_if b rule at).broken ≡ [] → b ≡ false

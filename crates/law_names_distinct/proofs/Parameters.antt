@@ -3,7 +3,7 @@ use Rattle.std.proofs.Common.{◌≡◌, ◌≢◌, ℕ, suc, ◌+◌, Bool, tru
 use Rattle.std.proofs.lemmas.Bool.{eq-eqb, eqb-true}
 use Rattle.std.specs.Prelude.{nat_eq, nat_lt, bytes_eq, ◌&&◌, cond, is_some}
 use Rattle.std.specs.Option.{option_map}
-use Rattle.std.specs.List.{AllByRecursion, find, filter}
+use Rattle.std.specs.List.{AllByRecursion, find}
 use Rattle.ob_tree.specs.declared.pos.Pos.{Pos}
 use Rattle.ob_tree.specs.declared.ident.Ident.{Ident}
 use Rattle.ob_tree.specs.declared.ident.Mark.{Mark}
@@ -24,8 +24,9 @@ use Rattle.ob_rules.specs.Types.{Typing, section_name, Parameters, WrittenSectio
 use Rattle.ob_rules.specs.Headings.{WrittenHeading, Head, BoundAs, bound_in, of_scope, as_parameters, owner_if, self_of, self_by, self_parameter, knows_receiver, forward_name, path_by, heading_parameters, head_of}
 use Rattle.ob_rules.specs.Declarations.{self_parameters}
 use Rattle.law_names_distinct.specs.Distinct.{AreDistinct}
-use Rattle.law_names_distinct.proofs.Fresh.{bytes_same, front_empty, back_empty, all_both, all_from, distinct_both, not_before}
-use Rattle.law_names_distinct.proofs.Quiet.{IfThere, Quiet, Any, any_quiet, then_quiet, first_quiet, both_quiet}
+use Rattle.law_names_distinct.proofs.Fresh.{distinct_both, not_before}
+use Rattle.law_names_distinct.proofs.Quiet.{Quiet, any_quiet, then_quiet, first_quiet, both_quiet}
+use Rattle.law_lists.proofs.Lists.{Anything, IfThere, all_both, all_from, back_empty, bytes_itself, front_empty}
 
 -- a name of that scope is known
 abbrev pub known_in : ℕ → List Known → List ℕ → Bool
@@ -69,7 +70,7 @@ record Declares (n : ℕ) (u : Around) (xs : List (List ℕ)) (d : Named) : Type
 one_known : (n : ℕ) (u : Around) → u.scope ≡ n → (x : Ident) (e : Entity) → known_in n (knows u x e).known x.name ≡ true
 one_known n u s x e =
     let k : Known = record { name = x.name; scope = u.scope; what = e } in
-    let here : in_scope n k x.name ≡ true = ap (λ b. b && bytes_eq x.name x.name) (eq-eqb u.scope n s) ∙ bytes_same x.name in
+    let here : in_scope n k x.name ≡ true = ap (λ b. b && bytes_eq x.name x.name) (eq-eqb u.scope n s) ∙ bytes_itself x.name in
     ap (λ b. is_some (cond b (Some k) (find (λ k. in_scope n k x.name) u.known))) here
 
 keeps_known : (n : ℕ) (u : Around) (x : Ident) (e : Entity) → Keeps n u.known (knows u x e).known
@@ -144,7 +145,7 @@ sections_names n name (w ∷ ss) i u s =
     let first = k.names (front_empty d.notes.broken mine.notes.broken here) in
     then_quiet (λ (p : Parameters × Parameters). (parameter_names p.0 ≡ own) × AreNew n v.known rest.known (parameter_names p.1)) (λ p. AreNew n u.known rest.known (parameter_names p)) (both (noted d.notes mine) rest.found) f
     (both_quiet (λ (p : Parameters). parameter_names p ≡ own) (λ p. AreNew n v.known rest.known (parameter_names p)) (noted d.notes mine) rest.found
-    (λ b. then_quiet Any (λ (p : Parameters). parameter_names p ≡ own) t (λ x. sound (parameters_of u (mode_of w.is_var) w.names x)) (any_quiet t) (λ q h. λ b. names_of (parameter_of u (mode_of w.is_var) q) (λ y. refl) w.names) (back_empty d.notes.broken mine.notes.broken b))
+    (λ b. then_quiet Anything (λ (p : Parameters). parameter_names p ≡ own) t (λ x. sound (parameters_of u (mode_of w.is_var) w.names x)) (any_quiet t) (λ q h. λ b. names_of (parameter_of u (mode_of w.is_var) q) (λ y. refl) w.names) (back_empty d.notes.broken mine.notes.broken b))
     (sections_names n name ss (i + length w.names) v vs))
     (λ p h. λ b.
     subst (AreNew n u.known rest.known) (sym (names_joined p.0.parameters p.1.parameters ∙ ap (λ ns. ns ++ parameter_names p.1) h.0))
@@ -157,8 +158,8 @@ parameters_names : (n : ℕ) (u : Around) → u.scope ≡ n → (name : List ℕ
 parameters_names n u s name p =
     let ss = sections u name 1 p.sections in
     let r = result_of (record u { known = ss.known }) p.result in
-    then_quiet (λ (q : Parameters × Option TypeRef). AreNew n u.known ss.known (parameter_names q.0) × Any q.1) (λ q. AreNew n u.known ss.known (parameter_names q)) (both ss.found r) (λ q. sound (with_result q.0 q.1))
-    (both_quiet (λ q. AreNew n u.known ss.known (parameter_names q)) Any ss.found r (sections_names n name p.sections 1 u s) (any_quiet r))
+    then_quiet (λ (q : Parameters × Option TypeRef). AreNew n u.known ss.known (parameter_names q.0) × Anything q.1) (λ q. AreNew n u.known ss.known (parameter_names q)) (both ss.found r) (λ q. sound (with_result q.0 q.1))
+    (both_quiet (λ q. AreNew n u.known ss.known (parameter_names q)) Anything ss.found r (sections_names n name p.sections 1 u s) (any_quiet r))
     (λ q h. λ e. h.0)
 
 -- ---- headings
@@ -250,7 +251,7 @@ module _ (u : Around) (h : WrittenHeading) (forward : Bool) where
       subst (λ y. AllByRecursion (λ x. known_in (suc u.scope) last x ≡ true) (y ∷ parameter_names p) × AreDistinct (λ x. x) (y ∷ parameter_names p)) (sym (self_named r.ident b b.receiver))
       (with_self (suc u.scope) start.known last r.ident.name (parameter_names p) (k r refl) (sections_keep (suc u.scope) name h.parameters.sections 1 start (receiver_scope (inner u) h.receiver bound.node)) g)
 
-  there_parameters : (o : Option ((Mark × Option BoundAs) × Parameters)) → IfThere (λ q. Any q.0 × AreNew (suc u.scope) start.known last (parameter_names q.1)) o → IfThere (λ p. AreNew (suc u.scope) start.known last (parameter_names p)) (as_parameters o)
+  there_parameters : (o : Option ((Mark × Option BoundAs) × Parameters)) → IfThere (λ q. Anything q.0 × AreNew (suc u.scope) start.known last (parameter_names q.1)) o → IfThere (λ p. AreNew (suc u.scope) start.known last (parameter_names p)) (as_parameters o)
   there_parameters None g = tt
   there_parameters (Some q) g = g.1
 
@@ -268,4 +269,4 @@ module _ (u : Around) (h : WrittenHeading) (forward : Bool) where
       let m = marked u false h.name in
       let s = (parameters_in start name h.parameters).found in
       finish head.parameters (there_parameters (both (both m bound) s).node
-      (both_quiet Any (λ p. AreNew (suc u.scope) start.known last (parameter_names p)) (both m bound) s (any_quiet (both m bound)) (parameters_names (suc u.scope) start (receiver_scope (inner u) h.receiver bound.node) name h.parameters) e))
+      (both_quiet Anything (λ p. AreNew (suc u.scope) start.known last (parameter_names p)) (both m bound) s (any_quiet (both m bound)) (parameters_names (suc u.scope) start (receiver_scope (inner u) h.receiver bound.node) name h.parameters) e))

@@ -1,7 +1,6 @@
 -- Names of different parts differ.
 use Rattle.std.proofs.Common.{◌≡◌, ◌≢◌, ℕ, suc, ◌<◌, ◌^◌, Bool, true, false, List, [], ◌∷◌, ◌++◌, refl, sym, ap, subst, ◌∙◌, append_assoc, arith}
 use Rattle.std.specs.Prelude.{◌==◌, ◌||◌}
-use Rattle.std.specs.List.{AllByRecursion}
 use Rattle.std.specs.Fmt.{decimal}
 use Rattle.std.specs.Char.{digit_value}
 use Rattle.std.proofs.lemmas.List.{append-nil}
@@ -9,18 +8,10 @@ use Rattle.std.proofs.lemmas.Bool.{eqb-true}
 use Rattle.std.proofs.lemmas.Fmt.{decimal_injective, decimal_is_IsNumeral}
 use Rattle.std.specs.Str.Parse.{AllDigits}
 use Rattle.law_names_distinct.specs.Parts.{is_mark, IsWord, IsTail, IsInScope, IsPart}
-use Rattle.law_names_distinct.proofs.Fresh.{all_both, all_from}
-
-pub or_parts : (a b : Bool) → (a || b) ≡ false → (a ≡ false) × (b ≡ false)
-or_parts true b e = absurd cc
-or_parts false b e = (refl, e)
+use Rattle.law_lists.proofs.Lists.{all_both, all_from, or_parts, same_behind}
 
 pub word_scope : (x : List ℕ) → IsWord x → IsInScope x
 word_scope x h = all_from (λ c. is_mark c ≡ false) (λ c. (c == 47) ≡ false) (λ c e. (or_parts (c == 47) _ e).0) x h
-
-cancel : (p x y : List ℕ) → p ++ x ≡ p ++ y → x ≡ y
-cancel [] x y e = e
-cancel (c ∷ p) x y e = cancel p x y cc
 
 -- words in front of tails
 words_agree : (f g s t : List ℕ) → IsWord f → IsWord g → IsTail s → IsTail t → f ++ s ≡ g ++ t → f ≡ g
@@ -36,7 +27,7 @@ words_agree (x ∷ f) (y ∷ g) s t a b c d e =
 
 pub parts_differ : (r f g n k : List ℕ) → IsWord f → IsWord g → f ≢ g → IsPart (r ++ f) n → IsPart (r ++ g) k → n ≢ k
 parts_differ r f g n k a b different p q e =
-    different (words_agree f g p.rest q.rest a b p.tail q.tail (cancel r (f ++ p.rest) (g ++ q.rest) (sym (append_assoc r f p.rest) ∙ sym p.is ∙ e ∙ q.is ∙ append_assoc r g q.rest)))
+    different (words_agree f g p.rest q.rest a b p.tail q.tail (same_behind r (f ++ p.rest) (g ++ q.rest) (sym (append_assoc r f p.rest) ∙ sym p.is ∙ e ∙ q.is ∙ append_assoc r g q.rest)))
 
 pub part_itself : (r : List ℕ) → IsPart r r
 part_itself r = record { rest = []; is = sym (append-nil r); tail = tt; scope = tt }
@@ -52,7 +43,7 @@ part_within r w n c m s h p = record {
 
 pub part_longer : (r w n : List ℕ) (c : ℕ) → IsPart (r ++ c ∷ w) n → n ≢ r
 part_longer r w n c p e =
-    let k : c ∷ (w ++ p.rest) ≡ [] = cancel r (c ∷ (w ++ p.rest)) [] (sym (append_assoc r (c ∷ w) p.rest) ∙ sym p.is ∙ e ∙ sym (append-nil r)) in
+    let k : c ∷ (w ++ p.rest) ≡ [] = same_behind r (c ∷ (w ++ p.rest)) [] (sym (append_assoc r (c ∷ w) p.rest) ∙ sym p.is ∙ e ∙ sym (append-nil r)) in
     absurd cc
 
 -- ---- numbers
@@ -92,6 +83,6 @@ decimal_differs m n a b d e = d (decimal_injective m n a b e)
 -- behind one mark
 pub parts_apart : (r f g n k : List ℕ) (c : ℕ) → IsWord f → IsWord g → f ≢ g → IsPart (r ++ c ∷ f) n → IsPart (r ++ c ∷ g) k → n ≢ k
 parts_apart r f g n k c a b different p q e =
-    let whole : c ∷ (f ++ p.rest) ≡ c ∷ (g ++ q.rest) = cancel r (c ∷ (f ++ p.rest)) (c ∷ (g ++ q.rest)) (sym (append_assoc r (c ∷ f) p.rest) ∙ sym p.is ∙ e ∙ q.is ∙ append_assoc r (c ∷ g) q.rest) in
+    let whole : c ∷ (f ++ p.rest) ≡ c ∷ (g ++ q.rest) = same_behind r (c ∷ (f ++ p.rest)) (c ∷ (g ++ q.rest)) (sym (append_assoc r (c ∷ f) p.rest) ∙ sym p.is ∙ e ∙ q.is ∙ append_assoc r (c ∷ g) q.rest) in
     let rest : f ++ p.rest ≡ g ++ q.rest = cc in
     different (words_agree f g p.rest q.rest a b p.tail q.tail rest)

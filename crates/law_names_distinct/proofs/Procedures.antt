@@ -31,10 +31,10 @@ use Rattle.ob_rules.specs.Headings.{WrittenHeading, heading_of, Head, Heads, Bin
 use Rattle.ob_rules.specs.Declarations.{Contents, Part, no_part, Declared, first_name, constant_contents, no_nil, constant_declared, type_declared, variable_contents, variable_with, variables_with, paired_typing, made_in, variables_declared, Written_procedure, Declaration, Plain, Procedure, plain_of, procedure_of, type_name_of, in_order, headings_in_order, pointers_judged, field_judged, all_judged, nothing_later, closing_judged, around_body, typed_procedure, procedure_contents, procedure_judged, procedures_judged, body_part, block_inside, with_bound, binding_at, block_bound, heads_later, block_headed, block_declared, block, decl_rule, declaration, target_of, import_declared, imports_declared, around_module, module_of, typed_module}
 use Rattle.law_names_distinct.specs.Distinct.{AreDistinct}
 use Rattle.law_names_distinct.specs.Procedures.{names_in, HasNames, ProceduresHaveNames}
-use Rattle.law_names_distinct.proofs.Fresh.{front_empty, back_empty, all_both, all_from, distinct_both, is_known, IsFresh}
-use Rattle.law_names_distinct.proofs.Quiet.{IfThere}
+use Rattle.law_names_distinct.proofs.Fresh.{distinct_both, is_known, IsFresh}
 use Rattle.law_names_distinct.proofs.Blocks.{FreshPlain, constant_fresh, type_fresh, variables_declared_fresh, order_fresh, headed_none, no_more, unbroken_is}
 use Rattle.law_names_distinct.proofs.Parameters.{known_in, head_names, IsInside, GoodHead, head_good}
+use Rattle.law_lists.proofs.Lists.{IfThere, all_both, all_from, back_empty, front_empty}
 
 -- ---- headings in order
 

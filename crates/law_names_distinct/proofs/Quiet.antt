@@ -1,26 +1,19 @@
 -- What holds of what is judged, where nothing is broken in it.
-use Rattle.std.proofs.Common.{◌≡◌, ℕ, Bool, true, false, List, [], ◌∷◌, ◌++◌, Option, Some, None, refl}
+use Rattle.std.proofs.Common.{◌≡◌, ℕ, Bool, true, false, List, [], ◌∷◌, Option, Some, None}
 use Rattle.ob_tree.specs.declared.pos.Pos.{Pos}
 use Rattle.ob_rules.specs.declared.notes.Later.{Later}
 use Rattle.ob_rules.specs.declared.broken.Broken.{Broken}
 use Rattle.ob_rules.specs.Judged.{Judged, Notes, sound, if_sound, paired, both, made, unless, also, judge_later, noted, ◌▷◌}
-use Rattle.law_names_distinct.proofs.Fresh.{front_empty, back_empty}
-
-abbrev pub IfThere : {A : Type 0} → (A → Type 0) → Option A → Type 0
-IfThere P None = Unit {0}
-IfThere P (Some x) = P x
+use Rattle.law_lists.proofs.Lists.{Anything, IfThere, back_empty, front_empty}
 
 abbrev pub Quiet : {A : Type 0} → (A → Type 0) → Judged A → Type 0
 Quiet P j = j.notes.broken ≡ [] → IfThere P j.node
 
-abbrev pub Any : {A : Type 0} → A → Type 0
-Any x = Unit {0}
-
-any_there : {A : Type 0} (o : Option A) → IfThere Any o
+any_there : {A : Type 0} (o : Option A) → IfThere Anything o
 any_there None = tt
 any_there (Some x) = tt
 
-pub any_quiet : {A : Type 0} (j : Judged A) → Quiet Any j
+pub any_quiet : {A : Type 0} (j : Judged A) → Quiet Anything j
 any_quiet j = λ e. any_there j.node
 
 pub there_more : {A : Type 0} (P Q : A → Type 0) (o : Option A) → ((x : A) → P x → Q x) → IfThere P o → IfThere Q o

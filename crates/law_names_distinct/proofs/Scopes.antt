@@ -1,6 +1,6 @@
 -- The types that the declarations of a scope make are of the parts of their names, and differ.
-use Rattle.std.proofs.Common.{◌≡◌, ◌≢◌, ℕ, Bool, true, false, List, [], ◌∷◌, ◌++◌, map, Option, Some, None, refl, sym, ap, subst, ◌∙◌, append_assoc}
-use Rattle.std.specs.Prelude.{◌&&◌, codes}
+use Rattle.std.proofs.Common.{◌≡◌, ◌≢◌, ℕ, Bool, true, false, List, [], ◌∷◌, ◌++◌, map, Option, Some, None, refl, sym, ap, subst, ◌∙◌}
+use Rattle.std.specs.Prelude.{codes}
 use Rattle.std.specs.List.{AllByRecursion, cons_option, filter_map}
 use Rattle.std.proofs.lemmas.Bool.{and_parts}
 use Rattle.std.proofs.lemmas.List.{append-nil}
@@ -31,11 +31,12 @@ use Rattle.ob_rules.specs.Declarations.{Contents, no_contents, first_name, Part,
 use Rattle.law_names_distinct.specs.Distinct.{AreDistinct}
 use Rattle.law_names_distinct.specs.Parts.{IsWord, IsPart}
 use Rattle.law_names_distinct.specs.Named.{is_word, all_true, are_words, type_named, parameters_named, decl_layer, decl_named}
-use Rattle.law_names_distinct.proofs.Fresh.{front_empty, back_empty, all_both, all_from, is_known, stays_known, same_scope, is_declared, once, not_before}
+use Rattle.law_names_distinct.proofs.Fresh.{is_known, stays_known, same_scope, is_declared, once, not_before}
 use Rattle.law_names_distinct.proofs.Parts.{parts_differ, part_itself, part_within}
-use Rattle.law_names_distinct.proofs.Quiet.{IfThere, Quiet, Any, any_quiet, then_quiet, both_quiet, there_more}
+use Rattle.law_names_distinct.proofs.Quiet.{Quiet, any_quiet, then_quiet, both_quiet, there_more}
 use Rattle.law_names_distinct.proofs.Typings.{AreIn, IsIn, HasFirst, none_in, behind_mark}
 use Rattle.law_names_distinct.proofs.Written.{IsNode, written_good, words_are, has_first}
+use Rattle.law_lists.proofs.Lists.{Anything, IfThere, all_both, all_from, back_empty, front_empty}
 
 -- of a name that is declared between these
 pub record IsOfName (path : List ℕ) (u v : Around) (n : List ℕ) : Type 0 where
@@ -132,7 +133,7 @@ as_good w g u name m (Some q) e =
     then_quiet (λ (t : Typing). t.made ≡ []) (IsIn name) t (λ t. sound (equated u name m t)) (g.alone q e u name m false)
     (λ t n. λ b. subst (λ ts. AreIn name (record { name = name; desc = desc.Alias m t.of } ∷ ts)) (sym n) (one_in name (desc.Alias m t.of)))
 
-made_types : (r : List ℕ) (o : Option (Mark × Typing)) → IfThere (λ (p : Mark × Typing). Any p.0 × IsIn r p.1) o → AreIn r (types_made o)
+made_types : (r : List ℕ) (o : Option (Mark × Typing)) → IfThere (λ (p : Mark × Typing). Anything p.0 × IsIn r p.1) o → AreIn r (types_made o)
 made_types r None h = none_in r
 made_types r (Some p) h = h.1
 
@@ -153,7 +154,7 @@ type_placed d word w g u =
       types = λ b.
           let quiet = front_empty j.notes.broken (twice u x).broken b in
           named_between u (declare v x e) x.name ts word (once u x (back_empty j.notes.broken (twice u x).broken b)) (is_declared (found_in_scope v x.name) v x e refl)
-          (made_types r j.node (both_quiet Any (IsIn r) m t (any_quiet m) (as_good w g u r (mark_or_hidden m.node) w.name refl) quiet));
+          (made_types r j.node (both_quiet Anything (IsIn r) m t (any_quiet m) (as_good w g u r (mark_or_hidden m.node) w.name refl) quiet));
     }
 
 -- ---- variables

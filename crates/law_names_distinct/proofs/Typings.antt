@@ -2,7 +2,7 @@
 use Rattle.std.proofs.Common.{◌≡◌, ◌≢◌, ℕ, suc, ◌+◌, ◌<◌, ◌≤◌, ◌^◌, Bool, true, false, List, [], ◌∷◌, ◌++◌, length, Option, Some, None, refl, sym, ap, subst, ◌∙◌, arith, append_assoc}
 use Rattle.std.specs.Prelude.{zero, ◌==◌, ◌||◌, bytes_eq, is_some, is_none}
 use Rattle.std.specs.Fmt.{decimal}
-use Rattle.std.specs.List.{AllByRecursion, list_any}
+use Rattle.std.specs.List.{AllByRecursion}
 use Rattle.ob_tree.specs.declared.pos.Pos.{Pos}
 use Rattle.ob_tree.specs.declared.ident.Ident.{Ident}
 use Rattle.ob_tree.specs.declared.ident.IdentDef.{IdentDef}
@@ -23,9 +23,9 @@ use Rattle.ob_rules.specs.Types.{Typing, Written, typed_as, with_types, base_nam
 use Rattle.ob_layout.specs.Lists.{sum_of}
 use Rattle.law_names_distinct.specs.Distinct.{AreDistinct}
 use Rattle.law_names_distinct.specs.Parts.{is_mark, IsWord, IsPart}
-use Rattle.law_names_distinct.proofs.Fresh.{front_empty, back_empty, all_both, all_from, bytes_same}
 use Rattle.law_names_distinct.proofs.Parts.{parts_apart, part_itself, part_within, part_longer, decimal_word, decimal_differs}
-use Rattle.law_names_distinct.proofs.Quiet.{IfThere, Quiet, Any, any_quiet, then_quiet, first_quiet, both_quiet, unless_quiet, also_quiet, later_quiet, later_broken, and_there}
+use Rattle.law_names_distinct.proofs.Quiet.{Quiet, any_quiet, then_quiet, first_quiet, both_quiet, unless_quiet, also_quiet, later_quiet, later_broken, and_there}
+use Rattle.law_lists.proofs.Lists.{Anything, all_both, all_from, back_empty, bytes_itself, front_empty}
 
 -- all have names of this part, which differ
 pub record AreIn (r : List ℕ) (ts : List TypedType) : Type 0 where
@@ -55,13 +55,13 @@ one_more r c d ts m s h = record {
 -- ---- names and arrays
 
 pub name_good : (q : Qualident) (u : Around) (name : List ℕ) (open_ok : Bool) → Quiet (IsIn name) (type_named u q ▷ named_typing u (first_of q) open_ok)
-name_good q u name open_ok = then_quiet Any (IsIn name) (type_named u q) (named_typing u (first_of q) open_ok) (any_quiet (type_named u q)) (λ t h. unless_quiet (IsIn name) _ 13 (first_of q) (record { of = t; made = [] }) (none_in name))
+name_good q u name open_ok = then_quiet Anything (IsIn name) (type_named u q) (named_typing u (first_of q) open_ok) (any_quiet (type_named u q)) (λ t h. unless_quiet (IsIn name) _ 13 (first_of q) (record { of = t; made = [] }) (none_in name))
 
 fixed_good : (ls : List Phrase) (element : Written) → IsGood element → (u : Around) (name : List ℕ) (m : Mark) → Quiet (IsIn name) (fixed_array u name m ls element)
 fixed_good [] element g u name m = g u name m false
 fixed_good (l ∷ ls) element g u name m =
-    then_quiet (λ (p : ℕ × Typing). Any p.0 × IsIn (element_name name) p.1) (IsIn name) (both (array_length u l) (fixed_array u (element_name name) mark.Hidden ls element)) (λ p. sound (typed_as u name (desc.Array m p.0 p.1.of) p.1.made))
-    (both_quiet Any (IsIn (element_name name)) (array_length u l) (fixed_array u (element_name name) mark.Hidden ls element) (any_quiet (array_length u l)) (fixed_good ls element g u (element_name name) mark.Hidden))
+    then_quiet (λ (p : ℕ × Typing). Anything p.0 × IsIn (element_name name) p.1) (IsIn name) (both (array_length u l) (fixed_array u (element_name name) mark.Hidden ls element)) (λ p. sound (typed_as u name (desc.Array m p.0 p.1.of) p.1.made))
+    (both_quiet Anything (IsIn (element_name name)) (array_length u l) (fixed_array u (element_name name) mark.Hidden ls element) (any_quiet (array_length u l)) (fixed_good ls element g u (element_name name) mark.Hidden))
     (λ p h. λ e. one_more name 91 (desc.Array m p.0 p.1.of) p.1.made refl refl h.1)
 
 pub array_good : (ls : List Phrase) (at : Pos) (element : Written) → IsGood element → (u : Around) (name : List ℕ) (m : Mark) (open_ok : Bool) → Quiet (IsIn name) (array u name m at open_ok ls element)
@@ -148,7 +148,7 @@ list_good u name base before ds h t g = λ e.
     let f : Typing × List Field → Judged Fields = λ p. sound (record { fields = p.1; made = p.0.made }) in
     let quiet = first_quiet (both t js) f e in
     and_there (λ (f : Fields). AreIn r f.made) (is_among (first_name ds) before ≡ false) (with_fields u base before ds t).node
-    (then_quiet (λ (p : Typing × List Field). IsIn r p.0 × Any p.1) (λ (f : Fields). AreIn r f.made) (both t js) f (both_quiet (IsIn r) Any t js g (any_quiet js)) (λ p k. λ e. k.0) e)
+    (then_quiet (λ (p : Typing × List Field). IsIn r p.0 × Anything p.1) (λ (f : Fields). AreIn r f.made) (both t js) f (both_quiet (IsIn r) Anything t js g (any_quiet js)) (λ p k. λ e. k.0) e)
     (first_new u base before ds h t.node (back_empty t.notes.broken js.notes.broken quiet))
 
 -- names before stay among those before
@@ -169,7 +169,7 @@ not_behind ds before x n = by (is_among x before) refl
 
 first_behind : (ds : List IdentDef) → HasFirst ds → (before : List (List ℕ)) → is_among (first_name ds) (names_behind ds before) ≡ true
 first_behind [] h before = absurd h
-first_behind (d ∷ ds) h before = behind_has ds (name_in d ∷ before) d.ident.name (ap (λ b. b || is_among d.ident.name before) (bytes_same d.ident.name))
+first_behind (d ∷ ds) h before = behind_has ds (name_in d ∷ before) d.ident.name (ap (λ b. b || is_among d.ident.name before) (bytes_itself d.ident.name))
 
 first_word : (ds : List IdentDef) → HasFirst ds → IsWord (first_name ds)
 first_word [] h = absurd h
@@ -210,8 +210,8 @@ lists_good (l ∷ ls) g u name base before =
 pub record_good : (u : Around) (name : List ℕ) (m : Mark) (lists : List WrittenFields) → AreGoodFields lists → (base : Judged (Option TypeRef)) → Quiet (IsIn name) (record_with u name m lists base)
 record_good u name m lists g base =
     let fs = field_lists u name base.node [] lists in
-    then_quiet (λ (p : Option TypeRef × Fields). Any p.0 × AreOfFields name [] p.1.made) (IsIn name) (both base fs) (λ p. sound (typed_as u name (record_desc m p.0 p.1.fields) p.1.made))
-    (both_quiet Any (λ (f : Fields). AreOfFields name [] f.made) base fs (any_quiet base) (lists_good lists g u name base.node []))
+    then_quiet (λ (p : Option TypeRef × Fields). Anything p.0 × AreOfFields name [] p.1.made) (IsIn name) (both base fs) (λ p. sound (typed_as u name (record_desc m p.0 p.1.fields) p.1.made))
+    (both_quiet Anything (λ (f : Fields). AreOfFields name [] f.made) base fs (any_quiet base) (lists_good lists g u name base.node []))
     (λ p h. λ e. record {
       parts = (part_itself name, all_from (λ t. IsOfField name [] t.name) (λ t. IsPart name t.name) (λ t o. part_within name o.field t.name 46 refl refl o.word o.part) p.1.made h.1.parts);
       differ = (all_from (λ t. IsOfField name [] t.name) (λ t. t.name ≢ name) (λ t o. part_longer name o.field t.name 46 o.part) p.1.made h.1.parts, h.1.differ);
@@ -276,8 +276,8 @@ pub parameters_good : (u : Around) (name : List ℕ) (p : WrittenParameters) →
 parameters_good u name p g few =
     let s = sections u name 1 p.sections in
     let r = result_of (record u { known = s.known }) p.result in
-    then_quiet (λ (q : Parameters × Option TypeRef). ParametersIn name 1 q.0 × Any q.1) (ParametersIn name 1) (both s.found r) (λ q. sound (with_result q.0 q.1))
-    (both_quiet (ParametersIn name 1) Any s.found r (sections_good p.sections g u name 1 few) (any_quiet r))
+    then_quiet (λ (q : Parameters × Option TypeRef). ParametersIn name 1 q.0 × Anything q.1) (ParametersIn name 1) (both s.found r) (λ q. sound (with_result q.0 q.1))
+    (both_quiet (ParametersIn name 1) Anything s.found r (sections_good p.sections g u name 1 few) (any_quiet r))
     (λ q h. λ e. record { parts = h.0.parts; differ = h.0.differ })
 
 -- those of parameters are of the part of their name

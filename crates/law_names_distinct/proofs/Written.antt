@@ -1,7 +1,7 @@
 -- Each type of the grammar whose names are words is good, by induction over its tree.
-use Rattle.std.proofs.Common.{◌≡◌, ℕ, ◌+◌, ◌≤◌, ◌<◌, ◌^◌, Bool, true, false, List, [], ◌∷◌, map, length, Option, Some, None, refl, sym, ap, subst, ◌∙◌, arith}
-use Rattle.std.specs.Prelude.{not, ◌&&◌, nat_le}
-use Rattle.std.specs.List.{AllByRecursion, list_all}
+use Rattle.std.proofs.Common.{◌≡◌, ℕ, ◌+◌, ◌≤◌, ◌<◌, ◌^◌, Bool, true, List, [], ◌∷◌, map, length, Some, None, refl, sym, ap, subst, ◌∙◌, arith}
+use Rattle.std.specs.Prelude.{not, nat_le}
+use Rattle.std.specs.List.{list_all}
 use Rattle.std.proofs.lemmas.Bool.{leb-true, and_parts}
 use Rattle.ob_tree.specs.declared.ident.Ident.{Ident}
 use Rattle.ob_tree.specs.declared.ident.IdentDef.{IdentDef}
@@ -21,17 +21,14 @@ use Rattle.ob_layout.specs.Lists.{sum_of}
 use Rattle.law_names_distinct.specs.Parts.{is_mark, IsWord}
 use Rattle.law_names_distinct.specs.Named.{is_word, all_true, are_words, node_layer, fields_layer, parameters_layer, section_layer, type_named, fields_named, parameters_named, section_named}
 use Rattle.law_names_distinct.proofs.Typings.{IsGood, HasFirst, AreGoodFields, AreGoodSections, names_of, array_good, record_good, pointer_good, name_good, type_good}
-use Rattle.law_names_distinct.proofs.Quiet.{Quiet, Any, any_quiet, then_quiet, unless_quiet}
+use Rattle.law_names_distinct.proofs.Quiet.{Quiet, any_quiet, then_quiet, unless_quiet}
+use Rattle.law_lists.proofs.Lists.{Anything, not_false}
 
 abbrev written_fields : FieldList → WrittenFields
 written_fields = fold-FieldList Written WrittenFields WrittenParameters WrittenSection node_rule fields_rule parameters_rule section_rule
 
 abbrev written_section : Section → WrittenSection
 written_section = fold-Section Written WrittenFields WrittenParameters WrittenSection node_rule fields_rule parameters_rule section_rule
-
-not_false : (b : Bool) → not b ≡ true → b ≡ false
-not_false true e = absurd cc
-not_false false e = refl
 
 -- a node of types: a type that is another one's name makes none
 pub record IsNode (w : Written) : Type 0 where
@@ -42,7 +39,7 @@ nameless : (w : Written) → w.name ≡ None → IsGood w → IsNode w
 nameless w e g = record { typing = g; alone = λ q i. let bad : None ≡ Some q = sym e ∙ i in absurd cc }
 
 name_alone : (q : Qualident) (u : Around) (open_ok : Bool) → Quiet (λ (t : Typing). t.made ≡ []) (type_of_name u q ▷ named_typing u (first_of q) open_ok)
-name_alone q u open_ok = then_quiet Any (λ (t : Typing). t.made ≡ []) (type_of_name u q) (named_typing u (first_of q) open_ok) (any_quiet (type_of_name u q)) (λ t h. unless_quiet (λ (t : Typing). t.made ≡ []) _ 13 (first_of q) (record { of = t; made = [] }) refl)
+name_alone q u open_ok = then_quiet Anything (λ (t : Typing). t.made ≡ []) (type_of_name u q) (named_typing u (first_of q) open_ok) (any_quiet (type_of_name u q)) (λ t h. unless_quiet (λ (t : Typing). t.made ≡ []) _ 13 (first_of q) (record { of = t; made = [] }) refl)
 
 pub words_are : (x : List ℕ) → is_word x ≡ true → IsWord x
 words_are [] e = tt

@@ -1,11 +1,10 @@
 -- Names made of parts: a path, a key without a stroke, and what stands behind it.
-use Rattle.std.proofs.Common.{◌≡◌, ℕ, Bool, true, false, List, [], ◌∷◌, ◌++◌, Option, Some, None, refl, sym, ap, subst, ◌∙◌, append_assoc}
-use Rattle.std.specs.Prelude.{◌==◌, ◌||◌, bytes_eq}
+use Rattle.std.proofs.Common.{◌≡◌, ℕ, true, false, List, [], ◌∷◌, ◌++◌, Option, Some, None, refl, sym, ap, subst, ◌∙◌, append_assoc}
+use Rattle.std.specs.Prelude.{◌==◌, bytes_eq}
 use Rattle.std.specs.List.{AllByRecursion, IsDistinct, list_any}
 use Rattle.std.proofs.lemmas.Bool.{false≢true}
-use Rattle.std.proofs.lemmas.Slice.Eq.{bytes_eq-Decides}
 use Rattle.ob_rules.specs.Headings.{BoundAs, path_by}
-use Rattle.law_names_procedures.proofs.Knowing.{all_both, all_from}
+use Rattle.law_lists.proofs.Lists.{all_both, all_from, differ_false, or_parts}
 
 -- none of them is that byte
 abbrev pub Lacks : ℕ → List ℕ → Type 0
@@ -20,10 +19,6 @@ abbrev pub IsRest : List ℕ → Type 0
 IsRest [] = Unit {0}
 IsRest (c ∷ cs) = c ≡ 47
 
-pub or_parts : (a b : Bool) → (a || b) ≡ false → (a ≡ false) × (b ≡ false)
-or_parts true b e = absurd (false≢true (sym e))
-or_parts false b e = (refl, e)
-
 pub lacks_from : (c : ℕ) (x : List ℕ) → (c == c) ≡ true → list_any (λ b. b == c) x ≡ false → Lacks c x
 lacks_from c [] r e = tt
 lacks_from c (b ∷ x) r e =
@@ -33,10 +28,6 @@ lacks_from c (b ∷ x) r e =
 pub lacks_dot : {A : Type 0} (c : ℕ) (o x : List ℕ) → Lacks c (o ++ c ∷ x) → A
 lacks_dot c [] x h = absurd (h.0 refl)
 lacks_dot c (b ∷ o) x h = lacks_dot c o x h.1
-
-pub cancel : (p x y : List ℕ) → p ++ x ≡ p ++ y → x ≡ y
-cancel [] x y e = e
-cancel (c ∷ p) x y e = cancel p x y cc
 
 -- keys in front of what begins with a stroke
 pub keys_agree : (k l r s : List ℕ) → Lacks 47 k → Lacks 47 l → IsRest r → IsRest s → k ++ r ≡ l ++ s → k ≡ l
@@ -87,14 +78,7 @@ pub apart_both : (xs ys : List (List ℕ)) → AreApart xs → AreApart ys → A
 apart_both [] ys h k l = k
 apart_both (x ∷ xs) ys h k l = (all_both (λ y. x ≡ y → ⊥) xs ys h.0 l.0, apart_both xs ys h.1 k l.1)
 
-differ_of : (x y : List ℕ) → (x ≡ y → ⊥) → bytes_eq x y ≡ false
-differ_of x y h = go (bytes_eq x y) refl
-  where
-    go : (b : Bool) → bytes_eq x y ≡ b → b ≡ false
-    go true e = absurd (h ((bytes_eq-Decides x y).0 e))
-    go false e = refl
-
 pub distinct_from : (xs : List (List ℕ)) → AreApart xs → IsDistinct bytes_eq xs
 unfolding IsDistinct
 distinct_from [] h = tt
-distinct_from (x ∷ xs) h = (all_from (λ y. x ≡ y → ⊥) (λ y. bytes_eq x y ≡ false) (λ y k. differ_of x y k) xs h.0, distinct_from xs h.1)
+distinct_from (x ∷ xs) h = (all_from (λ y. x ≡ y → ⊥) (λ y. bytes_eq x y ≡ false) (λ y k. differ_false x y k) xs h.0, distinct_from xs h.1)

@@ -11,13 +11,14 @@ use Rattle.ob_rules.specs.Types.{Parameters, is_module_level, with_types, nothin
 use Rattle.ob_rules.specs.Headings.{BoundAs, Head, Heads, head_of, path_by, name_twice, declared_head, knows_procedure, known_behind, types_of, add_heading, reversed}
 use Rattle.ob_rules.specs.Declarations.{Contents, with_part, Written_procedure, headings_in_order, around_body, typed_procedure, procedure_judged, procedures_judged, closing_judged}
 use Rattle.law_names_procedures.specs.Procedures.{ShowBases}
-use Rattle.law_names_procedures.proofs.Judges.{IfThere, Has, front_empty, rest_empty, not_empty, has_more}
-use Rattle.law_names_procedures.proofs.Knowing.{IsKnown, AreKnown, all_both, all_from}
+use Rattle.law_names_procedures.proofs.Judges.{Has, not_empty, has_more}
+use Rattle.law_names_procedures.proofs.Knowing.{IsKnown, AreKnown}
 use Rattle.law_names_procedures.proofs.Points.{Points}
 use Rattle.law_names_procedures.proofs.Typings.{AreWellSections}
 use Rattle.law_names_procedures.proofs.Headings.{IsHead, IsOwner, head_good}
 use Rattle.law_names_procedures.proofs.Sequences.{key_of, GoodHeads, keys_differ, types_pointed, typed_good, added, not_twice}
-use Rattle.law_names_procedures.proofs.Apart.{Lacks, IsPlain, IsRest, cancel, keys_agree, dotted, AreApart, apart_both}
+use Rattle.law_names_procedures.proofs.Apart.{Lacks, IsPlain, IsRest, keys_agree, dotted, AreApart, apart_both}
+use Rattle.law_lists.proofs.Lists.{IfThere, all_both, all_from, back_empty, front_empty, same_behind}
 
 abbrev pub names_of : List TypedProcedure → List (List ℕ)
 names_of ps = map (λ p. p.name) ps
@@ -91,7 +92,7 @@ no_level (c ∷ x) = refl
 
 stays_out : (x r : List ℕ) → x ≡ (x ++ codes "/") ++ r → ⊥
 stays_out x r e =
-    let k : [] ≡ 47 ∷ r = cancel x [] (47 ∷ r) (append-nil x ∙ (e ∙ append_assoc x (codes "/") r)) in
+    let k : [] ≡ 47 ∷ r = same_behind x [] (47 ∷ r) (append-nil x ∙ (e ∙ append_assoc x (codes "/") r)) in
     not_empty 47 r (sym k)
 
 pub inner_is : (path key h n r : List ℕ) → h ≡ path ++ key → n ≡ (h ++ codes "/") ++ r → n ≡ path ++ (key ++ 47 ∷ r)
@@ -119,7 +120,7 @@ module _ (path : List ℕ) (before : List Head) (h : Head) (is : h.path ≡ path
 
   group_apart : (n m : List ℕ) → IsOfGroup n → h.forward ≡ false → IsStem path (h ∷ before) m → n ≡ m → ⊥
   group_apart n m g f s e =
-      let k : key_of h ++ g.0 ≡ s.key ++ s.rest = cancel path (key_of h ++ g.0) (s.key ++ s.rest) (sym g.1 ∙ (e ∙ s.is)) in
+      let k : key_of h ++ g.0 ≡ s.key ++ s.rest = same_behind path (key_of h ++ g.0) (s.key ++ s.rest) (sym g.1 ∙ (e ∙ s.is)) in
       s.new.0 f (sym (keys_agree (key_of h) s.key g.0 s.rest lacks s.lacks g.2 s.begins k))
 
   -- the group of a procedure: itself, and those inside
@@ -151,7 +152,7 @@ head_notes U p h true e = e
 head_notes U p h false e = front_empty h.notes.broken (joined (closing_judged h.name p.closing) (p.inside (around_body U h)).notes).broken e
 
 inside_notes : (U : Around) (p : Written_procedure) (h : Head) → (procedure_judged U p h false).notes.broken ≡ [] → (p.inside (around_body U h)).notes.broken ≡ []
-inside_notes U p h e = rest_empty (closing_judged h.name p.closing).broken (p.inside (around_body U h)).notes.broken (rest_empty h.notes.broken (joined (closing_judged h.name p.closing) (p.inside (around_body U h)).notes).broken e)
+inside_notes U p h e = back_empty (closing_judged h.name p.closing).broken (p.inside (around_body U h)).notes.broken (back_empty h.notes.broken (joined (closing_judged h.name p.closing) (p.inside (around_body U h)).notes).broken e)
 
 one_judged : (U : Around) (p : Written_procedure) → GoodProcedure p → (path : List ℕ) (before : List Head) (h : Head) → h.path ≡ path ++ key_of h → Lacks 47 (key_of h) → AllByRecursion (λ k. k.forward ≡ false → key_of h ≡ key_of k → ⊥) before → AreKnown (h.inside ++ h.known) → (f : Bool) → h.forward ≡ f → (procedure_judged U p h f).notes.broken ≡ [] → (rest : List TypedProcedure) → SequenceIs path (h ∷ before) rest → SequenceIs path before ((procedure_judged U p h f).contents.procedures ++ rest)
 one_judged U p g path before h is lacks new k true w e rest s = record { apart = s.apart; stems = all_fewer path before h (names_of rest) s.stems }
@@ -205,5 +206,5 @@ procedures_differ U path (x ∷ ps) g hs k p e =
         let has : Has (λ p. Unit {0}) d.parameters = has_more (λ p. Points hs.around p.made) (λ p. Unit {0}) d.parameters (λ p h. tt) i.parameters in
         let next : GoodHeads (record { around = known_behind v false d; before = h ∷ hs.before }) = added (record { around = v; before = hs.before }) typed d i.plain has i.bound n h refl refl refl in
         let q : (known_behind v false d).path ≡ path = behind_path false v d ∙ p in
-        let s = more h tt (known_behind v false d) next q (rest_empty mine.notes.broken theirs.notes.broken e) in
+        let s = more h tt (known_behind v false d) next q (back_empty mine.notes.broken theirs.notes.broken e) in
         one_judged U x g.0 path hs.before h (i.path ∙ ap (λ z. z ++ key_of d) p) (key_lacks d.bound d.name i.owner i.plain) (keys_differ (record { around = v; before = hs.before }) typed d i.plain i.bound n) (all_both (λ k. IsKnown k.what) d.inside (known_behind v false d).known i.inside next.known) x.forward refl a theirs.contents.procedures s

@@ -22,7 +22,7 @@ use Rattle.ob_env.specs.Shown.{blank, shown}
 use Rattle.ob_env_walk.specs.Walk.{Entry, Missing, Junk, Holds, Walked, Left, NoInterface, Damaged, Cycle, TooMany, go_on, is_among, is_passed_over, through, at_entry, at_module, entering, visit, walk}
 use Rattle.law_names_procedures.specs.Procedures.{IsShown, ShowBases}
 use Rattle.law_names_procedures.specs.Named.{AreEntriesNamed}
-use Rattle.law_names_procedures.proofs.Knowing.{all_both}
+use Rattle.law_lists.proofs.Lists.{all_both}
 
 abbrev Text : Type 0
 Text = List ℕ

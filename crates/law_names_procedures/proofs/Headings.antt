@@ -21,11 +21,12 @@ use Rattle.ob_rules.specs.Names.{Around, map_of, type_desc, own_desc, out_string
 use Rattle.ob_rules.specs.Types.{Parameters, with_types, is_module_level, marked, inner}
 use Rattle.ob_rules.specs.Headings.{BoundAs, silent_base, is_own, if_own, own_record, received_record, bound_to, owner_of, owner_if, knows_receiver, WrittenHeading, Head, path_by, forward_name, bound_in, as_parameters, heading_parameters, head_of}
 use Rattle.law_names_procedures.specs.Procedures.{IsShown, ShowBases}
-use Rattle.law_names_procedures.proofs.Judges.{IfThere, Has, Speaks, Anything, paired_has, front_empty, rest_empty, has_more, breaks_speaks, then_speaks, made_speaks}
-use Rattle.law_names_procedures.proofs.Knowing.{IsKnown, AreKnown, all_both, find_has, filter_has, name_speaks}
+use Rattle.law_names_procedures.proofs.Judges.{Has, Speaks, paired_has, has_more, breaks_speaks, then_speaks, made_speaks}
+use Rattle.law_names_procedures.proofs.Knowing.{IsKnown, AreKnown, find_has, filter_has, name_speaks}
 use Rattle.law_names_procedures.proofs.Points.{holds, back_covers, IsLater, PointsWell, ArePointed, Points, points_more, points_alike}
-use Rattle.law_names_procedures.proofs.Typings.{AreWellSections, parameters_well, mark_speaks, same_itself}
+use Rattle.law_names_procedures.proofs.Typings.{AreWellSections, parameters_well, mark_speaks}
 use Rattle.law_names_procedures.proofs.Apart.{Lacks, IsPlain, lacks_from}
+use Rattle.law_lists.proofs.Lists.{Anything, IfThere, all_both, back_empty, bytes_itself, front_empty, not_false}
 
 -- ---- the bases of pointers
 
@@ -50,7 +51,7 @@ base_shown u (ref.Named p) h = shown_held u p (bytes_eq p.«module» u.unit) (sa
 
 later_held : (u : Around) → AreBased u → (b : TypeRef) → IsLater u b → is_held (map_of u) b ≡ true
 later_held u g b h =
-    let k : is_held (map_of u) (ref.Named (in_unit u (u.path ++ h.0))) ≡ true = own_held u (u.path ++ h.0) (bytes_eq u.unit u.unit) (same_name (in_unit u (u.path ++ h.0)) out_string) (same_itself u.unit) (g.later h.0 h.1) in
+    let k : is_held (map_of u) (ref.Named (in_unit u (u.path ++ h.0))) ≡ true = own_held u (u.path ++ h.0) (bytes_eq u.unit u.unit) (same_name (in_unit u (u.path ++ h.0)) out_string) (bytes_itself u.unit) (g.later h.0 h.1) in
     subst (λ t. is_held (map_of u) t ≡ true) (sym h.2) k
 
 desc_base : (u : Around) → AreBased u → (d : Desc) → PointsWell u d → (b : TypeRef) → pointer_of (Some d) ≡ Some b → is_held (map_of u) b ≡ true
@@ -96,15 +97,11 @@ known_based u ks g = record { pointed = points_alike u (record u { known = ks })
 abbrev pub IsOwner : BoundAs → Type 0
 IsOwner b = Lacks 47 b.owner.object
 
-not_true : (b : Bool) → not b ≡ true → b ≡ false
-not_true true e = absurd (false≢true e)
-not_true false e = refl
-
 own_lacks : (u : Around) (q : QName) (l b : Bool) → (is_own u q && l) ≡ b → IfThere (λ (q : QName). Lacks 47 q.object) (if_own b q)
 own_lacks u q l false e = tt
 own_lacks u q l true e =
     let p = and_parts (is_own u q) l e in
-    lacks_from 47 q.object refl (not_true (list_any (λ c. c == 47) q.object) (and_parts (bytes_eq q.«module» u.unit) (not (list_any (λ c. c == 47) q.object)) p.0).1)
+    lacks_from 47 q.object refl (not_false (list_any (λ c. c == 47) q.object) (and_parts (bytes_eq q.«module» u.unit) (not (list_any (λ c. c == 47) q.object)) p.0).1)
 
 record_lacks : (u : Around) (o : Option QName) → IfThere (λ (q : QName). Lacks 47 q.object) (own_record u o)
 record_lacks u None = tt
@@ -118,7 +115,7 @@ bound_speaks at var t false None n h = breaks_speaks IsOwner 19 at
 silent_not : (u : Around) (var : Bool) (o : Option TypeRef) → ((b : TypeRef) → o ≡ Some b → is_held (map_of u) b ≡ true) → silent_base (map_of u) var o ≡ true → ⊥
 silent_not u true o h e = false≢true e
 silent_not u false None h e = false≢true e
-silent_not u false (Some b) h e = false≢true (sym (not_true (is_held (map_of u) b) e) ∙ h b refl)
+silent_not u false (Some b) h e = false≢true (sym (not_false (is_held (map_of u) b) e) ∙ h b refl)
 
 pub owner_speaks : (u : Around) (r : RawReceiver) → AreKnown u.known → (is_module_level u ≡ true → AreBased u) → Speaks IsOwner (owner_of u r)
 owner_speaks u r k g =
@@ -181,9 +178,9 @@ head_good u w forward g pl k based e =
     let s = heading_parameters u w forward b in
     let v = knows_receiver (inner u) w.receiver b.node in
     let two : m.notes.broken ++ b.notes.broken ≡ [] = front_empty (m.notes.broken ++ b.notes.broken) s.found.notes.broken e in
-    let three : s.found.notes.broken ≡ [] = rest_empty (m.notes.broken ++ b.notes.broken) s.found.notes.broken e in
+    let three : s.found.notes.broken ≡ [] = back_empty (m.notes.broken ++ b.notes.broken) s.found.notes.broken e in
     let i : Has Anything m.node = mark_speaks u false w.name (front_empty m.notes.broken b.notes.broken two) in
-    let n : Has (IsBoundBy w.receiver) b.node = owner_if_speaks u w.receiver k based (rest_empty m.notes.broken b.notes.broken two) in
+    let n : Has (IsBoundBy w.receiver) b.node = owner_if_speaks u w.receiver k based (back_empty m.notes.broken b.notes.broken two) in
     let p = parameters_well v (forward_name forward (u.path ++ path_by b.node w.name.ident.name)) w.parameters g (receiver_known (inner u) w.receiver b.node n k) three in
     let q : Has (λ p. Points u p.made) s.found.node = has_more (λ p. Points v p.made) (λ p. Points u p.made) s.found.node (λ p h. points_alike (with_types (inner u) p.made) (with_types u p.made) (record { unit = refl; shown = refl; own = refl; later_types = refl; path = refl }) p.made (receiver_points (inner u) w.receiver b.node p.made h)) p.0 in
     let a = bound_is w.receiver b.node n in

@@ -1,13 +1,10 @@
 -- What is judged and breaks no rule has a node.
-use Rattle.std.proofs.Common.{◌≡◌, ℕ, Bool, true, false, List, [], ◌∷◌, ◌++◌, Option, Some, None, refl}
+use Rattle.std.proofs.Common.{◌≡◌, ℕ, Bool, true, false, List, [], ◌∷◌, Option, Some, None}
 use Rattle.std.specs.List.{AllByRecursion}
 use Rattle.ob_tree.specs.declared.pos.Pos.{Pos}
 use Rattle.ob_rules.specs.declared.notes.Later.{Later}
 use Rattle.ob_rules.specs.Judged.{Judged, sound, breaks, if_sound, paired, both, made, each_sound, unless, wants, also, judge_later, ◌▷◌}
-
-abbrev pub IfThere : {A : Type 0} → (A → Type 0) → Option A → Type 0
-IfThere P None = Unit {0}
-IfThere P (Some x) = P x
+use Rattle.law_lists.proofs.Lists.{Anything, back_empty, front_empty}
 
 -- there is one, and it has the property
 abbrev pub Has : {A : Type 0} → (A → Type 0) → Option A → Type 0
@@ -17,17 +14,6 @@ Has P (Some x) = P x
 -- where nothing is broken there is a node with the property
 abbrev pub Speaks : {A : Type 0} → (A → Type 0) → Judged A → Type 0
 Speaks P j = j.notes.broken ≡ [] → Has P j.node
-
-abbrev pub Anything : {A : Type 0} → A → Type 0
-Anything x = Unit {0}
-
-pub front_empty : {A : Type 0} (xs ys : List A) → xs ++ ys ≡ [] → xs ≡ []
-front_empty [] ys e = refl
-front_empty (x ∷ xs) ys e = absurd cc
-
-pub rest_empty : {A : Type 0} (xs ys : List A) → xs ++ ys ≡ [] → ys ≡ []
-rest_empty [] ys e = e
-rest_empty (x ∷ xs) ys e = absurd cc
 
 pub not_empty : {A C : Type 0} (x : A) (xs : List A) → x ∷ xs ≡ [] → C
 not_empty x xs e = absurd cc
@@ -50,7 +36,7 @@ if_speaks P Q None f h k = absurd h
 if_speaks P Q (Some x) f h k = k x h
 
 pub then_speaks : {A B : Type 0} (P : A → Type 0) (Q : B → Type 0) (j : Judged A) (f : A → Judged B) → Speaks P j → ((x : A) → P x → Speaks Q (f x)) → Speaks Q (j ▷ f)
-then_speaks P Q j f h k = λ e. if_speaks P Q j.node f (h (front_empty j.notes.broken (if_sound j.node f).notes.broken e)) k (rest_empty j.notes.broken (if_sound j.node f).notes.broken e)
+then_speaks P Q j f h k = λ e. if_speaks P Q j.node f (h (front_empty j.notes.broken (if_sound j.node f).notes.broken e)) k (back_empty j.notes.broken (if_sound j.node f).notes.broken e)
 
 pub paired_has : {A B : Type 0} (P : A → Type 0) (Q : B → Type 0) (a : Option A) (b : Option B) → Has P a → Has Q b → Has (λ (p : A × B). P p.0 × Q p.1) (paired a b)
 paired_has P Q None b h k = absurd h
@@ -58,13 +44,13 @@ paired_has P Q (Some x) None h k = absurd k
 paired_has P Q (Some x) (Some y) h k = (h, k)
 
 pub both_speak : {A B : Type 0} (P : A → Type 0) (Q : B → Type 0) (a : Judged A) (b : Judged B) → Speaks P a → Speaks Q b → Speaks (λ (p : A × B). P p.0 × Q p.1) (both a b)
-both_speak P Q a b h k = λ e. paired_has P Q a.node b.node (h (front_empty a.notes.broken b.notes.broken e)) (k (rest_empty a.notes.broken b.notes.broken e))
+both_speak P Q a b h k = λ e. paired_has P Q a.node b.node (h (front_empty a.notes.broken b.notes.broken e)) (k (back_empty a.notes.broken b.notes.broken e))
 
 -- the second speaks where the first has a node
 pub both_after : {A B : Type 0} (P : A → Type 0) (Q : B → Type 0) (a : Judged A) (b : Judged B) → Speaks P a → (Has P a.node → Speaks Q b) → Speaks (λ (p : A × B). P p.0 × Q p.1) (both a b)
 both_after P Q a b h k = λ e.
     let x = h (front_empty a.notes.broken b.notes.broken e) in
-    paired_has P Q a.node b.node x (k x (rest_empty a.notes.broken b.notes.broken e))
+    paired_has P Q a.node b.node x (k x (back_empty a.notes.broken b.notes.broken e))
 
 pub made_speaks : {A B : Type 0} (P : A → Type 0) (Q : B → Type 0) (f : A → B) (j : Judged A) → Speaks P j → ((x : A) → P x → Q (f x)) → Speaks Q (made f j)
 made_speaks P Q f j h k = then_speaks P Q j (λ x. sound (f x)) h (λ x p. λ e. k x p)

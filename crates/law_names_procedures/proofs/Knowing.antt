@@ -1,5 +1,5 @@
 -- What is known around a text, where no declaration broke a rule; and names of types.
-use Rattle.std.proofs.Common.{ℕ, Bool, true, false, List, [], ◌∷◌, ◌++◌, Option, Some, None, cond}
+use Rattle.std.proofs.Common.{ℕ, Bool, true, false, List, [], ◌∷◌, Option, Some, None, cond}
 use Rattle.std.specs.Prelude.{bytes_eq}
 use Rattle.std.specs.List.{AllByRecursion, find, filter}
 use Rattle.ob_tree.specs.declared.pos.Pos.{Pos}
@@ -15,7 +15,8 @@ use Rattle.ob_rules.specs.declared.entity.Known.{Known}
 use Rattle.ob_rules.specs.declared.entity.Entity.TheVariants as entity
 use Rattle.ob_rules.specs.Judged.{Judged}
 use Rattle.ob_rules.specs.Names.{Around, find_name, variable_known, is_enclosing, entity_known, shown_of, export_known, exported, is_out, out_procedure, out_type, type_of_desc, type_in, type_of_entity, type_behind, unless_variable_is, unless_variable, type_by, type_named}
-use Rattle.law_names_procedures.proofs.Judges.{IfThere, Speaks, Anything, breaks_speaks, then_speaks}
+use Rattle.law_names_procedures.proofs.Judges.{Speaks, breaks_speaks, then_speaks}
+use Rattle.law_lists.proofs.Lists.{Anything, IfThere, filter_if}
 
 -- a name whose declaration broke no rule
 abbrev pub IsKnown : Entity → Type 0
@@ -25,14 +26,6 @@ IsKnown e = Unit {0}
 abbrev pub AreKnown : List Known → Type 0
 AreKnown ks = AllByRecursion (λ k. IsKnown k.what) ks
 
-pub all_both : {A : Type 0} (P : A → Type 0) (xs ys : List A) → AllByRecursion P xs → AllByRecursion P ys → AllByRecursion P (xs ++ ys)
-all_both P [] ys h k = k
-all_both P (x ∷ xs) ys h k = (h.0, all_both P xs ys h.1 k)
-
-pub all_from : {A : Type 0} (P Q : A → Type 0) → ((x : A) → P x → Q x) → (xs : List A) → AllByRecursion P xs → AllByRecursion Q xs
-all_from P Q f [] h = tt
-all_from P Q f (x ∷ xs) h = (f x h.0, all_from P Q f xs h.1)
-
 find_if : {A : Type 0} (P : A → Type 0) (b : Bool) (x : A) (o : Option A) → P x → IfThere P o → IfThere P (cond b (Some x) o)
 find_if P true x o h k = h
 find_if P false x o h k = k
@@ -40,10 +33,6 @@ find_if P false x o h k = k
 pub find_has : {A : Type 0} (P : A → Type 0) (test : A → Bool) (xs : List A) → AllByRecursion P xs → IfThere P (find test xs)
 find_has P test [] h = tt
 find_has P test (x ∷ xs) h = find_if P (test x) x (find test xs) h.0 (find_has P test xs h.1)
-
-filter_if : {A : Type 0} (P : A → Type 0) (b : Bool) (x : A) (xs : List A) → P x → AllByRecursion P xs → AllByRecursion P (cond b (x ∷ xs) xs)
-filter_if P true x xs h k = (h, k)
-filter_if P false x xs h k = k
 
 pub filter_has : {A : Type 0} (P : A → Type 0) (test : A → Bool) (xs : List A) → AllByRecursion P xs → AllByRecursion P (filter test xs)
 filter_has P test [] h = tt

@@ -23,15 +23,16 @@ use Rattle.ob_tree.specs.declared.pos.Pos.{Pos}
 use Rattle.ob_rules.specs.Judged.{joined, notes_if}
 use Rattle.ob_rules.specs.Declarations.{Declared, Declaration, Plain, Procedure, plain_of, procedure_of, type_name_of, in_order, headings_in_order, procedures_judged, body_part, with_bound, binding_at, all_judged, field_judged, heads_later, pointers_judged, block, decl_rule, declaration, imports_declared, around_module, module_of, name_judged, typed_module, if_unbroken, checked, is_system, closing_judged}
 use Rattle.law_names_procedures.specs.Procedures.{is_plain, all_true, heading_layer, is_named_plainly, ShowBases, ProceduresDiffer}
-use Rattle.law_names_procedures.proofs.Judges.{front_empty, rest_empty, not_empty}
-use Rattle.law_names_procedures.proofs.Knowing.{AreKnown, all_both, all_from}
+use Rattle.law_names_procedures.proofs.Judges.{not_empty}
+use Rattle.law_names_procedures.proofs.Knowing.{AreKnown}
 use Rattle.law_names_procedures.proofs.Points.{front_covers, PointsWell, points_alike}
 use Rattle.law_names_procedures.proofs.Written.{written_well, written_parameters_well}
 use Rattle.law_names_procedures.proofs.Plain.{OrderIs, GoodPlain, constant_good, type_good, variables_good, imports_good, order_one}
 use Rattle.law_names_procedures.proofs.Headings.{AreBased}
 use Rattle.law_names_procedures.proofs.Sequences.{GoodHeads}
-use Rattle.law_names_procedures.proofs.Apart.{IsPlain, or_parts, distinct_from}
+use Rattle.law_names_procedures.proofs.Apart.{IsPlain, distinct_from}
 use Rattle.law_names_procedures.proofs.Blocks.{names_of, IsStem, SequenceIs, BlockIs, Begins, GoodProcedure, AreGoodProcedures, heads_of, heads_are, procedures_differ}
+use Rattle.law_lists.proofs.Lists.{all_both, all_from, back_empty, front_empty, not_false, or_parts}
 
 -- ---- declarations
 
@@ -49,7 +50,7 @@ order_good (Plain o f ∷ ds) g u k e =
     let a = f u in
     let rest = in_order (filter_map plain_of ds) a.around in
     let p = g.0 u k (front_empty a.part.notes.broken rest.part.notes.broken e) in
-    order_one o (filter_map type_name_of ds) u a rest p (order_good ds g.1 a.around (subst (λ (v : Around). AreKnown v.known) (sym p.around) p.known) (rest_empty a.part.notes.broken rest.part.notes.broken e))
+    order_one o (filter_map type_name_of ds) u a rest p (order_good ds g.1 a.around (subst (λ (v : Around). AreKnown v.known) (sym p.around) p.known) (back_empty a.part.notes.broken rest.part.notes.broken e))
 
 pub procedures_good : (ds : List Declaration) → AreGood ds → AreGoodProcedures (filter_map procedure_of ds)
 procedures_good [] g = tt
@@ -94,9 +95,9 @@ block_good ds g body u k s e =
     let B = body_part (in_turn body U) in
     let later = d.part.notes.later ++ heads_later hs.before in
     let n = joined b.notes (joined (all_judged (field_judged (map_of U)) later) (forwards_judged (map_of hs.around) (reversed hs.before) (reversed hs.before))) in
-    let inside : n.broken ++ (P.notes.broken ++ B.notes.broken) ≡ [] = rest_empty (d.part.notes.broken ++ (pointers_judged hs.around later).broken) (n.broken ++ (P.notes.broken ++ B.notes.broken)) e in
+    let inside : n.broken ++ (P.notes.broken ++ B.notes.broken) ≡ [] = back_empty (d.part.notes.broken ++ (pointers_judged hs.around later).broken) (n.broken ++ (P.notes.broken ++ B.notes.broken)) e in
     let first : d.part.notes.broken ≡ [] = front_empty d.part.notes.broken (pointers_judged hs.around later).broken (front_empty (d.part.notes.broken ++ (pointers_judged hs.around later).broken) (n.broken ++ (P.notes.broken ++ B.notes.broken)) e) in
-    let third : P.notes.broken ≡ [] = front_empty P.notes.broken B.notes.broken (rest_empty n.broken (P.notes.broken ++ B.notes.broken) inside) in
+    let third : P.notes.broken ≡ [] = front_empty P.notes.broken B.notes.broken (back_empty n.broken (P.notes.broken ++ B.notes.broken) inside) in
     let o : OrderIs names v d = order_good ds g v k first in
     let same : reversed hs.before ≡ heads_of ps start = heads_are ps start in
     let q : SequenceIs u.path [] (procedures_judged U ps (heads_of ps start)).contents.procedures = procedures_differ U u.path ps (procedures_good ds g) start (based_behind names u d s o) (ap (λ (z : Around). z.path) o.around) (subst (λ hs. (procedures_judged U ps hs).notes.broken ≡ []) same third) in
@@ -119,10 +120,6 @@ all_of (x ∷ xs) e =
 
 layer : (x : Decl-F Decl) → (heading_layer (map-Decl Decl Bool is_named_plainly x) ≡ true → GoodDeclaration (decl_rule (map-Decl Decl Declaration declaration x))) → PD (roll-Decl x)
 layer x h = λ e. subst GoodDeclaration (sym (fold-roll-Decl Declaration decl_rule x)) (h (sym (fold-roll-Decl Bool heading_layer x) ∙ e))
-
-not_false : (b : Bool) → not b ≡ true → b ≡ false
-not_false true e = absurd (false≢true e)
-not_false false e = refl
 
 differs : (b c : ℕ) → (c == c) ≡ true → (b == c) ≡ false → b ≡ c → ⊥
 differs b c r e i = false≢true (sym e ∙ (ap (λ n. n == c) i ∙ r))
@@ -171,10 +168,10 @@ module_good shown name imports ds g body closing s e =
     let u = around_module shown name.name ds in
     let d = imports_declared imports u in
     let b = block ds body d.around in
-    let f = rest_empty (name_judged name closing).broken (d.part.notes.broken ++ b.notes.broken) e in
+    let f = back_empty (name_judged name closing).broken (d.part.notes.broken ++ b.notes.broken) e in
     let i = imports_good imports u known (front_empty d.part.notes.broken b.notes.broken f) in
     let k : AreKnown d.around.known = subst (λ (v : Around). AreKnown v.known) (sym i.around) i.known in
-    let r = block_good ds g body d.around k (subst (λ (v : Around). Begins v) (sym i.around) (λ l. (refl, s))) (rest_empty d.part.notes.broken b.notes.broken f) in
+    let r = block_good ds g body d.around k (subst (λ (v : Around). Begins v) (sym i.around) (λ l. (refl, s))) (back_empty d.part.notes.broken b.notes.broken f) in
     subst (λ ps. AreGoodNames ps) (ap (λ ps. ps ++ b.contents.procedures) (sym i.none)) (distinct_from (names_of b.contents.procedures) r.apart)
   where
     known : AreKnown predeclared

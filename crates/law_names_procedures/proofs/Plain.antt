@@ -24,10 +24,11 @@ use Rattle.ob_rules.specs.Phrases.{Phrase}
 use Rattle.ob_rules.specs.Types.{Typing, Written, is_module_level, marked, with_types}
 use Rattle.ob_rules.specs.Headings.{mark_or_hidden}
 use Rattle.ob_rules.specs.Declarations.{Declared, declare_if, no_nil, constant_entity, constant_contents, constant_declared, equated, typing_as, type_entity, types_made, type_declared, variable_entity, variable_contents, paired_typing, variable_marked, variables_with, made_in, behind_part, variables_declared, first_name, in_order, is_system, target_of, import_entity, import_declared, twice}
-use Rattle.law_names_procedures.proofs.Judges.{IfThere, Has, Speaks, Anything, front_empty, rest_empty, not_empty, has_more, breaks_speaks, then_speaks, both_speak, made_speaks}
-use Rattle.law_names_procedures.proofs.Knowing.{IsKnown, AreKnown, all_both}
+use Rattle.law_names_procedures.proofs.Judges.{Has, Speaks, not_empty, has_more, breaks_speaks, then_speaks, both_speak, made_speaks}
+use Rattle.law_names_procedures.proofs.Knowing.{IsKnown, AreKnown}
 use Rattle.law_names_procedures.proofs.Points.{holds, Covers, holds_join, front_covers, back_covers, PointsWell, Points, points_more, points_one, points_alike}
 use Rattle.law_names_procedures.proofs.Typings.{IsMade, IsWell, constant_speaks, mark_speaks, one_holds}
+use Rattle.law_lists.proofs.Lists.{Anything, IfThere, all_both, back_empty, front_empty}
 
 -- What stands around behind a part: more is known, and there are more types, which are made with pointers that have bases. The names are
 -- those of types that it declares.
@@ -154,7 +155,7 @@ variables_are (d ∷ ds) t u k e =
     let rest = variables_with ds (Some t) v in
     let h = mark_speaks u true d (front_empty m.notes.broken (twice u d.ident).broken (front_empty a.part.notes.broken rest.part.notes.broken e)) in
     let n = variable_entity u d.ident (paired_typing m.node (Some t)) in
-    let r = variables_are ds t v (declare_known (found_in_scope u d.ident.name) u d.ident n k (variable_is u d.ident m.node t h)) (rest_empty a.part.notes.broken rest.part.notes.broken e) in
+    let r = variables_are ds t v (declare_known (found_in_scope u d.ident.name) u d.ident n k (variable_is u d.ident m.node t h)) (back_empty a.part.notes.broken rest.part.notes.broken e) in
     record {
       more = r.more;
       around = r.around ∙ ap (λ (z : Around). record z { known = r.more }) (declare_is (found_in_scope u d.ident.name) u d.ident n);
@@ -172,7 +173,7 @@ variables_good ds w g u k e =
     let t = w.typing u name mark.Hidden false in
     let rest = variables_with ds t.node (with_types u (made_in t.node)) in
     let h : Has (λ t. Points u t.made) t.node = has_more (IsMade u name w.name) (λ t. Points u t.made) t.node (λ t i. i.0) (g u name mark.Hidden false k (front_empty t.notes.broken rest.part.notes.broken e)) in
-    let r = typed_is ds u t.node h k (rest_empty t.notes.broken rest.part.notes.broken e) in
+    let r = typed_is ds u t.node h k (back_empty t.notes.broken rest.part.notes.broken e) in
     record { more = r.0.more; made = made_in t.node; around = r.0.around; known = r.0.known; points = r.1; named = tt; none = r.0.none }
 
 -- ---- imports
@@ -198,7 +199,7 @@ imports_good (i ∷ is) u k e =
     let a = import_declared i (target_of i) u in
     let rest = in_order (map (λ i. import_declared i (target_of i)) is) a.around in
     let p = import_good i u k (front_empty a.part.notes.broken rest.part.notes.broken e) in
-    let r = imports_good is a.around (subst (λ (v : Around). AreKnown v.known) (sym p.around) p.known) (rest_empty a.part.notes.broken rest.part.notes.broken e) in
+    let r = imports_good is a.around (subst (λ (v : Around). AreKnown v.known) (sym p.around) p.known) (back_empty a.part.notes.broken rest.part.notes.broken e) in
     record { more = r.more; around = r.around ∙ ap (λ (z : Around). record z { known = r.more }) p.around; known = r.known; none = r.none }
 
 -- ---- in order

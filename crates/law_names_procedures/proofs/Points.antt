@@ -14,7 +14,7 @@ use Rattle.ob_types.specs.Tests.{target, shape_at, pointer_of, follow, target_of
 use Rattle.ob_rules.specs.Shapes.{Map, shape, record_at, array_at, is_array, is_record, is_structured, is_pointer, is_held, same_name}
 use Rattle.ob_rules.specs.Names.{Around, map_of, type_desc, own_desc, out_string, in_unit, is_among}
 use Rattle.ob_rules.specs.Types.{with_types}
-use Rattle.law_names_procedures.proofs.Knowing.{all_from, all_both}
+use Rattle.law_lists.proofs.Lists.{all_both, all_from, or_second}
 
 -- ---- names among the module's own types
 
@@ -32,19 +32,15 @@ pub holds_join : (a c : List TypedType) (x : List ℕ) → holds (a ++ c) x ≡ 
 holds_join [] c x = refl
 holds_join (t ∷ a) c x = join_if (bytes_eq t.name x) t (find (λ t. bytes_eq t.name x) (a ++ c)) (find (λ t. bytes_eq t.name x) a) (holds c x) (holds_join a c x)
 
-or_true : (d e : Bool) → e ≡ true → (d || e) ≡ true
-or_true true e h = refl
-or_true false e h = h
-
 or_more : (d e f : Bool) → (d ≡ true → e ≡ true) → (d || f) ≡ true → (e || f) ≡ true
 or_more true e f h k = ap (λ b. b || f) (h refl)
-or_more false e f h k = or_true e f k
+or_more false e f h k = or_second e f k
 
 pub front_covers : (a b : List TypedType) → Covers a (a ++ b)
 front_covers a b x h = holds_join a b x ∙ ap (λ d. d || holds b x) h
 
 pub back_covers : (a b : List TypedType) → Covers b (a ++ b)
-back_covers a b x h = holds_join a b x ∙ or_true (holds a x) (holds b x) h
+back_covers a b x h = holds_join a b x ∙ or_second (holds a x) (holds b x) h
 
 pub both_cover : (a b c : List TypedType) → Covers a b → Covers (a ++ c) (b ++ c)
 both_cover a b c h x k = holds_join b c x ∙ or_more (holds a x) (holds b x) (holds c x) (h x) (sym (holds_join a c x) ∙ k)

@@ -1,9 +1,8 @@
 -- The headings of a sequence, where nothing is broken: the keys of its procedures differ.
-use Rattle.std.proofs.Common.{◌≡◌, ℕ, Bool, true, false, List, [], ◌∷◌, Option, Some, None, refl, sym, ap, subst, ◌∙◌, cond, arith}
+use Rattle.std.proofs.Common.{◌≡◌, ℕ, Bool, true, false, List, [], ◌∷◌, Option, Some, None, refl, sym, ap, subst, ◌∙◌, cond}
 use Rattle.std.specs.Prelude.{bytes_eq, is_some, not, ◌&&◌, nat_eq}
 use Rattle.std.specs.List.{AllByRecursion, find}
 use Rattle.std.proofs.lemmas.Bool.{false≢true, and_parts}
-use Rattle.std.proofs.lemmas.Bool.Decides.{nat_tests}
 use Rattle.std.proofs.lemmas.Slice.Eq.{bytes_eq-Decides}
 use Rattle.ob_tree.specs.declared.names.QName.{QName}
 use Rattle.ob_types.specs.declared.types.Signature.{Signature}
@@ -13,12 +12,12 @@ use Rattle.ob_rules.specs.Judged.{broken_at}
 use Rattle.ob_rules.specs.Names.{Around, in_scope, found_in_scope, in_unit}
 use Rattle.ob_rules.specs.Types.{Parameters, with_types, is_module_level}
 use Rattle.ob_rules.specs.Headings.{BoundAs, Head, path_by, entity_as, head_entity, leaves_room, is_twice, key_is, same_key, bound_before, head_twice, twice_by, name_twice, declared_head, knows_procedure, Heads, types_of}
-use Rattle.law_names_procedures.proofs.Judges.{Has, rest_empty, not_empty}
+use Rattle.law_names_procedures.proofs.Judges.{Has, not_empty}
 use Rattle.law_names_procedures.proofs.Knowing.{IsKnown, AreKnown}
 use Rattle.law_names_procedures.proofs.Points.{Points}
-use Rattle.law_names_procedures.proofs.Typings.{same_itself}
 use Rattle.law_names_procedures.proofs.Headings.{AreBased, known_based, more_based}
 use Rattle.law_names_procedures.proofs.Apart.{IsPlain, AreSame, same_keys}
+use Rattle.law_lists.proofs.Lists.{back_empty, bytes_itself, nat_itself}
 
 abbrev pub key_of : Head → List ℕ
 key_of h = path_by (Some h.bound) h.name
@@ -83,9 +82,6 @@ keys_differ hs g d pl b t = all hs.before g.plain g.free g.bound
 
 -- ---- one more
 
-nat_itself : (n : ℕ) → nat_eq n n ≡ true
-nat_itself n = grind (arith, nat_tests)
-
 key_true : (o : Option BoundAs) (q : QName) (x y : List ℕ) → key_is o q x y ≡ true → (b : BoundAs) × (o ≡ Some b) × (b.owner.object ≡ q.object) × (x ≡ y)
 key_true None q x y e = absurd (false≢true e)
 key_true (Some b) q x y e =
@@ -139,7 +135,7 @@ module _ (hs : Heads) (g : GoodHeads hs) (d : Head) (pl : IsPlain d.name) (has :
   free_new : (ks : List Known) → d.forward ≡ false → Has (λ (k : Known). leaves_room false k.what ≡ false) (find (λ k. in_scope u.scope k d.name) (own ∷ ks))
   free_new ks w =
       subst (λ c. Has (λ (k : Known). leaves_room false k.what ≡ false) (cond c (Some own) (find (λ k. in_scope u.scope k d.name) ks)))
-      (sym (ap (λ c. c && bytes_eq d.name d.name) (nat_itself u.scope) ∙ same_itself d.name)) (entity_full u d d.parameters w)
+      (sym (ap (λ c. c && bytes_eq d.name d.name) (nat_itself u.scope) ∙ bytes_itself d.name)) (entity_full u d d.parameters w)
 
   all_free : (ks : List Head) → d.is_bound ≡ false → AllByRecursion (IsFree u) ks → AllByRecursion (IsBound hs.before) ks → AllByRecursion (IsFree (record u { known = own ∷ u.known })) ks
   all_free [] c f k = tt
@@ -162,7 +158,7 @@ module _ (hs : Heads) (g : GoodHeads hs) (d : Head) (pl : IsPlain d.name) (has :
     bound_new : IsBound (e ∷ hs.before) e
     bound_new w c i =
         subst (λ z. Has (λ (k : Head). k.forward ≡ false) (cond z (Some e) (bound_before hs.before c.owner e.name)))
-        (sym (ap (λ o. key_is o c.owner e.name e.name) i ∙ ap (λ z. z && bytes_eq e.name e.name) (same_itself c.owner.object) ∙ same_itself e.name)) w
+        (sym (ap (λ o. key_is o c.owner e.name e.name) i ∙ ap (λ z. z && bytes_eq e.name e.name) (bytes_itself c.owner.object) ∙ bytes_itself e.name)) w
 
     pub added : GoodHeads (record { around = knows_procedure u d d.is_bound; before = e ∷ hs.before })
     added = by d.is_bound refl
@@ -185,5 +181,5 @@ module _ (hs : Heads) (g : GoodHeads hs) (d : Head) (pl : IsPlain d.name) (has :
 
 -- the notes of a heading that is declared once
 pub not_twice : (t : Bool) (d : Head) (u : Around) → (declared_head t d u).notes.broken ≡ [] → (t ≡ false) × (d.notes.broken ≡ [])
-not_twice true d u e = not_empty _ [] (rest_empty d.notes.broken (broken_at 1 d.at).broken e)
+not_twice true d u e = not_empty _ [] (back_empty d.notes.broken (broken_at 1 d.at).broken e)
 not_twice false d u e = (refl, e)

@@ -33,6 +33,7 @@ use Rattle.ob_parse_grammar.specs.Identifiers.{is_letter, is_letter_or_digit, is
 use Rattle.law_names_procedures.specs.Procedures.{is_plain, all_true, heading_layer, is_named_plainly}
 use Rattle.law_names_procedures.specs.Named.{HeadingsAreNamed}
 use Rattle.law_names_procedures.proofs.Tokens.{is_name, IsNamed, tokens_named}
+use Rattle.law_lists.proofs.Lists.{both_true}
 
 abbrev pub AreNamed : Tokens → Type 0
 AreNamed ts = AllByRecursion IsNamed ts
@@ -94,10 +95,6 @@ all_both_true [] ys e f = f
 all_both_true (x ∷ xs) ys e f =
     let p = and_parts (is_named_plainly x) (all_true (map is_named_plainly xs)) e in
     ap (λ c. c && all_true (map is_named_plainly (xs ++ ys))) p.0 ∙ all_both_true xs ys p.1 f
-
-both_true : (a b : Bool) → a ≡ true → b ≡ true → (a && b) ≡ true
-both_true true b e f = f
-both_true false b e f = e
 
 constant_is : (x : IdentDef) (y : Expr) → is_named_plainly (d.Constant x y) ≡ true
 constant_is x y = ap is_named_plainly (sym (d.rolls-Constant x y)) ∙ fold-roll-Decl Bool heading_layer (Decl-F.Constant x y)

@@ -14,6 +14,7 @@ use Rattle.ob_scan.specs.Scanning.{Input, Gap, Behind, Unfinished, Step, Gives, 
 use Rattle.ob_parse_grammar.specs.Phrase.{Tokens, same}
 use Rattle.ob_parse_grammar.specs.Texts.{listed, tokens_in}
 use Rattle.ob_parse_grammar.specs.Identifiers.{is_identifier}
+use Rattle.law_lists.proofs.Lists.{both_true}
 
 -- whether a symbol is that of a name
 abbrev pub is_name : Option Symbol → Bool
@@ -71,10 +72,6 @@ no_mark (a ∷ b ∷ c ∷ bs) = refl
 all_of : (bs : Bytes) → all_are is_letter_or_digit bs ≡ list_all is_letter_or_digit bs
 all_of [] = refl
 all_of (b ∷ bs) = ap (λ (t : Bool). is_letter_or_digit b && t) (all_of bs)
-
-both_true : (a b : Bool) → a ≡ true → b ≡ true → (a && b) ≡ true
-both_true true b e f = f
-both_true false b e f = e
 
 word_named : (text : Bytes) → is_word text ≡ true → nat_le (length text) 64 ≡ true → is_identifier text ≡ true
 word_named [] w l = w

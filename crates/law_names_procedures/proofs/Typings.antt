@@ -2,7 +2,6 @@
 use Rattle.std.proofs.Common.{◌≡◌, ℕ, ◌+◌, Bool, true, false, List, [], ◌∷◌, ◌++◌, length, Option, Some, None, refl, sym, ap, subst, ◌∙◌, inl, inr, cond}
 use Rattle.std.specs.Prelude.{pos, suc, not, ◌&&◌, ◌||◌, bytes_eq, is_some, is_none}
 use Rattle.std.specs.List.{AllByRecursion}
-use Rattle.std.proofs.lemmas.Slice.Eq.{bytes_eq-Decides}
 use Rattle.std.proofs.lemmas.Bool.{and_parts}
 use Rattle.ob_tree.specs.declared.pos.Pos.{Pos}
 use Rattle.ob_tree.specs.declared.ident.Ident.{Ident}
@@ -29,9 +28,10 @@ use Rattle.ob_rules.specs.Expressions.{constant_of, constant_if, constant_value}
 use Rattle.ob_rules.specs.Phrases.{Phrase}
 use Rattle.ob_rules.specs.Shapes.{is_structured, is_pointer, is_held}
 use Rattle.ob_rules.specs.Types.{Typing, Written, typed_as, with_types, base_name, element_name, field_name, section_name, mark_of, is_module_level, marked, named_typing, length_of, array_length, fixed_array, open_array, array, first_of, base_of, base_if, member_in, record_in, inherits, field_declared, names_behind, name_in, WrittenFields, first_name, Fields, fields_of, with_fields, fields_joined, field_lists, record_with, record_desc, pointer_to, base_judged, pointer_base, later_if, later_by, is_later, pointer_by, pointer, Parameters, WrittenSection, WrittenParameters, Sections, mode_of, parameter_as, knows, declare_all, parameters_of, parameters_joined, with_made, sections, result_fits, result_of, with_result, parameters_in, inner, procedure_type}
-use Rattle.law_names_procedures.proofs.Judges.{Has, Speaks, Anything, both_after, front_empty, rest_empty, not_empty, has_more, breaks_speaks, then_speaks, both_speak, made_speaks, each_speaks, unless_speaks, wants_speaks, also_speaks, later_speaks}
-use Rattle.law_names_procedures.proofs.Knowing.{AreKnown, all_both, name_speaks}
+use Rattle.law_names_procedures.proofs.Judges.{Has, Speaks, both_after, not_empty, has_more, breaks_speaks, then_speaks, both_speak, made_speaks, each_speaks, unless_speaks, wants_speaks, also_speaks, later_speaks}
+use Rattle.law_names_procedures.proofs.Knowing.{AreKnown, name_speaks}
 use Rattle.law_names_procedures.proofs.Points.{holds, Covers, holds_join, front_covers, both_cover, shape_held, pointer_held, PointsWell, Points, points_more, points_both, points_one, AreAlike, points_alike}
+use Rattle.law_lists.proofs.Lists.{Anything, all_both, back_empty, bytes_itself, front_empty}
 
 -- what a type makes
 abbrev pub IsMade : Around → List ℕ → Option Qualident → Typing → Type 0
@@ -47,11 +47,8 @@ AreWellFields ls = AllByRecursion (λ l. IsWell l.node) ls
 abbrev pub AreWellSections : List WrittenSection → Type 0
 AreWellSections ss = AllByRecursion (λ s. IsWell s.node) ss
 
-pub same_itself : (n : List ℕ) → bytes_eq n n ≡ true
-same_itself n = (bytes_eq-Decides n n).1 refl
-
 pub one_holds : (name : List ℕ) (t : TypedType) (more : List TypedType) → t.name ≡ name → holds (t ∷ more) name ≡ true
-one_holds name t more e = front_covers (t ∷ []) more name (ap (λ b. is_some (own_desc (cond b (Some t) None))) (ap (λ n. bytes_eq n name) e ∙ same_itself name))
+one_holds name t more e = front_covers (t ∷ []) more name (ap (λ b. is_some (own_desc (cond b (Some t) None))) (ap (λ n. bytes_eq n name) e ∙ bytes_itself name))
 
 -- a type with a name of its own
 typed_made : (u : Around) (name : List ℕ) (o : Option Qualident) (d : Desc) (more : List TypedType) → PointsWell (with_types u more) d → Points u more → IsMade u name o (typed_as u name d more)
@@ -67,7 +64,7 @@ of_constant start (Some v) = λ e. tt
 pub constant_speaks : (u : Around) (x : Phrase) → Speaks Anything (constant_value u x)
 constant_speaks u x e =
     let j = x.value u in
-    go j.node j.notes.broken (front_empty j.notes.broken (constant_if x.start j.node (is_quiet j.notes.broken)).notes.broken e) (rest_empty j.notes.broken (constant_if x.start j.node (is_quiet j.notes.broken)).notes.broken e)
+    go j.node j.notes.broken (front_empty j.notes.broken (constant_if x.start j.node (is_quiet j.notes.broken)).notes.broken e) (back_empty j.notes.broken (constant_if x.start j.node (is_quiet j.notes.broken)).notes.broken e)
   where
     go : (o : Option Valued) (bs : List Broken) → bs ≡ [] → (constant_if x.start o (is_quiet bs)).notes.broken ≡ [] → Has Anything (constant_if x.start o (is_quiet bs)).node
     go (Some v) bs h k = of_constant x.start (constant_in v) k
@@ -251,9 +248,9 @@ sections_well (s ∷ ss) g u name i k = λ e.
     let rest = sections v name (i + length s.names) ss in
     let mine = noted n.notes (made (parameters_of u M s.names) t) in
     let two : mine.notes.broken ++ rest.found.notes.broken ≡ [] = front_empty (mine.notes.broken ++ rest.found.notes.broken) _ e in
-    let one : t.notes.broken ≡ [] = front_empty t.notes.broken _ (rest_empty n.notes.broken (made (parameters_of u M s.names) t).notes.broken (front_empty mine.notes.broken rest.found.notes.broken two)) in
+    let one : t.notes.broken ≡ [] = front_empty t.notes.broken _ (back_empty n.notes.broken (made (parameters_of u M s.names) t).notes.broken (front_empty mine.notes.broken rest.found.notes.broken two)) in
     let h : Has (λ t. Points u t.made) t.node = made_only u (section_name name i) s.node.name t (g.0 u (section_name name i) mark.Hidden true k) one in
-    let r = sections_well ss g.1 v name (i + length s.names) (with_made_known n.around t.node (declare_all_known s.names u M t.node h k)) (rest_empty mine.notes.broken rest.found.notes.broken two) in
+    let r = sections_well ss g.1 v name (i + length s.names) (with_made_known n.around t.node (declare_all_known s.names u M t.node h k)) (back_empty mine.notes.broken rest.found.notes.broken two) in
     let q : Has (λ p. Points (with_made u t.node) p.made) rest.found.node = moved u n.around t.node rest.found.node (declare_all_is s.names u M t.node) r.0 in
     (section_joined u M s.names t.node rest.found.node h q, r.1)
   where

@@ -5,9 +5,9 @@ use Rattle.std.specs.List.{AllByRecursion}
 use Rattle.ob_types.specs.declared.desc.Desc.{Desc}
 use Rattle.ob_types.specs.declared.typed.TypedType.{TypedType}
 use Rattle.law_names_distinct.specs.Parts.{IsWord, IsTail, IsPart}
-use Rattle.law_names_distinct.proofs.Fresh.{all_both}
 use Rattle.law_names_distinct.proofs.Parts.{parts_apart, part_within, part_longer}
 use Rattle.law_names_types.specs.Nested.{HasField, IsBehind, AreNested}
+use Rattle.law_lists.proofs.Lists.{all_both}
 
 tails : (a b : List ℕ) → IsTail a → IsTail b → IsTail (a ++ b)
 tails [] b h k = k

@@ -18,9 +18,8 @@ use Rattle.ob_rules.specs.Declarations.{Declared, Written_procedure, procedure_o
 use Rattle.law_names_distinct.specs.Distinct.{AreDistinct}
 use Rattle.law_names_distinct.specs.Parts.{IsWord, IsInScope}
 use Rattle.law_names_distinct.specs.Named.{all_true, decl_named}
-use Rattle.law_names_distinct.proofs.Fresh.{front_empty, back_empty, all_both, all_from, is_known}
+use Rattle.law_names_distinct.proofs.Fresh.{is_known}
 use Rattle.law_names_distinct.proofs.Parts.{word_scope, decimal_word}
-use Rattle.law_names_distinct.proofs.Quiet.{IfThere}
 use Rattle.law_names_distinct.proofs.Typings.{IsOfSection, ParametersIn}
 use Rattle.law_names_distinct.proofs.Scopes.{IsOfName, IsPlaced as IsPlacedPlain, sequence_types}
 use Rattle.law_names_types.specs.Nested.{IsNameOf, HasField, AreNested}
@@ -37,6 +36,7 @@ use Rattle.law_names_types.proofs.Steady.{IsSteady, sequence_steady}
 use Rattle.law_names_types.proofs.DifferentHeads.{HoldsRecord, IsSound, headings_well}
 use Rattle.law_names_types.proofs.Once.{Pairs, among_reversed, reversed_among, pairs_reversed, plain_new, owner_name, AreApart, IsFlagged, heads_apart, apart_turned}
 use Rattle.law_names_types.proofs.Order.{HasFacts, IsMade, AreHeads, headings_all}
+use Rattle.law_lists.proofs.Lists.{IfThere, all_both, all_from, back_empty, front_empty}
 
 -- ---- headings as items
 

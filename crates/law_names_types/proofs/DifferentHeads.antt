@@ -25,7 +25,7 @@ use Rattle.ob_rules.specs.Headings.{WrittenHeading, Head, BoundAs, received_reco
 use Rattle.ob_rules.specs.Declarations.{Written_procedure, Declaration, Plain, Procedure, procedure_of, decl_rule, declaration}
 use Rattle.law_names_distinct.specs.Parts.{IsWord, IsInScope}
 use Rattle.law_names_distinct.specs.Named.{is_word, all_true, parameters_named, decl_layer, decl_named}
-use Rattle.law_names_distinct.proofs.Quiet.{IfThere, Any, any_quiet, both_quiet}
+use Rattle.law_names_distinct.proofs.Quiet.{any_quiet, both_quiet}
 use Rattle.law_names_distinct.proofs.Typings.{IsOfSection, ParametersIn}
 use Rattle.law_names_distinct.proofs.Written.{words_are}
 use Rattle.law_names_types.specs.Nested.{AreNested}
@@ -34,6 +34,7 @@ use Rattle.law_names_types.proofs.Written.{ParametersWell, parameters_are_nested
 use Rattle.law_names_types.proofs.Heads.{head_types}
 use Rattle.law_names_types.specs.Fields.{found}
 use Rattle.law_names_types.proofs.Items.{IsAmong}
+use Rattle.law_lists.proofs.Lists.{Anything, IfThere}
 
 -- ---- headings as they are written
 
@@ -241,7 +242,7 @@ module _ (w : Around) (h : WrittenHeading) (forward : Bool) where
       let k = there_by (marked w false h.name).node node (parameters_in (knows_receiver (inner w) h.receiver node) (forward_name forward (w.path ++ path_by node h.name.ident.name)) h.parameters).found.node p e in
       subst (IsSound w head) (ap bound_in (sym k.1)) (sound_by k.0 k.1)
 
-  in_parameters : (name : List ℕ) (o : Option ((Mark × Option BoundAs) × Parameters)) → IfThere (λ (q : (Mark × Option BoundAs) × Parameters). Any q.0 × (AllByRecursion (λ t. IsOfSection name 1 t.name) q.1.made × AreNested q.1.made q.1.made)) o → IfThere (λ (p : Parameters). AreNested p.made p.made) (as_parameters o)
+  in_parameters : (name : List ℕ) (o : Option ((Mark × Option BoundAs) × Parameters)) → IfThere (λ (q : (Mark × Option BoundAs) × Parameters). Anything q.0 × (AllByRecursion (λ t. IsOfSection name 1 t.name) q.1.made × AreNested q.1.made q.1.made)) o → IfThere (λ (p : Parameters). AreNested p.made p.made) (as_parameters o)
   in_parameters name None k = tt
   in_parameters name (Some q) k = k.1.1
 
@@ -253,7 +254,7 @@ module _ (w : Around) (h : WrittenHeading) (forward : Bool) where
       let start = knows_receiver (inner w) h.receiver b.node in
       let s = (parameters_in start name h.parameters).found in
       in_parameters name (both (both m b) s).node
-      (both_quiet Any (λ (p : Parameters). AllByRecursion (λ t. IsOfSection name 1 t.name) p.made × AreNested p.made p.made) (both m b) s (any_quiet (both m b)) (parameters_nested start name h.parameters well.parameters.nested well.parameters.good well.parameters.few) e)
+      (both_quiet Anything (λ (p : Parameters). AllByRecursion (λ t. IsOfSection name 1 t.name) p.made × AreNested p.made p.made) (both m b) s (any_quiet (both m b)) (parameters_nested start name h.parameters well.parameters.nested well.parameters.good well.parameters.few) e)
 
   pub head_parameters : IsWellWritten h → head.notes.broken ≡ [] → IfThere (ParametersIn (forward_name forward head.path) 1) head.parameters
   head_parameters well e = head_types w h forward well.parameters.good well.parameters.few e

@@ -5,13 +5,13 @@ use Rattle.ob_rules.specs.Judged.{both}
 use Rattle.ob_rules.specs.Names.{Around}
 use Rattle.ob_rules.specs.Types.{Parameters, marked, parameters_in, inner}
 use Rattle.ob_rules.specs.Headings.{BoundAs, WrittenHeading, heading_of, as_parameters, owner_if, knows_receiver, forward_name, path_by, head_of}
-use Rattle.law_names_distinct.proofs.Fresh.{all_from}
-use Rattle.law_names_distinct.proofs.Quiet.{IfThere, Any, any_quiet, both_quiet}
+use Rattle.law_names_distinct.proofs.Quiet.{any_quiet, both_quiet}
 use Rattle.law_names_distinct.proofs.Typings.{IsOfSection, ParametersIn, AreGoodSections, names_of, parameters_good}
 use Rattle.law_names_distinct.proofs.Written.{written_parameters_good}
 use Rattle.law_names_types.specs.Nested.{IsOfParameter, HeadingsDiffer}
+use Rattle.law_lists.proofs.Lists.{Anything, IfThere, all_from}
 
-in_parameters : (name : List ℕ) (o : Option ((Mark × Option BoundAs) × Parameters)) → IfThere (λ (q : (Mark × Option BoundAs) × Parameters). Any q.0 × ParametersIn name 1 q.1) o → IfThere (ParametersIn name 1) (as_parameters o)
+in_parameters : (name : List ℕ) (o : Option ((Mark × Option BoundAs) × Parameters)) → IfThere (λ (q : (Mark × Option BoundAs) × Parameters). Anything q.0 × ParametersIn name 1 q.1) o → IfThere (ParametersIn name 1) (as_parameters o)
 in_parameters name None h = tt
 in_parameters name (Some q) h = h.1
 
@@ -22,7 +22,7 @@ head_types u h forward g few e =
     let name = forward_name forward (u.path ++ path_by b.node h.name.ident.name) in
     let start = knows_receiver (inner u) h.receiver b.node in
     let s = (parameters_in start name h.parameters).found in
-    in_parameters name (both (both m b) s).node (both_quiet Any (ParametersIn name 1) (both m b) s (any_quiet (both m b)) (parameters_good start name h.parameters g few) e)
+    in_parameters name (both (both m b) s).node (both_quiet Anything (ParametersIn name 1) (both m b) s (any_quiet (both m b)) (parameters_good start name h.parameters g few) e)
 
 -- THE TYPES OF A HEADING
 pub headings_differ : HeadingsDiffer

@@ -5,8 +5,8 @@ use Rattle.std.specs.List.{AllByRecursion}
 use Rattle.ob_types.specs.declared.typed.TypedType.{TypedType}
 use Rattle.law_names_distinct.specs.Distinct.{AreDistinct}
 use Rattle.law_names_distinct.specs.Parts.{is_mark, IsWord, IsTail, IsInScope, IsPart}
-use Rattle.law_names_distinct.proofs.Fresh.{all_both}
 use Rattle.law_names_types.specs.Unlike.{IsWithin}
+use Rattle.law_lists.proofs.Lists.{all_both}
 
 -- what it is bound to, if it is, by the name of the record; its name; whether it is forward; and the types that it makes
 pub record Item : Type 0 where
@@ -75,10 +75,6 @@ distinct_joined [] us d e f = e
 distinct_joined (t ∷ ts) us d e f = (all_both (λ z. z.name ≢ t.name) ts us d.0 (all_of (λ z. z.name ≢ t.name) us (λ s j. f t s (inl refl) j)), distinct_joined ts us d.1 e (λ x s i j. f x s (inr i) j))
 
 -- ---- names that go on
-
-pub cancel : (p x y : List ℕ) → p ++ x ≡ p ++ y → x ≡ y
-cancel [] x y e = e
-cancel (c ∷ p) x y e = cancel p x y cc
 
 -- words in front of what begins with a mark
 pub words_front : (f g s t : List ℕ) → IsWord f → IsWord g → IsTail s → IsTail t → f ++ s ≡ g ++ t → (f ≡ g) × (s ≡ t)

@@ -3,8 +3,8 @@ use Rattle.std.proofs.Common.{◌≡◌, Bool, true, false, List, [], ◌∷◌,
 use Rattle.ob_rules.specs.Names.{Around}
 use Rattle.ob_rules.specs.Headings.{Head}
 use Rattle.ob_rules.specs.Declarations.{Written_procedure, closing_judged, around_body, procedure_judged, procedures_judged}
-use Rattle.law_names_distinct.proofs.Fresh.{front_empty, back_empty}
 use Rattle.law_names_types.specs.Once.{AreQuiet}
+use Rattle.law_lists.proofs.Lists.{back_empty, front_empty}
 
 heading_quiet : (u : Around) (p : Written_procedure) (h : Head) (forward : Bool) → (procedure_judged u p h forward).notes.broken ≡ [] → h.notes.broken ≡ []
 heading_quiet u p h true e = e

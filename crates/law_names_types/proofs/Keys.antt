@@ -12,7 +12,7 @@ use Rattle.ob_rules.specs.Types.{with_types}
 use Rattle.ob_rules.specs.Headings.{Head, Heads, BoundAs, owner_if, bound_in, head_of, key_is, same_key, bound_before, head_twice, twice_by, name_twice, declared_head, known_behind, types_of, add_heading}
 use Rattle.ob_rules.specs.Declarations.{Written_procedure, headings_in_order}
 use Rattle.law_names_types.specs.Once.{IsOnce, AreOnce, AreQuiet}
-use Rattle.law_names_distinct.proofs.Fresh.{back_empty}
+use Rattle.law_lists.proofs.Lists.{back_empty, not_true}
 
 -- ---- what is so of two of them
 
@@ -39,10 +39,6 @@ none_like q x f (k ∷ hs) e = by (same_key q x k) refl e (λ i. none_like q x f
     by : (b : Bool) → same_key q x k ≡ b → cond b (Some k) (bound_before hs q x) ≡ None → (bound_before hs q x ≡ None → AreNotLike q x f hs) → AreNotLike q x f (k ∷ hs)
     by true i e r = absurd cc
     by false i e r = ((λ l. let bad : true ≡ false = sym (key_true k l.0 q x l.1 l.2 l.3) ∙ i in absurd cc), r e)
-
-not_false : (b : Bool) → not b ≡ false → b ≡ true
-not_false true e = refl
-not_false false e = absurd cc
 
 both_keys : (k : Head) (q : QName) (x : List ℕ) → same_key q x k ≡ true → (b : BoundAs) × (k.bound ≡ Some b) × (b.owner.object ≡ q.object) × (k.name ≡ x)
 both_keys k q x e = by k.bound refl e
@@ -75,7 +71,7 @@ not_like q x f (k ∷ hs) e once = by (same_key q x k) refl e (λ i. not_like q 
         )
 
     by : (b : Bool) → same_key q x k ≡ b → head_twice f (cond b (Some k) (bound_before hs q x)) ≡ false → (head_twice f (bound_before hs q x) ≡ false → AreNotLike q x f hs) → AreNotLike q x f (k ∷ hs)
-    by true i e r = let p = or_parts f (not k.forward) e in here (both_keys k q x i) (p.0, not_false k.forward p.1)
+    by true i e r = let p = or_parts f (not k.forward) e in here (both_keys k q x i) (p.0, not_true k.forward p.1)
     by false i e r = ((λ l. let bad : true ≡ false = sym (key_true k l.0 q x l.1 l.2 l.3) ∙ i in absurd cc), r e)
 
 -- none before is for the same record and of the same name, and forward as it is

@@ -7,10 +7,11 @@ use Rattle.std.proofs.lemmas.Slice.Eq.{bytes_eq-Decides}
 use Rattle.ob_rules.specs.Names.{Around}
 use Rattle.ob_rules.specs.Types.{Parameters}
 use Rattle.ob_rules.specs.Headings.{Head, BoundAs, head_twice, reversed}
-use Rattle.law_names_distinct.proofs.Fresh.{all_both, all_from, is_known}
+use Rattle.law_names_distinct.proofs.Fresh.{is_known}
 use Rattle.law_names_types.specs.Once.{AreOnce, plain_before, ArePlainOnce}
 use Rattle.law_names_types.proofs.Keys.{once_differ}
 use Rattle.law_names_types.proofs.Items.{IsAmong, all_at, all_of, in_either, in_front, in_back}
+use Rattle.law_lists.proofs.Lists.{all_both, all_from}
 
 -- ---- lists, and from behind
 

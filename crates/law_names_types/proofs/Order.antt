@@ -9,14 +9,13 @@ use Rattle.ob_rules.specs.Types.{Parameters, with_types}
 use Rattle.ob_rules.specs.Headings.{WrittenHeading, Head, Heads, BoundAs, forward_name, head_of, name_twice, declared_head, knows_procedure, known_behind, types_of, add_heading}
 use Rattle.ob_rules.specs.Declarations.{Written_procedure, headings_in_order}
 use Rattle.law_names_distinct.specs.Parts.{IsWord}
-use Rattle.law_names_distinct.proofs.Fresh.{back_empty, all_from}
-use Rattle.law_names_distinct.proofs.Quiet.{IfThere}
 use Rattle.law_names_distinct.proofs.Typings.{ParametersIn}
 use Rattle.law_names_types.specs.Nested.{AreNested}
 use Rattle.law_names_types.specs.Once.{AreQuiet}
 use Rattle.law_names_types.proofs.Keys.{before_quiet}
 use Rattle.law_names_types.proofs.Items.{IsAmong, in_either, in_back}
 use Rattle.law_names_types.proofs.DifferentHeads.{IsWellWritten, IsBound, IsSound, bound_sound, head_sound, head_nested, head_parameters}
+use Rattle.law_lists.proofs.Lists.{IfThere, all_from, back_empty}
 
 -- what is so of a heading, with what stands around
 pub record HasFacts (w : Around) (h : Head) : Type 0 where

@@ -10,9 +10,10 @@ use Rattle.ob_rules.specs.Names.{Around, in_unit, in_scope, found_in_scope}
 use Rattle.ob_rules.specs.Types.{Parameters, with_types}
 use Rattle.ob_rules.specs.Headings.{Head, Heads, head_of, entity_as, head_entity, leaves_room, is_twice, head_twice, twice_by, name_twice, declared_head, knows_procedure, known_behind, types_of, add_heading}
 use Rattle.ob_rules.specs.Declarations.{Written_procedure, headings_in_order}
-use Rattle.law_names_distinct.proofs.Fresh.{back_empty, is_known}
+use Rattle.law_names_distinct.proofs.Fresh.{is_known}
 use Rattle.law_names_types.specs.Once.{plain_before, IsPlainOnce, ArePlainOnce, HasNoForward, AreQuiet, HeadingsAreOnce}
 use Rattle.law_names_types.proofs.Keys.{before_quiet, headings_once}
+use Rattle.law_lists.proofs.Lists.{back_empty, not_true}
 
 -- what is known of a name behind headings: what was known before them, or the latest heading's
 abbrev pub Status : Option Known → Option Head → Option Known → Type 0
@@ -38,16 +39,12 @@ room_forward : (f : Bool) (e : Entity) → leaves_room f e ≡ true → (f ≡ f
 room_forward true e h = absurd cc
 room_forward false e h = (refl, h)
 
-not_false : (b : Bool) → not b ≡ false → b ≡ true
-not_false true e = refl
-not_false false e = absurd cc
-
 -- the name is new behind the declarations, and none of its kind stands before it
 module _ (v : Around) (none : HasNoForward v) (h : Head) (hs : List Head) (now : Option Known) where
   new_name : (o : Option Known) → found_in_scope v h.name ≡ o → is_twice h.forward o ≡ false → is_known v h.name ≡ false
   new_name None i e = ap is_some i
   new_name (Some k) i e =
-      let r = room_forward h.forward k.what (not_false (leaves_room h.forward k.what) e) in
+      let r = room_forward h.forward k.what (not_true (leaves_room h.forward k.what) e) in
       let bad : true ≡ false = sym r.1 ∙ none h.name k i in
       absurd cc
 
@@ -74,7 +71,7 @@ module _ (v : Around) (none : HasNoForward v) (h : Head) (hs : List Head) (now :
   }
   plain_once (Some k) i all s e =
       let t : is_twice h.forward (Some s.0) ≡ false = subst (λ (o : Option Known). is_twice h.forward o ≡ false) s.1 e in
-      let r = room_forward h.forward s.0.what (not_false (leaves_room h.forward s.0.what) t) in
+      let r = room_forward h.forward s.0.what (not_true (leaves_room h.forward s.0.what) t) in
       record {
         once = ap (head_twice h.forward) i ∙ ap (λ b. b || not k.forward) r.0 ∙ ap not (s.2 r.1);
         new = earlier_new (Some k) i all k refl;

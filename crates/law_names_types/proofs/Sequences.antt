@@ -25,14 +25,15 @@ use Rattle.ob_rules.specs.Declarations.{Declared, no_nil, twice, constant_conten
 use Rattle.law_names_distinct.specs.Parts.{IsWord, IsPart}
 use Rattle.law_names_distinct.specs.Named.{is_word, all_true, are_words, type_named, decl_layer, decl_named}
 use Rattle.law_names_distinct.proofs.Parts.{parts_differ}
-use Rattle.law_names_distinct.proofs.Fresh.{is_known, front_empty, back_empty}
-use Rattle.law_names_distinct.proofs.Quiet.{Quiet, IfThere, Any, any_quiet, then_quiet, both_quiet}
+use Rattle.law_names_distinct.proofs.Fresh.{is_known}
+use Rattle.law_names_distinct.proofs.Quiet.{Quiet, any_quiet, then_quiet, both_quiet}
 use Rattle.law_names_distinct.proofs.Written.{IsNode, written_good}
 use Rattle.law_names_distinct.proofs.Scopes.{IsOfName, IsPlaced, order_placed, decls_placed}
 use Rattle.law_names_types.specs.Nested.{IsBehind, AreNested, SequencesAreNested}
 use Rattle.law_names_types.proofs.Behind.{part_of, stop_behind, nested_both}
 use Rattle.law_names_types.proofs.Typings.{IsNested}
 use Rattle.law_names_types.proofs.Written.{written_nested}
+use Rattle.law_lists.proofs.Lists.{Anything, IfThere, back_empty, front_empty}
 
 -- of different names of one scope
 apart : (path f g : List ℕ) → IsWord f → IsWord g → f ≢ g → (t s : TypedType) → IsPart (path ++ f) t.name → IsPart (path ++ g) s.name → IsBehind t s
@@ -92,7 +93,7 @@ as_nested w k n u name m (Some q) e =
     then_quiet (λ (t : Typing). t.made ≡ []) (λ (t : Typing). AreNested t.made t.made) (w.typing u name m false) (λ t. sound (equated u name m t)) (k.alone q e u name m false)
     (λ t i. λ b. subst (λ ts. AreNested (record { name = name; desc = desc.Alias m t.of } ∷ ts) (record { name = name; desc = desc.Alias m t.of } ∷ ts)) (sym i) (((λ x v p. tt), tt), tt))
 
-made_nested : (o : Option (Mark × Typing)) → IfThere (λ (p : Mark × Typing). Any p.0 × AreNested p.1.made p.1.made) o → AreNested (types_made o) (types_made o)
+made_nested : (o : Option (Mark × Typing)) → IfThere (λ (p : Mark × Typing). Anything p.0 × AreNested p.1.made p.1.made) o → AreNested (types_made o) (types_made o)
 made_nested None h = tt
 made_nested (Some p) h = h.1
 
@@ -102,7 +103,7 @@ type_nested d w k n u e =
     let r = u.path ++ d.ident.name in
     let t = typing_as u r (mark_or_hidden m.node) w w.name in
     let j = both m t in
-    made_nested j.node (both_quiet Any (λ (t : Typing). AreNested t.made t.made) m t (any_quiet m) (as_nested w k n u r (mark_or_hidden m.node) w.name refl) (front_empty j.notes.broken (twice u d.ident).broken e))
+    made_nested j.node (both_quiet Anything (λ (t : Typing). AreNested t.made t.made) m t (any_quiet m) (as_nested w k n u r (mark_or_hidden m.node) w.name refl) (front_empty j.notes.broken (twice u d.ident).broken e))
 
 no_variable_types : (x : Ident) (o : Option (Mark × Typing)) → (variable_contents x o).types ≡ []
 no_variable_types x None = refl

@@ -21,12 +21,12 @@ use Rattle.ob_rules.specs.Names.{Around, map_of, in_unit, type_named, is_among}
 use Rattle.ob_rules.specs.Phrases.{Phrase}
 use Rattle.ob_rules.specs.Types.{mark_of, is_module_level, Typing, Written, typed_as, with_types, base_name, element_name, field_name, section_name, marked, named_typing, array_length, fixed_array, array, first_of, member_in, record_in, inherits, field_declared, field_if, name_in, fields_of, names_behind, WrittenFields, first_name, Fields, with_fields, fields_joined, field_lists, record_desc, record_with, pointer_to, base_judged, pointer_base, pointer_by, Parameters, WrittenSection, WrittenParameters, mode_of, declare_all, parameters_of, parameters_joined, with_made, sections, result_of, with_result, parameters_in, inner, procedure_type}
 use Rattle.law_names_distinct.specs.Parts.{IsWord, IsPart}
-use Rattle.law_names_distinct.proofs.Fresh.{bytes_same, all_both, all_from, front_empty, back_empty}
 use Rattle.law_names_distinct.proofs.Parts.{part_longer, parts_apart, decimal_word, decimal_differs}
-use Rattle.law_names_distinct.proofs.Quiet.{Quiet, IfThere, Any, any_quiet, then_quiet, both_quiet, unless_quiet, also_quiet, later_quiet, later_broken, first_quiet}
+use Rattle.law_names_distinct.proofs.Quiet.{Quiet, any_quiet, then_quiet, both_quiet, unless_quiet, also_quiet, later_quiet, later_broken, first_quiet}
 use Rattle.law_names_distinct.proofs.Typings.{AreIn, IsIn, IsGood, behind_mark, HasFirst, AreGoodFields, IsOfSection, AreGoodSections, names_of, array_good, behind_has, not_behind}
 use Rattle.law_names_types.specs.Nested.{IsNameOf, HasField, IsBehind, AreNested}
 use Rattle.law_names_types.proofs.Behind.{part_of, stop_behind, IsOther, over_others, others_over, nested_both, one_before, one_longer}
+use Rattle.law_lists.proofs.Lists.{Anything, IfThere, all_both, all_from, back_empty, bytes_itself, front_empty}
 
 -- whatever stands around
 abbrev pub MakesNested : Written → Type 0
@@ -55,7 +55,7 @@ named_quiet w g u name m ok = quiet_and (IsIn name) Nested (w.typing u name m ok
 -- ---- names and arrays
 
 pub name_nested : (q : Qualident) (u : Around) (open_ok : Bool) → Quiet Nested (type_named u q ▷ named_typing u (first_of q) open_ok)
-name_nested q u open_ok = then_quiet Any Nested (type_named u q) (named_typing u (first_of q) open_ok) (any_quiet (type_named u q)) (λ t h. unless_quiet Nested _ 13 (first_of q) (record { of = t; made = [] }) tt)
+name_nested q u open_ok = then_quiet Anything Nested (type_named u q) (named_typing u (first_of q) open_ok) (any_quiet (type_named u q)) (λ t h. unless_quiet Nested _ 13 (first_of q) (record { of = t; made = [] }) tt)
 
 -- all of the part of the name, of lengths or of none
 fixed_in : (ls : List Phrase) (element : Written) → IsGood element → (u : Around) (name : List ℕ) (m : Mark) → Quiet (IsIn name) (fixed_array u name m ls element)
@@ -66,8 +66,8 @@ fixed_nested : (ls : List Phrase) (element : Written) → IsNested element → (
 fixed_nested [] element g u name m = g.1 u name m false
 fixed_nested (l ∷ ls) element g u name m =
     let rest = fixed_array u (element_name name) mark.Hidden ls element in
-    then_quiet (λ (p : ℕ × Typing). Any p.0 × Named (element_name name) p.1) Nested (both (array_length u l) rest) (λ p. sound (typed_as u name (desc.Array m p.0 p.1.of) p.1.made))
-    (both_quiet Any (Named (element_name name)) (array_length u l) rest (any_quiet (array_length u l)) (quiet_and (IsIn (element_name name)) Nested rest (fixed_in ls element g.0 u (element_name name) mark.Hidden) (fixed_nested ls element g u (element_name name) mark.Hidden)))
+    then_quiet (λ (p : ℕ × Typing). Anything p.0 × Named (element_name name) p.1) Nested (both (array_length u l) rest) (λ p. sound (typed_as u name (desc.Array m p.0 p.1.of) p.1.made))
+    (both_quiet Anything (Named (element_name name)) (array_length u l) rest (any_quiet (array_length u l)) (quiet_and (IsIn (element_name name)) Nested rest (fixed_in ls element g.0 u (element_name name) mark.Hidden) (fixed_nested ls element g u (element_name name) mark.Hidden)))
     (λ p h. λ e. one_before name 91 (desc.Array m p.0 p.1.of) p.1.made (λ x. tt) h.1.0.parts h.1.1)
 
 pub array_nested : (ls : List Phrase) (at : Pos) (element : Written) → IsNested element → (u : Around) (name : List ℕ) (m : Mark) (open_ok : Bool) → Quiet Nested (array u name m at open_ok ls element)
@@ -128,8 +128,8 @@ pub parameters_nested : (u : Around) (name : List ℕ) (p : WrittenParameters) �
 parameters_nested u name p n g few =
     let s = sections u name 1 p.sections in
     let r = result_of (record u { known = s.known }) p.result in
-    then_quiet (λ (q : Parameters × Option TypeRef). ParametersNested name 1 q.0 × Any q.1) (ParametersNested name 1) (both s.found r) (λ q. sound (with_result q.0 q.1))
-    (both_quiet (ParametersNested name 1) Any s.found r (sections_nested p.sections n g u name 1 few) (any_quiet r))
+    then_quiet (λ (q : Parameters × Option TypeRef). ParametersNested name 1 q.0 × Anything q.1) (ParametersNested name 1) (both s.found r) (λ q. sound (with_result q.0 q.1))
+    (both_quiet (ParametersNested name 1) Anything s.found r (sections_nested p.sections n g u name 1 few) (any_quiet r))
     (λ q h. λ e. h.0)
 
 -- none of those of parameters has the type before it behind its own name
@@ -174,7 +174,7 @@ declared_name : (u : Around) (b : Option (Option TypeRef)) (before : List (List 
 declared_name u b before d t =
     let r : Field → Judged Field = λ x. unless (is_among d.ident.name before || is_some (member_in (map_of u) (record_in (map_of u) b) d.ident.name)) 1 d.ident.pos x in
     later_quiet (λ (f : Field). f.name ≡ d.ident.name) (inherits b d.ident) (marked u true d ▷ λ m. r (record { name = d.ident.name; mark = m; place = 0; of = t }))
-    (then_quiet Any (λ (f : Field). f.name ≡ d.ident.name) (marked u true d) (λ m. r (record { name = d.ident.name; mark = m; place = 0; of = t })) (any_quiet (marked u true d))
+    (then_quiet Anything (λ (f : Field). f.name ≡ d.ident.name) (marked u true d) (λ m. r (record { name = d.ident.name; mark = m; place = 0; of = t })) (any_quiet (marked u true d))
     (λ m h. unless_quiet (λ (f : Field). f.name ≡ d.ident.name) (is_among d.ident.name before || is_some (member_in (map_of u) (record_in (map_of u) b) d.ident.name)) 1 d.ident.pos (record { name = d.ident.name; mark = m; place = 0; of = t }) refl))
 
 if_name : (u : Around) (b : Option (Option TypeRef)) (before : List (List ℕ)) (d : IdentDef) (o : Option Typing) → Quiet (λ (f : Field). f.name ≡ d.ident.name) (field_if u b before d o)
@@ -186,8 +186,8 @@ first_there u b before [] h o = absurd h
 first_there u b before (d ∷ ds) h o =
     let a = field_if u b before d o in
     let rest = each_sound (fields_of u b (name_in d ∷ before) ds o) in
-    then_quiet (λ (p : Field × List Field). (p.0.name ≡ d.ident.name) × Any p.1) (λ (fs : List Field). IsNameOf fs d.ident.name) (both a rest) (λ p. sound (p.0 ∷ p.1))
-    (both_quiet (λ (f : Field). f.name ≡ d.ident.name) Any a rest (if_name u b before d o) (any_quiet rest)) (λ p h. λ e. inl h.0)
+    then_quiet (λ (p : Field × List Field). (p.0.name ≡ d.ident.name) × Anything p.1) (λ (fs : List Field). IsNameOf fs d.ident.name) (both a rest) (λ p. sound (p.0 ∷ p.1))
+    (both_quiet (λ (f : Field). f.name ≡ d.ident.name) Anything a rest (if_name u b before d o) (any_quiet rest)) (λ p h. λ e. inl h.0)
 
 new_or_broken : (a b : Bool) (at : Pos) (f : Field) → (unless (a || b) 1 at f).notes.broken ≡ [] → a ≡ false
 new_or_broken true b at f e = absurd cc
@@ -229,7 +229,7 @@ word_first (d ∷ ds) h = h
 
 name_behind : (ds : List IdentDef) → HasFirst ds → (before : List (List ℕ)) → is_among (first_name ds) (names_behind ds before) ≡ true
 name_behind [] h before = absurd h
-name_behind (d ∷ ds) h before = behind_has ds (name_in d ∷ before) d.ident.name (ap (λ b. b || is_among d.ident.name before) (bytes_same d.ident.name))
+name_behind (d ∷ ds) h before = behind_has ds (name_in d ∷ before) d.ident.name (ap (λ b. b || is_among d.ident.name before) (bytes_itself d.ident.name))
 
 -- what lists of fields come to
 abbrev FieldsNested : List ℕ → List (List ℕ) → Fields → Type 0
@@ -293,8 +293,8 @@ record_never name d fs (t ∷ ts) h = ((λ x w p. absurd (part_longer name h.0.f
 pub record_nested : (u : Around) (name : List ℕ) (m : Mark) (lists : List WrittenFields) → AreNestedFields lists → AreGoodFields lists → (b : Judged (Option TypeRef)) → Quiet Nested (record_with u name m lists b)
 record_nested u name m lists n g b =
     let fs = field_lists u name b.node [] lists in
-    then_quiet (λ (p : Option TypeRef × Fields). Any p.0 × FieldsNested name [] p.1) Nested (both b fs) (λ p. sound (typed_as u name (record_desc m p.0 p.1.fields) p.1.made))
-    (both_quiet Any (FieldsNested name []) b fs (any_quiet b) (lists_nested lists n g u name b.node []))
+    then_quiet (λ (p : Option TypeRef × Fields). Anything p.0 × FieldsNested name [] p.1) Nested (both b fs) (λ p. sound (typed_as u name (record_desc m p.0 p.1.fields) p.1.made))
+    (both_quiet Anything (FieldsNested name []) b fs (any_quiet b) (lists_nested lists n g u name b.node []))
     (λ p h. λ e.
     let d = record_desc m p.0 p.1.fields in
     one_longer (record { name = name; desc = d }) p.1.made (λ x w k. absurd (part_longer name x name 46 k refl)) (record_over name d p.1.fields (λ x k. k) p.1.made h.1.0) (record_never name d p.1.fields p.1.made h.1.0) h.1.1)

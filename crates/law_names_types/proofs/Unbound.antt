@@ -3,7 +3,6 @@ use Rattle.std.proofs.Common.{◌≡◌, ℕ, Bool, true, false, List, [], ◌�
 use Rattle.std.specs.Prelude.{cond, bytes_eq, is_some, not, ◌&&◌}
 use Rattle.std.specs.List.{AllByRecursion, find, filter}
 use Rattle.std.proofs.lemmas.Bool.{and_from}
-use Rattle.std.proofs.lemmas.Slice.Eq.{bytes_eq-Decides}
 use Rattle.ob_tree.specs.declared.names.QName.{QName}
 use Rattle.ob_types.specs.declared.desc.Desc.{Desc}
 use Rattle.ob_types.specs.declared.desc.Desc.TheVariants as desc
@@ -15,7 +14,7 @@ use Rattle.ob_rules.specs.Shapes.{Map, Member, AField, AMethod, field_or, own_me
 use Rattle.ob_rules.specs.Names.{Around, map_of, own_desc, type_desc, out_string}
 use Rattle.ob_rules.specs.Headings.{Head, BoundAs, Binding, new_method, with_method, change_desc, changed_if, change_type, redefined, bind_method, bind_by, bind_one, bind_all, owner_is, of_record, bind_records, reversed, counts_if, counts, counted}
 use Rattle.law_names_types.specs.Fields.{has_field, found, field_at, IsFree, BoundAreFree}
-use Rattle.law_names_distinct.proofs.Fresh.{front_empty, back_empty, all_from}
+use Rattle.law_lists.proofs.Lists.{all_from, back_empty, bytes_turned, front_empty}
 
 desc_fields : (m : Method) (d : Desc) (y : List ℕ) → has_field (Some (change_desc (λ r. with_method r m) d)) y ≡ has_field (Some d) y
 desc_fields m (desc.Const v) y = refl
@@ -201,9 +200,6 @@ there_free own x y Q (t ∷ ts) h e = by (bytes_eq t.name x) refl e (λ k. there
     by true i k r = h.0 i
     by false i k r = r k
 
-mirrored : (x y : List ℕ) → bytes_eq x y ≡ true → bytes_eq y x ≡ true
-mirrored x y e = (bytes_eq-Decides y x).1 (sym ((bytes_eq-Decides x y).0 e))
-
 owner_there : (a : BoundAs) (o : Option BoundAs) (x : List ℕ) → o ≡ Some a → bytes_eq a.owner.object x ≡ true → owner_is x o ≡ true
 owner_there a o x i e = subst (λ o. owner_is x o ≡ true) (sym i) e
 
@@ -216,7 +212,7 @@ each_free unit own h k f a i m = by (field_at own a.owner.object h.name) refl
         let bad : true ≡ false =
         sym e
         ∙ there_free own a.owner.object h.name (field_at own a.owner.object h.name ≡ false) own
-        (all_from (λ t. FreeOf unit own t h) (λ t. bytes_eq t.name a.owner.object ≡ true → field_at own a.owner.object h.name ≡ false) (λ t r s. r (owner_there a h.bound t.name i (mirrored t.name a.owner.object s)) f a i m) own k)
+        (all_from (λ t. FreeOf unit own t h) (λ t. bytes_eq t.name a.owner.object ≡ true → field_at own a.owner.object h.name ≡ false) (λ t r s. r (owner_there a h.bound t.name i (bytes_turned t.name a.owner.object s)) f a i m) own k)
         e in
         absurd cc
 

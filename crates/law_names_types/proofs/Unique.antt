@@ -6,12 +6,12 @@ use Rattle.std.proofs.lemmas.List.{append-nil}
 use Rattle.ob_types.specs.declared.typed.TypedType.{TypedType}
 use Rattle.law_names_distinct.specs.Distinct.{AreDistinct}
 use Rattle.law_names_distinct.specs.Parts.{IsWord, IsTail, IsPart}
-use Rattle.law_names_distinct.proofs.Fresh.{all_both}
 use Rattle.law_names_distinct.proofs.Parts.{word_scope}
 use Rattle.law_names_types.specs.Nested.{HasField, IsBehind, AreNested}
 use Rattle.law_names_types.proofs.Meets.{Meeting, meets, word_front}
 use Rattle.law_names_types.specs.Unlike.{IsWithin}
-use Rattle.law_names_types.proofs.Items.{Item, stem_by, stem, hat, Behind, IsAmong, all_at, all_of, in_either, distinct_same, distinct_joined, cancel, words_front, hat_tail, hats_same, joined_tail, all_scope, shorter, behind_longer, behind_on, behind_part, behind_stop, behind_path}
+use Rattle.law_names_types.proofs.Items.{Item, stem_by, stem, hat, Behind, IsAmong, all_at, all_of, in_either, distinct_same, distinct_joined, words_front, hat_tail, hats_same, joined_tail, all_scope, shorter, behind_longer, behind_on, behind_part, behind_stop, behind_path}
+use Rattle.law_lists.proofs.Lists.{all_both, same_behind}
 
 -- of a name that is known
 pub record IsOfKnown (path : List ℕ) (known : List ℕ → Bool) (n : List ℕ) : Type 0 where
@@ -100,7 +100,7 @@ word_same : (path x : List ℕ) (known : List ℕ → Bool) (s n z : List ℕ) (
 word_same path x known s n z f w k e t b =
     let whole : path ++ (k.word ++ (k.part.rest ++ z)) ≡ path ++ (x ++ (hat f ++ 40 ∷ b.0)) =
     sym (append_assoc path k.word (k.part.rest ++ z)) ∙ sym (append_assoc (path ++ k.word) k.part.rest z) ∙ ap (λ y. y ++ z) (sym k.part.is) ∙ sym e ∙ behind_path path x f n b in
-    let h = words_front k.word x (k.part.rest ++ z) (hat f ++ 40 ∷ b.0) k.is w (joined_tail k.part.rest z k.part.tail t) (hat_tail f b.0) (cancel path (k.word ++ (k.part.rest ++ z)) (x ++ (hat f ++ 40 ∷ b.0)) whole) in
+    let h = words_front k.word x (k.part.rest ++ z) (hat f ++ 40 ∷ b.0) k.is w (joined_tail k.part.rest z k.part.tail t) (hat_tail f b.0) (same_behind path (k.word ++ (k.part.rest ++ z)) (x ++ (hat f ++ 40 ∷ b.0)) whole) in
     ap known (sym h.0) ∙ k.there
 
 -- what goes on behind a shorter name goes on behind the longer one's owner
@@ -265,7 +265,7 @@ module _ (path : List ℕ) (known : List ℕ → Bool) (ss : List TypedType) (it
       where
         by : (o p : Option (List ℕ)) → a.owner ≡ o → b.owner ≡ p → Behind (stem_by path o a.called) a.forward n → Behind (stem_by path p b.called) b.forward n → length (stem_by path o a.called) + length (stem_by path p b.called) < suc d →
             ((k : Item) → IsAmong k its → length (stem path a) + length (stem path k) < d → On k n → Either a k) → ((k : Item) → IsAmong k its → length (stem path b) + length (stem path k) < d → On k n → Either b k) → Either a b
-        by None None e f x y l g h = inl (0, same_names a b i j (e ∙ sym f) x.0 y.0 (cancel path _ _ (sym (behind_path path a.called a.forward n x) ∙ behind_path path b.called b.forward n y)))
+        by None None e f x y l g h = inl (0, same_names a b i j (e ∙ sym f) x.0 y.0 (same_behind path _ _ (sym (behind_path path a.called a.forward n x) ∙ behind_path path b.called b.forward n y)))
         by None (Some p) e f x y l g h = inr (plain_bound a b i j e p f x y (λ k m s on. g k m (let c = ap (λ o. length (stem_by path o a.called)) e in omega (arith, s, l, c)) on))
         by (Some o) None e f x y l g h = inl (plain_bound b a j i f o e y x (λ k m s on. h k m (let c = ap (λ o. length (stem_by path o b.called)) f in omega (arith, s, l, c)) on))
         by (Some o) (Some p) e f x y l g h =

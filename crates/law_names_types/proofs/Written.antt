@@ -15,11 +15,11 @@ use Rattle.ob_rules.specs.Expressions.{phrase_of}
 use Rattle.ob_rules.specs.Types.{Typing, Written, WrittenFields, WrittenParameters, WrittenSection, base_if, is_later, node_rule, fields_rule, parameters_rule, section_rule, written, written_parameters}
 use Rattle.ob_layout.specs.Lists.{sum_of}
 use Rattle.law_names_distinct.specs.Named.{all_true, are_words, node_layer, fields_layer, parameters_layer, section_layer, type_named, fields_named, parameters_named, section_named}
-use Rattle.law_names_distinct.proofs.Quiet.{IfThere}
 use Rattle.law_names_distinct.proofs.Typings.{IsGood, HasFirst, AreGoodFields, AreGoodSections, names_of, name_good, array_good, record_good, pointer_good, type_good}
 use Rattle.law_names_distinct.proofs.Written.{has_first}
 use Rattle.law_names_types.specs.Nested.{AreNested, WrittenAreNested}
 use Rattle.law_names_types.proofs.Typings.{IsNested, AreNestedFields, name_nested, array_nested, pointer_nested, record_nested, procedure_nested}
+use Rattle.law_lists.proofs.Lists.{IfThere}
 
 abbrev written_fields : FieldList → WrittenFields
 written_fields = fold-FieldList Written WrittenFields WrittenParameters WrittenSection node_rule fields_rule parameters_rule section_rule

@@ -17,7 +17,6 @@ use Rattle.ob_scheme.specs.Context.{is_own, type_index}
 use Rattle.ob_scheme.specs.Numbers.{same_type, number_among}
 use Rattle.ob_scheme.specs.Object.{own, base_type, base_in, record_in, records_in, type_links}
 use Rattle.law_simulation_relation.specs.Relation.{ModulesOk}
-use Rattle.law_simulation_relation.proofs.Names.{and_both}
 use Rattle.law_typing_forms.proofs.Modules.{of_all}
 use Rattle.law_image_code.specs.Described.{IsDescribed}
 use Rattle.law_image_links.specs.Files as linking
@@ -40,6 +39,7 @@ use Rattle.law_program_image.specs.Owed.{in_program}
 use Rattle.law_program_image.specs.Premises.{TypesDiffer, LoadedAreSame}
 use Rattle.law_program_image.specs.Laws.{LoadedAreDeclared}
 use Rattle.law_program_image.proofs.Settled.{sound_are_settled}
+use Rattle.law_lists.proofs.Lists.{and_parts}
 
 -- ONE MODULE
 
@@ -57,7 +57,7 @@ module _ (program : Program) (settled : TypesSettled program) (says : IsDescribe
 
   one : (links : List QName) (x : List ℕ) (d : Desc) (i : ℕ) (rs : List RecordType) → description program (typed md.name x) ≡ Some d → bases_stand (length links) i (record_in types md links x d ++ rs) ≡ true → IsInOrder program types md x d i × (bases_stand (length links) (past program types md d i) rs ≡ true)
   one links x (desc.Record r) i rs e h =
-      let both = and_both (base_stands (length links) i (base_in types md links (base_type types md r.base))) (bases_stand (length links) (i + 1) rs) h in
+      let both = and_parts (base_stands (length links) i (base_in types md links (base_type types md r.base))) (bases_stand (length links) (i + 1) rs) h in
       let n : i + 1 ≡ suc i = omega arith in
       let b = base_named program settled types md says (λ q. refl) (typed md.name x) r (settled.records (typed md.name x) r e) in
       (subst (IsBefore program types md i) b (stands_before links i (base_type types md r.base) both.0), subst (λ k. bases_stand (length links) k rs ≡ true) n both.1)

@@ -38,6 +38,7 @@ use Rattle.law_image_tables.proofs.Families.{bound_family}
 use Rattle.law_image_tables.proofs.Settled.{built_from}
 use Rattle.law_program_image.proofs.Settled.{sound_are_settled}
 use Rattle.law_program_image.specs.Families.{IsBinding, HasBindings, FamiliesAreIntroduced}
+use Rattle.law_lists.proofs.Lists.{or_second}
 
 -- ---- bound procedures by their names
 
@@ -57,10 +58,6 @@ named_there x (k ∷ ks) m i n = by (bytes_eq x k.name) refl i (λ j. named_ther
     by true e i r = (k, refl)
     by false e (inl same) r = absurd (false≢true (sym e ∙ ap (λ (z : Method). bytes_eq x z.name) same ∙ ap (bytes_eq x) n ∙ bytes_same x))
     by false e (inr j) r = r j
-
-or_true : (a b : Bool) → b ≡ true → (a || b) ≡ true
-or_true true b e = refl
-or_true false b e = e
 
 module _ (program : Program) (sound : IsSound program) (whole : IsWhole program) where
   -- a record type introduces a procedure of that name
@@ -120,7 +117,7 @@ module _ (program : Program) (sound : IsSound program) (whole : IsWhole program)
     extends : (n : ℕ) (q o : QName) (r : RecordDesc) → description program o ≡ Some (desc.Record r) → Extends V n q o → is_among (bases_in program q) o ≡ true
     extends zero q o r e x = absurd x
     extends (suc n) q o r e (inl same) = subst (λ y. is_among (bases_in program y) o ≡ true) (sym same) (itself o r e)
-    extends (suc n) q o r e (inr k) = ap (λ l. is_among l o) (based q k.0 k.1.0) ∙ or_true (same_name o q) (is_among (bases_in program k.0) o) (extends n k.0 o r e k.1.1)
+    extends (suc n) q o r e (inr k) = ap (λ l. is_among l o) (based q k.0 k.1.0) ∙ or_second (same_name o q) (is_among (bases_in program k.0) o) (extends n k.0 o r e k.1.1)
 
     introduces : (o : QName) (x : List ℕ) → Introduces V o x → Has o x
     introduces o x y =
@@ -181,7 +178,7 @@ module _ (program : Program) (sound : IsSound program) (whole : IsWhole program)
     lined (b ∷ line) s e f q n = by (declared_for program s f) refl n (λ n. lined line b (built s b line e).0 f q n)
       where
         by : (o : Option QName) → declared_for program s f ≡ o → first_of_both o (nearest program (b ∷ line) f) ≡ Some q → (nearest program (b ∷ line) f ≡ Some q → (is_among (b ∷ line) f.owner ≡ true) × Has f.owner f.name) → (is_among (s ∷ b ∷ line) f.owner ≡ true) × Has f.owner f.name
-        by None d n r = let k = r n in (or_true (same_name f.owner s) (is_among (b ∷ line) f.owner) k.0, k.1)
+        by None d n r = let k = r n in (or_second (same_name f.owner s) (is_among (b ∷ line) f.owner) k.0, k.1)
         by (Some r) d n k = at_first (b ∷ line) s e f r d
 
     introduced : (t : QName) (f : Family) → (line : List QName) → record_in program t ≡ RecordForm (t ∷ line) (fields_of (record_in program t)) → HasFamily program t f → Introduced program t f

@@ -19,7 +19,7 @@ use Rattle.law_simulation_relation.specs.Relation.{head}
 use Rattle.law_simulation_relation.proofs.Names.{bytes_true, bytes_same}
 use Rattle.law_typing_forms.specs.Said.{IsOneOf, IsSound}
 use Rattle.law_typing_forms.specs.Whole.{IsWhole}
-use Rattle.law_typing_forms.proofs.Within.{form_described, parts_within, all_left, all_from}
+use Rattle.law_typing_forms.proofs.Within.{form_described, parts_within, all_from}
 use Rattle.law_typing_forms.proofs.Shapes.{basic_is}
 use Rattle.law_typing_forms.proofs.Modules.{type_there}
 use Rattle.law_typing_forms.proofs.Staying.{HasMore}
@@ -32,6 +32,7 @@ use Rattle.law_typing_env.proofs.Sizing.{laid_of}
 use Rattle.law_image_tables.specs.Declared.{above, base_of}
 use Rattle.law_image_tables.specs.Counted.{counted, count_below, MethodsNumbered}
 use Rattle.law_program_image.specs.Numbers.{MethodsAreNumbered}
+use Rattle.law_lists.proofs.Lists.{all_front}
 
 -- ---- numbers in turn
 
@@ -165,7 +166,7 @@ module _ (program : Program) (sound : IsSound program) (whole : IsWhole program)
     own_count f q (desc.OpenArray m t) own e there h k = declared_count f q (desc.OpenArray m t) there (λ t a. absurd cc)
     own_count f q (desc.Pointer m t) own e there h k = declared_count f q (desc.Pointer m t) there (λ t a. absurd cc)
     own_count f q (desc.ProcType m s) own e there h k = declared_count f q (desc.ProcType m s) there (λ t a. absurd cc)
-    own_count f q (desc.Record r) own e there h k = record_count f q r own e there (all_left (λ t. f t ≡ count t) (listed r.base) (each (λ x. x.of) r.fields) h) (all_left (λ t. so_far 200 t ≡ count t) (listed r.base) (each (λ x. x.of) r.fields) k)
+    own_count f q (desc.Record r) own e there h k = record_count f q r own e there (all_front (λ t. f t ≡ count t) (listed r.base) (each (λ x. x.of) r.fields) h) (all_front (λ t. so_far 200 t ≡ count t) (listed r.base) (each (λ x. x.of) r.fields) k)
 
     other_count : (f : TypeRef → ℕ) (q : QName) (e d : Desc) → description before q ≡ Some e → bare e ≡ bare d → AllByRecursion (λ t. f t ≡ count t) (stands_on d) → declared_procedures f false (Some d) ≡ count (ref.Named q)
     other_count f q e d there same h =
@@ -223,7 +224,7 @@ module _ (program : Program) (sound : IsSound program) (whole : IsWhole program)
     laid_numbers : (q : QName) (r : RecordDesc) → is_own over.checked q ≡ true → seen q ≡ Some (desc.Record r) → IsWithin seen 201 (ref.Named q) → description program q ≡ Some (desc.Record (laid_record (words_in others over.checked) (procedures_in others over.checked) q r)) → MethodsNumbered program q (laid_record (words_in others over.checked) (procedures_in others over.checked) q r)
     laid_numbers q r own view within e =
         let p = procedures_in others over.checked in
-        let parts = all_left (λ t. IsWithin seen 200 t) (listed r.base) (each (λ x. x.of) r.fields) (parts_within seen 200 q (desc.Record r) view within) in
+        let parts = all_front (λ t. IsWithin seen 200 t) (listed r.base) (each (λ x. x.of) r.fields) (parts_within seen 200 q (desc.Record r) view within) in
         let low = all_from (λ t. IsWithin seen 200 t) (λ t. so_far 200 t ≡ count t) (λ t w. counted_is 200 200 t (omega arith) (omega arith) w) (listed r.base) parts in
         let high = all_from (λ t. IsWithin seen 200 t) (λ t. p t ≡ count t) (λ t w. counted_is 200 201 t (omega arith) (omega arith) w) (listed r.base) parts in
         let n = laid_base p r.base in

@@ -8,11 +8,11 @@ use Rattle.ob_types.specs.TypedSyntax.{Procedure, Module}
 use Rattle.ob_meaning.specs.Values.{Program, procedure_of, procedure_named}
 use Rattle.ob_meaning.specs.Commands.{command_named, when_command, is_command, is_hidden, is_none_of}
 use Rattle.law_simulation_relation.specs.Layout.{module_number, procedure_index, procedures_in}
-use Rattle.law_simulation_relation.proofs.Names.{and_both}
 use Rattle.ob_link.specs.Plan.{named, has_command, is_there}
 use Rattle.ob_link.specs.Files.{command_at, command_in, or_zero}
 use Rattle.ob_builds.specs.Builds.{Build, tree_of, file_of, asks}
 use Rattle.law_program_runs.specs.Builds.{HasModule}
+use Rattle.law_lists.proofs.Lists.{and_parts}
 
 none_of : {A : Type 0} (xs : List A) → is_none_of xs ≡ true → xs ≡ []
 none_of [] e = refl
@@ -36,10 +36,10 @@ command_is m x e = go (procedure_named m.procedures x) refl e
     by : (p : Procedure) (b : Bool) → is_command p ≡ b → procedure_named m.procedures x ≡ Some p → is_there (if b then Some p else None) ≡ true → IsCommand m x
     by p false i f t = absurd (cc)
     by p true i f t =
-        let a = (and_both (not (is_hidden p.mark)) (is_identifier p.name && (is_none p.binding && (is_none_of p.parameters && is_none p.result))) i).1 in
-        let b = (and_both (is_identifier p.name) (is_none p.binding && (is_none_of p.parameters && is_none p.result)) a).1 in
-        let c = (and_both (is_none p.binding) (is_none_of p.parameters && is_none p.result) b).1 in
-        let d = and_both (is_none_of p.parameters) (is_none p.result) c in
+        let a = (and_parts (not (is_hidden p.mark)) (is_identifier p.name && (is_none p.binding && (is_none_of p.parameters && is_none p.result))) i).1 in
+        let b = (and_parts (is_identifier p.name) (is_none p.binding && (is_none_of p.parameters && is_none p.result)) a).1 in
+        let c = (and_parts (is_none p.binding) (is_none_of p.parameters && is_none p.result) b).1 in
+        let d = and_parts (is_none_of p.parameters) (is_none p.result) c in
         record { p = p; named = f; is = ap when_command f ∙ ap (λ b. if b then Some p else None) i; plain = none_of p.parameters d.0; proper = none_is p.result d.1 }
 
     go : (o : Option Procedure) → procedure_named m.procedures x ≡ o → is_there (when_command o) ≡ true → IsCommand m x

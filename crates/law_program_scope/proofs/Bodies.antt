@@ -11,11 +11,11 @@ use Rattle.ob_tree.specs.declared.stmt.Stmt.TheFolds.{ind-Stmt, fold-roll-Stmt, 
 use Rattle.ob_scheme.specs.Context.{Context}
 use Rattle.ob_rules.specs.Expressions.{phrase_of, named_of}
 use Rattle.ob_rules.specs.Statements.{Judging, Conditional, Labelled, GuardedBody, stmt_rule, branch_rule, case_rule, guarded_rule, judging, conditional_of, labelled_of, guarded_of, phrase_if}
-use Rattle.law_program_scope.proofs.Setting.{IfThere}
 use Rattle.law_program_scope.proofs.Calls.{PhraseOk}
 use Rattle.law_program_scope.proofs.Expressions.{expr_ok, designator_named}
 use Rattle.law_program_scope.proofs.Statements.{JudgingOk, AreJudging, ConditionalOk, assignment_keeps, call_keeps, if_keeps, while_keeps, repeat_keeps, loop_keeps, case_keeps, exit_keeps, return_keeps}
 use Rattle.law_program_scope.proofs.Guards.{for_keeps, with_keeps}
+use Rattle.law_lists.proofs.Lists.{IfThere}
 
 module _ (k : Context) where
   abbrev PS : Stmt → Type 0

@@ -38,8 +38,9 @@ use Rattle.ob_rules.specs.Values.{computed}
 use Rattle.ob_rules.specs.Phrases.{Phrase, record_receiver, receiver_place}
 use Rattle.ob_rules.specs.Calls.{actual_of, unless_guarded, unless_read_only, variable_actual, meant_actual, var_actual, tree_for, value_actual, actual, actuals, misplaced, called_with, called, call_procedure, call_variable, out_signature, call_out, bound_callee, receiver_actual, nearest_sound, where_from, call_bound_sound, call_bound}
 use Rattle.law_image_code.specs.There.{ExprThere, ActualsThere}
-use Rattle.law_program_scope.proofs.Setting.{E, Stands, PlaceOk, ValuedOk, MeantOk, Anything, Keeps, any_keeps, then_keeps, both_keep, wants_keeps, also_keeps, named_e, named_d, tree_ok}
+use Rattle.law_program_scope.proofs.Setting.{E, Stands, PlaceOk, ValuedOk, MeantOk, Keeps, any_keeps, then_keeps, both_keep, wants_keeps, also_keeps, named_e, named_d, tree_ok}
 use Rattle.law_program_scope.proofs.Values.{text_tree_ok}
+use Rattle.law_lists.proofs.Lists.{Anything}
 
 -- a phrase names variables that are there, whatever stands around
 abbrev pub MeantKeeps : Context → Option (Around → Judged Meant) → Type 0

@@ -41,11 +41,12 @@ use Rattle.ob_rules.specs.Types.{first_of}
 use Rattle.ob_rules.specs.Statements as rules
 use Rattle.ob_rules.specs.Statements.{Judging, in_turn, in_turn_if, for_variable, integer_place, for_bound, bound_if, for_with, step_value, for_step, with_module, with_named, with_qualified_by, with_qualified, with_meant, with_place, with_guard, guard_test, variable_meant, guarded_around, type_if, guarded_body, GuardedBody, tested, with_variable, with_test, with_branch, with_branches, with_statement}
 use Rattle.law_image_code.specs.Fits.{StepFits}
-use Rattle.law_program_scope.proofs.Setting.{E, S, Stands, EntityOk, PlaceOk, ValuedOk, MeantOk, IfThere, Anything, Keeps, any_keeps, then_keeps, both_keep, made_keeps, unless_so, wants_keeps, named_e, tree_ok}
+use Rattle.law_program_scope.proofs.Setting.{E, S, Stands, EntityOk, PlaceOk, ValuedOk, MeantOk, Keeps, any_keeps, then_keeps, both_keep, made_keeps, unless_so, wants_keeps, named_e, tree_ok}
 use Rattle.law_program_scope.proofs.Calls.{PhraseOk}
 use Rattle.law_program_scope.proofs.Functions.{named_s}
 use Rattle.law_program_scope.proofs.Designators.{variable_keeps, named_keeps, designates_keeps}
 use Rattle.law_program_scope.proofs.Statements.{AreOk, JudgingOk, AreJudging, BranchOk, stmts_named, turn_keeps, turn_if_keeps, branch_keeps, branches_named}
+use Rattle.law_lists.proofs.Lists.{Anything, IfThere}
 
 -- ---- FOR
 

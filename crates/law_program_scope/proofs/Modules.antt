@@ -33,9 +33,10 @@ use Rattle.law_body_context.proofs.Lists.{find_has, all_of}
 use Rattle.law_program_context.specs.Judged.{IsJudgedModule}
 use Rattle.law_program_scope.specs.Scoped.{BodyIsScoped, BodiesAreScoped}
 use Rattle.law_program_scope.specs.Laws.{ModulesAreScoped, ProgramsAreScoped}
-use Rattle.law_program_scope.proofs.Setting.{Stands, IfThere}
+use Rattle.law_program_scope.proofs.Setting.{Stands}
 use Rattle.law_program_scope.proofs.Statements.{AreOk, stmts_named, turn_keeps}
 use Rattle.law_program_scope.proofs.Bodies.{stmts_ok}
+use Rattle.law_lists.proofs.Lists.{IfThere}
 
 -- ---- names in lists
 

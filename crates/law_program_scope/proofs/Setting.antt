@@ -24,6 +24,7 @@ use Rattle.ob_rules.specs.Names.{Around, find_name, is_enclosing}
 use Rattle.ob_rules.specs.Values.{tree}
 use Rattle.law_image_code.specs.Fits.{IsThere}
 use Rattle.law_image_code.specs.There.{DesigThere, ExprThere, StmtThere}
+use Rattle.law_lists.proofs.Lists.{Anything, IfThere}
 
 abbrev pub D : Context → Designator → Type 0
 D k d = DesigThere k (designator_view d)
@@ -61,16 +62,9 @@ MeantOk k (means.Call x) = ValuedOk k x
 MeantOk k (means.Statement s) = S k s.inner
 MeantOk k m = Unit {0}
 
-abbrev pub IfThere : {A : Type 0} → (A → Type 0) → Option A → Type 0
-IfThere Q None = Unit {0}
-IfThere Q (Some x) = Q x
-
 -- a node, where there is one, has the property
 abbrev pub Keeps : {A : Type 0} → (A → Type 0) → Judged A → Type 0
 Keeps Q j = IfThere Q j.node
-
-abbrev pub Anything : {A : Type 0} → A → Type 0
-Anything x = Unit {0}
 
 sure : {A : Type 0} (o : Option A) → IfThere Anything o
 sure None = tt

@@ -32,12 +32,13 @@ use Rattle.ob_rules.specs.Expressions.{Named, meant_by}
 use Rattle.ob_rules.specs.Statements as rules
 use Rattle.ob_rules.specs.Statements.{Judging, in_turn, in_turn_if, target, assignment_of, assigned_tree, assigns, assignment, call_value, done, place_called, called, condition, branch_of, empty_if_none, Labelled, labels, case_of, cases, selects_if, case_value, case_judged, returned, return_none, Conditional, in_loop, conditional, conditionals, if_statement, while_statement, repeat_statement, loop_statement, call_statement}
 use Rattle.law_image_code.specs.There.{StmtsThere, BranchesThere, CasesThere, ExprThere}
-use Rattle.law_program_scope.proofs.Setting.{E, S, Stands, PlaceOk, ValuedOk, MeantOk, IfThere, Anything, Keeps, any_keeps, then_keeps, both_keep, made_keeps, unless_keeps, wants_keeps, tree_ok}
+use Rattle.law_program_scope.proofs.Setting.{E, S, Stands, PlaceOk, ValuedOk, MeantOk, Keeps, any_keeps, then_keeps, both_keep, made_keeps, unless_keeps, wants_keeps, tree_ok}
 use Rattle.law_program_scope.proofs.Values.{text_tree_ok}
 use Rattle.law_program_scope.proofs.Calls.{PhraseOk, call_variable_keeps}
 use Rattle.law_program_scope.proofs.Functions.{named_s}
 use Rattle.law_program_scope.proofs.Designators.{call_meant_keeps}
 use Rattle.law_program_scope.proofs.Expressions.{NamedOk, meant_keeps}
+use Rattle.law_lists.proofs.Lists.{Anything, IfThere, all_both}
 
 abbrev pub AreOk : Context → List TypedStmt → Type 0
 AreOk k ss = AllByRecursion (S k) ss
@@ -47,10 +48,6 @@ JudgingOk k f = (u : Around) → Stands k u → Keeps (AreOk k) (f u)
 
 abbrev pub AreJudging : Context → List Judging → Type 0
 AreJudging k fs = AllByRecursion (JudgingOk k) fs
-
-all_both : {A : Type 0} (Q : A → Type 0) (xs ys : List A) → AllByRecursion Q xs → AllByRecursion Q ys → AllByRecursion Q (xs ++ ys)
-all_both Q [] ys h g = g
-all_both Q (x ∷ xs) ys h g = (h.0, all_both Q xs ys h.1 g)
 
 pub stmts_named : (k : Context) (ss : List TypedStmt) → AreOk k ss → StmtsThere k (stmts_view ss)
 stmts_named k [] h = tt

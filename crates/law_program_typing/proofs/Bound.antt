@@ -22,7 +22,8 @@ use Rattle.law_local_methods.specs.Laws.{IsOwned}
 use Rattle.law_local_methods.proofs.Members.{members_stay}
 use Rattle.law_methods_introduced.specs.Families.{Introduces}
 use Rattle.law_program_typing.specs.Once.{Line, AreOnce, ShowOthers}
-use Rattle.law_program_typing.proofs.Ranks.{has, rank, or_first, or_second, rank_most, rank_behind, AreOne, above_lower}
+use Rattle.law_program_typing.proofs.Ranks.{has, rank, rank_most, rank_behind, AreOne, above_lower}
+use Rattle.law_lists.proofs.Lists.{or_first, or_second}
 
 -- ---- what one more bound procedure changes
 

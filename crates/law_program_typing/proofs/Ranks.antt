@@ -18,6 +18,7 @@ use Rattle.law_body_context.specs.Knows.{HasName, StandsBy, Stands}
 use Rattle.law_body_context.specs.Order.{IsBased, AreInOrder}
 use Rattle.law_methods_introduced.proofs.Chains.{finds}
 use Rattle.law_program_typing.specs.Once.{Line, IsOther, ShowOthers}
+use Rattle.law_lists.proofs.Lists.{or_first, or_second}
 
 -- ---- ranks by names
 
@@ -29,14 +30,6 @@ has (t ∷ ts) x = bytes_eq t.name x || has ts x
 abbrev pub rank : List TypedType → List ℕ → ℕ
 rank [] x = zero
 rank (t ∷ ts) x = cond (has ts x) (rank ts x) (suc (length ts))
-
-pub or_second : (a b : Bool) → b ≡ true → (a || b) ≡ true
-or_second true b e = refl
-or_second false b e = e
-
-pub or_first : (a b : Bool) → a ≡ true → (a || b) ≡ true
-or_first true b e = refl
-or_first false b e = absurd cc
 
 pub rank_most : (ts : List TypedType) (x : List ℕ) → has ts x ≡ true → rank ts x ≤ length ts
 rank_most [] x h = absurd cc

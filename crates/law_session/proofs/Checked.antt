@@ -1,6 +1,6 @@
 -- A check over kept files is the check over the library.
-use Rattle.std.proofs.Common.{◌≡◌, ℕ, ◌<◌, ◌≤◌, List, [], ◌∷◌, ◌++◌, length, Bool, true, false, cond, refl, sym, ap, ◌∙◌, subst, arith, Option, Some, None, Ok, inl, inr}
-use Rattle.std.specs.Prelude.{map, nat_le, nat_lt, bytes_eq, ◌⊎◌}
+use Rattle.std.proofs.Common.{◌≡◌, ℕ, ◌≤◌, List, [], ◌∷◌, length, Bool, true, false, cond, refl, sym, ap, ◌∙◌, subst, arith, Option, Some, None, inl, inr}
+use Rattle.std.specs.Prelude.{map, nat_lt, bytes_eq}
 use Rattle.std.specs.Option.{option_map}
 use Rattle.std.specs.List.{AllByRecursion}
 use Rattle.std.proofs.lemmas.Bool.{false≢true}
@@ -39,9 +39,10 @@ use Rattle.ob_builds.specs.Written.{IsWritten, BuildsAreWritten}
 use Rattle.ob_shell_model.specs.Headline.{IsIn}
 use Rattle.law_session.specs.Composing.{IsTextIn, ChecksAlike}
 use Rattle.law_builds.proofs.Compiled.{comes, short}
-use Rattle.law_builds.proofs.Faces.{of_is, uses_back, face_back, not_beyond, within_limit, same_name, whole_symbols, short_symbols}
+use Rattle.law_builds.proofs.Faces.{of_is, uses_back, face_back, not_beyond, within_limit, whole_symbols, short_symbols}
 use Rattle.law_session.proofs.Spelled.{uses_named}
 use Rattle.law_builds.proofs.Kept.{uses_kept, kept_text, shown_text}
+use Rattle.law_lists.proofs.Lists.{bytes_same}
 
 -- WHAT IS FOUND
 
@@ -86,7 +87,7 @@ face_found_same written m file (Holds b) k i =
     ap (within (read_face m)) k
     ∙ ap (λ t. cond t (read_face m (written_symbols b)) check.TooLong) (short_symbols b c i.1)
     ∙ ap (face_found m) (whole_symbols b c i.1 (written b c i.1) ∙ ap (λ x. Some (interface_of (printed x))) s)
-    ∙ ap (λ t. cond t (There (face_of (interface_of (printed f)))) Refused) (same_name m f.«module» (sym i.2))
+    ∙ ap (λ t. cond t (There (face_of (interface_of (printed f)))) Refused) (bytes_same m f.«module» (sym i.2))
     ∙ ap There (face_back (printed f))
 
 -- ---- object files
@@ -122,8 +123,8 @@ same_either a b = go (bytes_eq a b) (bytes_eq b a) refl refl
     go : (x y : Bool) → bytes_eq a b ≡ x → bytes_eq b a ≡ y → x ≡ y
     go true true e h = refl
     go false false e h = refl
-    go true false e h = absurd (false≢true (sym h ∙ same_name b a (sym ((bytes_eq-Decides a b).0 e))))
-    go false true e h = absurd (false≢true (sym e ∙ same_name a b (sym ((bytes_eq-Decides b a).0 h))))
+    go true false e h = absurd (false≢true (sym h ∙ bytes_same b a (sym ((bytes_eq-Decides a b).0 e))))
+    go false true e h = absurd (false≢true (sym e ∙ bytes_same a b (sym ((bytes_eq-Decides b a).0 h))))
 
 uses_other : (us : List (Wanted Print)) (f : ObjFile) (t : Bool) → cond t (Holds f) Junk ≡ Junk → cond t (There us) Refused ≡ Refused
 unfolding is_damaged
@@ -145,7 +146,7 @@ file_uses : (b : Build) (c : Compiled Text) → IsValid b c → (m : List ℕ) �
 file_uses b c v m n =
     let s : c.shows ≡ shows_of b = ap (λ (x : Compiled Text). x.shows) (sym (of_is b c v)) in
     let t : c.tree.name ≡ c.shows.«module» = subst (λ (x : Compiled Text). x.tree.name ≡ x.shows.«module») (sym (comes texts _ (Some b.source) c v.is).is) refl in
-    ap (λ t. cond t (There (map wanted_of (object_by texts c).head.uses)) Refused) (same_name m c.tree.name (sym (t ∙ ap (λ (f : Face Text). f.«module») s ∙ n)))
+    ap (λ t. cond t (There (map wanted_of (object_by texts c).head.uses)) Refused) (bytes_same m c.tree.name (sym (t ∙ ap (λ (f : Face Text). f.«module») s ∙ n)))
     ∙ ap There (uses_back (map as_print c.shows.uses))
     ∙ ap (λ (f : Face Text). There (map as_print f.uses)) s
 
@@ -181,8 +182,8 @@ agree_same k t apart = go (prints_agree (print_from k) (print_from t)) (bytes_eq
     go : (x y : Bool) → prints_agree (print_from k) (print_from t) ≡ x → bytes_eq k t ≡ y → x ≡ y
     go true true e h = refl
     go false false e h = refl
-    go true false e h = absurd (false≢true (sym h ∙ same_name k t (apart (prints_same (print_from k) (print_from t) e))))
-    go false true e h = absurd (false≢true (sym e ∙ same_name (print_from k).0 (print_from t).0 (ap (λ x. (print_from x).0) ((bytes_eq-Decides k t).0 h))))
+    go true false e h = absurd (false≢true (sym h ∙ bytes_same k t (apart (prints_same (print_from k) (print_from t) e))))
+    go false true e h = absurd (false≢true (sym e ∙ bytes_same (print_from k).0 (print_from t).0 (ap (λ x. (print_from x).0) ((bytes_eq-Decides k t).0 h))))
 
 stale_same : (w : Wanted Text) (t : Text) (x : Bool) → stale_if (as_print w) (as_wanted x (print_from t)) ≡ stale_if w (as_wanted x t)
 stale_same w t true = refl
@@ -216,7 +217,7 @@ module _ (written : BuildsAreWritten) (files : Files) (l : Library) (m : List �
   told w k Missing e i = tt
   told w k TooLong e i = tt
   told w k Junk e i = tt
-  told w k (Holds b) e i = λ t x p. apart w.kept t k (b, inl (w.object.«module», inr e), inl (shown_text (shows_of b) w.object w.aspect t (sym i.2) (same_name w.object.«module» (name_of b) (sym i.2)) x)) p
+  told w k (Holds b) e i = λ t x p. apart w.kept t k (b, inl (w.object.«module», inr e), inl (shown_text (shows_of b) w.object w.aspect t (sym i.2) (bytes_same w.object.«module» (name_of b) (sym i.2)) x)) p
 
   uses_same : (us : List (Wanted Text)) → AllByRecursion (λ u. is_identifier u.object.«module» ≡ true) us → AllByRecursion (λ u. IsTextIn l [] u.kept) us → checked_uses prints_agree print_of_desc (symbols_of files) (map as_print us) ≡ checked_uses bytes_eq text_of (λ n. face_present (l.symbols n)) us
   unfolding symbols_of

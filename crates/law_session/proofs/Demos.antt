@@ -1,6 +1,6 @@
 -- A demo by files and by builds.
-use Rattle.std.proofs.Common.{◌≡◌, ℕ, ◌+◌, ◌≤◌, List, [], ◌∷◌, ◌++◌, Bool, true, false, cond, length, refl, sym, ap, ◌∙◌, subst, arith, Option, Some, None, Result, Ok, Err, ⊎_elim, inl, inr}
-use Rattle.std.specs.Prelude.{zero, suc, map, codes, Contains, ◌⊎◌}
+use Rattle.std.proofs.Common.{◌≡◌, ℕ, ◌+◌, ◌≤◌, List, [], ◌++◌, Bool, true, false, cond, length, refl, sym, ap, ◌∙◌, subst, arith, Some, None, Result, Ok, Err, ⊎_elim, inl}
+use Rattle.std.specs.Prelude.{zero, suc, codes, Contains, ◌⊎◌}
 use Rattle.std.proofs.lemmas.Bool.{false≢true}
 use Rattle.ob_tree.specs.declared.print.Print.{Print}
 use Rattle.ob_io.specs.Io.{put}
@@ -29,9 +29,9 @@ use Rattle.law_session.specs.Composing.{CompilesAlike, PlansAlike}
 use Rattle.law_session.proofs.Keeping.{source_stays}
 use Rattle.law_builds.proofs.Members.{has_none}
 use Rattle.law_session.proofs.Named.{module_named}
-use Rattle.law_builds.proofs.Faces.{same_name}
 use Rattle.law_session.proofs.Core.{Core, Made, CompilesSo, compiles_so}
 use Rattle.law_session.proofs.Commanded.{Alright, commands_so}
+use Rattle.law_lists.proofs.Lists.{bytes_same}
 
 -- THE EMPTY FOLDER
 
@@ -84,7 +84,7 @@ step_by s P o files v text (Err r) (Ok d) k = k
 
 -- the build that a module becomes is in the library
 becomes_in : (l : Library) (text : List ℕ) (d : Compiled Text) → IsIn (after_all l (becomes text d)) (new_build text d)
-becomes_in l text d = (d.shows.«module», inl (ap (λ t. cond t (Holds (new_build text d)) (l.objects d.shows.«module»)) (same_name d.shows.«module» d.shows.«module» refl)))
+becomes_in l text d = (d.shows.«module», inl (ap (λ t. cond t (Holds (new_build text d)) (l.objects d.shows.«module»)) (bytes_same d.shows.«module» d.shows.«module» refl)))
 
 module _ (s : Settings) (P : Text → Type 0) (apart : Apart P) (compiles : CompilesAlike) (plans : PlansAlike) (written : BuildsAreWritten) (valid : NewIsValid) (first : StandsFirst s) where
   step : (n i o : ℕ) (files : Files) (v : World) → Core s P (bytes.start s files) v →

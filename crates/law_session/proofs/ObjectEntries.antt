@@ -1,6 +1,6 @@
 -- What is found in a kept object file is what the library has.
-use Rattle.std.proofs.Common.{◌≡◌, ℕ, ◌<◌, ◌≤◌, List, length, Bool, true, false, cond, refl, sym, ap, ◌∙◌, subst, arith, Option, Some, None}
-use Rattle.std.specs.Prelude.{nat_le, nat_lt, bytes_eq}
+use Rattle.std.proofs.Common.{◌≡◌, ℕ, ◌<◌, ◌≤◌, List, length, true, false, cond, refl, sym, ap, ◌∙◌, subst, arith, Option, Some, None}
+use Rattle.std.specs.Prelude.{nat_le, nat_lt}
 use Rattle.std.proofs.lemmas.Bool.{leb-true}
 use Rattle.ob_obj.specs.declared.file.ObjFile.{ObjFile}
 use Rattle.ob_env_walk.specs.Walk.{file_limit}
@@ -15,7 +15,8 @@ use Rattle.ob_builds.specs.Builds.{Text, Build, IsValid, of, shows_of, name_of, 
 use Rattle.ob_shell_model.specs.Library.{Library, IsLibrary, IsEntry, Kept, ObjectKept}
 use Rattle.ob_builds.specs.Written.{IsWritten, BuildsAreWritten}
 use Rattle.law_builds.proofs.Compiled.{comes, short}
-use Rattle.law_builds.proofs.Faces.{of_is, same_name}
+use Rattle.law_builds.proofs.Faces.{of_is}
+use Rattle.law_lists.proofs.Lists.{bytes_same}
 
 longer : (n limit : ℕ) → limit < n → nat_lt limit n ≡ true
 longer n limit h = grind (arith, h)
@@ -44,7 +45,7 @@ entry_same written m file (Holds b) k i =
     ap (objects.entry_of m) (k ∙ ap (λ x. Some (object_bytes texts x)) o)
     ∙ ap (λ t. cond t TooLong (decoded_as m (decoded bytes))) (not_longer (length bytes) most_bytes s)
     ∙ ap (decoded_as m) (decoded_again bytes f (written b c i.1).object refl)
-    ∙ ap (λ t. cond t (Holds f) Junk) (same_name f.head.«module» m (file_named b c i.1 ∙ i.2))
+    ∙ ap (λ t. cond t (Holds f) Junk) (bytes_same f.head.«module» m (file_named b c i.1 ∙ i.2))
     ∙ ap (λ x. Holds (object_by texts x)) (sym o)
 
 pub entries_same : BuildsAreWritten → (files : Files) (l : Library) → IsLibrary l → Kept files l → (m : List ℕ) → is_identifier m ≡ true → object_entry files m ≡ entry_as file_of (l.objects m)

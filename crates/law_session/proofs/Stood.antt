@@ -16,10 +16,11 @@ use Rattle.ob_link.specs.Plan.{Entry, Missing, TooLong, Junk, Holds}
 use Rattle.ob_link.specs.Files.{Files}
 use Rattle.ob_builds.specs.Builds.{Text, Build, IsValid, shows_of, name_of, symbols_of}
 use Rattle.ob_builds.specs.Written.{IsWritten, BuildsAreWritten}
-use Rattle.law_builds.proofs.Faces.{of_is, face_back, not_beyond, within_limit, same_name, whole_symbols, short_symbols}
+use Rattle.law_builds.proofs.Faces.{of_is, face_back, not_beyond, within_limit, whole_symbols, short_symbols}
 use Rattle.ob_shell_model.specs.Files.{SymFile, IsLong, IsOf, sym_file, sym_file_of, decoded_file, stood}
 use Rattle.ob_shell_model.specs.Library.{Library, IsLibrary, IsEntry, Kept, SymbolKept}
 use Rattle.ob_shell_model.specs.Model.{stood_as}
+use Rattle.law_lists.proofs.Lists.{bytes_same}
 
 -- ---- the symbol file of a build
 
@@ -55,7 +56,7 @@ stood_build m b c v w n =
     let k : c.shows ≡ f = ap (λ (x : Compiled Text). x.shows) (sym (of_is b c v)) in
     let e : stood m (sym_file_of (Some (symbols_of b))) ≡ printed f =
     ap (stood m) (file_of_build b c v w ∙ ap (λ x. IsOf (interface_of (printed x))) k)
-    ∙ ap (λ t. cond t (face_of (interface_of (printed f))) (no_face m)) (same_name m f.«module» (sym n))
+    ∙ ap (λ t. cond t (face_of (interface_of (printed f))) (no_face m)) (bytes_same m f.«module» (sym n))
     ∙ face_back (printed f) in
     record { name = ap (λ (x : Face Print). x.«module») e; objects = ap (λ (x : Face Print). x.objects) e }
 

@@ -22,8 +22,9 @@ use Rattle.ob_builds.specs.Builds.{Build, IsValid, shows_of, name_of, symbols_of
 use Rattle.ob_shell_model.specs.Library.{Library, IsLibrary, IsEntry, Kept, SymbolKept}
 use Rattle.ob_shell_model.specs.Model.{face_entry, interface_in}
 use Rattle.ob_builds.specs.Written.{IsWritten, BuildsAreWritten}
-use Rattle.law_builds.proofs.Faces.{of_is, face_back, not_beyond, same_name, whole_symbols, short_symbols}
+use Rattle.law_builds.proofs.Faces.{of_is, face_back, not_beyond, whole_symbols, short_symbols}
 use Rattle.law_session.specs.Named.{AreIdentifiers}
+use Rattle.law_lists.proofs.Lists.{bytes_same}
 
 -- ---- entries
 
@@ -33,7 +34,7 @@ held m b c v w n =
     let is : interface_by texts c ≡ i = ap (λ (x : Compiled Text). interface_by texts x) (sym (of_is b c v)) in
     ap (λ (t : Bool). cond t (named_face m (whole face_form (symbols_of b))) walk.Junk) (short_symbols b c v)
     ∙ ap (named_face m) (whole_symbols b c v w ∙ ap (λ (j : Interface). Some j) is)
-    ∙ ap (λ (t : Bool). cond t (walk.Holds (face_of i)) walk.Junk) (same_name m (name_of b) (sym n))
+    ∙ ap (λ (t : Bool). cond t (walk.Holds (face_of i)) walk.Junk) (bytes_same m (name_of b) (sym n))
     ∙ ap (λ (f : Face Print). walk.Holds f) (face_back (printed (shows_of b)))
 
 kept : BuildsAreWritten → (m : List ℕ) (file : Option (List ℕ)) (e : Entry Build) → SymbolKept m file e → IsEntry m e → entry_from m file ≡ entry_printed (face_entry e)

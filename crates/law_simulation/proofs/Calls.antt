@@ -27,7 +27,6 @@ use Rattle.law_simulation_relation.specs.Relation.{number_of, call_start, Grows}
 use Rattle.law_simulation_relation.specs.Ends.{end_stmts}
 use Rattle.law_simulation_relation.proofs.Steps.{Reach, here, Follows, follows_bind, follows_after, follows_value, follows_stop, stands_any}
 use Rattle.law_simulation_relation.proofs.Statements.{Activation, K, FlowTo, FlowFine, ResultFits, ResultFine, result_words, result_slots, ArgumentsFit, CallsFollow, go, fb}
-use Rattle.law_simulation_relation.proofs.Names.{and_both}
 use Rattle.law_simulation_relation.proofs.Moves.{has_it, traps}
 use Rattle.law_simulation_relation.proofs.Actuals.{slots_fit}
 use Rattle.law_simulation_relation.proofs.Rooms.{copied_words, called_by, is_call, new_call, enter_stands, leave_stands}
@@ -37,6 +36,7 @@ use Rattle.law_simulation_relation.specs.Linked.{LastCode, ProcedureStands, has_
 use Rattle.law_simulation_relation.specs.Setting.{Kept, Setting, StandIn, stopped, has_of}
 use Rattle.law_simulation.specs.Simulates.{ImageStands}
 use Rattle.law_simulation.specs.Slice.{AllIn}
+use Rattle.law_lists.proofs.Lists.{and_parts}
 
 module _ (c : Setting) (given : ImageStands c) (all : AllIn c) where
   -- the new call as an activation
@@ -212,7 +212,7 @@ module _ (c : Setting) (given : ImageStands c) (all : AllIn c) where
             room : (z : Bool) → has_room (called_by c q p s.store xs ∷ s.calls) ≡ z → Follows c (Go m pn fb0 acts pc ops w) (back_to m pn fb0 pc acts rest) (back_kept p.result cs b os) (if_room (has_room (called_by c q p s.store xs ∷ s.calls)) unit at (λ s3. bind (execs p.body (around c.program c.heap n (calling c.program c.heap n) q.module) (begun c.program q p xs s3)) (λ f. result_of_flow f p q)) s2)
             room true f =
                 let same = room_same q p ps s2 w2 xs ws acts less fit2 len depth2 ∙ f in
-                let both = and_both (nat_le (cost_of_calls (called_by c q p s.store xs ∷ s.calls)) 1048576) (nat_le (length (called_by c q p s.store xs ∷ s.calls)) 4096) f in
+                let both = and_parts (nat_le (cost_of_calls (called_by c q p s.store xs ∷ s.calls)) 1048576) (nat_le (length (called_by c q p s.store xs ∷ s.calls)) 4096) f in
                 let few : cost_of_calls (called_by c q p s.store xs ∷ s.calls) ≤ 1048576 = let g = both.0 in grind (arith, nat_tests) in
                 subst (λ z. Follows c (Go m pn fb0 acts pc ops w) (back_to m pn fb0 pc acts rest) (back_kept p.result cs b os) (if_room z unit at (λ s3. bind (execs p.body (around c.program c.heap n (calling c.program c.heap n) q.module) (begun c.program q p xs s3)) (λ f. result_of_flow f p q)) s2)) (sym f)
                 (follows_after c (machine.enters c.img m pn fb0 acts u inside r ps.entry ws (copies p s xs) rest w2 has enters same)

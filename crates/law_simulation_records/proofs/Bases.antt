@@ -12,9 +12,10 @@ use Rattle.ob_instr.specs.Rows.{tag, tag_passes}
 use Rattle.ob_meaning.specs.Values.{same_name, RecordForm, Fields, fields_of, line_of, record_in, is_among}
 use Rattle.ob_meaning.specs.Meaning.{is_extension}
 use Rattle.law_simulation_relation.specs.Layout.{type_number}
-use Rattle.law_simulation_relation.proofs.Names.{nat_same, and_both, bytes_true, name_true, name_same}
+use Rattle.law_simulation_relation.proofs.Names.{nat_same, bytes_true, name_true, name_same}
 use Rattle.law_simulation_relation.specs.Setting.{Setting}
 use Rattle.law_simulation_records.specs.Bases.{LineStands, BasesStand}
+use Rattle.law_lists.proofs.Lists.{and_parts}
 
 abbrev or_else : {A : Type 0} → A → Option A → A
 or_else x None = x
@@ -34,7 +35,7 @@ named (x ∷ types) q d e = go (bytes_eq q.module x.module && bytes_eq q.object 
   where
     go : (b : Bool) → (bytes_eq q.module x.module && bytes_eq q.object x.name) ≡ b → slice_get (x ∷ types) (if b then 0 else suc (type_number types q)) ≡ Some d → (slice_get types (type_number types q) ≡ Some d → Named q d) → Named q d
     go true h f rest =
-        let k = and_both (bytes_eq q.module x.module) (bytes_eq q.object x.name) h in
+        let k = and_parts (bytes_eq q.module x.module) (bytes_eq q.object x.name) h in
         let same = some_same x d f in
         record { of_module = bytes_true q.module x.module k.0 ∙ ap (λ (y : Descriptor). y.module) same; of_type = bytes_true q.object x.name k.1 ∙ ap (λ (y : Descriptor). y.name) same }
     go false h f rest = rest f

@@ -2,7 +2,7 @@
 use Rattle.std.proofs.Math.Seq.{take-append_seam, drop-append_seam}
 use Rattle.std.proofs.lemmas.Bool.Decides.{nat_tests}
 use Rattle.std.proofs.Common.{◌≡◌, ℕ, zero, suc, ◌+◌, ◌-◌, List, [], ◌∷◌, ◌++◌, length, take, drop, Some, None, refl, sym, ap, ◌∙◌, subst, arith, append_assoc, append-nil, length-append}
-use Rattle.std.specs.Prelude.{ℤ, pos, Bool, true, false, ◌&&◌, ◌||◌, nat_le, bytes_eq, if◌then◌else◌}
+use Rattle.std.specs.Prelude.{ℤ, pos, true, ◌&&◌, ◌||◌, nat_le, bytes_eq, if◌then◌else◌}
 use Rattle.ob_tree.specs.declared.names.QName.{QName}
 use Rattle.ob_mem.specs.Words.{copied, with_words, words_at}
 use Rattle.ob_instr.specs.Image.{World}
@@ -15,6 +15,7 @@ use Rattle.law_simulation_relation.proofs.Parts.{F, Fs, W, Ws, fields-length}
 use Rattle.law_simulation_relation.proofs.Located.{located}
 use Rattle.law_simulation_relation.proofs.Copies.{put_seam}
 use Rattle.law_simulation_relation.specs.Setting.{Setting, StandIn, has_of}
+use Rattle.law_lists.proofs.Lists.{or_second}
 
 -- WORDS COPIED
 
@@ -45,13 +46,9 @@ abbrev Among : Fields → Fields → Type 0
 Among NoField fs = Unit {0}
 Among (AField owner name t gs) fs = (has_field fs owner name ≡ true) × Among gs fs
 
-or_right : (x y : Bool) → y ≡ true → (x || y) ≡ true
-or_right true y e = refl
-or_right false y e = e
-
 among_more : (gs : Fields) (owner : QName) (name : List ℕ) (t : Form) (fs : Fields) → Among gs fs → Among gs (AField owner name t fs)
 among_more NoField owner name t fs h = tt
-among_more (AField o x u gs) owner name t fs h = (or_right (bytes_eq x name && same_name o owner) (has_field fs o x) h.0, among_more gs owner name t fs h.1)
+among_more (AField o x u gs) owner name t fs h = (or_second (bytes_eq x name && same_name o owner) (has_field fs o x) h.0, among_more gs owner name t fs h.1)
 
 among_all : (fs : Fields) → Among fs fs
 among_all NoField = tt

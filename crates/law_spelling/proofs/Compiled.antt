@@ -42,7 +42,6 @@ use Rattle.law_spelling.specs.Raw.{IsNamedTree}
 use Rattle.law_spelling.specs.Ruled.{TypeNames, TypeOk, ShownOk, IsValue, ConstantOk, ProcedureTypes}
 use Rattle.law_spelling.specs.Laws.{Text, IsSpelled, compiled_from, IsBuilt, IsWritten}
 use Rattle.law_spelling.specs.Seen.{AreNamedEntries, LengthFits, ValueFits, IsSeen, CompiledAreWritten}
-use Rattle.law_spelling.proofs.Lists.{all_map}
 use Rattle.law_spelling.proofs.Names.{described_fits, is_named_of, is_object_of}
 use Rattle.law_spelling.proofs.Limits.{within as limits_of}
 use Rattle.law_spelling.proofs.File.{modules_written}
@@ -51,12 +50,9 @@ use Rattle.law_spelling.proofs.Reading.{readings_named}
 use Rattle.law_spelling.proofs.RuleBlocks.{modules_are_named}
 use Rattle.law_spelling.proofs.Walked.{LeavesApart, walk_apart}
 use Rattle.law_spelling.proofs.Imports.{nothing_both, imports_are}
+use Rattle.law_lists.proofs.Lists.{all_from, all_made}
 
 -- ---- the spelled tree
-
-all_before : {A B : Type 0} (f : A → B) (P : B → Type 0) (xs : List A) → AllByRecursion P (map f xs) → AllByRecursion (λ x. P (f x)) xs
-all_before f P [] h = tt
-all_before f P (x ∷ xs) h = (h.0, all_before f P xs h.1)
 
 names_laid : (types : QName → Option Desc) (m : Module) (ts : List TypedType) → map (λ t. t.name) (map (laid_type types m) ts) ≡ map (λ t. t.name) ts
 names_laid types m [] = refl
@@ -179,7 +175,7 @@ is_built faces tree m a is limits spelled seen =
         constants = constants_spelled m.constants g.constants seen.constants;
         variables = g.variables;
         procedures = procedures_spelled m.procedures g.procedures seen.procedures;
-        types = types_spelled m.types g.types (all_before f (λ t. length t.name < 2 ^ 16) m.types seen.short) (all_map (λ t. LengthFits (f t).desc) (λ t. LengthFits t.desc) (desc_length (described faces) raw) m.types (all_before f (λ t. LengthFits t.desc) m.types seen.lengths));
+        types = types_spelled m.types g.types (all_made f (λ t. length t.name < 2 ^ 16) m.types seen.short) (all_from (λ t. LengthFits (f t).desc) (λ t. LengthFits t.desc) (desc_length (described faces) raw) m.types (all_made f (λ t. LengthFits t.desc) m.types seen.lengths));
         differ = subst (IsDistinct bytes_eq) (names_laid (described faces) raw m.types) seen.differ;
       };
       code = record {

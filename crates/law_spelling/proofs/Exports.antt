@@ -17,7 +17,7 @@ use Rattle.ob_sym.specs.Grammar as sym
 use Rattle.ob_obj.specs.declared.parts.Export.{Export}
 use Rattle.ob_obj.specs.Grammar.{by_name, export, by_export, repeats, names_in}
 use Rattle.ob_compile_model.specs.Compiling.{layout_export, object_exports}
-use Rattle.law_spelling.proofs.Lists.{all_joined}
+use Rattle.law_lists.proofs.Lists.{all_both}
 
 pub record ObjectIsPrinted (o : Object) : Type 0 where
   pub name : object_name.fits o.name
@@ -44,7 +44,7 @@ one_fits o h = ((h.name, (tt, h.shape)), go o.layout h.layout)
 
 pub exports_fit : (os : List Object) → AllByRecursion ObjectIsPrinted os → AllByRecursion export.fits (flat_map object_exports os)
 exports_fit [] h = tt
-exports_fit (o ∷ os) h = all_joined export.fits (object_exports o) (flat_map object_exports os) (one_fits o h.0) (exports_fit os h.1)
+exports_fit (o ∷ os) h = all_both export.fits (object_exports o) (flat_map object_exports os) (one_fits o h.0) (exports_fit os h.1)
 
 -- ---- in their order
 
@@ -61,7 +61,7 @@ before_one e o l = (before e (record { name = o.name; aspect = aspect.Shape; pri
 
 before_all : (e : Export) (os : List Object) → AllByRecursion (λ o. by_name e.name o.name ≡ Less) os → AllByRecursion (λ f. by_export e f ≡ Less) (flat_map object_exports os)
 before_all e [] h = tt
-before_all e (o ∷ os) h = all_joined (λ f. by_export e f ≡ Less) (object_exports o) (flat_map object_exports os) (before_one e o h.0) (before_all e os h.1)
+before_all e (o ∷ os) h = all_both (λ f. by_export e f ≡ Less) (object_exports o) (flat_map object_exports os) (before_one e o h.0) (before_all e os h.1)
 
 shape_before : (x : List ℕ) (p q : Print) → by_export (record { name = x; aspect = aspect.Shape; print = p }) (record { name = x; aspect = aspect.Layout; print = q }) ≡ Less
 shape_before x p q = ap (λ o. ordering_then o (nat_cmp 0 1)) (equal_itself x)

@@ -36,7 +36,7 @@ use Rattle.law_spelling.specs.Trees.{TypedTypeIsSpelled, IsLaid}
 use Rattle.law_spelling.specs.Coded.{BodyIsCoded}
 use Rattle.law_spelling.specs.Lines.{LinesFit, HasRoom}
 use Rattle.law_spelling.specs.Laws.{Text, IsSpelled, compiled_from, IsBuilt, ModulesAreWritten}
-use Rattle.law_spelling.proofs.Lists.{all_map, both_all, each_strict}
+use Rattle.law_spelling.proofs.Lists.{each_strict}
 use Rattle.law_spelling.proofs.Names.{is_object_of, face_found}
 use Rattle.law_spelling.proofs.Limits.{IsWithin, within as limits_of}
 use Rattle.law_spelling.proofs.Uses.{print_long, uses_fit, many_uses}
@@ -44,13 +44,14 @@ use Rattle.law_spelling.proofs.Laid.{types_spelled}
 use Rattle.law_spelling.proofs.Sizes.{named_has, types_laid}
 use Rattle.law_spelling.proofs.Fit.{have_few}
 use Rattle.law_spelling.proofs.Objects.{ObjectFits, objects_fit, objects_rise}
-use Rattle.law_spelling.proofs.Interface.{length_map, head_fits, holds_uses, interfaces_written}
+use Rattle.law_spelling.proofs.Interface.{head_fits, holds_uses, interfaces_written}
 use Rattle.law_spelling.proofs.Rooms.{DescIsSmall, texts_small, laid_small, MapIsSmall, sum_ones, rooms}
 use Rattle.law_spelling.proofs.ModuleCode.{AreReady, all_lines, rows_fit, entries_inside, rows_many}
 use Rattle.law_spelling.proofs.Numbered.{IsFew, instrs_fit, instrs_many, positions_fit, positions_many, are_there, AreNamed, lines_named, strings_fit, few_strings, links_fit, types_fit, lines_next, HasUpTo, lines_up_to}
 use Rattle.law_spelling.proofs.Bytes.{types_long, many_variables, holds_types, holds_variables}
 use Rattle.law_spelling.proofs.Exports.{ObjectIsPrinted, exports_fit, exports_rise, names_few, exports_many}
 use Rattle.law_spelling.proofs.Parts.{bases_there, bases_named, bases_few, records_fit, records_many, records_have, records_apart, all_stand, all_inside, commands_fit, commands_procedures, variables_fit}
+use Rattle.law_lists.proofs.Lists.{all_from, all_pairs, length_each}
 
 -- ---- descriptions
 
@@ -82,7 +83,7 @@ viewed_small : (fs : List (Face Text)) → AllByRecursion IsSpelled fs → (m : 
 viewed_small fs h m spelled laid q d e = go (is_own m q) e
   where
     small : AllByRecursion (λ t. DescIsSmall t.desc) m.types
-    small = all_map (λ t. TypedTypeIsSpelled t × IsLaid t.desc) (λ t. DescIsSmall t.desc) (λ t k. laid_small t.desc k.0.1 k.1) m.types (both_all TypedTypeIsSpelled (λ t. IsLaid t.desc) m.types spelled laid)
+    small = all_from (λ t. TypedTypeIsSpelled t × IsLaid t.desc) (λ t. DescIsSmall t.desc) (λ t k. laid_small t.desc k.0.1 k.1) m.types (all_pairs TypedTypeIsSpelled (λ t. IsLaid t.desc) m.types spelled laid)
 
     go : (b : Bool) → cond b (type_named m.types q.object) (described fs q) ≡ Some d → DescIsSmall d
     go true i = named_has DescIsSmall m.types small q.object d i
@@ -226,7 +227,7 @@ module _ (faces : List (Face Text)) (raw : Module) (b : IsBuilt faces raw) where
       let h = head_fits m.name m.imports b.tree.name b.tree.imports in
       let sorted = each_strict by_object_name sym.by_name (object_of m.name) (λ x y. refl) os (objects_rise m) in
       let count = w.objects in
-      let same = length_map (object_of m.name) os in
+      let same = length_each (object_of m.name) os in
       let many = exports_many i.objects in
       let names = names_few i.objects in (
         (
@@ -239,7 +240,7 @@ module _ (faces : List (Face Text)) (raw : Module) (b : IsBuilt faces raw) where
             ),
           ),
         ),
-        record { imports = all_map (λ n. (n ≢ codes "Out") × (n ≢ codes "SYSTEM")) (λ n. IsTrue (is_import n)) allowed m.imports b.tree.imports.others; names = omega (arith, names, count, same) },
+        record { imports = all_from (λ n. (n ≢ codes "Out") × (n ≢ codes "SYSTEM")) (λ n. IsTrue (is_import n)) allowed m.imports b.tree.imports.others; names = omega (arith, names, count, same) },
       )
 
   globals_written : globals.fits obj.globals
@@ -317,10 +318,10 @@ module _ (faces : List (Face Text)) (raw : Module) (b : IsBuilt faces raw) where
         few_procedures = omega (arith, rows, p);
         few_instructions = w.code;
         bases = all_stand types m (type_links types m) 0 m.types (bases_there types m (all_named types m).types m.types) b.code.bases;
-        definitions = all_map (λ t. has_procedures (suc (length m.procedures)) t ≡ true) (λ t. IsTrue (has_procedures (length obj.body.procedures) t)) (λ t e. let same : suc (length m.procedures) ≡ length obj.body.procedures = omega (arith, rows) in subst (λ n. has_procedures n t ≡ true) same e) obj.body.types (all_inside types m (type_links types m) m.types);
+        definitions = all_from (λ t. has_procedures (suc (length m.procedures)) t ≡ true) (λ t. IsTrue (has_procedures (length obj.body.procedures) t)) (λ t e. let same : suc (length m.procedures) ≡ length obj.body.procedures = omega (arith, rows) in subst (λ n. has_procedures n t ≡ true) same e) obj.body.types (all_inside types m (type_links types m) m.types);
         main = refl;
         entries = entries_inside types m (all_procedures m) 0 (length obj.body.code) (omega (arith, code));
-        commands = all_map (λ c. c.procedure < suc (length m.procedures)) (λ c. c.procedure < length obj.body.procedures) (λ c l. omega (arith, l, rows)) obj.body.commands (commands_procedures types m b.tree.procedures);
+        commands = all_from (λ c. c.procedure < suc (length m.procedures)) (λ c. c.procedure < length obj.body.procedures) (λ c l. omega (arith, l, rows)) obj.body.commands (commands_procedures types m b.tree.procedures);
         positions = are_there (nothing_named (own_words types m)) 0 (module_code types m) lines;
       }
 

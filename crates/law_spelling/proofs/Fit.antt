@@ -14,7 +14,7 @@ use Rattle.ob_env.specs.Faces.{Face, object_named, face_named, described}
 use Rattle.ob_env.specs.Fit.{fits, steps_of, misfit, unless, first_unfit, names_types, stands, has_bases, keeps_places, has_few_words, has_few_procedures}
 use Rattle.law_spelling.specs.Laws.{Text}
 use Rattle.law_spelling.proofs.Sizes.{HaveFew}
-use Rattle.law_spelling.proofs.Names.{same_name}
+use Rattle.law_lists.proofs.Lists.{same_bytes}
 
 none_both : {B : Type 0} (a b : Option B) → or_else a b ≡ None → (a ≡ None) × (b ≡ None)
 none_both None b e = (refl, e)
@@ -41,7 +41,7 @@ module _ (types : QName → Option Desc) (steps : ℕ) where
       go true f i rest =
           let same : o.1 ≡ d = cc in
           let q : QName = record { «module» = m; object = o.0 } in
-          subst (λ (y : List ℕ). IsFit (record { «module» = m; object = y }) d) (sym (same_name x o.0 f)) (subst (λ (z : Desc). IsFit (record { «module» = m; object = o.0 }) z) same (is_fit (fits types steps q o.1) q h.0))
+          subst (λ (y : List ℕ). IsFit (record { «module» = m; object = y }) d) (sym (same_bytes x o.0 f)) (subst (λ (z : Desc). IsFit (record { «module» = m; object = o.0 }) z) same (is_fit (fits types steps q o.1) q h.0))
       go false f i rest = rest i
 
   face_of_name : (fs : List (Face Text)) → AllByRecursion (λ f. first_among (misfit types steps f.«module») f.objects ≡ None) fs → (m x : List ℕ) (d : Desc) → (face_named fs m >>= λ f. object_named f.objects x) ≡ Some d → IsFit (record { «module» = m; object = x }) d
@@ -49,7 +49,7 @@ module _ (types : QName → Option Desc) (steps : ℕ) where
   face_of_name (f ∷ fs) h m x d e = go (bytes_eq m f.«module») refl e (face_of_name fs h.1 m x d)
     where
       go : (b : Bool) → bytes_eq m f.«module» ≡ b → (cond b (Some f) (face_named fs m) >>= λ f. object_named f.objects x) ≡ Some d → ((face_named fs m >>= λ f. object_named f.objects x) ≡ Some d → IsFit (record { «module» = m; object = x }) d) → IsFit (record { «module» = m; object = x }) d
-      go true i e rest = subst (λ (y : List ℕ). IsFit (record { «module» = y; object = x }) d) (sym (same_name m f.«module» i)) (object_of_name f.«module» f.objects (none_among (misfit types steps f.«module») f.objects h.0) x d e)
+      go true i e rest = subst (λ (y : List ℕ). IsFit (record { «module» = y; object = x }) d) (sym (same_bytes m f.«module» i)) (object_of_name f.«module» f.objects (none_among (misfit types steps f.«module») f.objects h.0) x d e)
       go false i e rest = rest e
 
 -- what is described keeps the conditions

@@ -15,10 +15,7 @@ use Rattle.ob_rules.specs.Names.{Around, is_out, is_among}
 use Rattle.ob_rules.specs.Declarations.{twice, in_order, is_system, import_declared, target_of, import_if, imported}
 use Rattle.ob_compile_model.specs.Compiling.{imported as imported_name}
 use Rattle.law_spelling.specs.Trees.{IsNamed, AreImports}
-
-neither : (a b : Bool) → (a || b) ≡ false → (a ≡ false) × (b ≡ false)
-neither true b e = absurd cc
-neither false b e = (refl, e)
+use Rattle.law_lists.proofs.Lists.{or_parts}
 
 -- ---- names
 
@@ -61,15 +58,15 @@ apart_from : (before : List (List ℕ)) (is : List Import) → AllByRecursion (�
 apart_from before [] = tt
 apart_from before (i ∷ is) =
     let x = (target_of i).name in
-    if_all (λ x. is_among x before ≡ false) (is_out x || is_among x before) x (imported (x ∷ before) is) (λ e. (neither (is_out x) (is_among x before) e).1) (fewer_before (imported (x ∷ before) is) x (apart_from (x ∷ before) is))
+    if_all (λ x. is_among x before ≡ false) (is_out x || is_among x before) x (imported (x ∷ before) is) (λ e. (or_parts (is_out x) (is_among x before) e).1) (fewer_before (imported (x ∷ before) is) x (apart_from (x ∷ before) is))
   where
     fewer_before : (ys : List (List ℕ)) (x : List ℕ) → AllByRecursion (λ y. is_among y (x ∷ before) ≡ false) ys → AllByRecursion (λ y. is_among y before ≡ false) ys
     fewer_before [] x h = tt
-    fewer_before (y ∷ ys) x h = ((neither (bytes_eq x y) (is_among y before) h.0).1, fewer_before ys x h.1)
+    fewer_before (y ∷ ys) x h = ((or_parts (bytes_eq x y) (is_among y before) h.0).1, fewer_before ys x h.1)
 
 first_apart : (x : List ℕ) (before ys : List (List ℕ)) → AllByRecursion (λ y. is_among y (x ∷ before) ≡ false) ys → AllByRecursion (λ y. is_eq (slice_cmp nat_cmp x y) ≡ false) ys
 first_apart x before [] h = tt
-first_apart x before (y ∷ ys) h = (is_eq-slice_cmp x y ∙ (neither (bytes_eq x y) (is_among y before) h.0).0, first_apart x before ys h.1)
+first_apart x before (y ∷ ys) h = (is_eq-slice_cmp x y ∙ (or_parts (bytes_eq x y) (is_among y before) h.0).0, first_apart x before ys h.1)
 
 once_of : (before : List (List ℕ)) (is : List Import) → IsDistinct (λ a b. is_eq (slice_cmp nat_cmp a b)) (imported before is)
 unfolding IsDistinct
@@ -104,7 +101,7 @@ allowed_of : (before : List (List ℕ)) (is : List Import) → AllByRecursion (�
 allowed_of before [] h = tt
 allowed_of before (i ∷ is) h =
     let x = (target_of i).name in
-    if_all (λ m. (m ≢ codes "Out") × (m ≢ codes "SYSTEM")) (is_out x || is_among x before) x (imported (x ∷ before) is) (λ e. (not_same x (codes "Out") (neither (is_out x) (is_among x before) e).0, not_same x (codes "SYSTEM") h.0)) (allowed_of (x ∷ before) is h.1)
+    if_all (λ m. (m ≢ codes "Out") × (m ≢ codes "SYSTEM")) (is_out x || is_among x before) x (imported (x ∷ before) is) (λ e. (not_same x (codes "Out") (or_parts (is_out x) (is_among x before) e).0, not_same x (codes "SYSTEM") h.0)) (allowed_of (x ∷ before) is h.1)
 
 -- THE IMPORTS, where the text has few, named by identifiers, and none breaks a rule
 pub imports_are : (is : List Import) (u : Around) → length is ≤ 64 → AllByRecursion (λ i. IsNamed (imported_name i)) is → (in_order (map (λ i. import_declared i (target_of i)) is) u).part.notes.broken ≡ [] → AreImports (imported [] is)

@@ -1,5 +1,5 @@
 -- The interface of a module has a spelling.
-use Rattle.std.proofs.Common.{◌≡◌, ℕ, ◌+◌, ◌<◌, ◌≤◌, ◌^◌, List, [], ◌∷◌, ◌++◌, length, map, Option, Some, None, refl, sym, arith, length-append}
+use Rattle.std.proofs.Common.{ℕ, ◌+◌, ◌<◌, ◌≤◌, ◌^◌, List, [], ◌∷◌, ◌++◌, length, map, Option, Some, None, refl, sym, arith, length-append}
 use Rattle.std.specs.List.{AllByRecursion, flat_map}
 use Rattle.std.specs.Int.{w32, to_be_bytes}
 use Rattle.ob_tree.specs.declared.names.QName.{QName}
@@ -21,7 +21,7 @@ use Rattle.ob_uses.specs.Objects.{by_name, objects_of}
 use Rattle.ob_compile_model.specs.Compiling.{texts, interface_by}
 use Rattle.law_spelling.specs.Trees.{IsNamed, AreImports}
 use Rattle.law_spelling.specs.Laws.{compiled_from, InterfacesAreWritten}
-use Rattle.law_spelling.proofs.Lists.{all_map, each_strict, flat_long}
+use Rattle.law_spelling.proofs.Lists.{each_strict, flat_long}
 use Rattle.law_spelling.proofs.Names.{name_fits}
 use Rattle.law_spelling.proofs.Limits.{within}
 use Rattle.law_spelling.proofs.Uses.{uses_fit, many_uses}
@@ -29,6 +29,7 @@ use Rattle.law_spelling.proofs.Laid.{types_spelled}
 use Rattle.law_spelling.proofs.Sizes.{types_laid}
 use Rattle.law_spelling.proofs.Fit.{have_few}
 use Rattle.law_spelling.proofs.Objects.{ObjectFits, objects_fit, objects_rise}
+use Rattle.law_lists.proofs.Lists.{all_from, length_each}
 
 -- ---- how long texts are
 
@@ -119,13 +120,9 @@ module _ (m : List ℕ) (i : List (List ℕ)) (os : List Object) (us : List Use)
 
 -- ---- the whole
 
-pub length_map : {A B : Type 0} (f : A → B) (xs : List A) → length (map f xs) ≡ length xs
-length_map f [] = refl
-length_map f (x ∷ xs) = let e = length_map f xs in omega (arith, e)
-
 pub head_fits : (m : List ℕ) (is : List (List ℕ)) → IsNamed m → AreImports is → head.fits (m, is)
 unfolding head list_of
-head_fits m is n h = let l = h.few in (name_fits m n, ((omega (arith, l), all_map IsNamed name.fits name_fits is h.names), (h.few, h.once)))
+head_fits m is n h = let l = h.few in (name_fits m n, ((omega (arith, l), all_from IsNamed name.fits name_fits is h.names), (h.few, h.once)))
 
 pub interfaces_written : InterfacesAreWritten
 unfolding face body list_of
@@ -143,7 +140,7 @@ interfaces_written faces raw b =
     let many = many_uses i.uses in
     let short : AllByRecursion (λ o. length ((object_in m.name).spell o) ≤ 16777216) i.objects = flat_long (object_in m.name).spell 16777216 i.objects (omega (arith, symbols, a)) in
     let count = w.objects in
-    let same = length_map (object_of m.name) os in
+    let same = length_each (object_of m.name) os in
     let objects = all_objects m.name 16777216 (omega arith) os fit short in
     let sorted = each_strict by_name sym.by_name (object_of m.name) (λ x y. refl) os (objects_rise m) in
     let few_uses : length i.uses < 2 ^ 32 = omega (arith, symbols, d, many) in (

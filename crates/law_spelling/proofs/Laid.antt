@@ -18,7 +18,7 @@ use Rattle.ob_desc.specs.Grammar.{by_place, by_number}
 use Rattle.ob_layout.specs.Words.{most_words}
 use Rattle.ob_layout.specs.LaidOut.{base_of, kept, placed, numbered, laid_desc, laid_type}
 use Rattle.law_spelling.specs.Trees.{FieldIsSpelled, MethodIsSpelled, TypeIsSpelled, TypedTypeIsSpelled, IsSmall}
-use Rattle.law_spelling.proofs.Lists.{all_map}
+use Rattle.law_lists.proofs.Lists.{all_from}
 
 pub places_total : IsTotalOrder by_place
 places_total = then_total (on_total (λ f. f.place) nat_cmp_total) (on_total (λ f. f.name) nat_list_cmp_total)
@@ -66,11 +66,11 @@ few_small n h = omega (arith, h)
 
 pub numbers_below : (n : ℕ) (ps : List Method) → AllByRecursion (λ p. p.number < n + length ps) (numbered n ps)
 numbers_below n [] = tt
-numbers_below n (p ∷ ps) = (omega arith, all_map (λ q. q.number < suc n + length ps) (λ q. q.number < n + suc (length ps)) (λ q l. omega (arith, l)) (numbered (suc n) ps) (numbers_below (suc n) ps))
+numbers_below n (p ∷ ps) = (omega arith, all_from (λ q. q.number < suc n + length ps) (λ q. q.number < n + suc (length ps)) (λ q l. omega (arith, l)) (numbered (suc n) ps) (numbers_below (suc n) ps))
 
 numbers_from : (n : ℕ) (ps : List Method) → AllByRecursion (λ p. n ≤ p.number) (numbered n ps)
 numbers_from n [] = tt
-numbers_from n (p ∷ ps) = (omega arith, all_map (λ q. suc n ≤ q.number) (λ q. n ≤ q.number) (λ q l. omega (arith, l)) (numbered (suc n) ps) (numbers_from (suc n) ps))
+numbers_from n (p ∷ ps) = (omega arith, all_from (λ q. suc n ≤ q.number) (λ q. n ≤ q.number) (λ q l. omega (arith, l)) (numbered (suc n) ps) (numbers_from (suc n) ps))
 
 is_less : (a b : ℕ) → a < b → nat_cmp a b ≡ Less
 is_less a b l = grind (arith, l)
@@ -78,4 +78,4 @@ is_less a b l = grind (arith, l)
 pub numbers_rise : (n : ℕ) (ps : List Method) → IsStrictlySortedBy by_number (numbered n ps)
 unfolding IsStrictlySortedBy
 numbers_rise n [] = tt
-numbers_rise n (p ∷ ps) = (all_map (λ q. suc n ≤ q.number) (λ q. nat_cmp n q.number ≡ Less) (λ q l. is_less n q.number (omega (arith, l))) (numbered (suc n) ps) (numbers_from (suc n) ps), numbers_rise (suc n) ps)
+numbers_rise n (p ∷ ps) = (all_from (λ q. suc n ≤ q.number) (λ q. nat_cmp n q.number ≡ Less) (λ q l. is_less n q.number (omega (arith, l))) (numbered (suc n) ps) (numbers_from (suc n) ps), numbers_rise (suc n) ps)

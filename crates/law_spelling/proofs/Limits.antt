@@ -16,6 +16,7 @@ use Rattle.ob_scheme.specs.Needs.{has_few_operands}
 use Rattle.ob_env_walk.specs.Walk.{file_limit}
 use Rattle.ob_compile_model.specs.Compiling.{Compiled, texts, or_first, exceeded, most_code, limit_of_files, limit_of_code, limit_of_operands, exceeds, object_by, object_bytes, symbol_bytes}
 use Rattle.law_spelling.specs.Laws.{Text}
+use Rattle.law_lists.proofs.Lists.{or_parts}
 
 abbrev pub types_of : Compiled Text → QName → Option Desc
 types_of c = viewed (described c.against) c.tree
@@ -48,14 +49,10 @@ not_above limit n e = go (nat_le n limit) refl e
     go true i e = leb-true n limit i
     go false i e = absurd cc
 
-neither : (a b : Bool) → (a || b) ≡ false → (a ≡ false) × (b ≡ false)
-neither true b e = absurd cc
-neither false b e = (refl, e)
-
 none_above : {A : Type 0} (f : A → ℕ) (limit : ℕ) (xs : List A) → list_any (λ x. above limit (f x)) xs ≡ false → AllByRecursion (λ x. f x ≤ limit) xs
 none_above f limit [] e = tt
 none_above f limit (x ∷ xs) e =
-    let p = neither (above limit (f x)) (list_any (λ x. above limit (f x)) xs) e in
+    let p = or_parts (above limit (f x)) (list_any (λ x. above limit (f x)) xs) e in
     (not_above limit (f x) p.0, none_above f limit xs p.1)
 
 first_none : (w : Which) (b : Bool) (xs : List (Which × Bool)) → first_of ((w, b) ∷ xs) ≡ None → (b ≡ false) × (first_of xs ≡ None)
@@ -79,8 +76,8 @@ within c e =
     let d = first_none which.Frame (list_any (λ p. above most_words (frame_words (words_of types) p)) m.procedures || above most_words (hidden_of_all m.body)) l3 b.1 in
     let f = first_none which.Globals (above 262144 (globals_words types m)) l4 d.1 in
     let g = first_none which.Procedures (above 4096 (suc (length m.procedures)) || list_any (λ t. above most_words (bound_procedures t.desc)) m.types) [] f.1 in
-    let frame = neither (list_any (λ p. above most_words (frame_words (words_of (types_of c)) p)) c.tree.procedures) (above most_words (hidden_of_all c.tree.body)) d.0 in
-    let many = neither (above 4096 (suc (length c.tree.procedures))) (list_any (λ t. above most_words (bound_procedures t.desc)) c.tree.types) g.0 in
+    let frame = or_parts (list_any (λ p. above most_words (frame_words (words_of (types_of c)) p)) c.tree.procedures) (above most_words (hidden_of_all c.tree.body)) d.0 in
+    let many = or_parts (above 4096 (suc (length c.tree.procedures))) (list_any (λ t. above most_words (bound_procedures t.desc)) c.tree.types) g.0 in
     record {
       objects = not_above 4096 (length c.shows.objects) a.0;
       words = none_above (λ t. described_words (words_of (types_of c)) (Some t.desc)) most_words c.tree.types b.0;

@@ -1,5 +1,5 @@
 -- All of a list, lists in their order, and how long what is spelled is.
-use Rattle.std.proofs.Common.{◌≡◌, ℕ, ◌+◌, ◌≤◌, Bool, true, false, List, [], ◌∷◌, ◌++◌, length, map, refl, ap, ◌∙◌, arith, length-append}
+use Rattle.std.proofs.Common.{◌≡◌, ℕ, ◌≤◌, Bool, true, false, List, [], ◌∷◌, length, map, refl, ap, ◌∙◌, arith, length-append}
 use Rattle.std.specs.Prelude.{cond}
 use Rattle.std.specs.List.{AllByRecursion, filter, flat_map}
 use Rattle.std.specs.List.Sorted.{IsStrictlySortedBy}
@@ -8,26 +8,11 @@ use Rattle.std.specs.Ordering.{ordering_reverse}
 use Rattle.std.specs.declared.cmp.Ordering.{Ordering}
 use Rattle.std.specs.declared.cmp.Ordering.TheVariants.{Less, Equal, Greater}
 use Rattle.ob_layout.specs.Lists.{put_before, put_in, in_order}
-
-pub all_map : {A : Type 0} (P Q : A → Type 0) → ((x : A) → P x → Q x) → (xs : List A) → AllByRecursion P xs → AllByRecursion Q xs
-all_map P Q f [] h = tt
-all_map P Q f (x ∷ xs) h = (f x h.0, all_map P Q f xs h.1)
-
-pub all_each : {A B : Type 0} (f : A → B) (P : B → Type 0) (xs : List A) → AllByRecursion (λ x. P (f x)) xs → AllByRecursion P (map f xs)
-all_each f P [] h = tt
-all_each f P (x ∷ xs) h = (h.0, all_each f P xs h.1)
-
-pub all_joined : {A : Type 0} (P : A → Type 0) (xs ys : List A) → AllByRecursion P xs → AllByRecursion P ys → AllByRecursion P (xs ++ ys)
-all_joined P [] ys h k = k
-all_joined P (x ∷ xs) ys h k = (h.0, all_joined P xs ys h.1 k)
+use Rattle.law_lists.proofs.Lists.{all_both, all_each, all_from}
 
 pub all_sure : {A : Type 0} (P : A → Type 0) → ((x : A) → P x) → (xs : List A) → AllByRecursion P xs
 all_sure P f [] = tt
 all_sure P f (x ∷ xs) = (f x, all_sure P f xs)
-
-pub both_all : {A : Type 0} (P Q : A → Type 0) (xs : List A) → AllByRecursion P xs → AllByRecursion Q xs → AllByRecursion (λ x. P x × Q x) xs
-both_all P Q [] h k = tt
-both_all P Q (x ∷ xs) h k = ((h.0, k.0), both_all P Q xs h.1 k.1)
 
 kept_if : {A : Type 0} (P : A → Type 0) (b : Bool) (x : A) (xs : List A) → (b ≡ true → P x) → AllByRecursion P xs → AllByRecursion P (cond b (x ∷ xs) xs)
 kept_if P true x xs h k = (h refl, k)
@@ -40,7 +25,7 @@ all_filtered test P (x ∷ xs) h = kept_if P (test x) x (filter test xs) h.0 (al
 
 pub all_flat : {A B : Type 0} (f : A → List B) (P : B → Type 0) (xs : List A) → AllByRecursion (λ x. AllByRecursion P (f x)) xs → AllByRecursion P (flat_map f xs)
 all_flat f P [] h = tt
-all_flat f P (x ∷ xs) h = all_joined P (f x) (flat_map f xs) h.0 (all_flat f P xs h.1)
+all_flat f P (x ∷ xs) h = all_both P (f x) (flat_map f xs) h.0 (all_flat f P xs h.1)
 
 -- ---- lists in their order
 
@@ -93,7 +78,7 @@ module _ {X Y : Type 0} (R : X → X → Ordering) (S : Y → Y → Ordering) wh
   pub each_strict : (f : X → Y) → ((a b : X) → S (f a) (f b) ≡ R a b) → (xs : List X) → IsStrictlySortedBy R xs → IsStrictlySortedBy S (map f xs)
   unfolding IsStrictlySortedBy
   each_strict f same [] s = tt
-  each_strict f same (x ∷ xs) s = (all_each f (λ y. S (f x) y ≡ Less) xs (all_map (λ z. R x z ≡ Less) (λ z. S (f x) (f z) ≡ Less) (λ z e. same x z ∙ e) xs s.0), each_strict f same xs s.1)
+  each_strict f same (x ∷ xs) s = (all_each f (λ y. S (f x) y ≡ Less) xs (all_from (λ z. R x z ≡ Less) (λ z. S (f x) (f z) ≡ Less) (λ z e. same x z ∙ e) xs s.0), each_strict f same xs s.1)
 
 -- ---- how long
 

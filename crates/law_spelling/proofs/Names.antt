@@ -1,10 +1,9 @@
 -- Identifiers are names of objects, and names in interfaces that have a spelling have one.
 use Rattle.std.proofs.Common.{◌≡◌, ℕ, ◌<◌, ◌≤◌, ◌^◌, Bool, true, false, cond, List, [], ◌∷◌, length, map, Option, Some, None, refl, sym, subst, arith}
-use Rattle.std.specs.Prelude.{◌&&◌, ◌||◌, nat_le, bytes_eq}
+use Rattle.std.specs.Prelude.{nat_le, bytes_eq}
 use Rattle.std.specs.List.{list_all, AllByRecursion}
 use Rattle.std.specs.Char.{is_ascii_alphanumeric}
 use Rattle.std.proofs.lemmas.Bool.{and_parts, leb-true}
-use Rattle.std.proofs.lemmas.Slice.Eq.{bytes_eq-Decides}
 use Rattle.ob_tree.specs.declared.names.QName.{QName}
 use Rattle.ob_types.specs.declared.desc.Desc.{Desc}
 use Rattle.ob_format.specs.Format.{list_of, text16, ◌>>=◌}
@@ -13,20 +12,13 @@ use Rattle.ob_sym.specs.Grammar.{face as face_form, head, body, object_in}
 use Rattle.ob_env.specs.Faces.{Face, object_named, face_named, described, object_of}
 use Rattle.law_spelling.specs.Trees.{IsNamed}
 use Rattle.law_spelling.specs.Laws.{Text, IsSpelled}
-
-pub both_true : (a b : Bool) → a ≡ true → b ≡ true → a && b ≡ true
-both_true true b e f = f
-both_true false b e f = e
-
-either : (a b : Bool) → a ≡ true → (a || b) ≡ true
-either true b e = refl
-either false b e = absurd cc
+use Rattle.law_lists.proofs.Lists.{both_true, or_first, same_bytes}
 
 all_bytes : (cs : List ℕ) → list_all is_ascii_alphanumeric cs ≡ true → list_all is_object_byte cs ≡ true
 all_bytes [] e = refl
 all_bytes (c ∷ cs) e =
     let p = and_parts (is_ascii_alphanumeric c) (list_all is_ascii_alphanumeric cs) e in
-    both_true (is_object_byte c) (list_all is_object_byte cs) (either (is_ascii_alphanumeric c) _ p.0) (all_bytes cs p.1)
+    both_true (is_object_byte c) (list_all is_object_byte cs) (or_first (is_ascii_alphanumeric c) _ p.0) (all_bytes cs p.1)
 
 letters_object : (t : List ℕ) → is_letters t ≡ true → is_object t ≡ true
 letters_object [] e = e
@@ -75,15 +67,12 @@ pub face_objects : (f : Face Text) → IsSpelled f → AllByRecursion (λ o. obj
 unfolding face_form head body list_of
 face_objects f h = objects_fit f.«module» f.objects h.0.1.0.0.1
 
-pub same_name : (x y : List ℕ) → bytes_eq x y ≡ true → x ≡ y
-same_name x y e = (bytes_eq-Decides x y).0 e
-
 object_found : (os : List (List ℕ × Desc)) → AllByRecursion (λ o. object_name.fits o.0) os → (x : List ℕ) (d : Desc) → object_named os x ≡ Some d → object_name.fits x
 object_found [] h x d e = absurd cc
 object_found (o ∷ os) h x d e = go (bytes_eq x o.0) refl e (object_found os h.1 x d)
   where
     go : (b : Bool) → bytes_eq x o.0 ≡ b → cond b (Some o.1) (object_named os x) ≡ Some d → (object_named os x ≡ Some d → object_name.fits x) → object_name.fits x
-    go true f i rest = subst object_name.fits (sym (same_name x o.0 f)) h.0
+    go true f i rest = subst object_name.fits (sym (same_bytes x o.0 f)) h.0
     go false f i rest = rest i
 
 pub record FaceFound (m : List ℕ) (f : Face Text) : Type 0 where
@@ -95,7 +84,7 @@ face_found [] h m f e = absurd cc
 face_found (g ∷ gs) h m f e = go (bytes_eq m g.«module») refl e (face_found gs h.1 m f)
   where
     go : (b : Bool) → bytes_eq m g.«module» ≡ b → cond b (Some g) (face_named gs m) ≡ Some f → (face_named gs m ≡ Some f → FaceFound m f) → FaceFound m f
-    go true i e rest = let same : g ≡ f = cc in subst (FaceFound m) same (record { spelled = h.0; name_is = same_name m g.«module» i })
+    go true i e rest = let same : g ≡ f = cc in subst (FaceFound m) same (record { spelled = h.0; name_is = same_bytes m g.«module» i })
     go false i e rest = rest e
 
 -- what interfaces describe has names that have a spelling

@@ -1,6 +1,6 @@
 -- What lines that have a spelling come to: instructions, positions, strings and links that have one.
 use Rattle.std.proofs.Common.{◌≡◌, ℕ, suc, ◌+◌, ◌<◌, ◌≤◌, ◌^◌, Bool, true, false, List, [], ◌∷◌, ◌++◌, length, Option, Some, None, refl, sym, ap, subst, ◌∙◌, arith}
-use Rattle.std.specs.Prelude.{pos, if◌then◌else◌, ◌&&◌, nat_eq, is_some, IfSome, FitsSigned}
+use Rattle.std.specs.Prelude.{pos, if◌then◌else◌, ◌&&◌, is_some, IfSome, FitsSigned}
 use Rattle.std.specs.Int.{w32}
 use Rattle.std.specs.List.{AllByRecursion}
 use Rattle.ob_tree.specs.declared.pos.Pos.{Pos}
@@ -17,8 +17,8 @@ use Rattle.ob_scheme.specs.Lines.{Operand, Number, StringHere, OtherVariable, Ot
 use Rattle.ob_scheme.specs.Numbers.{Named, same_link, same_type, number_among, with_one, link_to, number_in, with_operand, instr_in, with_line, instrs_in, with_lines, with_position, positions_at}
 use Rattle.law_spelling.specs.Coded.{PosFits}
 use Rattle.law_spelling.specs.Lines.{OperandFits, LineFits, LinesFit}
-use Rattle.law_spelling.proofs.Lists.{all_joined}
 use Rattle.law_spelling.proofs.Lines.{word_fits}
+use Rattle.law_lists.proofs.Lists.{all_both, nat_itself}
 
 -- ---- what is named only grows
 
@@ -126,9 +126,6 @@ pub positions_many : (pc : ℕ) (ls : List Line) → length (positions_at pc ls)
 positions_many pc [] = omega arith
 positions_many pc (l ∷ ls) = let a = one_many l.at pc (positions_at (suc pc) ls) in let b = positions_many (suc pc) ls in omega (arith, a, b)
 
-itself_eq : (n : ℕ) → nat_eq n n ≡ true
-itself_eq n = grind arith
-
 pub are_there : (n : Named) (pc : ℕ) (ls : List Line) → LinesFit pc ls → are_placed pc (instrs_in n ls) (positions_at pc ls) ≡ true
 are_there n pc [] h = refl
 are_there n pc (l ∷ ls) h =
@@ -145,7 +142,7 @@ are_there n pc (l ∷ ls) h =
         let rest : List Position = positions_at (suc pc) ls in
         let ps : List Position = record { at = pc; pos = at } ∷ rest in
         ap (λ b. if b then first_at pc ps && are_placed (pc + 1) (instrs_in (with_line n l) ls) (behind ps) else are_placed (pc + 1) (instrs_in (with_line n l) ls) ps) e
-        ∙ ap (λ b. b && are_placed (pc + 1) (instrs_in (with_line n l) ls) rest) (itself_eq pc) ∙ m
+        ∙ ap (λ b. b && are_placed (pc + 1) (instrs_in (with_line n l) ls) rest) (nat_itself pc) ∙ m
 
 -- ---- strings and links
 
@@ -166,7 +163,7 @@ pub record AreNamed (n : Named) : Type 0 where
 
 operand_named : (n : Named) (o : Operand) → AreNamed n → OperandFits o → AreNamed (with_operand n o)
 operand_named n (Number z) a h = a
-operand_named n (StringHere text words) a h = record { strings = all_joined StringIsLong n.strings (record { text = text; words = words } ∷ []) a.strings (h, tt); variables = a.variables; procedures = a.procedures; types = a.types }
+operand_named n (StringHere text words) a h = record { strings = all_both StringIsLong n.strings (record { text = text; words = words } ∷ []) a.strings (h, tt); variables = a.variables; procedures = a.procedures; types = a.types }
 operand_named n (OtherVariable m x) a h = record { strings = a.strings; variables = with_one_all same_link LinkIsNamed n.variables (link_to m x) a.variables h; procedures = a.procedures; types = a.types }
 operand_named n (OtherProcedure m x) a h = record { strings = a.strings; variables = a.variables; procedures = with_one_all same_link LinkIsNamed n.procedures (link_to m x) a.procedures h; types = a.types }
 operand_named n (OtherType own q) a h = record { strings = a.strings; variables = a.variables; procedures = a.procedures; types = with_one_all same_type TypeIsNamed n.types q a.types h.1 }

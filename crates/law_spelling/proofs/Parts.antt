@@ -35,10 +35,10 @@ use Rattle.ob_scheme.specs.Context.{is_own, variable_place, type_index, own_type
 use Rattle.ob_scheme.specs.Object.{is_seen, is_full, is_free, own, seen_variables, variables, commands_among, commands, is_bound_to, bound_number, definitions_among, definitions, base_type, base_in, record_in, records_in, with_base, with_record, with_bases}
 use Rattle.law_spelling.specs.Trees.{VariableIsSpelled, ProcedureIsSpelled, TypedTypeIsSpelled}
 use Rattle.law_spelling.specs.Files.{BaseFits, DescBaseFits, number_behind, BasesFit, NumbersFit}
-use Rattle.law_spelling.proofs.Lists.{all_map, all_joined, all_in_order, order_strict}
+use Rattle.law_spelling.proofs.Lists.{all_in_order, order_strict}
 use Rattle.law_spelling.proofs.Names.{name_fits}
-use Rattle.law_spelling.proofs.Sizes.{eq_itself}
 use Rattle.law_spelling.proofs.Numbered.{TypeIsNamed, one_few, with_one_all}
+use Rattle.law_lists.proofs.Lists.{all_both, all_from, bytes_itself}
 
 definitions_total : IsTotalOrder by_number
 definitions_total = on_total (λ d. d.number) nat_cmp_total
@@ -61,7 +61,7 @@ order_few {A} R (x ∷ xs) = let a = put_few x (in_order R xs) in let b = order_
 -- ---- the links of types
 
 same_itself : (q : QName) → same_type q q ≡ true
-same_itself q = ap (λ b. b && bytes_eq q.module q.module) (eq_itself q.object) ∙ eq_itself q.module
+same_itself q = ap (λ b. b && bytes_eq q.module q.module) (bytes_itself q.object) ∙ bytes_itself q.module
 
 abbrev pub Has : List QName → QName → Type 0
 Has qs q = number_among same_type qs q < length qs
@@ -202,7 +202,7 @@ module _ (types : QName → Option Desc) (m : Module) where
 
   among_inside : (x : List ℕ) (ps : List Procedure) (n : ℕ) → AllByRecursion (λ d. d.procedure < n + length ps) (definitions_among types m x ps n)
   among_inside x [] n = tt
-  among_inside x (p ∷ ps) n = go (is_bound_to types m x p.binding) (all_map (λ d. d.procedure < suc n + length ps) (λ d. d.procedure < n + suc (length ps)) (λ d l. omega (arith, l)) (definitions_among types m x ps (suc n)) (among_inside x ps (suc n)))
+  among_inside x (p ∷ ps) n = go (is_bound_to types m x p.binding) (all_from (λ d. d.procedure < suc n + length ps) (λ d. d.procedure < n + suc (length ps)) (λ d l. omega (arith, l)) (definitions_among types m x ps (suc n)) (among_inside x ps (suc n)))
     where
       go : (b : Bool) → AllByRecursion (λ d. d.procedure < n + suc (length ps)) (definitions_among types m x ps (suc n)) → AllByRecursion (λ d. d.procedure < n + suc (length ps)) (if b then record { number = bound_number types m p.binding; procedure = n } ∷ definitions_among types m x ps (suc n) else definitions_among types m x ps (suc n))
       go true h = (omega arith, h)
@@ -246,8 +246,8 @@ module _ (types : QName → Option Desc) (m : Module) where
     record_fits t (desc.Record r) n h w b k =
         let among = definitions_among types m t.name m.procedures 1 in
         let ds = definitions types m t.name in
-        let inside : AllByRecursion (λ d. d.procedure < 4096) ds = all_in_order by_number (λ d. d.procedure < 4096) among (all_map (λ d. d.procedure < 1 + length m.procedures) (λ d. d.procedure < 4096) (λ d l. omega (arith, l, few_procedures)) among (among_inside t.name m.procedures 1)) in
-        let numbered : AllByRecursion (λ d. d.number < 1048577) ds = all_map (λ d. d.number < r.procedures) (λ d. d.number < 1048577) (λ d l. omega (arith, l, b)) ds k in
+        let inside : AllByRecursion (λ d. d.procedure < 4096) ds = all_in_order by_number (λ d. d.procedure < 4096) among (all_from (λ d. d.procedure < 1 + length m.procedures) (λ d. d.procedure < 4096) (λ d l. omega (arith, l, few_procedures)) among (among_inside t.name m.procedures 1)) in
+        let numbered : AllByRecursion (λ d. d.number < 1048577) ds = all_from (λ d. d.number < r.procedures) (λ d. d.number < 1048577) (λ d l. omega (arith, l, b)) ds k in
         let many = order_few by_number among in
         let few = among_many t.name m.procedures 1 in
         ((
@@ -260,7 +260,7 @@ module _ (types : QName → Option Desc) (m : Module) where
 
     pub records_fit : (ts : List TypedType) → AllByRecursion TypedTypeIsSpelled ts → AllByRecursion (λ t. DescHas links t.desc) ts → AllByRecursion (λ t. described_words (words_of types) (Some t.desc) ≤ 1048576) ts → AllByRecursion (λ t. bound_procedures t.desc ≤ 1048576) ts → AllByRecursion (λ t. NumbersFit types m t t.desc) ts → AllByRecursion record_type.fits (records_in types m links ts)
     records_fit [] n h w b k = tt
-    records_fit (t ∷ ts) n h w b k = all_joined record_type.fits (record_in types m links t.name t.desc) (records_in types m links ts) (record_fits t t.desc n.0.0 h.0 w.0 b.0 k.0) (records_fit ts n.1 h.1 w.1 b.1 k.1)
+    records_fit (t ∷ ts) n h w b k = all_both record_type.fits (record_in types m links t.name t.desc) (records_in types m links ts) (record_fits t t.desc n.0.0 h.0 w.0 b.0 k.0) (records_fit ts n.1 h.1 w.1 b.1 k.1)
 
   -- as many as the module's own
   one_many : (links : List QName) (x : List ℕ) (d : Desc) → length (record_in types m links x d) ≡ (if is_record d then 1 else 0)
@@ -301,7 +301,7 @@ module _ (types : QName → Option Desc) (m : Module) where
 
   pub records_have : (P : List ℕ → Type 0) (links : List QName) (ts : List TypedType) → AllByRecursion (λ t. P t.name) ts → AllByRecursion (λ r. P r.name) (records_in types m links ts)
   records_have P links [] h = tt
-  records_have P links (t ∷ ts) h = all_joined (λ r. P r.name) (record_in types m links t.name t.desc) (records_in types m links ts) (one_name P links t.name t.desc h.0) (records_have P links ts h.1)
+  records_have P links (t ∷ ts) h = all_both (λ r. P r.name) (record_in types m links t.name t.desc) (records_in types m links ts) (one_name P links t.name t.desc h.0) (records_have P links ts h.1)
 
   other_name : (x y : List ℕ) → bytes_eq x y ≡ false → is_eq (by_name x y) ≡ false
   other_name x y e = is_eq-slice_cmp x y ∙ e
@@ -376,11 +376,11 @@ module _ (types : QName → Option Desc) (m : Module) where
   one_inside links x (desc.ProcType a s) = tt
   one_inside links x (desc.Record r) =
       let among = definitions_among types m x m.procedures 1 in
-      (inside_all (suc (length m.procedures)) (definitions types m x) (all_in_order by_number (λ d. d.procedure < suc (length m.procedures)) among (all_map (λ d. d.procedure < 1 + length m.procedures) (λ d. d.procedure < suc (length m.procedures)) (λ d l. omega (arith, l)) among (among_inside x m.procedures 1))), tt)
+      (inside_all (suc (length m.procedures)) (definitions types m x) (all_in_order by_number (λ d. d.procedure < suc (length m.procedures)) among (all_from (λ d. d.procedure < 1 + length m.procedures) (λ d. d.procedure < suc (length m.procedures)) (λ d l. omega (arith, l)) among (among_inside x m.procedures 1))), tt)
 
   pub all_inside : (links : List QName) (ts : List TypedType) → AllByRecursion (λ t. has_procedures (suc (length m.procedures)) t ≡ true) (records_in types m links ts)
   all_inside links [] = tt
-  all_inside links (t ∷ ts) = all_joined (λ t. has_procedures (suc (length m.procedures)) t ≡ true) (record_in types m links t.name t.desc) (records_in types m links ts) (one_inside links t.name t.desc) (all_inside links ts)
+  all_inside links (t ∷ ts) = all_both (λ t. has_procedures (suc (length m.procedures)) t ≡ true) (record_in types m links t.name t.desc) (records_in types m links ts) (one_inside links t.name t.desc) (all_inside links ts)
 
   -- ---- exported procedures and variables
 
@@ -431,10 +431,10 @@ module _ (types : QName → Option Desc) (m : Module) where
   commands_fit l h =
       let a = order_few (λ (a b : Command). by_name a.name b.name) (commands_among types m m.procedures 1) in
       let b = commands_many m.procedures 1 in
-      ((omega (arith, a, b, l), commands_form (commands types m) (all_map (CommandIsInside (suc (length m.procedures))) (CommandIsInside 4096) (λ c k. let e = k.1 in (k.0, omega (arith, e, l))) (commands types m) (commands_all h))), order_strict commands_total (commands_among types m m.procedures 1))
+      ((omega (arith, a, b, l), commands_form (commands types m) (all_from (CommandIsInside (suc (length m.procedures))) (CommandIsInside 4096) (λ c k. let e = k.1 in (k.0, omega (arith, e, l))) (commands types m) (commands_all h))), order_strict commands_total (commands_among types m m.procedures 1))
 
   pub commands_procedures : AllByRecursion ProcedureIsSpelled m.procedures → AllByRecursion (λ c. c.procedure < suc (length m.procedures)) (commands types m)
-  commands_procedures h = all_map (CommandIsInside (suc (length m.procedures))) (λ c. c.procedure < suc (length m.procedures)) (λ c k. k.1) (commands types m) (commands_all h)
+  commands_procedures h = all_from (CommandIsInside (suc (length m.procedures))) (λ c. c.procedure < suc (length m.procedures)) (λ c k. k.1) (commands types m) (commands_all h)
 
   variables_total : IsTotalOrder by_variable
   variables_total = on_total (λ v. v.name) nat_list_cmp_total

@@ -1,5 +1,5 @@
 -- The names of a module that is read are identifiers.
-use Rattle.std.proofs.Common.{◌≡◌, ◌⊎◌, inl, inr, ℕ, zero, suc, Bool, true, false, List, [], ◌∷◌, ◌++◌, length, map, Option, Some, None, Result, Ok, Err, refl, sym, ap, subst, ◌∙◌}
+use Rattle.std.proofs.Common.{◌≡◌, ◌⊎◌, inl, inr, ℕ, zero, suc, Bool, true, List, [], ◌∷◌, ◌++◌, length, map, Option, Some, None, Result, Ok, Err, refl, sym, ap, subst, ◌∙◌}
 use Rattle.std.specs.Prelude.{◌&&◌, IfSome, option_to_list}
 use Rattle.std.specs.List.{AllByRecursion}
 use Rattle.ob_tree.specs.declared.symbol.Symbol.{Symbol}
@@ -42,10 +42,7 @@ use Rattle.ob_compile_model.specs.Compiling.{target_of, imported}
 use Rattle.law_spelling.specs.Raw.{all_true, is_named, all_named, are_named, node_layer, fields_layer, parameters_layer, section_layer, type_named, fields_named, parameters_named, section_named, heading_named, decl_layer, decl_named, IsNamedTree, ReadingsAreNamed}
 use Rattle.law_spelling.proofs.Phrases.{Holds, holds}
 use Rattle.law_spelling.proofs.Tokens.{is_name, IsNamedToken, tokens_named}
-
-both_true : (a b : Bool) → a ≡ true → b ≡ true → a && b ≡ true
-both_true true b e f = f
-both_true false b e f = e
+use Rattle.law_lists.proofs.Lists.{all_both, all_from, both_true}
 
 -- ---- folds of what the grammar makes
 
@@ -94,13 +91,9 @@ all_of : {A : Type 0} (f : A → Bool) (xs : List A) → AllByRecursion (λ x. f
 all_of f [] h = refl
 all_of f (x ∷ xs) h = both_true (f x) (all_true (map f xs)) h.0 (all_of f xs h.1)
 
-all_join : {A : Type 0} (P : A → Type 0) (xs ys : List A) → AllByRecursion P xs → AllByRecursion P ys → AllByRecursion P (xs ++ ys)
-all_join P [] ys h k = k
-all_join P (x ∷ xs) ys h k = (h.0, all_join P xs ys h.1 k)
-
 all_joined : {A : Type 0} (P : A → Type 0) (xss : List (List A)) → AllByRecursion (λ xs. AllByRecursion P xs) xss → AllByRecursion P (joined xss)
 all_joined P [] h = tt
-all_joined P (xs ∷ xss) h = all_join P xs (joined xss) h.0 (all_joined P xss h.1)
+all_joined P (xs ∷ xss) h = all_both P xs (joined xss) h.0 (all_joined P xss h.1)
 
 names_true : (ds : List IdentDef) → AllByRecursion (λ n. is_named n ≡ true) ds → all_named ds ≡ true
 names_true [] h = refl
@@ -222,14 +215,10 @@ forward_named_is x h = let y = h.0 in subst (λ (x : Decl). decl_named x ≡ tru
 abbrev AllDecls : List Decl → Type 0
 AllDecls ds = AllByRecursion (λ x. decl_named x ≡ true) ds
 
-mapped : {A : Type 0} (P Q : A → Type 0) → ((x : A) → P x → Q x) → (xs : List A) → AllByRecursion P xs → AllByRecursion Q xs
-mapped P Q f [] h = tt
-mapped P Q f (x ∷ xs) h = (f x h.0, mapped P Q f xs h.1)
-
 block_named_is : (ds : List Decl) → H block ds → AllDecls ds
-block_named_is ds (inl h) = subst AllDecls h.1 (mapped (λ x. H constant x) (λ x. decl_named x ≡ true) constant_named_is h.0.1 h.2.1)
-block_named_is ds (inr (inl h)) = subst AllDecls h.1 (mapped (λ x. H named_type x) (λ x. decl_named x ≡ true) named_type_is h.0.1 h.2.1)
-block_named_is ds (inr (inr h)) = subst AllDecls h.1 (mapped (λ x. H variables x) (λ x. decl_named x ≡ true) variables_named_is h.0.1 h.2.1)
+block_named_is ds (inl h) = subst AllDecls h.1 (all_from (λ x. H constant x) (λ x. decl_named x ≡ true) constant_named_is h.0.1 h.2.1)
+block_named_is ds (inr (inl h)) = subst AllDecls h.1 (all_from (λ x. H named_type x) (λ x. decl_named x ≡ true) named_type_is h.0.1 h.2.1)
+block_named_is ds (inr (inr h)) = subst AllDecls h.1 (all_from (λ x. H variables x) (λ x. decl_named x ≡ true) variables_named_is h.0.1 h.2.1)
 
 item_named_is : (x : Decl) → H procedure_item x → decl_named x ≡ true
 item_named_is x h = subst (λ (x : Decl). decl_named x ≡ true) h.1 (go h.0.0 h.2.0)
@@ -242,8 +231,8 @@ declarations_named_is : (ds : List Decl) → H declarations ds → AllDecls ds
 declarations_named_is ds h =
     let y = h.0 in
     let b = h.2.0 in
-    let first : AllDecls y.0 = subst AllDecls b.1 (all_joined (λ x. decl_named x ≡ true) b.0 (mapped (λ ds. H block ds) AllDecls block_named_is b.0 b.2)) in
-    subst AllDecls h.1 (all_join (λ x. decl_named x ≡ true) y.0 y.1 first (mapped (λ x. H procedure_item x) (λ x. decl_named x ≡ true) item_named_is y.1 h.2.1))
+    let first : AllDecls y.0 = subst AllDecls b.1 (all_joined (λ x. decl_named x ≡ true) b.0 (all_from (λ ds. H block ds) AllDecls block_named_is b.0 b.2)) in
+    subst AllDecls h.1 (all_both (λ x. decl_named x ≡ true) y.0 y.1 first (all_from (λ x. H procedure_item x) (λ x. decl_named x ≡ true) item_named_is y.1 h.2.1))
 
 procedure_named_is : (x : Decl) → H procedure x → decl_named x ≡ true
 procedure_named_is x h =

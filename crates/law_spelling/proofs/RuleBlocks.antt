@@ -35,7 +35,7 @@ use Rattle.ob_rules.specs.Types.{Parameters, Typing, Written, written, is_module
 use Rattle.ob_rules.specs.Statements.{Judging, judging}
 use Rattle.ob_rules.specs.Headings.{BoundAs, Head, Heads, Binding, self_by, add_heading, reversed, mark_or_hidden}
 use Rattle.ob_rules.specs.Declarations.{Contents, no_contents, together, Part, Declared, declare_if, declare, constant_contents, constant_entity, no_nil, constant_declared, equated, typing_as, types_made, type_entity, type_declared, variable_entity, variable_contents, paired_typing, first_name, variables_with, made_in, variables_typed, variables_declared, Written_procedure, Declaration, Plain, Procedure, plain_of, procedure_of, type_name_of, in_order, headings_in_order, around_body, self_parameters, typed_procedure, types_of_head, procedure_contents, procedure_judged, procedures_judged, block_inside, with_bound, binding_at, block_bound, heads_later, block_headed, block_declared, block, decl_rule, declaration, import_entity, import_declared, target_of, is_system, imports_declared, around_module, module_of, described, all_described, typed_module, if_unbroken}
-use Rattle.law_methods_described.proofs.Nodes.{IfThere, Has, all_both, then_has, second_has}
+use Rattle.law_methods_described.proofs.Nodes.{Has, then_has, second_has}
 use Rattle.law_spelling.specs.Trees.{IsNamed, VariableIsSpelled}
 use Rattle.law_spelling.specs.Raw.{all_true, is_named, all_named, are_named, type_named, parameters_named, heading_named, decl_layer, decl_named}
 use Rattle.law_spelling.specs.Ruled.{IsValue, TypeOk, EntityOk, KnownOk, ShownOk, AroundOk, ConstantOk, ProcedureTypes, ModuleOk, ModulesAreNamed}
@@ -44,6 +44,7 @@ use Rattle.law_spelling.proofs.RuleNames.{object_more, object_bytes, find_all}
 use Rattle.law_spelling.proofs.RuleTypes.{AreOk, TypingOk, HasTyping, IsOk, typed_around, ParametersOk}
 use Rattle.law_spelling.proofs.RuleWritten.{written_ok, written_parameters_ok}
 use Rattle.law_spelling.proofs.RuleHeads.{BoundOk, HeadingOk, HeadOk, AreOkHeads, HeadsOk, add_ok, reversed_ok, bindings_ok}
+use Rattle.law_lists.proofs.Lists.{IfThere, all_both}
 
 -- ---- what a part adds
 

@@ -28,14 +28,15 @@ use Rattle.ob_rules.specs.Names.{Around, own_desc, type_desc, map_of, in_unit, t
 use Rattle.ob_rules.specs.Types.{Parameters, with_types, is_module_level, marked, inner, knows}
 use Rattle.ob_rules.specs.Headings.{BoundAs, received_record, is_own, if_own, own_record, bound_to, owner_of, owner_if, knows_receiver, WrittenHeading, Head, path_by, forward_name, bound_in, as_parameters, heading_parameters, head_of, entity_as, head_entity, declared_head, knows_procedure, known_behind, Heads, name_twice, types_of, add_heading, counts, counted, signature_if, Binding, signature_or_none, exported_mark, new_method, with_method, change_desc, changed_if, change_type, redefined, bind_method, bind_by, bind_one, bind_all, of_record, bind_records, reversed, bindings}
 use Rattle.law_methods_described.specs.Described.{is_whole}
-use Rattle.law_methods_described.proofs.Nodes.{IfThere, Has, all_both, then_has, second_has}
+use Rattle.law_methods_described.proofs.Nodes.{Has, then_has, second_has}
 use Rattle.law_spelling.specs.Trees.{IsNamed, MethodIsSpelled, RecordIsSpelled}
 use Rattle.law_spelling.specs.Raw.{is_named}
 use Rattle.law_spelling.specs.Ruled.{TypeNames, TypeOk, EntityOk, KnownOk, AroundOk}
-use Rattle.law_spelling.proofs.Lists.{all_filtered, all_map}
+use Rattle.law_spelling.proofs.Lists.{all_filtered}
 use Rattle.law_spelling.proofs.Names.{named_object}
 use Rattle.law_spelling.proofs.RuleNames.{object_more, object_bytes, type_has}
 use Rattle.law_spelling.proofs.RuleTypes.{AreOk, AreOkSections, typed_around, ParametersOk, parameters_ok, inner_around}
+use Rattle.law_lists.proofs.Lists.{IfThere, all_both, all_from}
 
 -- ---- the record that a receiver is of
 
@@ -183,7 +184,7 @@ head_ok u g h forward k =
       path = p;
       bound = bound_ok b.node c;
       parameters = as_ok (both (both m b) s.found).node (second_has ParametersOk (both m b) s.found t.found);
-      inside = all_filtered (λ k. nat_lt u.scope k.scope) KnownOk s.known (all_map KnownOk (λ k. nat_lt u.scope k.scope ≡ true → KnownOk k) (λ k a e. a) s.known t.known);
+      inside = all_filtered (λ k. nat_lt u.scope k.scope) KnownOk s.known (all_from KnownOk (λ k. nat_lt u.scope k.scope ≡ true → KnownOk k) (λ k a e. a) s.known t.known);
       known = g.known;
     }
 
@@ -288,7 +289,7 @@ all_ok u s [] k g = g
 all_ok u s (h ∷ hs) k g = all_ok u (bind_one u s h h.bound) hs k.1 (one_ok u s h h.bound k.0 g)
 
 kept_heads : (test : Head → Bool) (hs : List Head) → AreOkHeads hs → AreOkHeads (filter test hs)
-kept_heads test hs k = all_filtered test HeadOk hs (all_map HeadOk (λ h. test h ≡ true → HeadOk h) (λ h a e. a) hs k)
+kept_heads test hs k = all_filtered test HeadOk hs (all_from HeadOk (λ h. test h ≡ true → HeadOk h) (λ h a e. a) hs k)
 
 records_ok : (u : Around) (hs : List Head) → AreOkHeads hs → (s : Binding) (ts : List TypedType) → AreOk s.own → AreOk (bind_records u hs s ts).own
 records_ok u hs k s [] g = g

@@ -1,6 +1,6 @@
 -- Derived names are names of objects, and a type that is named has a spelling.
 use Rattle.std.proofs.Common.{◌≡◌, ℕ, zero, suc, ◌<◌, Bool, true, false, cond, List, [], ◌∷◌, ◌++◌, Option, Some, None, refl, subst, arith, codes}
-use Rattle.std.specs.Prelude.{◌&&◌, ◌||◌, ◌/◌, ◌%◌, ◌==◌, if◌then◌else◌, bytes_eq, pos}
+use Rattle.std.specs.Prelude.{◌||◌, ◌/◌, ◌%◌, ◌==◌, if◌then◌else◌, bytes_eq, pos}
 use Rattle.std.specs.Fmt.{digit_glyph, digits_onto, digits, signed_decimal}
 use Rattle.std.specs.List.{list_all, list_any, find, AllByRecursion}
 use Rattle.std.specs.Char.{is_ascii_alphabetic, is_ascii_alphanumeric}
@@ -24,13 +24,10 @@ use Rattle.ob_rules.specs.declared.entity.Known.{Known}
 use Rattle.ob_rules.specs.Judged.{Judged}
 use Rattle.ob_rules.specs.Names.{Around, find_name, is_enclosing, variable_known, entity_known, shown_of, record_unless_hidden, export_known, exported, type_of_desc, out_type, out_procedure, type_in, type_of_entity, type_behind, unless_variable_is, unless_variable, type_by, type_named, is_out, is_among}
 use Rattle.ob_rules.specs.Types.{base_name, element_name, field_name, section_name, later_if, later_by, is_later}
-use Rattle.law_methods_described.proofs.Nodes.{IfThere, Has, then_has}
+use Rattle.law_methods_described.proofs.Nodes.{Has, then_has}
 use Rattle.law_spelling.specs.Trees.{IsNamed}
 use Rattle.law_spelling.specs.Ruled.{EntityOk, KnownOk, AroundOk}
-
-pub both_true : (a b : Bool) → a ≡ true → b ≡ true → a && b ≡ true
-both_true true b e f = f
-both_true false b e f = e
+use Rattle.law_lists.proofs.Lists.{IfThere, both_true, or_first}
 
 -- ---- names
 
@@ -50,15 +47,11 @@ turned : (d u l : Bool) → (u || l) ≡ true → (d || u) || l ≡ true
 turned true u l e = refl
 turned false u l e = e
 
-first_or : (a b : Bool) → a ≡ true → (a || b) ≡ true
-first_or true b e = refl
-first_or false b e = absurd (false≢true e)
-
 pub object_bytes : (x : List ℕ) → is_object x ≡ true → AreBytes x
 object_bytes [] h = absurd (false≢true h)
 object_bytes (c ∷ x) h =
     let p = and_parts (is_ascii_alphabetic c) (list_all is_object_byte x) h in
-    both_true (is_object_byte c) (list_all is_object_byte x) (first_or (is_ascii_alphanumeric c) _ (turned (is_in_range 48 57 c) (is_in_range 65 90 c) (is_in_range 97 122 c) p.0)) p.1
+    both_true (is_object_byte c) (list_all is_object_byte x) (or_first (is_ascii_alphanumeric c) _ (turned (is_in_range 48 57 c) (is_in_range 65 90 c) (is_in_range 97 122 c) p.0)) p.1
 
 digit_few : (n : ℕ) → n < 10 → is_object_byte (digit_glyph false n) ≡ true
 digit_few zero h = refl

@@ -25,12 +25,13 @@ use Rattle.ob_rules.specs.Phrases.{Phrase}
 use Rattle.ob_rules.specs.Expressions.{constant_value}
 use Rattle.ob_rules.specs.Shapes.{is_structured, is_pointer}
 use Rattle.ob_rules.specs.Types.{Typing, Written, typed_as, with_types, base_name, element_name, field_name, section_name, marked, named_typing, length_of, array_length, fixed_array, array, first_of, base_of, base_if, inherits, field_declared, field_if, fields_of, names_behind, WrittenFields, first_name, Fields, with_fields, field_lists, record_with, record_desc, pointer_to, base_judged, pointer_base, pointer_by, Parameters, WrittenSection, WrittenParameters, Sections, mode_of, parameter_as, knows, Named, declare_all, parameters_of, with_made, sections, result_fits, result_of, parameters_in, inner, procedure_type}
-use Rattle.law_methods_described.proofs.Nodes.{IfThere, Has, all_both, then_has, any_then, paired_has, both_have, also_has, unless_has, later_has}
+use Rattle.law_methods_described.proofs.Nodes.{Has, then_has, any_then, paired_has, both_have, also_has, unless_has, later_has}
 use Rattle.law_spelling.specs.Trees.{IsNamed, FieldIsSpelled}
 use Rattle.law_spelling.specs.Raw.{is_named, all_named, are_named}
 use Rattle.law_spelling.specs.Ruled.{TypeOk, KnownOk, AroundOk}
 use Rattle.law_spelling.proofs.Names.{named_object}
 use Rattle.law_spelling.proofs.RuleNames.{AreBytes, object_bytes, base_object, element_object, field_object, section_object, type_has}
+use Rattle.law_lists.proofs.Lists.{IfThere, all_both}
 
 abbrev pub AreOk : List TypedType → Type 0
 AreOk ts = AllByRecursion TypeOk ts

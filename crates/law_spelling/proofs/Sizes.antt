@@ -15,11 +15,8 @@ use Rattle.ob_layout.specs.Words.{most_words}
 use Rattle.ob_layout.specs.LaidOut.{type_named, is_own, base_of, declared_procedures, counted, words_in, procedures_in, placed, numbered, laid_type, laid_out}
 use Rattle.ob_layout.specs.Room.{bound_procedures}
 use Rattle.law_spelling.specs.Trees.{IsSmall, IsLaid}
-use Rattle.law_spelling.proofs.Lists.{all_map}
 use Rattle.law_spelling.proofs.Laid.{kept_few, placed_few, few_small, numbers_below, numbers_rise}
-
-pub eq_itself : (x : List ℕ) → bytes_eq x x ≡ true
-eq_itself x = (bytes_eq-Decides x x).1 refl
+use Rattle.law_lists.proofs.Lists.{all_from, bytes_itself}
 
 -- ---- types by their names
 
@@ -49,7 +46,7 @@ behind_name t (u ∷ ts) all h k = (ap (λ b. cond b (Some t.desc) (type_named a
 pub found_by_name : (ts : List TypedType) → IsDistinct bytes_eq (map (λ t. t.name) ts) → AllByRecursion (λ t. type_named ts t.name ≡ Some t.desc) ts
 unfolding IsDistinct
 found_by_name [] h = tt
-found_by_name (t ∷ ts) h = (ap (λ b. cond b (Some t.desc) (type_named ts t.name)) (eq_itself t.name), behind_name t ts ts h.0 (found_by_name ts h.1))
+found_by_name (t ∷ ts) h = (ap (λ b. cond b (Some t.desc) (type_named ts t.name)) (bytes_itself t.name), behind_name t ts ts h.0 (found_by_name ts h.1))
 
 -- ---- counting bound procedures
 
@@ -116,7 +113,7 @@ module _ (map : QName → Option Desc) (m : Module) (others : HaveFew map) (own 
 
 module _ (map_of : QName → Option Desc) (m : Module) where
   own_name : (x : List ℕ) → is_own m (record { «module» = m.name; object = x }) ≡ true
-  own_name x = eq_itself m.name
+  own_name x = bytes_itself m.name
 
   -- a record has at least the bound procedures that it introduces
   has_own : (t : TypedType) (r : RecordDesc) → t.desc ≡ desc.Record r → type_named m.types t.name ≡ Some t.desc → length r.methods ≤ procedures_in map_of m (ref.Named (record { «module» = m.name; object = t.name }))
@@ -169,8 +166,8 @@ module _ (map_of : QName → Option Desc) (m : Module) where
           record {
             words = few_small _ (kept_few (words_in map_of m (ref.Named q)));
             procedures = few_small _ (omega (arith, n));
-            places = all_map (λ f. f.place ≤ suc most_words) (λ f. IsSmall f.place) (λ f h. few_small f.place h) fs (placed_few (words_in map_of m) (base_of (words_in map_of m) r.base) r.fields);
-            numbers = all_map (λ p. p.number < from + length r.methods) (λ p. IsSmall p.number) (λ p h. omega (arith, h, k, b)) (numbered from r.methods) (numbers_below from r.methods);
+            places = all_from (λ f. f.place ≤ suc most_words) (λ f. IsSmall f.place) (λ f h. few_small f.place h) fs (placed_few (words_in map_of m) (base_of (words_in map_of m) r.base) r.fields);
+            numbers = all_from (λ p. p.number < from + length r.methods) (λ p. IsSmall p.number) (λ p h. omega (arith, h, k, b)) (numbered from r.methods) (numbers_below from r.methods);
             methods = numbers_rise from r.methods;
           }
 

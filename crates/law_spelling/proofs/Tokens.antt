@@ -16,6 +16,7 @@ use Rattle.ob_parse_grammar.specs.Texts.{listed, tokens_in}
 use Rattle.std.specs.Char.{is_ascii_alphabetic, is_ascii_alphanumeric}
 use Rattle.std.specs.Int.{is_in_range}
 use Rattle.ob_format.specs.Names.{is_letters, is_identifier}
+use Rattle.law_lists.proofs.Lists.{both_true}
 
 -- whether a symbol is that of a name
 abbrev pub is_name : Option Symbol → Bool
@@ -73,10 +74,6 @@ no_mark (a ∷ b ∷ c ∷ bs) = refl
 all_of : (bs : Bytes) → all_are is_letter_or_digit bs ≡ list_all is_letter_or_digit bs
 all_of [] = refl
 all_of (b ∷ bs) = ap (λ (t : Bool). is_letter_or_digit b && t) (all_of bs)
-
-both_true : (a b : Bool) → a ≡ true → b ≡ true → (a && b) ≡ true
-both_true true b e f = f
-both_true false b e f = e
 
 turned : (u l d : Bool) → (u || l) || d ≡ true → (d || u) || l ≡ true
 turned true l true e = refl

@@ -24,8 +24,9 @@ use Rattle.ob_uses.specs.Order.{by_pair, pairs_total}
 use Rattle.ob_uses.specs.Uses.{with_kept, shape_pairs, layout_pairs, pairs_of, uses_of}
 use Rattle.ob_uses_roots.specs.Counts.{counts_of_module}
 use Rattle.law_spelling.specs.Laws.{Text, IsSpelled}
-use Rattle.law_spelling.proofs.Lists.{all_map, all_each, all_joined, order_strict, flat_many}
+use Rattle.law_spelling.proofs.Lists.{order_strict, flat_many}
 use Rattle.law_spelling.proofs.Names.{QNameFits, described_fits}
+use Rattle.law_lists.proofs.Lists.{all_both, all_each, all_from}
 
 abbrev pub as_print : Wanted Text → Wanted Print
 as_print w = record { object = w.object; aspect = w.aspect; kept = print_from w.kept }
@@ -58,7 +59,7 @@ module _ (faces : List (Face Text)) (h : AllByRecursion IsSpelled faces) where
 
   all_kept_fit : (ps : List Pair) → AllByRecursion (λ w. QNameFits w.object) (flat_map (with_kept (text_in faces)) ps)
   all_kept_fit [] = tt
-  all_kept_fit (p ∷ ps) = all_joined (λ w. QNameFits w.object) (with_kept (text_in faces) p) (flat_map (with_kept (text_in faces)) ps) (kept_fits p) (all_kept_fit ps)
+  all_kept_fit (p ∷ ps) = all_both (λ w. QNameFits w.object) (with_kept (text_in faces) p) (flat_map (with_kept (text_in faces)) ps) (kept_fits p) (all_kept_fit ps)
 
 module _ (has : QName → Aspect → Option Text) where
   abbrev below_kept : Pair → Use → Type 0
@@ -81,7 +82,7 @@ module _ (has : QName → Aspect → Option Text) where
   all_below p k (q ∷ qs) h =
       let u : Use = as_use (record { object = p.object; aspect = p.aspect; kept = k }) in
       subst (AllByRecursion (λ w. by_object u w ≡ Less)) (sym (mapped (with_kept has q) (flat_map (with_kept has) qs)))
-      (all_joined (λ w. by_object u w ≡ Less) (map as_use (with_kept has q)) (map as_use (flat_map (with_kept has) qs)) (one_below q u h.0) (all_below p k qs h.1))
+      (all_both (λ w. by_object u w ≡ Less) (map as_use (with_kept has q)) (map as_use (flat_map (with_kept has) qs)) (one_below q u h.0) (all_below p k qs h.1))
 
   uses_rise : (ps : List Pair) → IsStrictlySortedBy by_pair ps → IsStrictlySortedBy by_object (map as_use (flat_map (with_kept has) ps))
   unfolding IsStrictlySortedBy
@@ -113,6 +114,6 @@ unfolding list_of
 uses_fit faces h types n m few =
     let ps = pairs_of types n m in
     let us = uses_of types n m (text_in faces) in
-    let fit : AllByRecursion use_form.fits (map as_use us) = all_each as_use use_form.fits us (all_map (λ w. QNameFits w.object) (λ w. use_form.fits (as_use w)) use_fits us (all_kept_fit faces h ps)) in
+    let fit : AllByRecursion use_form.fits (map as_use us) = all_each as_use use_form.fits us (all_from (λ w. QNameFits w.object) (λ w. use_form.fits (as_use w)) use_fits us (all_kept_fit faces h ps)) in
     let rise : IsStrictlySortedBy by_object (map as_use us) = uses_rise (text_in faces) ps (order_strict pairs_total (shape_pairs types n m (counts_of_module types m) ++ layout_pairs types n m (counts_of_module types m))) in
     ((few, subst (AllByRecursion use_form.fits) (sym (two_maps us)) fit), subst (IsStrictlySortedBy by_object) (sym (two_maps us)) rise)

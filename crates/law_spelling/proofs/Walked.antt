@@ -8,7 +8,7 @@ use Rattle.ob_env.specs.Faces.{Face}
 use Rattle.ob_env_walk.specs.Walk.{Entry, Missing, Junk, Holds, Walked, Left, NoInterface, Damaged, Cycle, TooMany, go_on, is_among, is_passed_over, through, entered, at_entry, at_module, visit, walk}
 use Rattle.law_spelling.specs.Laws.{Text}
 use Rattle.law_spelling.specs.Seen.{AreNamedEntries}
-use Rattle.law_spelling.proofs.Lists.{all_joined}
+use Rattle.law_lists.proofs.Lists.{all_both}
 
 module _ (root : List ℕ) (find : List ℕ → Entry Text) (named : AreNamedEntries find) where
   abbrev pub IsApart : Face Text → Type 0
@@ -46,7 +46,7 @@ module _ (root : List ℕ) (find : List ℕ → Entry Text) (named : AreNamedEnt
           absurd (false≢true (sym n ∙ ap (λ x. is_among x path) same ∙ r))
 
   entered_apart : (b : Bool) (imports : List (List ℕ) → Walked Text) (face : Face Text) → ((ms : List (List ℕ)) → LeavesApart (imports ms)) → IsApart face → LeavesApart (entered b imports face)
-  entered_apart true imports face k a = go_apart (imports face.imports) (λ more. Left (more ++ face ∷ [])) (k face.imports) (λ more h. all_joined IsApart more (face ∷ []) h (a, tt))
+  entered_apart true imports face k a = go_apart (imports face.imports) (λ more. Left (more ++ face ∷ [])) (k face.imports) (λ more h. all_both IsApart more (face ∷ []) h (a, tt))
   entered_apart false imports face k a = tt
 
   entry_apart : (e : Entry Text) (b : Bool) (imports : List (List ℕ) → Walked Text) (m : List ℕ) → ((ms : List (List ℕ)) → LeavesApart (imports ms)) → ((f : Face Text) → e ≡ Holds f → IsApart f) → LeavesApart (at_entry e b imports m)

@@ -1,5 +1,5 @@
 -- What is read is nested in at most 200 levels, and what names its types is short.
-use Rattle.std.proofs.Common.{◌≡◌, ◌⊎◌, inl, inr, ℕ, zero, suc, Bool, true, false, List, [], ◌∷◌, ◌++◌, length, map, Option, Some, None, Result, Ok, Err, refl, sym, ap, subst, ◌∙◌}
+use Rattle.std.proofs.Common.{◌≡◌, ◌⊎◌, inl, inr, ℕ, zero, suc, true, List, [], ◌∷◌, ◌++◌, length, map, Option, Some, None, Result, Ok, Err, refl, sym, ap, subst, ◌∙◌}
 use Rattle.std.specs.Prelude.{◌&&◌, nat_le, IfSome, option_to_list}
 use Rattle.std.specs.List.{AllByRecursion}
 use Rattle.std.proofs.lemmas.Bool.{and_parts}
@@ -42,10 +42,7 @@ use Rattle.law_spelling.proofs.Phrases.{Holds, holds}
 use Rattle.law_spelling.proofs.Tokens.{is_name, IsNamedToken, tokens_named}
 use Rattle.law_spelling_names.specs.Nested.{Within, all_within, is_short, first_short, node_layer, fields_layer, parameters_layer, section_layer, type_within, fields_within, parameters_within, section_within, decl_layer, decl_within, tree_within}
 use Rattle.law_spelling_names.specs.Laws.{ReadingsAreWithin}
-
-both_true : (a b : Bool) → a ≡ true → b ≡ true → a && b ≡ true
-both_true true b e f = f
-both_true false b e f = e
+use Rattle.law_lists.proofs.Lists.{all_both, all_from, both_true}
 
 -- ---- folds of what the grammar makes
 
@@ -97,17 +94,9 @@ all_of : {A : Type 0} (f : A → Within) (k : ℕ) (xs : List A) → All f k xs 
 all_of f k [] h = refl
 all_of f k (x ∷ xs) h = both_true (f x k) (all_within (map f xs) k) h.0 (all_of f k xs h.1)
 
-all_join : {A : Type 0} (P : A → Type 0) (xs ys : List A) → AllByRecursion P xs → AllByRecursion P ys → AllByRecursion P (xs ++ ys)
-all_join P [] ys h k = k
-all_join P (x ∷ xs) ys h k = (h.0, all_join P xs ys h.1 k)
-
 all_joined : {A : Type 0} (P : A → Type 0) (xss : List (List A)) → AllByRecursion (λ xs. AllByRecursion P xs) xss → AllByRecursion P (joined xss)
 all_joined P [] h = tt
-all_joined P (xs ∷ xss) h = all_join P xs (joined xss) h.0 (all_joined P xss h.1)
-
-mapped : {A : Type 0} (P Q : A → Type 0) → ((x : A) → P x → Q x) → (xs : List A) → AllByRecursion P xs → AllByRecursion Q xs
-mapped P Q f [] h = tt
-mapped P Q f (x ∷ xs) h = (f x h.0, mapped P Q f xs h.1)
+all_joined P (xs ∷ xss) h = all_both P xs (joined xss) h.0 (all_joined P xss h.1)
 
 -- ---- phrases, with so many levels for what is nested
 
@@ -229,9 +218,9 @@ module _ (k : ℕ) where
       subst IsDecl h.1 (forward_is y.1 k ∙ both_true (is_short y.1.name.ident.name) (parameters_within y.1.parameters k) e.0 e.1)
 
   block_ok : (ds : List Decl) → H block ds → All decl_within k ds
-  block_ok ds (inl h) = subst (All decl_within k) h.1 (mapped (λ x. H constant x) IsDecl constant_ok h.0.1 h.2.1)
-  block_ok ds (inr (inl h)) = subst (All decl_within k) h.1 (mapped (λ x. H named_type x) IsDecl named_type_ok h.0.1 h.2.1)
-  block_ok ds (inr (inr h)) = subst (All decl_within k) h.1 (mapped (λ x. H variables x) IsDecl variables_ok h.0.1 h.2.1)
+  block_ok ds (inl h) = subst (All decl_within k) h.1 (all_from (λ x. H constant x) IsDecl constant_ok h.0.1 h.2.1)
+  block_ok ds (inr (inl h)) = subst (All decl_within k) h.1 (all_from (λ x. H named_type x) IsDecl named_type_ok h.0.1 h.2.1)
+  block_ok ds (inr (inr h)) = subst (All decl_within k) h.1 (all_from (λ x. H variables x) IsDecl variables_ok h.0.1 h.2.1)
 
   item_ok : (x : Decl) → H procedure_item x → IsDecl x
   item_ok x h = subst IsDecl h.1 (go h.0.0 h.2.0)
@@ -244,8 +233,8 @@ module _ (k : ℕ) where
   declarations_ok ds h =
       let y = h.0 in
       let b = h.2.0 in
-      let first : All decl_within k y.0 = subst (All decl_within k) b.1 (all_joined IsDecl b.0 (mapped (λ ds. H block ds) (λ ds. All decl_within k ds) block_ok b.0 b.2)) in
-      subst (All decl_within k) h.1 (all_join IsDecl y.0 y.1 first (mapped (λ x. H procedure_item x) IsDecl item_ok y.1 h.2.1))
+      let first : All decl_within k y.0 = subst (All decl_within k) b.1 (all_joined IsDecl b.0 (all_from (λ ds. H block ds) (λ ds. All decl_within k ds) block_ok b.0 b.2)) in
+      subst (All decl_within k) h.1 (all_both IsDecl y.0 y.1 first (all_from (λ x. H procedure_item x) IsDecl item_ok y.1 h.2.1))
 
   procedure_ok : (x : Decl) → H procedure x → decl_within x (suc k) ≡ true
   procedure_ok x h =

@@ -29,7 +29,7 @@ use Rattle.ob_rules.specs.Phrases.{Phrase}
 use Rattle.ob_rules.specs.Shapes.{is_structured, is_pointer, same_name, record_at, record_of, pointed, record_if}
 use Rattle.ob_rules.specs.Depth.{is_within}
 use Rattle.ob_rules.specs.Types.{Typing, Written, typed_as, with_types, base_name, element_name, field_name, section_name, named_typing, array_length, fixed_array, array, first_of, names_behind, WrittenFields, first_name, Fields, fields_of, with_fields, field_lists, record_with, record_desc, pointer_to, base_judged, pointer_base, pointer_by, later_if, later_by, is_later, Parameters, WrittenSection, WrittenParameters, mode_of, parameter_as, knows, declare_all, parameters_of, with_made, sections, result_of, parameters_in, inner, procedure_type, array_node, record_node, pointer_node, procedure_node, base_if, node_rule, fields_rule, parameters_rule, section_rule, written, written_parameters, nothing, is_module_level, marked}
-use Rattle.law_methods_described.proofs.Nodes.{IfThere, Has, all_both, then_has, both_have, first_has, second_has, also_has, unless_has}
+use Rattle.law_methods_described.proofs.Nodes.{Has, then_has, both_have, first_has, second_has, also_has, unless_has}
 use Rattle.law_names_distinct.proofs.Typings.{names_of}
 use Rattle.law_spelling_names.specs.Nested.{is_short, first_short, Within, all_within, level, in_node, node_layer, fields_layer, parameters_layer, section_layer, type_within, fields_within, parameters_within, section_within, decl_layer, decl_within}
 use Rattle.law_spelling_names.specs.Seen.{named_in, IsSeen, ShortRef, ShortDesc, AreOthers}
@@ -58,20 +58,9 @@ use Rattle.ob_types.specs.Tests.{target, target_of, follow, shape_at, pointer_of
 use Rattle.ob_rules.specs.Statements.{Judging, judging, in_turn}
 use Rattle.ob_rules.specs.Headings.{BoundAs, received_record, is_own, if_own, own_record, bound_to, owner_of, owner_if, knows_receiver, WrittenHeading, heading_of, Head, path_by, forward_name, as_parameters, heading_parameters, head_of, entity_as, head_entity, declared_head, knows_procedure, known_behind, Heads, name_twice, types_of, add_heading, reversed, mark_or_hidden}
 use Rattle.ob_rules.specs.Declarations.{Contents, no_contents, together, Declared, declare_if, declare, constant_contents, constant_entity, no_nil, constant_declared, equated, typing_as, types_made, type_entity, type_declared, variable_entity, variable_contents, paired_typing, first_name as first_declared, variables_with, made_in, variables_declared, Written_procedure, Declaration, Plain, Procedure, plain_of, procedure_of, type_name_of, in_order, headings_in_order, around_body, types_of_head, procedure_judged, procedures_judged, stmts_in, block_inside, with_bound, binding_at, block_declared, block, procedure_declaration, decl_rule, declaration, import_entity, import_declared, target_of as target_in_import, is_system, imports_declared, around_module, module_of}
+use Rattle.law_lists.proofs.Lists.{IfThere, all_back, all_both, all_from, all_front}
 
 -- ---- lists
-
-pub all_left : {A : Type 0} (P : A → Type 0) (xs ys : List A) → AllByRecursion P (xs ++ ys) → AllByRecursion P xs
-all_left P [] ys h = tt
-all_left P (x ∷ xs) ys h = (h.0, all_left P xs ys h.1)
-
-pub all_right : {A : Type 0} (P : A → Type 0) (xs ys : List A) → AllByRecursion P (xs ++ ys) → AllByRecursion P ys
-all_right P [] ys h = h
-all_right P (x ∷ xs) ys h = all_right P xs ys h.1
-
-pub all_from : {A : Type 0} (P Q : A → Type 0) → ((x : A) → P x → Q x) → (xs : List A) → AllByRecursion P xs → AllByRecursion Q xs
-all_from P Q f [] h = tt
-all_from P Q f (x ∷ xs) h = (f x h.0, all_from P Q f xs h.1)
 
 pub there_more : {A : Type 0} (P Q : A → Type 0) (o : Option A) → ((x : A) → P x → Q x) → IfThere P o → IfThere Q o
 there_more P Q None f h = tt
@@ -133,7 +122,7 @@ module _ (types : QName → Option Desc) (unit : List ℕ) (shown : QName → Op
 
   pub made_both : (P : List ℕ) (b : ℕ) (ts us : List TypedType) → Made P b ts → Made P b us → Made P b (ts ++ us)
   made_both P b ts us g h = record {
-    short = λ s. all_both (λ t. length t.name ≤ b) ts us (g.short (all_left (λ t. IsSeen types unit t) ts us s)) (h.short (all_right (λ t. IsSeen types unit t) ts us s));
+    short = λ s. all_both (λ t. length t.name ≤ b) ts us (g.short (all_front (λ t. IsSeen types unit t) ts us s)) (h.short (all_back (λ t. IsSeen types unit t) ts us s));
     refs = λ p. all_both (λ t. ShortDesc unit (length t.name) t.desc) ts us (g.refs p) (h.refs p);
   }
 
@@ -820,7 +809,7 @@ module _ (types : QName → Option Desc) (unit : List ℕ) (shown : QName → Op
   IsShortPart b c = AreSeen c.types → AreShort b c.types
 
   part_both : (b : ℕ) (x y : Contents) → IsShortPart b x → IsShortPart b y → IsShortPart b (together x y)
-  part_both b x y g h s = all_both (λ t. length t.name ≤ b) x.types y.types (g (all_left (λ t. IsSeen types unit t) x.types y.types s)) (h (all_right (λ t. IsSeen types unit t) x.types y.types s))
+  part_both b x y g h s = all_both (λ t. length t.name ≤ b) x.types y.types (g (all_front (λ t. IsSeen types unit t) x.types y.types s)) (h (all_back (λ t. IsSeen types unit t) x.types y.types s))
 
   part_none : (b : ℕ) → IsShortPart b no_contents
   part_none b s = tt
@@ -981,8 +970,8 @@ module _ (types : QName → Option Desc) (unit : List ℕ) (shown : QName → Op
       let e = length-append h.path (47 ∷ []) in
       let few = k.path in
       all_both (λ t. length t.name ≤ b) (types_of_head h.parameters) c.types
-      (head_types P b h.parameters k.parameters (all_left (λ t. IsSeen types unit t) (types_of_head h.parameters) c.types s))
-      (g.inside (h.path ++ codes "/") (around_body u h) (body_around u f h) (length P) (omega (arith, e, few)) (all_right (λ t. IsSeen types unit t) (types_of_head h.parameters) c.types s))
+      (head_types P b h.parameters k.parameters (all_front (λ t. IsSeen types unit t) (types_of_head h.parameters) c.types s))
+      (g.inside (h.path ++ codes "/") (around_body u h) (body_around u f h) (length P) (omega (arith, e, few)) (all_back (λ t. IsSeen types unit t) (types_of_head h.parameters) c.types s))
 
   procedures_good : (P : List ℕ) (d : ℕ) (u : Around) → IsOfModule u → (ps : List Written_procedure) → AreProcedures d ps → (hs : List Head) → AreHeads P d hs → IsShortPart (most (length P) d) (procedures_judged u ps hs).contents
   procedures_good P d u f [] g hs k = part_none (most (length P) d)

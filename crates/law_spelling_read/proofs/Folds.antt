@@ -1,5 +1,5 @@
 -- Whether strings are of characters, of each tree that the grammar makes.
-use Rattle.std.proofs.Common.{◌≡◌, ℕ, Bool, true, false, List, [], ◌∷◌, ◌++◌, map, Option, Some, None, refl, sym, ap, ◌∙◌}
+use Rattle.std.proofs.Common.{◌≡◌, ℕ, Bool, true, List, [], ◌∷◌, map, Option, Some, None, refl, sym, ap, ◌∙◌}
 use Rattle.std.specs.Prelude.{◌&&◌}
 use Rattle.std.specs.List.{AllByRecursion}
 use Rattle.ob_tree.specs.declared.token.Token.{Token}
@@ -43,10 +43,7 @@ use Rattle.ob_parse_grammar.specs.Expressions.{joined}
 use Rattle.law_typing.specs.Spelled.{all_true, are_bytes, expr_layer, selector_layer, designator_layer, element_layer, tail_layer, is_spelled, designator_spelled, element_spelled, tail_spelled, selector_spelled}
 use Rattle.law_typing.specs.Bodies.{spelled_if, stmt_layer, branch_layer, case_layer, guarded_layer, stmt_spelled, branch_spelled, case_spelled, guarded_spelled}
 use Rattle.law_body_context.specs.Spelled.{node_layer, fields_layer, parameters_layer, section_layer, type_spelled, fields_spelled, parameters_spelled, section_spelled, decl_layer, decl_spelled}
-
-pub both_true : (a b : Bool) → a ≡ true → b ≡ true → a && b ≡ true
-both_true true b i f = f
-both_true false b i f = i
+use Rattle.law_lists.proofs.Lists.{all_both, both_true}
 
 -- ---- folds of what the grammar makes: expressions
 
@@ -212,14 +209,6 @@ pub all_of : {A : Type 0} (f : A → Bool) (xs : List A) → All f xs → all_tr
 all_of f [] h = refl
 all_of f (x ∷ xs) h = both_true (f x) (all_true (map f xs)) h.0 (all_of f xs h.1)
 
-pub all_join : {A : Type 0} (P : A → Type 0) (xs ys : List A) → AllByRecursion P xs → AllByRecursion P ys → AllByRecursion P (xs ++ ys)
-all_join P [] ys h k = k
-all_join P (x ∷ xs) ys h k = (h.0, all_join P xs ys h.1 k)
-
 pub all_joined : {A : Type 0} (P : A → Type 0) (xss : List (List A)) → AllByRecursion (λ xs. AllByRecursion P xs) xss → AllByRecursion P (joined xss)
 all_joined P [] h = tt
-all_joined P (xs ∷ xss) h = all_join P xs (joined xss) h.0 (all_joined P xss h.1)
-
-pub mapped : {A : Type 0} (P Q : A → Type 0) → ((x : A) → P x → Q x) → (xs : List A) → AllByRecursion P xs → AllByRecursion Q xs
-mapped P Q f [] h = tt
-mapped P Q f (x ∷ xs) h = (f x h.0, mapped P Q f xs h.1)
+all_joined P (xs ∷ xss) h = all_both P xs (joined xss) h.0 (all_joined P xss h.1)

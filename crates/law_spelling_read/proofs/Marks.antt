@@ -15,6 +15,7 @@ use Rattle.ob_parse_grammar.specs.Phrase.{Tokens, same}
 use Rattle.ob_parse_grammar.specs.Expressions.{between_marks}
 use Rattle.ob_parse_grammar.specs.Texts.{listed, tokens_in}
 use Rattle.law_typing.specs.Spelled.{are_bytes}
+use Rattle.law_lists.proofs.Lists.{both_true}
 
 -- whether a symbol is that of a string
 abbrev pub is_str : Option Symbol → Bool
@@ -130,10 +131,6 @@ no_word t =
     end_word t)))))))))
 
 -- ---- characters
-
-both_true : (a b : Bool) → a ≡ true → b ≡ true → (a && b) ≡ true
-both_true true b e f = f
-both_true false b e f = e
 
 plain_low : (q b : ℕ) → is_plain q b ≡ true → nat_lt b 256 ≡ true
 plain_low q b e =

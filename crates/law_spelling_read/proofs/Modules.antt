@@ -19,10 +19,11 @@ use Rattle.ob_parse_grammar.specs.Texts.{tokens_of}
 use Rattle.ob_parse_grammar.specs.TextReading.{NoModule, fault_of, parsed, by_fault, reading}
 use Rattle.law_typing.specs.Spelled.{all_true}
 use Rattle.law_spelling_read.specs.Placed.{are_rising, places_of, decl_placed, tree_placed, PlacesRise}
-use Rattle.law_spelling_read.proofs.Order.{Before, Rise, rise_left, rise_right, Among, among_rising, both_true}
+use Rattle.law_spelling_read.proofs.Order.{Before, Rise, rise_left, rise_right, Among, among_rising}
 use Rattle.law_spelling_read.proofs.Scanned.{behind_it, tokens_rise}
 use Rattle.law_spelling_read.proofs.Parts.{empty_is, constant_is, type_is, variables_are, procedure_is, forward_is, exchanged}
 use Rattle.law_spelling_read.proofs.Sequences.{origin, Inside, Spelled, in_right, statements_among}
+use Rattle.law_lists.proofs.Lists.{both_true}
 
 -- ---- lists
 

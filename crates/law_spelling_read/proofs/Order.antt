@@ -1,11 +1,12 @@
 -- Places in their order, and places among those of tokens.
 use Rattle.std.proofs.Common.{◌≡◌, ◌⊎◌, inl, inr, ℕ, ◌<◌, ◌≤◌, Bool, true, false, List, [], ◌∷◌, ◌++◌, refl, sym, subst, ◌∙◌, arith}
-use Rattle.std.specs.Prelude.{◌+◌, ◌&&◌, ◌||◌, nat_lt, nat_eq}
+use Rattle.std.specs.Prelude.{◌+◌, ◌||◌, nat_lt, nat_eq}
 use Rattle.std.proofs.lemmas.Bool.{false≢true}
 use Rattle.std.proofs.lemmas.Bool.Decides.{nat_tests}
 use Rattle.ob_tree.specs.declared.pos.Pos.{Pos}
 use Rattle.ob_parse_grammar.specs.Phrase.{Tokens}
 use Rattle.law_spelling_read.specs.Placed.{is_before, rise_behind, are_rising}
+use Rattle.law_lists.proofs.Lists.{both_true, less_true}
 
 abbrev pub Before : Pos → Pos → Type 0
 Before p q = (p.line < q.line) ⊎ ((p.line ≡ q.line) × (p.col < q.col))
@@ -106,10 +107,6 @@ among_rise p (q ∷ qs) [] r h = absurd h
 among_rise p (q ∷ qs) (t ∷ ts) r (inl h) = (subst (λ (x : Pos). Before p x) h.0 r.0, subst (λ (x : Pos). PlacesRise x qs) h.0 (among_rise t.pos qs ts r.1 h.1))
 among_rise p (q ∷ qs) (t ∷ ts) r (inr h) = among_rise p (q ∷ qs) ts (rise_back p t.pos ts r.0 r.1) h
 
-pub both_true : (a b : Bool) → a ≡ true → b ≡ true → a && b ≡ true
-both_true true b e f = f
-both_true false b e f = e
-
 left_true : (a b : Bool) → a ≡ true → a || b ≡ true
 left_true true b e = refl
 left_true false b e = absurd (false≢true e)
@@ -117,9 +114,6 @@ left_true false b e = absurd (false≢true e)
 right_true : (a b : Bool) → b ≡ true → a || b ≡ true
 right_true true b e = refl
 right_true false b e = e
-
-less_true : (a b : ℕ) → a < b → nat_lt a b ≡ true
-less_true a b h = grind (arith, h)
 
 same_true : (a b : ℕ) → a ≡ b → nat_eq a b ≡ true
 same_true a b h = subst (λ x. nat_eq a x ≡ true) h (itself a)

@@ -36,12 +36,13 @@ use Rattle.ob_parse_grammar.specs.Texts.{tokens_of}
 use Rattle.ob_parse_grammar.specs.TextReading.{NoModule, fault_of, parsed, by_fault, reading}
 use Rattle.law_spelling.proofs.Phrases.{Holds, holds}
 use Rattle.law_typing.specs.Spelled.{all_true}
-use Rattle.law_spelling_read.proofs.Folds.{both_true, All, all_of, all_join, all_joined, mapped}
+use Rattle.law_spelling_read.proofs.Folds.{All, all_of, all_joined}
 use Rattle.law_spelling_read.proofs.Marks.{is_str, tokens_spelled}
 use Rattle.law_spelling_read.specs.ReadPlaces.{pos_fits, text_fits, expr_fits, designator_fits, element_fits, tail_fits, selector_fits, fits_if, name_fits, stmt_fits, branch_fits, case_fits, guarded_fits, decl_fits, tree_fits}
 use Rattle.law_spelling_read.specs.PlacedLaws.{ReadingsArePlaced}
 use Rattle.law_spelling_read.proofs.Tokens.{IsToken, Room, tokens_placed, both_all, string_fits}
 use Rattle.law_spelling_read.proofs.PlacedFolds.{designator_expr, int_is, char_is, str_is, nil_is, set_is, paren_is, not_is, signed_is, chain_is, relate_is, field_is, index_is, deref_is, call_is, designator_is, element_is, tail_is, else_fits, empty_is, call_stmt_is, assign_is, if_is, case_stmt_is, while_is, repeat_is, for_is, loop_is, exit_is, return_is, with_is, branch_is, case_is, guarded_is, constant_is, type_is, variables_are, procedure_decl_is, forward_is}
+use Rattle.law_lists.proofs.Lists.{all_both, all_from, both_true}
 
 -- ---- phrases
 
@@ -111,12 +112,12 @@ further_ok x h = let y = h.0 in subst (λ (x : Selector). selector_fits x ≡ tr
 
 selector_ok : (xs : List Selector) → H ex.selector xs → Selectors xs
 selector_ok xs (inl h) = subst Selectors h.1 (field_is h.0.0.pos h.0.1 ∙ h.2.0.1.1.place, tt)
-selector_ok xs (inr (inl h)) = let y = h.0 in subst Selectors h.1 (index_is y.0.pos y.1.0 ∙ both_true (pos_fits y.0.pos) (expr_fits y.1.0) h.2.0.1.1.place h.2.1.0, mapped (λ x. H ex.further_index x) (λ x. selector_fits x ≡ true) further_ok y.1.1.0 h.2.1.1.0)
+selector_ok xs (inr (inl h)) = let y = h.0 in subst Selectors h.1 (index_is y.0.pos y.1.0 ∙ both_true (pos_fits y.0.pos) (expr_fits y.1.0) h.2.0.1.1.place h.2.1.0, all_from (λ x. H ex.further_index x) (λ x. selector_fits x ≡ true) further_ok y.1.1.0 h.2.1.1.0)
 selector_ok xs (inr (inr (inl h))) = subst Selectors h.1 (deref_is h.0.pos ∙ h.2.1.1.place, tt)
 selector_ok xs (inr (inr (inr h))) = let y = h.0 in subst Selectors h.1 (call_is y.0.pos (list_of y.1.0) ∙ both_true (pos_fits y.0.pos) (all_true (map expr_fits (list_of y.1.0))) h.2.0.1.1.place (all_of expr_fits (list_of y.1.0) (exprs_if y.1.0 h.2.1.0)), tt)
 
 selectors_ok : (xs : List Selector) → H ex.selectors xs → Selectors xs
-selectors_ok xs h = subst Selectors h.1 (all_joined (λ x. selector_fits x ≡ true) h.0 (mapped (λ xs. H ex.selector xs) Selectors selector_ok h.0 h.2))
+selectors_ok xs h = subst Selectors h.1 (all_joined (λ x. selector_fits x ≡ true) h.0 (all_from (λ xs. H ex.selector xs) Selectors selector_ok h.0 h.2))
 
 designator_ok : (n : Designator) → H ex.designator n → designator_fits n ≡ true
 unfolding IsIdent
@@ -186,7 +187,7 @@ mul_ok : (t : Tail) → H ex.mul_tail t → tail_fits t ≡ true
 mul_ok t h = let y = h.0 in subst (λ (t : Tail). tail_fits t ≡ true) h.1 (tail_is y ∙ both_true (pos_fits y.0.pos) (expr_fits y.1) (mul_at y.0 h.2.0) (factor_ok y.1 h.2.1))
 
 term_ok : (x : Expr) → H ex.term x → IsExpr x
-term_ok x h = let y = h.0 in subst IsExpr h.1 (chained y.0 y.1 (factor_ok y.0 h.2.0) (mapped (λ t. H ex.mul_tail t) (λ t. tail_fits t ≡ true) mul_ok y.1 h.2.1))
+term_ok x h = let y = h.0 in subst IsExpr h.1 (chained y.0 y.1 (factor_ok y.0 h.2.0) (all_from (λ t. H ex.mul_tail t) (λ t. tail_fits t ≡ true) mul_ok y.1 h.2.1))
 
 with_sign : (o : Option Token) (a : Expr) → IfSome o (λ t. H ex.sign_symbol t) → IsExpr a → IsExpr (ex.signed_of (o, a))
 with_sign None a k h = h
@@ -199,7 +200,7 @@ add_ok : (t : Tail) → H ex.add_tail t → tail_fits t ≡ true
 add_ok t h = let y = h.0 in subst (λ (t : Tail). tail_fits t ≡ true) h.1 (tail_is y ∙ both_true (pos_fits y.0.pos) (expr_fits y.1) (add_at y.0 h.2.0) (term_ok y.1 h.2.1))
 
 simple_ok : (x : Expr) → H ex.simple x → IsExpr x
-simple_ok x h = let y = h.0 in subst IsExpr h.1 (chained y.0 y.1 (signed_ok y.0 h.2.0) (mapped (λ t. H ex.add_tail t) (λ t. tail_fits t ≡ true) add_ok y.1 h.2.1))
+simple_ok x h = let y = h.0 in subst IsExpr h.1 (chained y.0 y.1 (signed_ok y.0 h.2.0) (all_from (λ t. H ex.add_tail t) (λ t. tail_fits t ≡ true) add_ok y.1 h.2.1))
 
 related : (a : Expr) (o : Option (Token × Expr)) → IsExpr a → IfSome o (λ p. At p.0 × IsExpr p.1) → IsExpr (ex.related_of (a, o))
 related a None h k = h
@@ -357,9 +358,9 @@ abbrev Decls : List Decl → Type 0
 Decls ds = All decl_fits ds
 
 block_ok : (ds : List Decl) → H de.block ds → Decls ds
-block_ok ds (inl h) = subst Decls h.1 (mapped (λ x. H de.constant x) IsDecl constant_ok h.0.1 h.2.1)
-block_ok ds (inr (inl h)) = subst Decls h.1 (mapped (λ x. H de.named_type x) IsDecl named_type_ok h.0.1 h.2.1)
-block_ok ds (inr (inr h)) = subst Decls h.1 (mapped (λ x. H de.variables x) IsDecl variables_ok h.0.1 h.2.1)
+block_ok ds (inl h) = subst Decls h.1 (all_from (λ x. H de.constant x) IsDecl constant_ok h.0.1 h.2.1)
+block_ok ds (inr (inl h)) = subst Decls h.1 (all_from (λ x. H de.named_type x) IsDecl named_type_ok h.0.1 h.2.1)
+block_ok ds (inr (inr h)) = subst Decls h.1 (all_from (λ x. H de.variables x) IsDecl variables_ok h.0.1 h.2.1)
 
 item_ok : (x : Decl) → H de.procedure_item x → IsDecl x
 item_ok x h = subst IsDecl h.1 (go h.0.0 h.2.0)
@@ -372,8 +373,8 @@ declarations_ok : (ds : List Decl) → H de.declarations ds → Decls ds
 declarations_ok ds h =
     let y = h.0 in
     let b = h.2.0 in
-    let first : Decls y.0 = subst Decls b.1 (all_joined IsDecl b.0 (mapped (λ ds. H de.block ds) Decls block_ok b.0 b.2)) in
-    subst Decls h.1 (all_join IsDecl y.0 y.1 first (mapped (λ x. H de.procedure_item x) IsDecl item_ok y.1 h.2.1))
+    let first : Decls y.0 = subst Decls b.1 (all_joined IsDecl b.0 (all_from (λ ds. H de.block ds) Decls block_ok b.0 b.2)) in
+    subst Decls h.1 (all_both IsDecl y.0 y.1 first (all_from (λ x. H de.procedure_item x) IsDecl item_ok y.1 h.2.1))
 
 body_ok : (ss : List Stmt) → H de.body ss → All stmt_fits ss
 body_ok ss h = subst (All stmt_fits) h.1 (go h.0 h.2)

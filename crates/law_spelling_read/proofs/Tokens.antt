@@ -14,9 +14,9 @@ use Rattle.ob_scan.specs.Scanning.{Input, next_pos, further, Gap, Behind, Unfini
 use Rattle.ob_parse_grammar.specs.Phrase.{Tokens, same}
 use Rattle.ob_parse_grammar.specs.Expressions.{between_marks}
 use Rattle.ob_parse_grammar.specs.Texts.{listed, tokens_in}
-use Rattle.law_spelling_read.proofs.Folds.{both_true}
 use Rattle.law_spelling_read.proofs.Marks.{is_str, IsSpelledToken}
 use Rattle.law_spelling_read.specs.ReadPlaces.{pos_fits, text_fits}
+use Rattle.law_lists.proofs.Lists.{both_true, less_true}
 
 -- what is left of a text, and where one stands
 pub record Room (p : Pos) (text : Bytes) : Type 0 where
@@ -24,14 +24,11 @@ pub record Room (p : Pos) (text : Bytes) : Type 0 where
   pub col : p.col + length text < 2 ^ 32
   pub few : length text < 2 ^ 30
 
-below : (n limit : ℕ) → n < limit → nat_lt n limit ≡ true
-below n limit h = grind (arith, h)
-
 pos_ok : (p : Pos) (text : Bytes) → Room p text → pos_fits p ≡ true
 pos_ok p text r =
     let a : p.line < 2 ^ 32 = omega (arith, r.line) in
     let b : p.col < 2 ^ 32 = omega (arith, r.col) in
-    both_true (nat_lt p.line (2 ^ 32)) (nat_lt p.col (2 ^ 32)) (below p.line (2 ^ 32) a) (below p.col (2 ^ 32) b)
+    both_true (nat_lt p.line (2 ^ 32)) (nat_lt p.col (2 ^ 32)) (less_true p.line (2 ^ 32) a) (less_true p.col (2 ^ 32) b)
 
 next_room : (p : Pos) (b : ℕ) (bs : Bytes) → Room p (b ∷ bs) → Room (next_pos p b) bs
 next_room p b bs r = go (b == 10)
@@ -149,4 +146,4 @@ string_fits t h e =
     let a = length-take (length t.text.now - 2) (drop 1 t.text.now) in
     let b = length-drop 1 t.text.now in
     let n : suc (length (between_marks t.text.now)) < 2 ^ 31 = omega (arith, a, b, h.1.few) in
-    both_true _ (nat_lt (suc (length (between_marks t.text.now))) (2 ^ 31)) (h.0 e) (below _ (2 ^ 31) n)
+    both_true _ (nat_lt (suc (length (between_marks t.text.now))) (2 ^ 31)) (h.0 e) (less_true _ (2 ^ 31) n)

@@ -38,9 +38,10 @@ use Rattle.ob_rules.specs.Phrases.{Phrase, record_receiver, receiver_place}
 use Rattle.ob_rules.specs.Calls.{actual_of, unless_guarded, unless_read_only, variable_actual, meant_actual, var_actual, tree_for, value_actual, actual, actuals, misplaced, called_with, called, call_procedure, call_variable, out_signature, call_out, bound_callee, receiver_actual, nearest_sound, where_from, call_bound_sound, call_bound, takes_value}
 use Rattle.law_spelling.specs.Coded.{PosFits}
 use Rattle.law_spelling_stmts.specs.Fits.{PassedFits, ExprFits, ActualsFit}
-use Rattle.law_spelling_stmts.proofs.Setting.{Setting, E, PlaceOk, NodeOk, ValuedOk, ChosenOk, MeantOk, Anything, Keeps, any_keeps, then_keeps, both_keep, wants_keeps, wants_so, also_keeps, named_e, node_e, named_d, tree_ok}
+use Rattle.law_spelling_stmts.proofs.Setting.{Setting, E, PlaceOk, NodeOk, ValuedOk, ChosenOk, MeantOk, Keeps, any_keeps, then_keeps, both_keep, wants_keeps, wants_so, also_keeps, named_e, node_e, named_d, tree_ok}
 use Rattle.law_spelling_stmts.proofs.Rooms.{value_room}
 use Rattle.law_spelling_stmts.proofs.Values.{text_tree_ok}
+use Rattle.law_lists.proofs.Lists.{Anything}
 
 -- a phrase fits, whatever stands around
 abbrev pub MeantKeeps : Setting → Option (Around → Judged Meant) → Type 0

@@ -41,9 +41,10 @@ use Rattle.ob_tree.specs.declared.ident.Mark.TheVariants as mark
 use Rattle.ob_types.specs.declared.desc.Desc.TheVariants as desc
 use Rattle.ob_rules.specs.declared.entity.Known.{Known}
 use Rattle.law_spelling.specs.Coded.{PosFits}
-use Rattle.law_spelling_stmts.proofs.Setting.{EntityOk, Setting, PlaceOk, ValuedOk, ChosenOk, MeantOk, IfThere, Anything, Keeps, any_keeps, then_keeps, made_keeps, wants_keeps, named_d, tree_ok, find_has}
+use Rattle.law_spelling_stmts.proofs.Setting.{EntityOk, Setting, PlaceOk, ValuedOk, ChosenOk, MeantOk, Keeps, any_keeps, then_keeps, made_keeps, wants_keeps, named_d, tree_ok, find_has}
 use Rattle.law_spelling_stmts.proofs.Calls.{PhraseOk, ArePhrases, call_procedure_keeps, call_variable_keeps, call_out_keeps, call_bound_keeps}
 use Rattle.law_spelling_stmts.proofs.Functions.{predeclared_keeps}
+use Rattle.law_lists.proofs.Lists.{Anything, IfThere}
 
 -- ---- variables and guards
 

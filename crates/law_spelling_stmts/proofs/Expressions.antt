@@ -40,16 +40,16 @@ use Rattle.ob_rules.specs.Expressions.{procedure_value, value_meant, Named, mean
 use Rattle.std.proofs.lemmas.Bool.Decides.{nat_tests}
 use Rattle.ob_types.specs.declared.value.Value.TheVariants as literal
 use Rattle.ob_rules.specs.Constants.{text_value}
-use Rattle.law_simulation_relation.proofs.Names.{and_both}
 use Rattle.law_typing.specs.Known.{ConstantIs}
 use Rattle.law_typing.specs.Spelled.{all_true}
 use Rattle.law_spelling.specs.Coded.{PosFits}
 use Rattle.law_spelling_read.specs.ReadPlaces.{pos_fits, text_fits, expr_layer, selector_layer, designator_layer, element_layer, tail_layer, expr_fits, designator_fits, element_fits, tail_fits, selector_fits}
-use Rattle.law_spelling_stmts.proofs.Setting.{Con, less, Setting, PlaceOk, ValuedOk, MeantOk, IfThere, Anything, Keeps, any_keeps, then_keeps, both_keep, made_keeps, each_keep, wants_so, wants_keeps, also_keeps, found_keeps, node_e, tree_ok}
+use Rattle.law_spelling_stmts.proofs.Setting.{Con, Setting, PlaceOk, ValuedOk, MeantOk, Keeps, any_keeps, then_keeps, both_keep, made_keeps, each_keep, wants_so, wants_keeps, also_keeps, found_keeps, node_e, tree_ok}
 use Rattle.law_spelling_stmts.proofs.Folding.{text_con}
 use Rattle.law_spelling_stmts.proofs.Values.{combined_keeps, opposite_keeps, signed_keeps, related_keeps, ElementOk, element_keeps, set_keeps}
 use Rattle.law_spelling_stmts.proofs.Calls.{PhraseOk, ArePhrases}
 use Rattle.law_spelling_stmts.proofs.Designators.{BehindOk, designates_keeps}
+use Rattle.law_lists.proofs.Lists.{Anything, IfThere, and_parts, less}
 
 -- ---- designators
 
@@ -174,7 +174,7 @@ constant_keeps k u s p g = constant_if_keeps k p.start (p.value u).node (is_quie
 -- ---- by induction
 
 pub pos_ok : (at : Pos) → pos_fits at ≡ true → PosFits at
-pos_ok at e = let p = and_both (nat_lt at.line (2 ^ 32)) (nat_lt at.col (2 ^ 32)) e in (less at.line (2 ^ 32) p.0, less at.col (2 ^ 32) p.1)
+pos_ok at e = let p = and_parts (nat_lt at.line (2 ^ 32)) (nat_lt at.col (2 ^ 32)) e in (less at.line (2 ^ 32) p.0, less at.col (2 ^ 32) p.1)
 
 number_long : (n : ℕ) → nat_le n 2147483647 ≡ true → ConstantIs (literal.Int (pos n))
 number_long n e = grind (arith, nat_tests)
@@ -221,19 +221,19 @@ module _ (k : Setting) where
 
   phrases_are : (xs : List SX) → all_true (map expr_fits (exprs_in xs)) ≡ true → ArePhrases k (map phrase_of (exprs_in xs))
   phrases_are [] e = tt
-  phrases_are (x ∷ xs) e = let p = and_both (expr_fits x.0) (all_true (map expr_fits (exprs_in xs))) e in (x.1 p.0, phrases_are xs p.1)
+  phrases_are (x ∷ xs) e = let p = and_parts (expr_fits x.0) (all_true (map expr_fits (exprs_in xs))) e in (x.1 p.0, phrases_are xs p.1)
 
   selectors_are : (xs : List SB) → all_true (map selector_fits (map (λ (x : SB). x.0) xs)) ≡ true → AllByRecursion (BehindOk k) (map behind_of (map (λ (x : SB). x.0) xs))
   selectors_are [] e = tt
-  selectors_are (x ∷ xs) e = let p = and_both (selector_fits x.0) (all_true (map selector_fits (map (λ (x : SB). x.0) xs))) e in (x.1 p.0, selectors_are xs p.1)
+  selectors_are (x ∷ xs) e = let p = and_parts (selector_fits x.0) (all_true (map selector_fits (map (λ (x : SB). x.0) xs))) e in (x.1 p.0, selectors_are xs p.1)
 
   ranges_are : (xs : List SR) → all_true (map element_fits (map (λ (x : SR). x.0) xs)) ≡ true → AllByRecursion (RangedOk k) (map ranged_of (map (λ (x : SR). x.0) xs))
   ranges_are [] e = tt
-  ranges_are (x ∷ xs) e = let p = and_both (element_fits x.0) (all_true (map element_fits (map (λ (x : SR). x.0) xs))) e in (x.1 p.0, ranges_are xs p.1)
+  ranges_are (x ∷ xs) e = let p = and_parts (element_fits x.0) (all_true (map element_fits (map (λ (x : SR). x.0) xs))) e in (x.1 p.0, ranges_are xs p.1)
 
   tails_are : (xs : List ST) → all_true (map tail_fits (map (λ (x : ST). x.0) xs)) ≡ true → AllByRecursion (TailOk k) (map tailed_of (map (λ (x : ST). x.0) xs))
   tails_are [] e = tt
-  tails_are (x ∷ xs) e = let p = and_both (tail_fits x.0) (all_true (map tail_fits (map (λ (x : ST). x.0) xs))) e in (x.1 p.0, tails_are xs p.1)
+  tails_are (x ∷ xs) e = let p = and_parts (tail_fits x.0) (all_true (map tail_fits (map (λ (x : ST). x.0) xs))) e in (x.1 p.0, tails_are xs p.1)
 
   by_layers : (x : Expr-F Expr Selector Designator Element Tail) → (expr_layer (map-Expr Expr Selector Designator Element Tail Bool Bool Bool Bool Bool expr_fits selector_fits designator_fits element_fits tail_fits x) ≡ true → PhraseOk k (expr_rule (map-Expr Expr Selector Designator Element Tail Phrase Behind Named Ranged Tailed phrase_of behind_of named_of ranged_of tailed_of x))) → PX (roll-Expr x)
   by_layers x h e =
@@ -244,18 +244,18 @@ module _ (k : Setting) where
   expr_cases (Expr-F.Designator n) = by_layers (Expr-F.Designator n.0) (λ e. designator_ok k (named_of n.0) (n.1 e))
   expr_cases (Expr-F.Int at text) = by_layers (Expr-F.Int at text) (λ e. plain k at (λ u. integer_literal at (integer_text text)) (pos_ok at e) (λ u s. wants_so (ValuedOk k) (nat_le (integer_text text) 2147483647) 9 at (constant (literal.Int (pos (integer_text text)))) (λ i. (number_long (integer_text text) i, tt))))
   expr_cases (Expr-F.Char at text) = by_layers (Expr-F.Char at text) (λ e. plain k at (λ u. char_literal at (marked 0 text)) (pos_ok at e) (λ u s. wants_so (ValuedOk k) (nat_le (marked 0 text) 255) 9 at (constant (literal.Char (marked 0 text))) (λ i. (code_small (marked 0 text) i, tt))))
-  expr_cases (Expr-F.Str at text) = by_layers (Expr-F.Str at text) (λ e. let p = and_both (pos_fits at) (text_fits text) e in plain k at (λ u. sound (constant (text_value text))) (pos_ok at p.0) (λ u s. text_con text p.1))
+  expr_cases (Expr-F.Str at text) = by_layers (Expr-F.Str at text) (λ e. let p = and_parts (pos_fits at) (text_fits text) e in plain k at (λ u. sound (constant (text_value text))) (pos_ok at p.0) (λ u s. text_con text p.1))
   expr_cases (Expr-F.Nil at) = by_layers (Expr-F.Nil at) (λ e. plain k at (λ u. sound (constant literal.Nil)) (pos_ok at e) (λ u s. (tt, tt)))
   expr_cases (Expr-F.Set at xs) =
       let rs = map ranged_of (map (λ (x : SR). x.0) xs) in
-      by_layers (Expr-F.Set at (map (λ (x : SR). x.0) xs)) (λ e. let p = and_both (pos_fits at) (all_true (map element_fits (map (λ (x : SR). x.0) xs))) e in plain k at (λ u. made set_of (each_sound (map (element_value u) rs))) (pos_ok at p.0) (λ u s. made_keeps (AllByRecursion (ElementOk k)) (ValuedOk k) set_of (each_sound (map (element_value u) rs)) (each_keep (ElementOk k) (map (element_value u) rs) (elements_keep k u s rs (ranges_are xs p.1))) (λ es h. set_keeps k es h)))
-  expr_cases (Expr-F.Paren at x) = by_layers (Expr-F.Paren at x.0) (λ e. let p = and_both (pos_fits at) (expr_fits x.0) e in plain k at (λ u. made bracketed ((phrase_of x.0).value u)) (pos_ok at p.0) (λ u s. made_keeps (ValuedOk k) (ValuedOk k) bracketed ((phrase_of x.0).value u) ((x.1 p.1).value u s) (λ v h. bracket_ok k v h)))
-  expr_cases (Expr-F.Not at x) = by_layers (Expr-F.Not at x.0) (λ e. let p = and_both (pos_fits at) (expr_fits x.0) e in plain k at (λ u. (phrase_of x.0).value u ▷ opposite (map_of u) at) (pos_ok at p.0) (λ u s. then_keeps (ValuedOk k) (ValuedOk k) ((phrase_of x.0).value u) (opposite (map_of u) at) ((x.1 p.1).value u s) (λ v h. opposite_keeps k (map_of u) at (pos_ok at p.0) v h)))
-  expr_cases (Expr-F.Signed o at x) = by_layers (Expr-F.Signed o at x.0) (λ e. let p = and_both (pos_fits at) (expr_fits x.0) e in plain k at (λ u. (phrase_of x.0).value u ▷ signed (map_of u) o at) (pos_ok at p.0) (λ u s. then_keeps (ValuedOk k) (ValuedOk k) ((phrase_of x.0).value u) (signed (map_of u) o at) ((x.1 p.1).value u s) (λ v h. signed_keeps k (map_of u) o at (pos_ok at p.0) v h)))
+      by_layers (Expr-F.Set at (map (λ (x : SR). x.0) xs)) (λ e. let p = and_parts (pos_fits at) (all_true (map element_fits (map (λ (x : SR). x.0) xs))) e in plain k at (λ u. made set_of (each_sound (map (element_value u) rs))) (pos_ok at p.0) (λ u s. made_keeps (AllByRecursion (ElementOk k)) (ValuedOk k) set_of (each_sound (map (element_value u) rs)) (each_keep (ElementOk k) (map (element_value u) rs) (elements_keep k u s rs (ranges_are xs p.1))) (λ es h. set_keeps k es h)))
+  expr_cases (Expr-F.Paren at x) = by_layers (Expr-F.Paren at x.0) (λ e. let p = and_parts (pos_fits at) (expr_fits x.0) e in plain k at (λ u. made bracketed ((phrase_of x.0).value u)) (pos_ok at p.0) (λ u s. made_keeps (ValuedOk k) (ValuedOk k) bracketed ((phrase_of x.0).value u) ((x.1 p.1).value u s) (λ v h. bracket_ok k v h)))
+  expr_cases (Expr-F.Not at x) = by_layers (Expr-F.Not at x.0) (λ e. let p = and_parts (pos_fits at) (expr_fits x.0) e in plain k at (λ u. (phrase_of x.0).value u ▷ opposite (map_of u) at) (pos_ok at p.0) (λ u s. then_keeps (ValuedOk k) (ValuedOk k) ((phrase_of x.0).value u) (opposite (map_of u) at) ((x.1 p.1).value u s) (λ v h. opposite_keeps k (map_of u) at (pos_ok at p.0) v h)))
+  expr_cases (Expr-F.Signed o at x) = by_layers (Expr-F.Signed o at x.0) (λ e. let p = and_parts (pos_fits at) (expr_fits x.0) e in plain k at (λ u. (phrase_of x.0).value u ▷ signed (map_of u) o at) (pos_ok at p.0) (λ u s. then_keeps (ValuedOk k) (ValuedOk k) ((phrase_of x.0).value u) (signed (map_of u) o at) ((x.1 p.1).value u s) (λ v h. signed_keeps k (map_of u) o at (pos_ok at p.0) v h)))
   expr_cases (Expr-F.Chain x ts) =
       let us = map tailed_of (map (λ (x : ST). x.0) ts) in
-      by_layers (Expr-F.Chain x.0 (map (λ (x : ST). x.0) ts)) (λ e. let p = and_both (expr_fits x.0) (all_true (map tail_fits (map (λ (x : ST). x.0) ts))) e in plain k (phrase_of x.0).start (λ u. combine_all u us ((phrase_of x.0).value u)) (x.1 p.0).start (λ u s. combine_keeps k u s us (tails_are ts p.1) ((phrase_of x.0).value u) ((x.1 p.0).value u s)))
-  expr_cases (Expr-F.Relate l o at r) = by_layers (Expr-F.Relate l.0 o at r.0) (λ e. let p = and_both (pos_fits at) (expr_fits l.0 && expr_fits r.0) e in let q = and_both (expr_fits l.0) (expr_fits r.0) p.1 in plain k (phrase_of l.0).start (λ u. relation_of u o at ((phrase_of l.0).value u) (phrase_of r.0)) (l.1 q.0).start (λ u s. relation_keeps k u s o at (pos_ok at p.0) ((phrase_of l.0).value u) (phrase_of r.0) ((l.1 q.0).value u s) (r.1 q.1)))
+      by_layers (Expr-F.Chain x.0 (map (λ (x : ST). x.0) ts)) (λ e. let p = and_parts (expr_fits x.0) (all_true (map tail_fits (map (λ (x : ST). x.0) ts))) e in plain k (phrase_of x.0).start (λ u. combine_all u us ((phrase_of x.0).value u)) (x.1 p.0).start (λ u s. combine_keeps k u s us (tails_are ts p.1) ((phrase_of x.0).value u) ((x.1 p.0).value u s)))
+  expr_cases (Expr-F.Relate l o at r) = by_layers (Expr-F.Relate l.0 o at r.0) (λ e. let p = and_parts (pos_fits at) (expr_fits l.0 && expr_fits r.0) e in let q = and_parts (expr_fits l.0) (expr_fits r.0) p.1 in plain k (phrase_of l.0).start (λ u. relation_of u o at ((phrase_of l.0).value u) (phrase_of r.0)) (l.1 q.0).start (λ u s. relation_keeps k u s o at (pos_ok at p.0) ((phrase_of l.0).value u) (phrase_of r.0) ((l.1 q.0).value u s) (r.1 q.1)))
 
   selector_layers : (x : Selector-F Expr Selector Designator Element Tail) → (selector_layer (map-Selector Expr Selector Designator Element Tail Bool Bool Bool Bool Bool expr_fits selector_fits designator_fits element_fits tail_fits x) ≡ true → BehindOk k (selector_rule (map-Selector Expr Selector Designator Element Tail Phrase Behind Named Ranged Tailed phrase_of behind_of named_of ranged_of tailed_of x))) → PB (roll-Selector x)
   selector_layers x h e =
@@ -264,31 +264,31 @@ module _ (k : Setting) where
 
   selector_cases : (y : Selector-F SX SB SD SR ST) → PB (roll-Selector (map-Selector SX SB SD SR ST Expr Selector Designator Element Tail (λ x. x.0) (λ x. x.0) (λ x. x.0) (λ x. x.0) (λ x. x.0) y))
   selector_cases (Selector-F.Field at x) = selector_layers (Selector-F.Field at x) (λ e. pos_ok at e)
-  selector_cases (Selector-F.Index at i) = selector_layers (Selector-F.Index at i.0) (λ e. let p = and_both (pos_fits at) (expr_fits i.0) e in (pos_ok at p.0, i.1 p.1))
+  selector_cases (Selector-F.Index at i) = selector_layers (Selector-F.Index at i.0) (λ e. let p = and_parts (pos_fits at) (expr_fits i.0) e in (pos_ok at p.0, i.1 p.1))
   selector_cases (Selector-F.Deref at) = selector_layers (Selector-F.Deref at) (λ e. pos_ok at e)
-  selector_cases (Selector-F.Call at xs) = selector_layers (Selector-F.Call at (exprs_in xs)) (λ e. let p = and_both (pos_fits at) (all_true (map expr_fits (exprs_in xs))) e in (pos_ok at p.0, phrases_are xs p.1))
+  selector_cases (Selector-F.Call at xs) = selector_layers (Selector-F.Call at (exprs_in xs)) (λ e. let p = and_parts (pos_fits at) (all_true (map expr_fits (exprs_in xs))) e in (pos_ok at p.0, phrases_are xs p.1))
 
   designator_cases : (y : Designator-F SX SB SD SR ST) → PD (roll-Designator (map-Designator SX SB SD SR ST Expr Selector Designator Element Tail (λ x. x.0) (λ x. x.0) (λ x. x.0) (λ x. x.0) (λ x. x.0) y))
   designator_cases y e =
       let x = map-Designator SX SB SD SR ST Expr Selector Designator Element Tail (λ x. x.0) (λ x. x.0) (λ x. x.0) (λ x. x.0) (λ x. x.0) y in
-      let p = and_both (pos_fits y.ident.pos) (all_true (map selector_fits (map (λ (x : SB). x.0) y.selectors))) (sym (fold-roll-Designator Bool Bool Bool Bool Bool expr_layer selector_layer designator_layer element_layer tail_layer x) ∙ e) in
+      let p = and_parts (pos_fits y.ident.pos) (all_true (map selector_fits (map (λ (x : SB). x.0) y.selectors))) (sym (fold-roll-Designator Bool Bool Bool Bool Bool expr_layer selector_layer designator_layer element_layer tail_layer x) ∙ e) in
       subst (NamedOk k) (sym (fold-roll-Designator Phrase Behind Named Ranged Tailed expr_rule selector_rule designator_rule element_rule tail_rule x))
       (record { at = pos_ok y.ident.pos p.0; behind = selectors_are y.selectors p.1 })
 
   element_by : (low : SX) (high : Option SX) → PR (roll-Element (map-Element SX SB SD SR ST Expr Selector Designator Element Tail (λ x. x.0) (λ x. x.0) (λ x. x.0) (λ x. x.0) (λ x. x.0) (record { low = low; high = high })))
   element_by low None e =
       let x = map-Element SX SB SD SR ST Expr Selector Designator Element Tail (λ x. x.0) (λ x. x.0) (λ x. x.0) (λ x. x.0) (λ x. x.0) (record { low = low; high = None }) in
-      let p = and_both (expr_fits low.0) true (sym (fold-roll-Element Bool Bool Bool Bool Bool expr_layer selector_layer designator_layer element_layer tail_layer x) ∙ e) in
+      let p = and_parts (expr_fits low.0) true (sym (fold-roll-Element Bool Bool Bool Bool Bool expr_layer selector_layer designator_layer element_layer tail_layer x) ∙ e) in
       subst (RangedOk k) (sym (fold-roll-Element Phrase Behind Named Ranged Tailed expr_rule selector_rule designator_rule element_rule tail_rule x)) (record { low = low.1 p.0; high = tt })
   element_by low (Some h) e =
       let x = map-Element SX SB SD SR ST Expr Selector Designator Element Tail (λ x. x.0) (λ x. x.0) (λ x. x.0) (λ x. x.0) (λ x. x.0) (record { low = low; high = Some h }) in
-      let p = and_both (expr_fits low.0) (expr_fits h.0) (sym (fold-roll-Element Bool Bool Bool Bool Bool expr_layer selector_layer designator_layer element_layer tail_layer x) ∙ e) in
+      let p = and_parts (expr_fits low.0) (expr_fits h.0) (sym (fold-roll-Element Bool Bool Bool Bool Bool expr_layer selector_layer designator_layer element_layer tail_layer x) ∙ e) in
       subst (RangedOk k) (sym (fold-roll-Element Phrase Behind Named Ranged Tailed expr_rule selector_rule designator_rule element_rule tail_rule x)) (record { low = low.1 p.0; high = h.1 p.1 })
 
   tail_cases : (y : Tail-F SX SB SD SR ST) → PT (roll-Tail (map-Tail SX SB SD SR ST Expr Selector Designator Element Tail (λ x. x.0) (λ x. x.0) (λ x. x.0) (λ x. x.0) (λ x. x.0) y))
   tail_cases y e =
       let x = map-Tail SX SB SD SR ST Expr Selector Designator Element Tail (λ x. x.0) (λ x. x.0) (λ x. x.0) (λ x. x.0) (λ x. x.0) y in
-      let p = and_both (pos_fits y.pos) (expr_fits y.operand.0) (sym (fold-roll-Tail Bool Bool Bool Bool Bool expr_layer selector_layer designator_layer element_layer tail_layer x) ∙ e) in
+      let p = and_parts (pos_fits y.pos) (expr_fits y.operand.0) (sym (fold-roll-Tail Bool Bool Bool Bool Bool expr_layer selector_layer designator_layer element_layer tail_layer x) ∙ e) in
       subst (TailOk k) (sym (fold-roll-Tail Phrase Behind Named Ranged Tailed expr_rule selector_rule designator_rule element_rule tail_rule x)) (pos_ok y.pos p.0, y.operand.1 p.1)
 
   pub expr_ok : (x : Expr) → PX x

@@ -31,15 +31,14 @@ use Rattle.ob_tree.specs.declared.pos.Pos.{Pos}
 use Rattle.ob_tree.specs.declared.expr.Expr.{Expr}
 use Rattle.ob_tree.specs.declared.stmt.Stmt.{Stmt}
 use Rattle.ob_types.specs.declared.value.Value.TheVariants as literal
-use Rattle.law_links_types.proofs.Typings.{all_front, all_rest}
-use Rattle.law_links_types.proofs.Heads.{front_empty, back_empty, reversed_all, reversed_back, as_many}
-use Rattle.law_simulation_relation.proofs.Names.{and_both}
+use Rattle.law_links_types.proofs.Heads.{reversed_all, reversed_back, as_many}
 use Rattle.law_typing.specs.Spelled.{all_true}
 use Rattle.law_spelling.specs.Coded.{PosFits}
 use Rattle.law_spelling_read.specs.ReadPlaces.{pos_fits, expr_fits, stmt_fits, decl_layer, decl_fits, tree_fits}
-use Rattle.law_spelling_stmts.proofs.Setting.{IfThere, Anything, Keeps, any_keeps, then_keeps, both_keep}
+use Rattle.law_spelling_stmts.proofs.Setting.{Keeps, any_keeps, then_keeps, both_keep}
 use Rattle.law_spelling_stmts.proofs.Expressions.{pos_ok}
-use Rattle.law_spelling_stmts.proofs.Heads.{Level, HasType, Have, FixedIn, AreKnown, Stands, Judges, all_both, HeadOk, IsSettled, AreSettled, IsPlaced, HeadsOk, typed_stands, headings_ok, binding_has}
+use Rattle.law_spelling_stmts.proofs.Heads.{Level, HasType, Have, FixedIn, AreKnown, Stands, Judges, HeadOk, IsSettled, AreSettled, IsPlaced, HeadsOk, typed_stands, headings_ok, binding_has}
+use Rattle.law_lists.proofs.Lists.{Anything, IfThere, all_back, all_both, all_front, and_parts, back_empty, front_empty}
 
 -- ---- what a part adds
 
@@ -133,7 +132,7 @@ order_good : (k : Level) (fs : List (Around → Declared)) → AllByRecursion (G
 order_good k [] g u s h = record { contents = record { procedures = tt; body = tt; bound = tt }; around = s }
 order_good k (f ∷ fs) g u s h =
     let a = g.0 u s (all_front (HasType k) (f u).part.contents.types (in_order fs (f u).around).part.contents.types h) in
-    let b = order_good k fs g.1 (f u).around a.around (all_rest (HasType k) (f u).part.contents.types (in_order fs (f u).around).part.contents.types h) in
+    let b = order_good k fs g.1 (f u).around a.around (all_back (HasType k) (f u).part.contents.types (in_order fs (f u).around).part.contents.types h) in
     record { contents = ok_both k (f u).part.contents (in_order fs (f u).around).part.contents a.contents b.contents; around = b.around }
 
 import_e : (k : Level) (b : Bool) (t : Ident) → FixedIn k (import_entity b t)
@@ -164,7 +163,7 @@ judged_ok k u s p g h e false n t =
     let i = p.inside v in
     let quiet = back_empty (closing_judged h.name p.closing).broken i.notes.broken (back_empty h.notes.broken (joined (closing_judged h.name p.closing) i.notes).broken n) in
     typed_ok k (map_of u) h e.at h.parameters i.contents
-    (g v (record { unit = s.unit; shown = s.shown; own = s.own; known = all_both (λ (n : Known). FixedIn k n.what) h.inside h.known e.inside e.known; in_loop = refl }) quiet (all_rest (HasType k) (types_of_head h.parameters) i.contents.types t))
+    (g v (record { unit = s.unit; shown = s.shown; own = s.own; known = all_both (λ (n : Known). FixedIn k n.what) h.inside h.known e.inside e.known; in_loop = refl }) quiet (all_back (HasType k) (types_of_head h.parameters) i.contents.types t))
 
 procedures_ok : (k : Level) (u : Around) → Stands k u → (ps : List Written_procedure) → AllByRecursion (GoodProcedure k) ps → (hs : List Head) → AllByRecursion (HeadOk k) hs → (procedures_judged u ps hs).notes.broken ≡ [] → Have k (procedures_judged u ps hs).contents.types → ContentsOk k (procedures_judged u ps hs).contents
 procedures_ok k u s [] g hs e n t = record { procedures = tt; body = tt; bound = tt }
@@ -173,7 +172,7 @@ procedures_ok k u s (p ∷ ps) g (h ∷ hs) e n t =
     let a = procedure_judged u p h p.forward in
     let b = procedures_judged u ps hs in
     ok_both k a.contents b.contents (judged_ok k u s p g.0 h e.0 p.forward (front_empty a.notes.broken b.notes.broken n) (all_front (HasType k) a.contents.types b.contents.types t))
-    (procedures_ok k u s ps g.1 hs e.1 (back_empty a.notes.broken b.notes.broken n) (all_rest (HasType k) a.contents.types b.contents.types t))
+    (procedures_ok k u s ps g.1 hs e.1 (back_empty a.notes.broken b.notes.broken n) (all_back (HasType k) a.contents.types b.contents.types t))
 
 -- where nothing is broken, and all types are the module's, each heading is settled
 settled : (k : Level) (u : Around) (p : Written_procedure) (h : Head) (f : Bool) → (procedure_judged u p h f).notes.broken ≡ [] → Have k (procedure_judged u p h f).contents.types → IsSettled k h
@@ -187,7 +186,7 @@ all_settled k u (p ∷ ps) [] l n t = tt
 all_settled k u (p ∷ ps) (h ∷ hs) l n t =
     let a = procedure_judged u p h p.forward in
     let b = procedures_judged u ps hs in
-    (settled k u p h p.forward (front_empty a.notes.broken b.notes.broken n) (all_front (HasType k) a.contents.types b.contents.types t), all_settled k u ps hs (omega (arith, l)) (back_empty a.notes.broken b.notes.broken n) (all_rest (HasType k) a.contents.types b.contents.types t))
+    (settled k u p h p.forward (front_empty a.notes.broken b.notes.broken n) (all_front (HasType k) a.contents.types b.contents.types t), all_settled k u ps hs (omega (arith, l)) (back_empty a.notes.broken b.notes.broken n) (all_back (HasType k) a.contents.types b.contents.types t))
 
 body_ok : (k : Level) (j : Judged (List TypedStmt)) → IfThere (AllByRecursion k.StmtOk) j.node → ContentsOk k (body_part j).contents
 body_ok k j h = record { procedures = tt; body = by j.node h; bound = tt }
@@ -238,7 +237,7 @@ block_ok k judges ds g body j u s n t =
     let front = d.part.notes.broken ++ (pointers_judged hs.around later).broken in
     let two = back_empty m.broken (Q.notes.broken ++ B.notes.broken) (back_empty front (m.broken ++ (Q.notes.broken ++ B.notes.broken)) n) in
     let quiet = front_empty Q.notes.broken B.notes.broken two in
-    let its = all_front (HasType k) Q.contents.types [] (all_rest (HasType k) d.part.contents.types (Q.contents.types ++ []) t) in
+    let its = all_front (HasType k) Q.contents.types [] (all_back (HasType k) d.part.contents.types (Q.contents.types ++ []) t) in
     let o : DeclaredOk k d = order_good k (filter_map plain_of ds) (plains k ds g) v (record { unit = s.unit; shown = s.shown; own = s.own; known = s.known; in_loop = s.in_loop }) (all_front (HasType k) d.part.contents.types (Q.contents.types ++ []) t) in
     let begun : AreSettled k [] → HeadsOk k start = λ i. record { around = o.around; before = tt } in
     let done = reversed_back (IsSettled k) hs.before (all_settled k U ps heads (as_many ps d.around) quiet its) in
@@ -263,7 +262,7 @@ module _ (k : Level) (judges : Judges k) where
 
   all_of : (xs : List SD) → all_true (map decl_fits (decls_in xs)) ≡ true → AreGood k (map declaration (decls_in xs))
   all_of [] e = tt
-  all_of (x ∷ xs) e = let p = and_both (decl_fits x.0) (all_true (map decl_fits (decls_in xs))) e in (x.1 p.0, all_of xs p.1)
+  all_of (x ∷ xs) e = let p = and_parts (decl_fits x.0) (all_true (map decl_fits (decls_in xs))) e in (x.1 p.0, all_of xs p.1)
 
   layer : (x : Decl-F Decl) → (decl_layer (map-Decl Decl Bool decl_fits x) ≡ true → GoodDeclaration k (decl_rule (map-Decl Decl Declaration declaration x))) → PD (roll-Decl x)
   layer x h e = subst (GoodDeclaration k) (sym (fold-roll-Decl Declaration decl_rule x)) (h (sym (fold-roll-Decl Bool decl_layer x) ∙ e))
@@ -273,8 +272,8 @@ module _ (k : Level) (judges : Judges k) where
   decl_cases (Decl-F.NamedType d n) = layer (Decl-F.NamedType d n) (λ e. type_good k d (written n))
   decl_cases (Decl-F.Variables ds n) = layer (Decl-F.Variables ds n) (λ e. λ u s h. typed_good k ds u s _ h)
   decl_cases (Decl-F.Procedure h ds body closing) = layer (Decl-F.Procedure h (decls_in ds) body closing) (λ e.
-      let p = and_both (pos_fits h.name.ident.pos) (all_true (map decl_fits (decls_in ds)) && all_true (map stmt_fits body)) e in
-      let q = and_both (all_true (map decl_fits (decls_in ds))) (all_true (map stmt_fits body)) p.1 in
+      let p = and_parts (pos_fits h.name.ident.pos) (all_true (map decl_fits (decls_in ds)) && all_true (map stmt_fits body)) e in
+      let q = and_parts (all_true (map decl_fits (decls_in ds))) (all_true (map stmt_fits body)) p.1 in
       (pos_ok h.name.ident.pos p.0, λ u s n t. block_ok k judges (map declaration (decls_in ds)) (all_of ds q.0) body q.1 u s n t))
   decl_cases (Decl-F.Forward h) = layer (Decl-F.Forward h) (λ e. (pos_ok h.name.ident.pos e, λ u s n t. record { procedures = tt; body = tt; bound = tt }))
 
@@ -283,7 +282,7 @@ module _ (k : Level) (judges : Judges k) where
 
   decls_good : (xs : List Decl) → all_true (map decl_fits xs) ≡ true → AreGood k (map declaration xs)
   decls_good [] e = tt
-  decls_good (x ∷ xs) e = let p = and_both (decl_fits x) (all_true (map decl_fits xs)) e in (decl_good x p.0, decls_good xs p.1)
+  decls_good (x ∷ xs) e = let p = and_parts (decl_fits x) (all_true (map decl_fits xs)) e in (decl_good x p.0, decls_good xs p.1)
 
 predeclared_known : (k : Level) → AreKnown k predeclared
 predeclared_known k = (tt, (tt, (tt, (tt, (tt, (tt, (k.truths true, (k.truths false, (tt, (tt, (tt, (tt, (tt, (tt, (tt, (tt, (tt, (tt, (tt, (tt, (tt, (tt, (tt, (tt, (tt, (tt, (tt, (tt, (tt, (tt, (tt, tt)))))))))))))))))))))))))))))))
@@ -306,7 +305,7 @@ module _ (shown : QName → Option Desc) (tree : Tree) (placed : tree_fits tree 
       let u = around_module shown unit ds in
       let d = imports_declared tree.imports u in
       let b = block ds (map judging tree.body) d.around in
-      let f = and_both (all_true (map decl_fits tree.decls)) (all_true (map stmt_fits tree.body)) placed in
+      let f = and_parts (all_true (map decl_fits tree.decls)) (all_true (map stmt_fits tree.body)) placed in
       let rest = back_empty d.part.notes.broken b.notes.broken (back_empty (name_judged tree.name tree.closing).broken (d.part.notes.broken ++ b.notes.broken) e) in
       let i : DeclaredOk k d = order_good k (map (λ i. import_declared i (target_of i)) tree.imports) (imports_good k tree.imports) u (record { unit = sym n; shown = sym s; own = tt; known = predeclared_known k; in_loop = refl }) (all_front (HasType k) d.part.contents.types b.contents.types t) in
-      ok_both k d.part.contents b.contents i.contents (block_ok k judges ds (decls_good k judges tree.decls f.0) tree.body f.1 d.around i.around rest (all_rest (HasType k) d.part.contents.types b.contents.types t))
+      ok_both k d.part.contents b.contents i.contents (block_ok k judges ds (decls_good k judges tree.decls f.0) tree.body f.1 d.around i.around rest (all_back (HasType k) d.part.contents.types b.contents.types t))

@@ -16,13 +16,13 @@ use Rattle.ob_types.specs.Assigning.{characters}
 use Rattle.ob_types.specs.Numbers.{is_positive, shifted, has_bit, element_in}
 use Rattle.ob_rules.specs.Constants.{when, long, bounded_shift, shift_down, ash, of_nat, of_nats, elements, byte_of, and_so, integer_in, set_in, char_in, truth_in, fold_one, divided, related, on_integers, on_sets, fold_two, texts_related, fold_texts, fold_logical, text_value}
 use Rattle.ob_rules.specs.Predeclared.{extreme}
-use Rattle.law_simulation_relation.proofs.Names.{and_both}
 use Rattle.law_simulation_relation.specs.Typed.{AreCharacters}
 use Rattle.law_typing.specs.Spelled.{are_bytes}
 use Rattle.law_typing.specs.Known.{ConstantIs}
 use Rattle.law_typing.proofs.Constants.{fold_one_is, fold_two_is, fold_texts_is, fold_logical_is}
 use Rattle.law_spelling_read.specs.ReadPlaces.{text_fits}
-use Rattle.law_spelling_stmts.proofs.Setting.{Short, Con, IfThere, less}
+use Rattle.law_spelling_stmts.proofs.Setting.{Short, Con}
+use Rattle.law_lists.proofs.Lists.{IfThere, and_parts, less}
 
 abbrev F : Option Value → Type 0
 F o = IfThere Short o
@@ -140,13 +140,13 @@ byte_small n e = less n 256 e
 
 characters_are : (cs : List ℕ) → are_bytes cs ≡ true → AreCharacters cs
 characters_are [] e = tt
-characters_are (c ∷ cs) e = let p = and_both (nat_lt c 256) (are_bytes cs) e in (byte_small c p.0, characters_are cs p.1)
+characters_are (c ∷ cs) e = let p = and_parts (nat_lt c 256) (are_bytes cs) e in (byte_small c p.0, characters_are cs p.1)
 
 pub text_con : (cs : List ℕ) → text_fits cs ≡ true → Con (text_value cs)
 text_con [] e = ((tt, λ n. absurd cc), omega arith)
-text_con (c ∷ []) e = ((characters_are (c ∷ []) (and_both (are_bytes (c ∷ [])) _ e).0).0, tt)
+text_con (c ∷ []) e = ((characters_are (c ∷ []) (and_parts (are_bytes (c ∷ [])) _ e).0).0, tt)
 text_con (c ∷ d ∷ cs) e =
-    let p = and_both (are_bytes (c ∷ d ∷ cs)) (nat_lt (suc (length (c ∷ d ∷ cs))) (2 ^ 31)) e in
+    let p = and_parts (are_bytes (c ∷ d ∷ cs)) (nat_lt (suc (length (c ∷ d ∷ cs))) (2 ^ 31)) e in
     ((characters_are (c ∷ d ∷ cs) p.0, λ n. more n), less (suc (length (c ∷ d ∷ cs))) (2 ^ 31) p.1)
   where
     more : suc (suc (length cs)) ≡ 1 → ⊥

@@ -42,10 +42,11 @@ use Rattle.ob_types.specs.declared.value.Value.{Value}
 use Rattle.ob_types.specs.declared.value.Value.TheVariants as literal
 use Rattle.law_spelling.specs.Coded.{PosFits}
 use Rattle.law_spelling_stmts.specs.Fits.{StmtFits}
-use Rattle.law_spelling_stmts.proofs.Setting.{Con, below, int_fits, small_fits, Setting, S, PlaceOk, ValuedOk, MeantOk, IfThere, Anything, Keeps, any_keeps, then_keeps, made_keeps, each_keep, unless_keeps, wants_keeps, also_keeps, node_e, tree_ok}
+use Rattle.law_spelling_stmts.proofs.Setting.{Con, int_fits, small_fits, Setting, S, PlaceOk, ValuedOk, MeantOk, Keeps, any_keeps, then_keeps, made_keeps, each_keep, unless_keeps, wants_keeps, also_keeps, node_e, tree_ok}
 use Rattle.law_spelling_stmts.proofs.Folding.{extreme_con}
 use Rattle.law_spelling_stmts.proofs.Values.{monadic_keeps, dyadic_keeps, text_tree_ok, only_ok}
 use Rattle.law_spelling_stmts.proofs.Calls.{MeantKeeps, PhraseOk, ArePhrases}
+use Rattle.law_lists.proofs.Lists.{Anything, IfThere, less_true}
 
 changed_meant_keeps : (k : Setting) (start : Pos) (m : Meant) → MeantOk k m → Keeps (ValuedOk k) (changed_meant start m)
 changed_meant_keeps k start (means.Place p) h = unless_keeps (ValuedOk k) p.read_only 26 start (value_at p) h
@@ -116,7 +117,7 @@ width_fits k map op at f x h = so_fits k (width_of map x) (λ w. value (monadic 
 
 -- the lengths of arrays are constants
 length_con : (n : ℕ) → n < 2 ^ 31 → Con (literal.Int (pos n))
-length_con n h = (below n (2 ^ 31) h, tt)
+length_con n h = (less_true n (2 ^ 31) h, tt)
 
 length_fits : (k : Setting) (o : Option ℕ) (b : Bool) (p : Place) → PlaceOk k p → ((n : ℕ) → o ≡ Some n → n < 2 ^ 31) → Fits k (length_of o b p)
 length_fits k (Some n) b p h g = length_con n (g n refl)

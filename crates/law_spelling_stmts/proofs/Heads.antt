@@ -1,5 +1,5 @@
 -- Headings: what is known in them, and the types that they make.
-use Rattle.std.proofs.Common.{◌≡◌, ℕ, ◌+◌, Bool, true, false, List, [], ◌∷◌, ◌++◌, length, Option, Some, None, refl, sym, subst, map, cond}
+use Rattle.std.proofs.Common.{◌≡◌, ℕ, ◌+◌, Bool, true, false, List, [], ◌∷◌, length, Option, Some, None, refl, sym, subst, map}
 use Rattle.std.specs.Prelude.{bytes_eq}
 use Rattle.std.specs.List.{AllByRecursion, filter}
 use Rattle.ob_tree.specs.declared.names.QName.{QName}
@@ -29,11 +29,11 @@ use Rattle.ob_tree.specs.declared.ident.Mark.TheVariants as mark
 use Rattle.ob_rules.specs.Expressions.{phrase_of, constant_value}
 use Rattle.ob_rules.specs.Statements.{judging, in_turn}
 use Rattle.law_links_types.specs.Told.{core}
-use Rattle.law_links_types.proofs.Heads.{back_empty}
 use Rattle.law_typing.specs.Spelled.{all_true}
 use Rattle.law_spelling.specs.Coded.{PosFits}
 use Rattle.law_spelling_read.specs.ReadPlaces.{expr_fits, stmt_fits}
 use Rattle.law_spelling_stmts.proofs.Setting.{Keeps}
+use Rattle.law_lists.proofs.Lists.{all_both, back_empty, filter_if}
 
 -- the module, what it is shown, and what is asked of its types, by name and core, of its constants and of its statements
 pub record Level : Type 1 where
@@ -68,14 +68,6 @@ pub record Stands (a : Level) (u : Around) : Type 0 where
 pub record Judges (a : Level) : Type 0 where
   pub fixed : (u : Around) → Stands a u → (x : Expr) → expr_fits x ≡ true → Keeps a.Fixed (constant_value u (phrase_of x))
   pub body : (u : Around) → Stands a u → (xs : List Stmt) → all_true (map stmt_fits xs) ≡ true → Keeps (AllByRecursion a.StmtOk) (in_turn (map judging xs) u)
-
-pub all_both : {A : Type 0} (Q : A → Type 0) (xs ys : List A) → AllByRecursion Q xs → AllByRecursion Q ys → AllByRecursion Q (xs ++ ys)
-all_both Q [] ys h g = g
-all_both Q (x ∷ xs) ys h g = (h.0, all_both Q xs ys h.1 g)
-
-filter_if : {A : Type 0} (Q : A → Type 0) (b : Bool) (x : A) (xs : List A) → Q x → AllByRecursion Q xs → AllByRecursion Q (cond b (x ∷ xs) xs)
-filter_if Q true x xs h g = (h, g)
-filter_if Q false x xs h g = g
 
 filter_all : {A : Type 0} (Q : A → Type 0) (f : A → Bool) (xs : List A) → AllByRecursion Q xs → AllByRecursion Q (filter f xs)
 filter_all Q f [] h = tt

@@ -1,6 +1,6 @@
 -- What is judged fits: what stands around, and how judgements are put together.
 use Rattle.std.proofs.Common.{◌≡◌, ℕ, suc, ◌<◌, ◌^◌, Bool, true, false, List, [], ◌∷◌, length, Option, Some, None, refl, sym, subst, cond, arith}
-use Rattle.std.specs.Prelude.{ℤ, pos, negsuc, nat_lt, FitsSigned}
+use Rattle.std.specs.Prelude.{ℤ, pos, negsuc, FitsSigned}
 use Rattle.std.specs.Int.{w32}
 use Rattle.std.specs.List.{AllByRecursion, find}
 use Rattle.ob_tree.specs.declared.pos.Pos.{Pos}
@@ -36,6 +36,7 @@ use Rattle.ob_rules.specs.Values.{tree}
 use Rattle.law_typing.specs.Known.{ConstantIs}
 use Rattle.law_spelling.specs.Coded.{PosFits, ConstantIsCoded}
 use Rattle.law_spelling_stmts.specs.Fits.{DesigFits, ExprFits, StmtFits}
+use Rattle.law_lists.proofs.Lists.{Anything, IfThere, less}
 
 -- ---- constants
 
@@ -46,12 +47,6 @@ Short v = Unit {0}
 -- a constant, and no long string
 abbrev pub Con : Value → Type 0
 Con v = ConstantIs v × Short v
-
-pub less : (n limit : ℕ) → nat_lt n limit ≡ true → n < limit
-less n limit e = grind (arith, e)
-
-pub below : (n limit : ℕ) → n < limit → nat_lt n limit ≡ true
-below n limit h = grind (arith, h)
 
 pub int_fits : (z : ℤ) → is_in width.LongInt z ≡ true → FitsSigned w32 z
 int_fits (pos n) h = let k = less n (2 ^ 31) h in record { sfits = omega (arith, k) }
@@ -125,16 +120,9 @@ MeantOk k (means.Call x) = ValuedOk k x
 MeantOk k (means.Statement s) = (l : Bool) → S k l s.inner
 MeantOk k m = Unit {0}
 
-abbrev pub IfThere : {A : Type 0} → (A → Type 0) → Option A → Type 0
-IfThere Q None = Unit {0}
-IfThere Q (Some x) = Q x
-
 -- a node, where there is one, has the property
 abbrev pub Keeps : {A : Type 0} → (A → Type 0) → Judged A → Type 0
 Keeps Q j = IfThere Q j.node
-
-abbrev pub Anything : {A : Type 0} → A → Type 0
-Anything x = Unit {0}
 
 pub sure : {A : Type 0} (o : Option A) → IfThere Anything o
 sure None = tt

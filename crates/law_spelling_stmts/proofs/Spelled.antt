@@ -13,7 +13,8 @@ use Rattle.ob_sym.specs.Grammar.{face as face_form, body, object_in}
 use Rattle.ob_env.specs.Faces.{Face, object_named, face_named, described, object_of}
 use Rattle.ob_env.specs.Shown.{blank, shown}
 use Rattle.law_spelling.specs.Laws.{Text, IsSpelled}
-use Rattle.law_spelling.proofs.Names.{face_found, same_name, name_fits}
+use Rattle.law_spelling.proofs.Names.{face_found, name_fits}
+use Rattle.law_lists.proofs.Lists.{same_bytes}
 
 -- it has a spelling, in a text that a file can hold
 pub record SpelledObject (q : QName) (d : Desc) : Type 0 where
@@ -36,7 +37,7 @@ object_found m (o ∷ os) h x d e = go (bytes_eq x o.0) refl e (object_found m o
     go : (b : Bool) → bytes_eq x o.0 ≡ b → cond b (Some o.1) (object_named os x) ≡ Some d → (object_named os x ≡ Some d → SpelledObject (record { «module» = m; object = x }) d) → SpelledObject (record { «module» = m; object = x }) d
     go true f i rest =
         let same : o.1 ≡ d = cc in
-        subst (SpelledObject (record { «module» = m; object = x })) same (subst (λ y. SpelledObject (record { «module» = m; object = y }) o.1) (sym (same_name x o.0 f)) h.0)
+        subst (SpelledObject (record { «module» = m; object = x })) same (subst (λ y. SpelledObject (record { «module» = m; object = y }) o.1) (sym (same_bytes x o.0 f)) h.0)
     go false f i rest = rest i
 
 pub described_spelled : (fs : List (Face Text)) → AllByRecursion IsSpelled fs → (q : QName) (d : Desc) → described fs q ≡ Some d → SpelledObject q d

@@ -48,12 +48,13 @@ use Rattle.ob_types.specs.declared.value.Value.TheVariants as literal
 use Rattle.ob_rules.specs.declared.meant.Selects.TheVariants as selecting
 use Rattle.law_spelling.specs.Coded.{PosFits, LabelIsCoded}
 use Rattle.law_spelling_stmts.specs.Fits.{ExprFits, StmtsFit, BranchesFit, CasesFit}
-use Rattle.law_spelling_stmts.proofs.Setting.{Con, int_fits, small_fits, Setting, E, S, PlaceOk, ValuedOk, MeantOk, IfThere, Anything, Keeps, any_keeps, then_keeps, both_keep, made_keeps, unless_keeps, wants_keeps, wants_so, named_e, tree_ok}
+use Rattle.law_spelling_stmts.proofs.Setting.{Con, int_fits, small_fits, Setting, E, S, PlaceOk, ValuedOk, MeantOk, Keeps, any_keeps, then_keeps, both_keep, made_keeps, unless_keeps, wants_keeps, wants_so, named_e, tree_ok}
 use Rattle.law_spelling_stmts.proofs.Values.{text_tree_ok}
 use Rattle.law_spelling_stmts.proofs.Calls.{PhraseOk, call_variable_keeps}
 use Rattle.law_spelling_stmts.proofs.Functions.{named_s}
 use Rattle.law_spelling_stmts.proofs.Designators.{variable_keeps, call_meant_keeps, designates_keeps}
 use Rattle.law_spelling_stmts.proofs.Expressions.{NamedOk, meant_keeps, RangedOk, constant_keeps}
+use Rattle.law_lists.proofs.Lists.{Anything, IfThere, all_both}
 
 abbrev pub AreOk : Setting → Bool → List TypedStmt → Type 0
 AreOk k l ss = AllByRecursion (S k l) ss
@@ -63,10 +64,6 @@ JudgingOk k f = (u : Around) → k.Stands u → Keeps (AreOk k u.in_loop) (f u)
 
 abbrev pub AreJudging : Setting → List Judging → Type 0
 AreJudging k fs = AllByRecursion (JudgingOk k) fs
-
-all_both : {A : Type 0} (Q : A → Type 0) (xs ys : List A) → AllByRecursion Q xs → AllByRecursion Q ys → AllByRecursion Q (xs ++ ys)
-all_both Q [] ys h g = g
-all_both Q (x ∷ xs) ys h g = (h.0, all_both Q xs ys h.1 g)
 
 pub stmts_fit : (k : Setting) (l : Bool) (ss : List TypedStmt) → AreOk k l ss → StmtsFit k.words l (stmts_view ss)
 stmts_fit k l [] h = tt

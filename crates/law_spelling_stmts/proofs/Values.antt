@@ -34,8 +34,9 @@ use Rattle.ob_rules.specs.Constants.{fold_one, fold_two, fold_texts, fold_logica
 use Rattle.ob_rules.specs.Values.{computed, is, width, is_integer, as_text, text_tree, tree, constant_in}
 use Rattle.ob_rules.specs.Operators.{folded, one_of, monadic, two_of, dyadic, logical, texts, if_fit, are, binary_of, connected, combined, negated, opposite, only_value, signed_as, signed, comparison_of, is_equality, compared_as, compare_as, contained, compare, related, element_folded, single, ranged, if_integer, if_integers, element, union_of, all_constant, and_so, set_from, set_of}
 use Rattle.law_spelling.specs.Coded.{PosFits}
-use Rattle.law_spelling_stmts.proofs.Setting.{Con, Setting, E, NodeOk, ValuedOk, IfThere, Keeps, node_e, constant_e, tree_ok}
+use Rattle.law_spelling_stmts.proofs.Setting.{Con, Setting, E, NodeOk, ValuedOk, Keeps, node_e, constant_e, tree_ok}
 use Rattle.law_spelling_stmts.proofs.Folding.{one_con, two_con, texts_con, logical_con}
+use Rattle.law_lists.proofs.Lists.{IfThere}
 
 folded_keeps : (k : Setting) (at : Pos) (o : Option Value) → IfThere Con o → Keeps (ValuedOk k) (folded at o)
 folded_keeps k at None h = tt

@@ -37,7 +37,7 @@ use Rattle.ob_env.specs.Shown.{blank, shown}
 use Rattle.ob_format.specs.Format.{◌>>=◌}
 use Rattle.law_names_distinct.specs.Distinct.{AreDistinct}
 use Rattle.law_links_types.specs.Told.{core}
-use Rattle.law_links_types.proofs.Setting.{IfThere as IfMet, IsFound as IsMet, found_in}
+use Rattle.law_links_types.proofs.Setting.{IsFound as IsMet, found_in}
 use Rattle.law_links_types.proofs.Modules.{IsOf, all_are_of, described_name, with_its, distinct_back, its_core, unbroken_is}
 use Rattle.law_local_uses.proofs.Laid.{IsFound, all_found}
 use Rattle.law_spelling.specs.Laws.{Text, IsSpelled}
@@ -48,7 +48,7 @@ use Rattle.law_spelling_stmts.proofs.Spelled.{described_spelled}
 use Rattle.law_spelling_read.specs.ReadPlaces.{tree_fits}
 use Rattle.law_spelling_read.proofs.PlacedTrees.{readings_placed}
 use Rattle.law_spelling_stmts.specs.FitLaws.{AreInRange, AreBounded, ModulesFit}
-use Rattle.law_spelling_stmts.proofs.Setting.{Con, EntityOk, Setting, S, Keeps, IfThere, Anything, any_keeps}
+use Rattle.law_spelling_stmts.proofs.Setting.{Con, EntityOk, Setting, S, Keeps, any_keeps}
 use Rattle.law_spelling_stmts.proofs.Expressions.{constant_keeps, expr_ok}
 use Rattle.law_spelling_stmts.proofs.Statements.{stmts_fit, turn_keeps}
 use Rattle.law_spelling_stmts.proofs.Bodies.{stmts_ok}
@@ -58,6 +58,7 @@ use Rattle.law_spelling_stmts.proofs.FitModules.{ProcedureOk, ContentsOk, conten
 use Rattle.law_spelling_stmts.proofs.Views.{is_flat, ends, shape_told, takes_room}
 use Rattle.law_spelling_stmts.proofs.Texts.{value_short}
 use Rattle.law_spelling_stmts.proofs.Chains.{type_has, all_end}
+use Rattle.law_lists.proofs.Lists.{Anything, IfThere}
 
 -- ---- aliases and arrays stay as they are
 
@@ -223,7 +224,7 @@ module _ (faces : List (Face Text)) (spelled : AllByRecursion IsSpelled faces) (
     other_told : (q : QName) (d : Desc) → is_flat d ≡ true → bytes_eq q.«module» tree.name.name ≡ false → shown faces q ≡ Some d → V q ≡ Some d
     other_told q d l e i = ap (λ b. cond b (type_named M.types q.object) (F q)) e ∙ described_so faces q d (flat_bare d l) i
 
-    own_told : (u : Around) → Stood u → (q : QName) (d : Desc) → is_flat d ≡ true → bytes_eq q.«module» u.unit ≡ true → (o : Option TypedType) → IfMet (IsMet (λ (t : TypedType). Tells t.name (core t.desc)) (λ (t : TypedType). bytes_eq t.name q.object)) o → own_desc o ≡ Some d → V q ≡ Some d
+    own_told : (u : Around) → Stood u → (q : QName) (d : Desc) → is_flat d ≡ true → bytes_eq q.«module» u.unit ≡ true → (o : Option TypedType) → IfThere (IsMet (λ (t : TypedType). Tells t.name (core t.desc)) (λ (t : TypedType). bytes_eq t.name q.object)) o → own_desc o ≡ Some d → V q ≡ Some d
     own_told u s q d l e None f i = absurd cc
     own_told u s q d l e (Some t) f i =
         let same : t.desc ≡ d = cc in

@@ -1,6 +1,6 @@
 -- The bodies of what compiles have a spelling.
 use Rattle.std.proofs.Common.{◌≡◌, ℕ, ◌<◌, ◌^◌, true, List, length, map, Option, Ok, subst, arith}
-use Rattle.std.specs.Prelude.{nat_le, nat_lt, bytes_eq}
+use Rattle.std.specs.Prelude.{nat_le, bytes_eq}
 use Rattle.std.specs.List.{AllByRecursion, IsDistinct}
 use Rattle.std.proofs.lemmas.Bool.{leb-true}
 use Rattle.ob_types.specs.TypedView.{module_view}
@@ -19,9 +19,7 @@ use Rattle.law_spelling_stmts.proofs.Whole.{modules_fit}
 use Rattle.law_spelling_values.proofs.Shown.{spelled_shown}
 use Rattle.law_spelling_values.proofs.Compiled.{compiled_is}
 use Rattle.law_spelling_values.proofs.Outward.{laid_differ}
-
-less : (n limit : ℕ) → nat_lt n limit ≡ true → n < limit
-less n limit e = grind (arith, e)
+use Rattle.law_lists.proofs.Lists.{less}
 
 -- a source is no longer than 2^20
 few : (n : ℕ) → nat_le n most_source ≡ true → n < 2 ^ 30

@@ -1,6 +1,6 @@
 -- The constants and the lengths of arrays of a checked module are in range.
 use Rattle.std.proofs.Common.{◌≡◌, ℕ, ◌<◌, ◌^◌, true, List, [], ◌∷◌, arith}
-use Rattle.std.specs.Prelude.{ℤ, pos, negsuc, nat_lt, FitsSigned}
+use Rattle.std.specs.Prelude.{ℤ, pos, negsuc, FitsSigned}
 use Rattle.std.specs.Int.{w32}
 use Rattle.std.specs.List.{AllByRecursion}
 use Rattle.ob_types.specs.declared.typed.Width.TheVariants as width
@@ -24,9 +24,7 @@ use Rattle.law_spelling_read.proofs.Trees.{readings_spelled}
 use Rattle.law_spelling.specs.Seen.{LengthFits, ValueFits}
 use Rattle.law_spelling_values.specs.Laws.{ModulesAreInRange}
 use Rattle.law_spelling_values.proofs.Shown.{spelled_shown}
-
-less : (n limit : ℕ) → nat_lt n limit ≡ true → n < limit
-less n limit e = grind (arith, e)
+use Rattle.law_lists.proofs.Lists.{less}
 
 length_fits : (d : Desc) → LengthIs ConstantIs d → LengthFits d
 length_fits (desc.Const v) h = tt

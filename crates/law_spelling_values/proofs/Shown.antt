@@ -1,6 +1,6 @@
 -- What an interface that has a spelling shows of constants and lengths is in range.
 use Rattle.std.proofs.Common.{◌≡◌, ℕ, ◌<◌, ◌^◌, Bool, true, false, cond, List, [], ◌∷◌, map, Option, Some, None, refl, subst, arith}
-use Rattle.std.specs.Prelude.{ℤ, pos, negsuc, nat_lt, bytes_eq, FitsSigned}
+use Rattle.std.specs.Prelude.{ℤ, pos, negsuc, bytes_eq, FitsSigned}
 use Rattle.std.specs.Int.{w32}
 use Rattle.std.specs.List.{AllByRecursion}
 use Rattle.std.specs.Option.{option_map}
@@ -21,15 +21,13 @@ use Rattle.law_typing.specs.Known.{ConstantIs}
 use Rattle.law_spelling.specs.Laws.{Text, IsSpelled}
 use Rattle.law_spelling.proofs.Names.{face_found}
 use Rattle.law_spelling_values.specs.Laws.{SpelledAreShown}
+use Rattle.law_lists.proofs.Lists.{less_true}
 
 -- ---- values
 
-below : (n limit : ℕ) → n < limit → nat_lt n limit ≡ true
-below n limit h = grind (arith, h)
-
 int_in : (z : ℤ) → FitsSigned w32 z → is_in width.LongInt z ≡ true
-int_in (pos n) h = let s = h.sfits in let k : n < 2 ^ 31 = omega (arith, s) in below n (2 ^ 31) k
-int_in (negsuc n) h = let s = h.sfits in let k : n < 2 ^ 31 = omega (arith, s) in below n (2 ^ 31) k
+int_in (pos n) h = let s = h.sfits in let k : n < 2 ^ 31 = omega (arith, s) in less_true n (2 ^ 31) k
+int_in (negsuc n) h = let s = h.sfits in let k : n < 2 ^ 31 = omega (arith, s) in less_true n (2 ^ 31) k
 
 characters : (cs : List ℕ) → AllByRecursion IsByte cs → AreCharacters cs
 characters [] h = tt
@@ -53,7 +51,7 @@ InRange d = Unit {0}
 
 in_range : (q : QName) (d : Desc) → IsSpelledDesc q d → InRange d
 in_range q (desc.Const v) h = constant_is v h.shape.1
-in_range q (desc.Array m n t) h = below n (2 ^ 31) h.shape.0.1.1.0.1
+in_range q (desc.Array m n t) h = less_true n (2 ^ 31) h.shape.0.1.1.0.1
 in_range q (desc.Var m t) h = tt
 in_range q (desc.Proc s) h = tt
 in_range q (desc.Alias m t) h = tt

@@ -49,12 +49,13 @@ use Rattle.law_typing.specs.Known.{IsScoped}
 use Rattle.law_typing.specs.Kept.{PlaceIs, NodeIs, ValuedIs}
 use Rattle.law_typing.specs.Meant.{GuardIs, MeantIs, MeantBy, PhraseIs, ArePhrases}
 use Rattle.law_typing.proofs.Makes.{makes_then, makes_both, makes_wants, makes_also}
-use Rattle.law_typing.proofs.Basics.{form_basic, none_some, not_true, some_is}
+use Rattle.law_typing.proofs.Basics.{form_basic, not_true}
 use Rattle.law_typing.proofs.Values.{Fits}
 use Rattle.law_typing.proofs.Operators.{and_is}
 use Rattle.law_typing.proofs.Designators.{form_is, some_true}
 use Rattle.law_typing.proofs.Relations.{or_is, some_of, array_basic, constant_of_basic}
 use Rattle.law_typing.proofs.Assignable.{scalar_fits, structure_fits, tree_of_place}
+use Rattle.law_lists.proofs.Lists.{none_some, some_same}
 
 pub actual_seen : (how : Passing) (t : TypeRef) (x : TypedExpr) → actual_view (actual_of how t x) ≡ record { passing = how; formal = t; e = expr_view x }
 actual_seen how t x = fold-roll-Actual Desig Expr OneActual designator_layer expr_layer actual_layer (record { passing = how; formal = t; value = x })
@@ -64,7 +65,7 @@ pub open_array : (map : Map) (t u : TypeRef) → open_element map t ≡ Some u �
 open_array map t u e = go (shape map t) refl e
   where
     go : (o : Option Desc) → shape map t ≡ o → open_at o ≡ Some u → array_of map t ≡ Some (None, u)
-    go (Some (desc.OpenArray m v)) f h = ap array_at f ∙ ap (λ w. Some (None, w)) (some_is h)
+    go (Some (desc.OpenArray m v)) f h = ap array_at f ∙ ap (λ w. Some (None, w)) (some_same h)
     go None f h = none_some h
     go (Some (desc.Const c)) f h = none_some h
     go (Some (desc.Var m v)) f h = none_some h
@@ -160,13 +161,13 @@ module _ (program : Program) (Has : Formals → QName → Type 0) (unit : List �
     array_value t el s (valued.Constant c) b h e f g = let k = constant_of_basic c s f in not_true (sym (ap (element_is map el) (ap (array_of map) k.1 ∙ array_basic map k.0)) ∙ g)
     array_value t el s (valued.Place p) b h e f g =
         let d = designator_view p.designator.inner in
-        let i : form_in program (variable_type d) ≡ form_in program s = form_is program Has unit held result map forms d p.of p.var_record h ∙ ap (form_in program) (some_is f) in
-        let a : IsArrayOf (form_in program (variable_type d)) (form_in program el) = subst (λ y. IsArrayOf y (form_in program el)) (sym i) (array_by s el (subst IsDeclared (some_is f) h.declared.0) g) in
+        let i : form_in program (variable_type d) ≡ form_in program s = form_is program Has unit held result map forms d p.of p.var_record h ∙ ap (form_in program) (some_same f) in
+        let a : IsArrayOf (form_in program (variable_type d)) (form_in program el) = subst (λ y. IsArrayOf y (form_in program el)) (sym i) (array_by s el (subst IsDeclared (some_same f) h.declared.0) g) in
         subst (λ y. Arrays (expr_view y) (form_in program t)) (sym (tree_of_place program Has unit held result map forms b p)) (subst (λ y. Arrays y (form_in program t)) (sym (view_value_of p.designator.inner)) (h.fits, (form_in program el, e, a)))
     array_value t el s (valued.Node n) b h e f g = by n.of h f
       where
         by : (k : ExprType) → NodeIs program Has unit held result map (expr_view n.tree.inner) k → type_in k ≡ Some s → Arrays (expr_view (tree_for b (valued.Node n))) (form_in program t)
-        by (kind.Of r) h f = absurd (no_array_scalar (form_in program r) (form_in program el) h.1 (array_by r el h.0 (subst (λ y. element_is map el (array_of map y) ≡ true) (sym (some_is f)) g)))
+        by (kind.Of r) h f = absurd (no_array_scalar (form_in program r) (form_in program el) h.1 (array_by r el h.0 (subst (λ y. element_is map el (array_of map y) ≡ true) (sym (some_same f)) g)))
         by (kind.Procedure q) h f = none_some f
         by kind.Str h f = none_some f
         by kind.Nil h f = none_some f

@@ -37,12 +37,13 @@ use Rattle.ob_rules.specs.Calls.{tree_for}
 use Rattle.law_typing.specs.Forms.{IsDeclared, Forms}
 use Rattle.law_typing.specs.Known.{ConstantIs}
 use Rattle.law_typing.specs.Kept.{NodeIs, ValuedIs}
-use Rattle.law_typing.proofs.Basics.{form_basic, none_some, not_true, some_is, width_back, number_fits, number_type, smallest_of}
+use Rattle.law_typing.proofs.Basics.{form_basic, not_true, width_back, number_fits, number_type, smallest_of}
 use Rattle.law_typing.proofs.Values.{Fits, W, place_fits, shown_place, shown_constant}
 use Rattle.law_typing.proofs.Operators.{and_is}
 use Rattle.law_typing.proofs.Designators.{form_is, some_true}
 use Rattle.law_typing.proofs.Relations.{or_is}
 use Rattle.law_typing.proofs.Sets.{widens_back}
+use Rattle.law_lists.proofs.Lists.{none_some, some_same}
 
 pub nat_is : (n m : ℕ) → nat_eq n m ≡ true → n ≡ m
 nat_is n m e = grind (arith, nat_tests)
@@ -69,7 +70,7 @@ module _ (program : Program) (Has : Formals → QName → Type 0) (unit : List �
   widens_integer _ _ w typed.itself e = (w, e, typed.same)
   widens_integer _ _ w (typed.integers k l m) e =
       let f : Some k ≡ Some w = sym (width_back k) ∙ ap width_of (ap basic_there e) ∙ width_back w in
-      (l, refl, subst (λ x. Within x l) (some_is f) m)
+      (l, refl, subst (λ x. Within x l) (some_same f) m)
   widens_integer _ _ w (typed.pointers s t f g) e = none_some (ap basic_there e)
   widens_integer _ _ w (typed.procedures s t f) e = none_some (ap basic_there e)
 

@@ -40,13 +40,14 @@ use Rattle.law_typing.specs.Forms.{IsDeclared, IsKnown, ArrayIs, Forms}
 use Rattle.law_typing.specs.Kept.{PlaceIs, ValuedIs}
 use Rattle.law_typing.specs.Bodies.{AreStatements}
 use Rattle.law_typing.proofs.Makes.{makes_wants}
-use Rattle.law_typing.proofs.Basics.{none_some, not_true, some_is}
+use Rattle.law_typing.proofs.Basics.{not_true}
 use Rattle.law_typing.proofs.Values.{Fits}
 use Rattle.law_typing.proofs.Operators.{and_is}
 use Rattle.law_typing.proofs.Designators.{form_is}
 use Rattle.law_typing.proofs.Relations.{some_of}
 use Rattle.law_typing.proofs.Assignable.{scalar_fits, structure_fits, node_structure}
 use Rattle.law_typing.proofs.Actuals.{open_array}
+use Rattle.law_lists.proofs.Lists.{none_some, some_same}
 
 same_tree : (b : Bool) (x : Valued) → assigned_tree b x ≡ tree_for b x
 same_tree true x = refl
@@ -72,10 +73,10 @@ unfolding takes_type
 no_open_taken map v t u e k = no_open (target map 201 v) t v (shapes.shape map v) map u refl e (same_at map t v) (extends_at map t v) (target map 201 t) k
 
 pair_first : (a b : Option ℕ × TypeRef) → Some a ≡ Some b → a.0 ≡ b.0
-pair_first a b e = ap (λ (p : Option ℕ × TypeRef). p.0) (some_is e)
+pair_first a b e = ap (λ (p : Option ℕ × TypeRef). p.0) (some_same e)
 
 pair_second : (a b : Option ℕ × TypeRef) → Some a ≡ Some b → a.1 ≡ b.1
-pair_second a b e = ap (λ (p : Option ℕ × TypeRef). p.1) (some_is e)
+pair_second a b e = ap (λ (p : Option ℕ × TypeRef). p.1) (some_same e)
 
 some_none : (n : ℕ) → Some n ≡ None → ⊥
 some_none n e = absurd cc

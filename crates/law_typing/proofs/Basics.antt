@@ -18,6 +18,7 @@ use Rattle.law_simulation_relation.specs.Passed.{IsClosed}
 use Rattle.law_simulation_relation.specs.Typed as typed
 use Rattle.law_simulation_relation.specs.Typed.{Within}
 use Rattle.ob_rules.specs.Shapes.{Map, basic_of, as_basic, is_basic, is_this, width_of, wider}
+use Rattle.law_lists.proofs.Lists.{none_some, some_same}
 
 form_within_basic : (program : Program) (n : ℕ) (b : Basic) → form_within (description program) n (ref.Basic b) ≡ BasicForm b
 form_within_basic program zero b = refl
@@ -33,14 +34,8 @@ target_basic map b = refl
 pub basic_is : (map : Map) (b : Basic) → basic_of map (ref.Basic b) ≡ Some b
 basic_is map b = ap as_basic (target_basic map b)
 
-pub none_some : {A B : Type 0} {x : A} → None ≡ Some x → B
-none_some {A} {B} {x} e = absurd cc
-
 pub not_true : {B : Type 0} → false ≡ true → B
 not_true {B} e = absurd cc
-
-pub some_is : {A : Type 0} {x y : A} → Some x ≡ Some y → x ≡ y
-some_is {A} {x} {y} e = cc
 
 number_of : (a b : Basic) → nat_eq (basic_number a) (basic_number b) ≡ true → a ≡ b
 number_of basic.Boolean basic.Boolean e = refl
@@ -60,9 +55,9 @@ is_basic_is map b t e = is_this_is b (basic_of map t) e
 
 pub width_basic : (o : Option Basic) (w : Width) → width_of o ≡ Some w → o ≡ Some (typed.basic_of w)
 width_basic None w e = none_some e
-width_basic (Some basic.ShortInt) w e = ap (λ w. Some (typed.basic_of w)) (some_is e)
-width_basic (Some basic.Integer) w e = ap (λ w. Some (typed.basic_of w)) (some_is e)
-width_basic (Some basic.LongInt) w e = ap (λ w. Some (typed.basic_of w)) (some_is e)
+width_basic (Some basic.ShortInt) w e = ap (λ w. Some (typed.basic_of w)) (some_same e)
+width_basic (Some basic.Integer) w e = ap (λ w. Some (typed.basic_of w)) (some_same e)
+width_basic (Some basic.LongInt) w e = ap (λ w. Some (typed.basic_of w)) (some_same e)
 width_basic (Some basic.Boolean) w e = none_some e
 width_basic (Some basic.Char) w e = none_some e
 width_basic (Some basic.Set) w e = none_some e

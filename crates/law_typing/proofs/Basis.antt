@@ -31,8 +31,8 @@ use Rattle.law_typing_forms.proofs.Alike.{AreDeclared, alike_formals}
 use Rattle.law_typing_forms.proofs.Taking.{array_length, scalar_takes, takes_sub}
 use Rattle.law_typing.specs.Forms.{IsDeclared, IsKnown, AreKnown, ResultIs, SignatureIs, ArrayIs, Forms}
 use Rattle.law_typing.specs.Known.{MethodIs}
-use Rattle.law_typing.proofs.Basics.{none_some, some_is, closed_form}
-use Rattle.law_typing.proofs.Bodies.{all_split}
+use Rattle.law_typing.proofs.Basics.{closed_form}
+use Rattle.law_lists.proofs.Lists.{all_parts, none_some, some_same}
 
 fields_each : (P : TypeRef → Type 0) (fs : List Field) → AllByRecursion P (each (λ f. f.of) fs) → AllByRecursion (λ f. P f.of) fs
 fields_each P [] h = tt
@@ -40,7 +40,7 @@ fields_each P (f ∷ fs) h = (h.0, fields_each P fs h.1)
 
 methods_each : (P : TypeRef → Type 0) (ms : List Method) → AllByRecursion P (flat_map (λ m. signature_types m.signature) ms) → AllByRecursion (λ m. AllByRecursion P (signature_types m.signature)) ms
 methods_each P [] h = tt
-methods_each P (m ∷ ms) h = let r = all_split P (signature_types m.signature) (flat_map (λ m. signature_types m.signature) ms) h in (r.0, methods_each P ms r.1)
+methods_each P (m ∷ ms) h = let r = all_parts P (signature_types m.signature) (flat_map (λ m. signature_types m.signature) ms) h in (r.0, methods_each P ms r.1)
 
 module _ (map : Map) (program : Program) (formed : Formed map program) (steady : IsSteady map) where
   held_all : (q : QName) (d : Desc) → map q ≡ Some d → AllByRecursion (IsHeld map) (named_by d)
@@ -58,8 +58,8 @@ module _ (map : Map) (program : Program) (formed : Formed map program) (steady :
 
   pub signature_is : (s : Signature) → AllByRecursion IsDeclared (signature_types s) → AllByRecursion (IsHeld map) (signature_types s) → IsPlainResult map s → SignatureIs program map s
   signature_is s h k p =
-      let a = all_split IsDeclared (each (λ p. p.1) s.params) (listed s.result) h in
-      let b = all_split (IsHeld map) (each (λ p. p.1) s.params) (listed s.result) k in
+      let a = all_parts IsDeclared (each (λ p. p.1) s.params) (listed s.result) h in
+      let b = all_parts (IsHeld map) (each (λ p. p.1) s.params) (listed s.result) k in
       record { params = known_params s.params (listed s.result) h k; result = result_known s.result a.1 b.1 p; result_held = b.1 }
 
   declared_params : (ks : List (Mode × TypeRef)) → AreKnown map ks → AreDeclared ks
@@ -106,15 +106,15 @@ module _ (map : Map) (program : Program) (formed : Formed map program) (steady :
   own_held : (q : QName) (r : RecordDesc) (x : List ℕ) (m : Member) → map q ≡ Some (desc.Record r) → (a : Option Field) (b : Option Method) → find (λ f. bytes_eq f.name x) r.fields ≡ a → find (λ m. bytes_eq m.name x) r.methods ≡ b → field_or q a b ≡ Some m → MemberHeld m
   own_held q r x m is a b ea eb e =
       let all = held_all q (desc.Record r) is in
-      let s = all_split (IsHeld map) (listed r.base ++ each (λ f. f.of) r.fields) (flat_map (λ m. signature_types m.signature) r.methods) all in
-      let fs = two_all (λ f. IsHeld map f.of) (λ f. Is map is_open f.of → ⊥) r.fields (fields_each (IsHeld map) r.fields (all_split (IsHeld map) (listed r.base) (each (λ f. f.of) r.fields) s.0).1) (steady.keeps q (desc.Record r) is).1.0 in
+      let s = all_parts (IsHeld map) (listed r.base ++ each (λ f. f.of) r.fields) (flat_map (λ m. signature_types m.signature) r.methods) all in
+      let fs = two_all (λ f. IsHeld map f.of) (λ f. Is map is_open f.of → ⊥) r.fields (fields_each (IsHeld map) r.fields (all_parts (IsHeld map) (listed r.base) (each (λ f. f.of) r.fields) s.0).1) (steady.keeps q (desc.Record r) is).1.0 in
       let ms = two_all (λ m. AllByRecursion (IsHeld map) (signature_types m.signature)) (λ m. IsPlainResult map m.signature) r.methods (methods_each (IsHeld map) r.methods s.1) (steady.keeps q (desc.Record r) is).1.1 in
       by a b ea eb e fs ms
     where
       by : (a : Option Field) (b : Option Method) → find (λ f. bytes_eq f.name x) r.fields ≡ a → find (λ m. bytes_eq m.name x) r.methods ≡ b → field_or q a b ≡ Some m → AllByRecursion (λ f. IsHeld map f.of × (Is map is_open f.of → ⊥)) r.fields → AllByRecursion (λ m. AllByRecursion (IsHeld map) (signature_types m.signature) × IsPlainResult map m.signature) r.methods → MemberHeld m
       by None None ea eb e fs ms = none_some e
-      by None (Some k) ea eb e fs ms = subst MemberHeld (some_is e) (found (λ m. AllByRecursion (IsHeld map) (signature_types m.signature) × IsPlainResult map m.signature) (λ m. bytes_eq m.name x) r.methods k ms eb).0
-      by (Some f) b ea eb e fs ms = subst MemberHeld (some_is e) (found (λ f. IsHeld map f.of × (Is map is_open f.of → ⊥)) (λ f. bytes_eq f.name x) r.fields f fs ea).0
+      by None (Some k) ea eb e fs ms = subst MemberHeld (some_same e) (found (λ m. AllByRecursion (IsHeld map) (signature_types m.signature) × IsPlainResult map m.signature) (λ m. bytes_eq m.name x) r.methods k ms eb).0
+      by (Some f) b ea eb e fs ms = subst MemberHeld (some_same e) (found (λ f. IsHeld map f.of × (Is map is_open f.of → ⊥)) (λ f. bytes_eq f.name x) r.fields f fs ea).0
 
   desc_held : (q : QName) (x : List ℕ) (m : Member) (o : Option Desc) → map q ≡ o → own_member q o x ≡ Some m → MemberHeld m
   desc_held q x m (Some (desc.Record r)) is e = own_held q r x m is (find (λ f. bytes_eq f.name x) r.fields) (find (λ m. bytes_eq m.name x) r.methods) refl refl e

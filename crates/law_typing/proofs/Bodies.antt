@@ -20,14 +20,7 @@ use Rattle.law_typing.specs.Redefined.{AreOfOneKind}
 use Rattle.law_typing.specs.Known.{VariableIs, ProcedureIs, MethodIs, ReceiverIs, SuperIs, IsScoped}
 use Rattle.law_typing.specs.Bodies.{AreStatements, AreJudging}
 use Rattle.law_typing.proofs.Makes.{makes_then, makes_made, makes_both}
-
-pub all_split : {A : Type 0} (P : A → Type 0) (xs ys : List A) → AllByRecursion P (xs ++ ys) → AllByRecursion P xs × AllByRecursion P ys
-all_split P [] ys h = (tt, h)
-all_split P (x ∷ xs) ys h = let r = all_split P xs ys h.1 in ((h.0, r.0), r.1)
-
-pub all_joined : {A : Type 0} (P : A → Type 0) (xs ys : List A) → AllByRecursion P xs → AllByRecursion P ys → AllByRecursion P (xs ++ ys)
-all_joined P [] ys h k = k
-all_joined P (x ∷ xs) ys h k = (h.0, all_joined P xs ys h.1 k)
+use Rattle.law_lists.proofs.Lists.{all_both}
 
 -- THE SAME TYPES AROUND
 
@@ -85,7 +78,7 @@ module _ (program : Program) (Has : Formals → QName → Type 0) (unit : List �
   in_turn_is u s [] h = record { node = tt }
   in_turn_is u s (f ∷ fs) h =
       makes_then (λ p. Ss u.in_loop p.0 × Ss u.in_loop p.1) (Ss u.in_loop) (both (f u) (in_turn fs u)) (λ p. sound (p.0 ++ p.1)) (makes_both (Ss u.in_loop) (Ss u.in_loop) (f u) (in_turn fs u) (h.0 u s) (in_turn_is u s fs h.1))
-      (λ p k. record { node = all_joined (λ x. typed.StmtOk program Has unit held result (stmt_view x) u.in_loop) p.0 p.1 k.0 k.1 })
+      (λ p k. record { node = all_both (λ x. typed.StmtOk program Has unit held result (stmt_view x) u.in_loop) p.0 p.1 k.0 k.1 })
 
   -- behind ELSE
   pub otherwise_is : (u : Around) → IsScoped program Has unit held result u → (o : Option (List Judging)) → IfThere (AreJudging program Has unit held result) o → Makes (IfThere (Ss u.in_loop)) (in_turn_if o u)

@@ -54,8 +54,9 @@ use Rattle.law_typing.proofs.Basics.{not_true, within_long}
 use Rattle.law_typing.proofs.Types.{type_named_is, guard_test_is}
 use Rattle.law_typing.proofs.Predeclared.{makes_any}
 use Rattle.law_typing.proofs.Fronts.{EntityIs, named_is, designates_is}
-use Rattle.law_typing.proofs.Bodies.{all_joined, scoped_with, stmts_ok, in_turn_is, otherwise_is}
+use Rattle.law_typing.proofs.Bodies.{scoped_with, stmts_ok, in_turn_is, otherwise_is}
 use Rattle.law_typing.proofs.Simple.{condition_is}
+use Rattle.law_lists.proofs.Lists.{all_both}
 
 module _ (program : Program) (Has : Formals → QName → Type 0) (unit : List ℕ) (held : List Held) (result : Option TypeRef) where
   abbrev Ss : Bool → List TypedStmt → Type 0
@@ -233,7 +234,7 @@ module _ (program : Program) (Has : Formals → QName → Type 0) (unit : List �
     -- the body stands where the name has the guard
     body_scoped : (o : Option Variable) (t : Option TypeRef) → IfThere (IsKnown (map_of u)) t → IsScoped program Has unit held result (guarded_around u o t)
     body_scoped None t h = s
-    body_scoped (Some v) t h = scoped_with program Has unit held result u (u.guards ++ (v, t) ∷ []) u.in_loop s (all_joined (λ (g : Variable × Option TypeRef). IfThere (IsKnown (map_of u)) g.1) u.guards ((v, t) ∷ []) s.guards (h, tt))
+    body_scoped (Some v) t h = scoped_with program Has unit held result u (u.guards ++ (v, t) ∷ []) u.in_loop s (all_both (λ (g : Variable × Option TypeRef). IfThere (IsKnown (map_of u)) g.1) u.guards ((v, t) ∷ []) s.guards (h, tt))
 
     same_loop : (o : Option Variable) (t : Option TypeRef) → (guarded_around u o t).in_loop ≡ u.in_loop
     same_loop None t = refl

@@ -36,9 +36,10 @@ use Rattle.law_typing.specs.Kept.{DesignatorIs, PlaceIs}
 use Rattle.law_typing.specs.Known.{pointee}
 use Rattle.law_typing.specs.Meant.{GuardIs}
 use Rattle.law_typing.proofs.Makes.{makes_then, makes_wants}
-use Rattle.law_typing.proofs.Basics.{none_some, not_true, some_is, within_long, closed_form}
+use Rattle.law_typing.proofs.Basics.{not_true, within_long, closed_form}
 use Rattle.law_typing.proofs.Values.{Fits, V, width_fits}
 use Rattle.law_typing.proofs.Unguarded.{deref_unguarded, index_unguarded}
+use Rattle.law_lists.proofs.Lists.{none_some, some_same}
 
 -- what a pointer to a record points to
 pub pointed_is : (map : Map) (t : TypeRef) (q : QName) → pointed_record map t ≡ Some q → (r : TypeRef) × (pointed map t ≡ Some r) × (record_of map r ≡ Some q)
@@ -55,7 +56,7 @@ extends_is map g (Some p) None h e = none_some e
 extends_is map g (Some p) (Some q) h e = go (extends_record map q p) refl e
   where
     go : (x : Bool) → extends_record map q p ≡ x → if_so x (g, q) ≡ Some h → (r : QName) × (Some p ≡ Some r) × (Some q ≡ Some h.1) × (h.0 ≡ g) × (extends_record map h.1 r ≡ true)
-    go true f e = let i = some_is e in (p, refl, ap (λ (k : Guarded × QName). Some k.1) i, sym (ap (λ (k : Guarded × QName). k.0) i), ap (λ (k : Guarded × QName). extends_record map k.1 p) (sym i) ∙ f)
+    go true f e = let i = some_same e in (p, refl, ap (λ (k : Guarded × QName). Some k.1) i, sym (ap (λ (k : Guarded × QName). k.0) i), ap (λ (k : Guarded × QName). extends_record map k.1 p) (sym i) ∙ f)
     go false f e = none_some e
 
 pub or_true : (b : Bool) → b || true ≡ true
@@ -105,7 +106,7 @@ module _ (program : Program) (Has : Formals → QName → Type 0) (unit : List �
   -- what is selected of: the variable, or what it points to, which is there
   pub through_pointer : (at : Pos) (p : Place) (o : Option TypeRef) → P p → pointed map p.of ≡ o → Makes (λ q. P q × (q.of ≡ pointee p.of o) × ((t : TypeRef) → o ≡ Some t → is_held map t ≡ true)) (implicitly map (λ t. true) at p o)
   through_pointer at p None h e = record { node = (h, refl, λ t f. none_some f) }
-  through_pointer at p (Some t) h e = held_is (is_held map t) (λ q. P q × (q.of ≡ t) × ((r : TypeRef) → Some t ≡ Some r → is_held map r ≡ true)) (dereferenced p at t false) (λ k. (deref_is p at t false h e k, refl, λ r f. ap (is_held map) (sym (some_is f)) ∙ k))
+  through_pointer at p (Some t) h e = held_is (is_held map t) (λ q. P q × (q.of ≡ t) × ((r : TypeRef) → Some t ≡ Some r → is_held map r ≡ true)) (dereferenced p at t false) (λ k. (deref_is p at t false h e k, refl, λ r f. ap (is_held map) (sym (some_same f)) ∙ k))
 
   pub dereference_is : (at : Pos) (p : Place) → P p → Makes (λ q. P q × (q.selected ≡ true) × GuardIs q) (dereference map at p)
   dereference_is at p h = go (pointed map p.of) refl

@@ -45,12 +45,13 @@ use Rattle.law_typing.specs.Known.{IsScoped}
 use Rattle.law_typing.specs.Kept.{PlaceIs, ValuedIs}
 use Rattle.law_typing.specs.Meant.{MeantIs, MeantBy, PhraseIs, ArePhrases}
 use Rattle.law_typing.proofs.Makes.{makes_then, makes_made, makes_both, makes_wants, makes_also, makes_unless}
-use Rattle.law_typing.proofs.Basics.{none_some, some_is, within_long}
+use Rattle.law_typing.proofs.Basics.{within_long}
 use Rattle.law_typing.proofs.Values.{Fits, width_fits, basic_fits}
 use Rattle.law_typing.proofs.Operators.{and_is, monadic_is, dyadic_is}
 use Rattle.law_typing.proofs.Designators.{form_is, long_fits}
 use Rattle.law_typing.proofs.Relations.{text_fits, char_array_is}
 use Rattle.law_typing.proofs.Predeclared.{so_is, when_is, if_so, makes_any, place_of, no_place, longer_within, extreme_is, Given, function_there, said, done, len_there, len_number, place_given, stepped, inc_ok, dec_ok, one_is, element_stepped, asserted, new_there, many_there}
+use Rattle.law_lists.proofs.Lists.{none_some, some_same}
 
 module _ (program : Program) (Has : Formals → QName → Type 0) (unit : List ℕ) (held : List Held) (result : Option TypeRef) where
   abbrev Ex : Expr → Form → Type 0
@@ -177,7 +178,7 @@ module _ (program : Program) (Has : Formals → QName → Type 0) (unit : List �
     Giv a x = Given program Has unit held result (map_of u) scoped.forms a x
 
     changed_place : (start : Pos) (m : Meant) → MeantIs program Has unit held result (map_of u) u.receiver InExpression m → Makes (Giv asked.Changed) (changed_meant start m)
-    changed_place start (means.Place p) h = makes_unless (Giv asked.Changed) p.read_only 26 start (value_at p) (λ e q f. subst (PlaceIs program Has unit held result (map_of u)) (some_is f) h.0)
+    changed_place start (means.Place p) h = makes_unless (Giv asked.Changed) p.read_only 26 start (value_at p) (λ e q f. subst (PlaceIs program Has unit held result (map_of u)) (some_same f) h.0)
     changed_place start (means.Call x) h = record { node = λ p e. none_some (sym (no_place x) ∙ e) }
     changed_place start (means.Constant v) h = record { node = tt }
     changed_place start (means.Procedure q s) h = record { node = tt }

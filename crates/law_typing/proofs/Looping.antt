@@ -50,7 +50,7 @@ use Rattle.law_typing.specs.Kept.{PlaceIs, NodeIs, ValuedIs}
 use Rattle.law_typing.specs.Meant.{PhraseIs}
 use Rattle.law_typing.specs.Bodies.{AreStatements, AreJudging}
 use Rattle.law_typing.proofs.Makes.{makes_then, makes_both, makes_wants, makes_unless}
-use Rattle.law_typing.proofs.Basics.{none_some, not_true, width_back, within_long}
+use Rattle.law_typing.proofs.Basics.{not_true, width_back, within_long}
 use Rattle.law_typing.proofs.Values.{Fits, W, place_fits, shown_place, shown_constant, integer_form}
 use Rattle.law_typing.proofs.Roots.{guards_keep}
 use Rattle.law_typing.proofs.Designators.{pointed_is, extends_is, variable_is, guarded_is}
@@ -58,6 +58,7 @@ use Rattle.law_typing.proofs.Assignable.{basic_there, constant_scalar, procedure
 use Rattle.law_typing.proofs.Fronts.{EntityIs, named_is}
 use Rattle.law_typing.proofs.Bodies.{scoped_with, stmts_ok, in_turn_is}
 use Rattle.law_typing.proofs.Simple.{condition_is}
+use Rattle.law_lists.proofs.Lists.{none_some}
 
 module _ (program : Program) (Has : Formals → QName → Type 0) (unit : List ℕ) (held : List Held) (result : Option TypeRef) where
   abbrev Ss : Bool → List TypedStmt → Type 0

@@ -48,10 +48,11 @@ use Rattle.law_typing.specs.Known.{ConstantIs}
 use Rattle.law_typing.specs.Kept.{PlaceIs, NodeIs, ValuedIs}
 use Rattle.law_typing.specs.Meant.{CalledIs, MeantIs}
 use Rattle.law_typing.proofs.Makes.{makes_made}
-use Rattle.law_typing.proofs.Basics.{none_some, not_true, some_is, within_long}
+use Rattle.law_typing.proofs.Basics.{not_true, within_long}
 use Rattle.law_typing.proofs.Values.{Fits, basic_node, width_fits, basic_fits, integer_form, basic_form}
 use Rattle.law_typing.proofs.Designators.{form_is}
 use Rattle.law_typing.proofs.Assignable.{nat_is}
+use Rattle.law_lists.proofs.Lists.{none_some, some_same}
 
 pub so_is : {A B : Type 0} (P : B → Type 0) (o : Option A) (f : A → Option B) → ((x : A) → o ≡ Some x → IfThere P (f x)) → IfThere P (and_so o f)
 so_is P None f h = tt
@@ -73,7 +74,7 @@ makes_any j = record { node = any j.node }
     any (Some x) = tt
 
 pub place_of : (x : Valued) (p : Place) → place_in x ≡ Some p → x ≡ valued.Place p
-place_of (valued.Place q) p e = ap (λ q. valued.Place q) (some_is e)
+place_of (valued.Place q) p e = ap (λ q. valued.Place q) (some_same e)
 place_of (valued.Constant c) p e = none_some e
 place_of (valued.Node n) p e = none_some e
 
@@ -86,8 +87,8 @@ length_long : (n : ℕ) → IsLength n → is_in width.LongInt (pos n) ≡ true
 length_long n h = let l : n < 2147483648 = h.1 in grind (arith, nat_tests)
 
 pub longer_within : (w l : Width) → longer w ≡ Some l → Within w l
-longer_within width.ShortInt l e = subst (Within width.ShortInt) (some_is e) typed.short
-longer_within width.Integer l e = subst (Within width.Integer) (some_is e) typed.middle
+longer_within width.ShortInt l e = subst (Within width.ShortInt) (some_same e) typed.short
+longer_within width.Integer l e = subst (Within width.Integer) (some_same e) typed.middle
 longer_within width.LongInt l e = none_some e
 
 pub extreme_is : (max : Bool) (b : Basic) → ConstantIs (extreme max b)

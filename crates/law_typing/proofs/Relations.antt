@@ -41,10 +41,11 @@ use Rattle.law_typing.specs.Forms.{IsDeclared, ArrayIs, Forms}
 use Rattle.law_typing.specs.Kept.{NodeIs, ValuedIs}
 use Rattle.law_typing.proofs.Makes.{Each}
 use Rattle.law_typing.proofs.Constants.{fold_texts_is}
-use Rattle.law_typing.proofs.Basics.{form_basic, target_basic, none_some, not_true, some_is, number_type, smallest_of, within_long}
+use Rattle.law_typing.proofs.Basics.{form_basic, target_basic, not_true, number_type, smallest_of, within_long}
 use Rattle.law_typing.proofs.Values.{Fits, W, place_fits, shown_place, shown_constant, width_fits, basic_fits, basic_node}
 use Rattle.law_typing.proofs.Operators.{Operands, and_is, two_is, dyadic_is, both_are}
 use Rattle.law_typing.proofs.Designators.{form_is, long_fits}
+use Rattle.law_lists.proofs.Lists.{none_some, some_same}
 
 pub some_of : {A : Type 0} (o : Option A) → is_some o ≡ true → (x : A) × (o ≡ Some x)
 some_of None e = not_true e
@@ -79,10 +80,10 @@ array_basic map b = ap (λ t. array_at (shape_at map t)) (target_basic map b)
 
 -- the type of a constant with a name is basic
 pub constant_of_basic : (c : Literal) (t : TypeRef) → type_in (constant_type c) ≡ Some t → (b : Basic) × (t ≡ ref.Basic b)
-constant_of_basic (literal.Bool b) t e = (basic.Boolean, sym (some_is e))
-constant_of_basic (literal.Char c) t e = (basic.Char, sym (some_is e))
-constant_of_basic (literal.Int z) t e = (typed.basic_of (smallest_of z), sym (some_is (sym (ap type_in (number_type z)) ∙ e)))
-constant_of_basic (literal.Set n) t e = (basic.Set, sym (some_is e))
+constant_of_basic (literal.Bool b) t e = (basic.Boolean, sym (some_same e))
+constant_of_basic (literal.Char c) t e = (basic.Char, sym (some_same e))
+constant_of_basic (literal.Int z) t e = (typed.basic_of (smallest_of z), sym (some_same (sym (ap type_in (number_type z)) ∙ e)))
+constant_of_basic (literal.Set n) t e = (basic.Set, sym (some_same e))
 constant_of_basic (literal.Str text) t e = none_some e
 constant_of_basic literal.Nil t e = none_some e
 
@@ -113,12 +114,12 @@ module _ (program : Program) (Has : Formals → QName → Type 0) (unit : List �
   pub pointer_fits : (x : Valued) (t u : TypeRef) → Is x → type_in (type x) ≡ Some t → pointed map t ≡ Some u → Ex (expr_view (tree x)) (PointerForm u)
   pointer_fits (valued.Constant c) t u h e f = let b = constant_of_basic c t e in none_some (sym (ap (pointed map) b.1 ∙ pointed_basic map b.0) ∙ f)
   pointer_fits (valued.Place p) t u h e f =
-      let g : form_in program p.of ≡ PointerForm u = ap (form_in program) (some_is e) ∙ (forms.pointers t u f).0 in
+      let g : form_in program p.of ≡ PointerForm u = ap (form_in program) (some_same e) ∙ (forms.pointers t u f).0 in
       shown_place program Has unit held result map forms p (PointerForm u) (place_fits program Has unit held result map forms (designator_view p.designator.inner) p.of p.var_record (PointerForm u) (PointerForm u) h g tt typed.itself)
   pointer_fits (valued.Node n) t u h e f = by n.of h e
     where
       by : (k : ExprType) → NodeIs program Has unit held result map (expr_view n.tree.inner) k → type_in k ≡ Some t → Ex (expr_view n.tree.inner) (PointerForm u)
-      by (kind.Of s) h e = h.2 (PointerForm u) (subst (λ g. W program Has unit held result g (PointerForm u)) (sym (ap (form_in program) (some_is e) ∙ (forms.pointers t u f).0)) typed.itself)
+      by (kind.Of s) h e = h.2 (PointerForm u) (subst (λ g. W program Has unit held result g (PointerForm u)) (sym (ap (form_in program) (some_same e) ∙ (forms.pointers t u f).0)) typed.itself)
       by (kind.Procedure s) h e = none_some e
       by kind.Str h e = none_some e
       by kind.Nil h e = none_some e

@@ -23,8 +23,9 @@ use Rattle.law_typing.specs.Kept.{PlaceIs}
 use Rattle.law_typing.specs.Meant.{GuardIs, RootIs}
 use Rattle.law_typing.proofs.Unguarded.{variable_unguarded, guard_unguarded}
 use Rattle.law_typing.proofs.Makes.{makes_then}
-use Rattle.law_typing.proofs.Basics.{none_some, not_true, some_is}
+use Rattle.law_typing.proofs.Basics.{not_true}
 use Rattle.law_typing.proofs.Designators.{pointed_is, extends_is, some_true, no_record, variable_is, guarded_is}
+use Rattle.law_lists.proofs.Lists.{none_some, some_same}
 
 -- what the guards of WITH add to a name has what each of them keeps
 pub guards_keep : (map : Map) (Q : Place → Type 0) (K : TypeRef → Type 0) → ((p : Place) (t : TypeRef) (g : Guarded × QName) (at : Pos) → Q p → K t → guard_of map p t ≡ Some g → Q (guarded_by p g t at false)) → (at : Pos) (v : Variable) (gs : List (Variable × Option TypeRef)) (j : Judged Place) → Makes Q j → AllByRecursion (λ (g : Variable × Option TypeRef). IfThere K g.1) gs → Makes Q (with_guards map at v gs j)
@@ -63,7 +64,7 @@ module _ (program : Program) (Has : Formals → QName → Type 0) (unit : List �
           let plain : (s : TypeRef) (q : QName) → record_of map s ≡ Some q → pointed map s ≡ None = λ s q f. none (pointed map s) s q f refl in
           let s : Sub (record_in program g.1) (record_in program r.owner) = sub_on (forms.extensions g.1 i.0 p.of i.1 i.4) (h.below i.0 (ap (λ z. record_of map (pointee p.of z)) (plain p.of i.0 i.1) ∙ i.1)) in
           record {
-            below = λ q f. let x : Some g.1 ≡ Some q = sym i.2 ∙ sym (ap (λ z. record_of map (pointee t z)) (plain t g.1 i.2)) ∙ f in subst (λ z. Sub (record_in program z) (record_in program r.owner)) (some_is x) s;
+            below = λ q f. let x : Some g.1 ≡ Some q = sym i.2 ∙ sym (ap (λ z. record_of map (pointee t z)) (plain t g.1 i.2)) ∙ f in subst (λ z. Sub (record_in program z) (record_in program r.owner)) (some_same x) s;
           }
         where
           none : (o : Option TypeRef) (s : TypeRef) (q : QName) → record_of map s ≡ Some q → pointed map s ≡ o → o ≡ None
@@ -76,11 +77,11 @@ module _ (program : Program) (Has : Formals → QName → Type 0) (unit : List �
           let i = extends_is map guarded.Pointer (Some a) (pointed_record map t) g k in
           let c = pointed_is map p.of a f in
           let d = pointed_is map t g.1 i.2 in
-          let a_is : a ≡ i.0 = some_is i.1 in
+          let a_is : a ≡ i.0 = some_same i.1 in
           let up : record_of map c.0 ≡ Some i.0 = c.2 ∙ ap (λ z. Some z) a_is in
           let s : Sub (record_in program g.1) (record_in program r.owner) = sub_on (forms.extensions g.1 i.0 c.0 up i.4) (h.below i.0 (ap (λ z. record_of map (pointee p.of z)) c.1 ∙ up)) in
           record {
-            below = λ q f. let x : Some g.1 ≡ Some q = sym d.2 ∙ sym (ap (λ z. record_of map (pointee t z)) d.1) ∙ f in subst (λ z. Sub (record_in program z) (record_in program r.owner)) (some_is x) s;
+            below = λ q f. let x : Some g.1 ≡ Some q = sym d.2 ∙ sym (ap (λ z. record_of map (pointee t z)) d.1) ∙ f in subst (λ z. Sub (record_in program z) (record_in program r.owner)) (some_same x) s;
           }
 
   module _ (o : Option Received) where

@@ -32,10 +32,11 @@ use Rattle.law_typing.specs.Known.{ConstantIs}
 use Rattle.law_typing.specs.Kept.{NodeIs, ValuedIs}
 use Rattle.law_typing.proofs.Makes.{Each}
 use Rattle.law_typing.proofs.Constants.{fold_one_is, fold_two_is}
-use Rattle.law_typing.proofs.Basics.{none_some, width_back}
+use Rattle.law_typing.proofs.Basics.{width_back}
 use Rattle.law_typing.proofs.Values.{Fits, W, basic_node}
 use Rattle.law_typing.proofs.Operators.{and_is}
 use Rattle.law_typing.proofs.Designators.{long_fits}
+use Rattle.law_lists.proofs.Lists.{none_some}
 
 form_basic_of : Form → Option Basic
 form_basic_of (BasicForm b) = Some b

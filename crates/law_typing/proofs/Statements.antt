@@ -21,10 +21,10 @@ use Rattle.law_typing.specs.Spelled.{all_true, is_spelled, designator_spelled}
 use Rattle.law_typing.specs.Bodies.{spelled_if, stmt_layer, branch_layer, case_layer, guarded_layer, stmt_spelled, branch_spelled, case_spelled, guarded_spelled, in_all, place_layer, branch_places_layer, case_places_layer, guarded_places_layer, hidden_places, branch_places, case_places, guarded_places, AreHidden, JudgingIs, AreJudging, ConditionalIs}
 use Rattle.law_typing.proofs.Operators.{and_is}
 use Rattle.law_typing.proofs.Expressions.{expr_is, designator_of_is}
-use Rattle.law_typing.proofs.Bodies.{all_split}
 use Rattle.law_typing.proofs.Simple.{assignment_is, call_statement_is, exit_is, return_is}
 use Rattle.law_typing.proofs.Branching.{if_is, case_is, with_is}
 use Rattle.law_typing.proofs.Looping.{while_is, repeat_is, loop_is, for_is}
+use Rattle.law_lists.proofs.Lists.{all_parts}
 
 module _ (program : Program) (Has : Formals → QName → Type 0) (unit : List ℕ) (held : List Held) (result : Option TypeRef) where
   abbrev Hid : List Pos → Type 0
@@ -75,7 +75,7 @@ module _ (program : Program) (Has : Formals → QName → Type 0) (unit : List �
   guarded_in xs = map (λ (x : SG). x.0) xs
 
   hidden_two : (ps qs : List Pos) → Hid (ps ++ qs) → Hid ps × Hid qs
-  hidden_two ps qs h = all_split _ ps qs h
+  hidden_two ps qs h = all_parts _ ps qs h
 
   bodies_are : (xs : List SS) → all_true (map stmt_spelled (stmts_in xs)) ≡ true → Hid (in_all (map hidden_places (stmts_in xs))) → Bod (map judging (stmts_in xs))
   bodies_are [] e h = tt

@@ -43,11 +43,12 @@ use Rattle.law_typing.specs.Forms.{IsKnown, Forms}
 use Rattle.law_typing.specs.Known.{IsScoped}
 use Rattle.law_typing.specs.Kept.{DesignatorIs, PlaceIs, NodeIs, ValuedIs}
 use Rattle.law_typing.proofs.Makes.{makes_found}
-use Rattle.law_typing.proofs.Basics.{form_basic, none_some, not_true, some_is}
+use Rattle.law_typing.proofs.Basics.{form_basic, not_true}
 use Rattle.law_typing.proofs.Values.{Fits, W, basic_node}
 use Rattle.law_typing.proofs.Designators.{pointed_is, extends_is, form_is}
 use Rattle.law_typing.proofs.Relations.{pointer_fits}
 use Rattle.law_typing.proofs.Shown.{shown_is}
+use Rattle.law_lists.proofs.Lists.{none_some, some_same}
 
 module _ (program : Program) (Has : Formals → QName → Type 0) (unit : List ℕ) (held : List Held) (result : Option TypeRef) where
   -- NAMES OF TYPES
@@ -149,7 +150,7 @@ module _ (program : Program) (Has : Formals → QName → Type 0) (unit : List �
             let i = extends_is map guarded.Pointer (Some a) (pointed_record map t) k e in
             let p = pointed_is map s a g in
             let q = pointed_is map t k.1 i.2 in
-            pointer_node x s p.0 k.1 h f p.1 (test_ok p.0 q.0 a k.1 p.2 q.2 (subst (λ b. extends_record map k.1 b ≡ true) (sym (some_is i.1)) i.4))
+            pointer_node x s p.0 k.1 h f p.1 (test_ok p.0 q.0 a k.1 p.2 q.2 (subst (λ b. extends_record map k.1 b ≡ true) (sym (some_same i.1)) i.4))
 
     record_node : (d : Desig) (s t : TypeRef) (a q : QName) → DesignatorIs program Has unit held result map d s true → record_of map s ≡ Some a → record_of map t ≡ Some q → extends_record map q a ≡ true → NodeIs program Has unit held result map (IsRecord d q) (of_basic basic.Boolean)
     record_node d s t a q h e f g =
@@ -215,5 +216,5 @@ module _ (program : Program) (Has : Formals → QName → Type 0) (unit : List �
             let i = extends_is map guarded.Pointer (Some a) (pointed_record map t) g k in
             let r = pointed_is map p.of a f in
             let q = pointed_is map t g.1 i.2 in
-            let n = pointer_node (valued.Place p) p.of r.0 g.1 h refl r.1 (test_ok r.0 q.0 a g.1 r.2 q.2 (subst (λ b. extends_record map g.1 b ≡ true) (sym (some_is i.1)) i.4)) in
+            let n = pointer_node (valued.Place p) p.of r.0 g.1 h refl r.1 (test_ok r.0 q.0 a g.1 r.2 q.2 (subst (λ b. extends_record map g.1 b ≡ true) (sym (some_same i.1)) i.4)) in
             subst (λ k. Ex (expr_view (guard_test p k g.1)) (BasicForm basic.Boolean)) (sym i.3) (node_of (expr_view (e.IsPointer (tree (valued.Place p)) g.1)) basic.Boolean n)

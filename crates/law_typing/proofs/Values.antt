@@ -28,7 +28,8 @@ use Rattle.ob_rules.specs.Values.{is, width_in, width as width_at, tree}
 use Rattle.law_typing.specs.Forms.{Widens, Forms}
 use Rattle.law_typing.specs.Known.{ConstantIs}
 use Rattle.law_typing.specs.Kept.{DesignatorIs, NodeIs, ValuedIs}
-use Rattle.law_typing.proofs.Basics.{form_basic, basic_is, none_some, not_true, some_is, is_basic_is, width_basic, width_back, smallest_of, number_fits, number_type}
+use Rattle.law_typing.proofs.Basics.{form_basic, basic_is, not_true, is_basic_is, width_basic, width_back, smallest_of, number_fits, number_type}
+use Rattle.law_lists.proofs.Lists.{none_some, some_same}
 
 module _ (program : Program) (Has : Formals → QName → Type 0) (unit : List ℕ) (held : List Held) (result : Option TypeRef) where
   abbrev pub Fits : Expr → Form → Type 0
@@ -58,7 +59,7 @@ module _ (program : Program) (Has : Formals → QName → Type 0) (unit : List �
     constant_width : (c : Literal) (w v : Width) → ConstantIs c → width_in map (constant_type c) ≡ Some w → Within w v → typed.ConstantOk program Has unit held result c (integer v)
     constant_width (literal.Int z) w v h e k =
         let b : Some (smallest_of z) ≡ Some w = sym (ap (width_in map) (number_type z) ∙ ap width_of (basic_is map (typed.basic_of (smallest_of z))) ∙ width_back (smallest_of z)) ∙ e in
-        (v, number_fits z v h (subst (λ x. Within x v) (sym (some_is b)) k), refl)
+        (v, number_fits z v h (subst (λ x. Within x v) (sym (some_same b)) k), refl)
     constant_width (literal.Bool b) w v h e k = none_some (sym (ap width_of (basic_is map basic.Boolean)) ∙ e)
     constant_width (literal.Char c) w v h e k = none_some (sym (ap width_of (basic_is map basic.Char)) ∙ e)
     constant_width (literal.Set n) w v h e k = none_some (sym (ap width_of (basic_is map basic.Set)) ∙ e)
@@ -91,9 +92,9 @@ module _ (program : Program) (Has : Formals → QName → Type 0) (unit : List �
         is_kind : Basic → ExprType → Bool
         is_kind b (kind.Of t) = is_basic map b t
         is_kind b k = false
-    constant_basic (literal.Bool x) b n h e = ap (λ o. BasicForm o) (sym (some_is (sym (basic_is map basic.Boolean) ∙ is_basic_is map b (ref.Basic basic.Boolean) e)))
-    constant_basic (literal.Char c) b n h e = (h, ap (λ o. BasicForm o) (sym (some_is (sym (basic_is map basic.Char) ∙ is_basic_is map b (ref.Basic basic.Char) e))))
-    constant_basic (literal.Set s) b n h e = (h, ap (λ o. BasicForm o) (sym (some_is (sym (basic_is map basic.Set) ∙ is_basic_is map b (ref.Basic basic.Set) e))))
+    constant_basic (literal.Bool x) b n h e = ap (λ o. BasicForm o) (sym (some_same (sym (basic_is map basic.Boolean) ∙ is_basic_is map b (ref.Basic basic.Boolean) e)))
+    constant_basic (literal.Char c) b n h e = (h, ap (λ o. BasicForm o) (sym (some_same (sym (basic_is map basic.Char) ∙ is_basic_is map b (ref.Basic basic.Char) e))))
+    constant_basic (literal.Set s) b n h e = (h, ap (λ o. BasicForm o) (sym (some_same (sym (basic_is map basic.Set) ∙ is_basic_is map b (ref.Basic basic.Set) e))))
     constant_basic (literal.Str text) b n h e = not_true e
     constant_basic literal.Nil b n h e = not_true e
 

@@ -13,9 +13,9 @@ use Rattle.ob_types.specs.declared.desc.Field.{Field}
 use Rattle.ob_types.specs.declared.desc.Method.{Method}
 use Rattle.ob_types.specs.Maps.{is_type, named_by, signature_types, listed, IsHeld}
 use Rattle.ob_types.specs.Relations.{is_alias, StandsFor, itself, equated, Is, is_record, is_structure, is_open, IsPlainResult, Keeps}
-use Rattle.law_typing_forms.proofs.Within.{all_left, all_right}
 use Rattle.law_typing_env.specs.Ordered.{bare}
 use Rattle.law_typing_env.specs.Near.{core}
+use Rattle.law_lists.proofs.Lists.{all_back, all_front}
 
 pub core_bare : (d : Desc) → core (bare d) ≡ core d
 core_bare (desc.Const v) = refl
@@ -205,7 +205,7 @@ module _ (small large : QName → Option Desc) (says : (q : QName) (d : Desc) �
   result_plain (Some t) h k = kind_back is_structure structure_kind t h.0 k
 
   plain : (s : Signature) → AllByRecursion (λ t. IsHeld small t) (signature_types s) → IsPlainResult small s → IsPlainResult large s
-  plain s h k = result_plain s.result (all_right (λ t. IsHeld small t) (each (λ p. p.1) s.params) (listed s.result) h) k
+  plain s h k = result_plain s.result (all_back (λ t. IsHeld small t) (each (λ p. p.1) s.params) (listed s.result) h) k
 
   base_keeps : (o : Option TypeRef) → IfSome o (Is small is_record) → IfSome o (Is large is_record)
   base_keeps None k = tt
@@ -217,7 +217,7 @@ module _ (small large : QName → Option Desc) (says : (q : QName) (d : Desc) �
 
   methods_keep : (ms : List Method) → AllByRecursion (λ t. IsHeld small t) (flat_map (λ m. signature_types m.signature) ms) → AllByRecursion (λ m. IsPlainResult small m.signature) ms → AllByRecursion (λ m. IsPlainResult large m.signature) ms
   methods_keep [] h k = tt
-  methods_keep (m ∷ ms) h k = (plain m.signature (all_left (λ t. IsHeld small t) (signature_types m.signature) (flat_map (λ m. signature_types m.signature) ms) h) k.0, methods_keep ms (all_right (λ t. IsHeld small t) (signature_types m.signature) (flat_map (λ m. signature_types m.signature) ms) h) k.1)
+  methods_keep (m ∷ ms) h k = (plain m.signature (all_front (λ t. IsHeld small t) (signature_types m.signature) (flat_map (λ m. signature_types m.signature) ms) h) k.0, methods_keep ms (all_back (λ t. IsHeld small t) (signature_types m.signature) (flat_map (λ m. signature_types m.signature) ms) h) k.1)
 
   pub keeps_larger : (d : Desc) → AllByRecursion (λ t. IsHeld small t) (named_by d) → Keeps small d → Keeps large d
   keeps_larger (desc.Const v) h k = tt
@@ -229,6 +229,6 @@ module _ (small large : QName → Option Desc) (says : (q : QName) (d : Desc) �
   keeps_larger (desc.Pointer m t) h k = kind_forward is_structure structure_kind structure_type t k
   keeps_larger (desc.ProcType m s) h k = plain s h k
   keeps_larger (desc.Record r) h k =
-      let front = all_left (λ t. IsHeld small t) (listed r.base ++ each (λ f. f.of) r.fields) (flat_map (λ m. signature_types m.signature) r.methods) h in
-      let bound = all_right (λ t. IsHeld small t) (listed r.base ++ each (λ f. f.of) r.fields) (flat_map (λ m. signature_types m.signature) r.methods) h in
-      (base_keeps r.base k.0, (fields_keep r.fields (all_right (λ t. IsHeld small t) (listed r.base) (each (λ f. f.of) r.fields) front) k.1.0, methods_keep r.methods bound k.1.1))
+      let front = all_front (λ t. IsHeld small t) (listed r.base ++ each (λ f. f.of) r.fields) (flat_map (λ m. signature_types m.signature) r.methods) h in
+      let bound = all_back (λ t. IsHeld small t) (listed r.base ++ each (λ f. f.of) r.fields) (flat_map (λ m. signature_types m.signature) r.methods) h in
+      (base_keeps r.base k.0, (fields_keep r.fields (all_back (λ t. IsHeld small t) (listed r.base) (each (λ f. f.of) r.fields) front) k.1.0, methods_keep r.methods bound k.1.1))

@@ -16,13 +16,14 @@ use Rattle.ob_types.specs.TypedSyntax.{Module}
 use Rattle.ob_meaning.specs.Values.{Program, description}
 use Rattle.ob_layout.specs.LaidOut.{type_named as own_named, is_own, viewed}
 use Rattle.ob_uses.specs.Uses.{near_types}
-use Rattle.law_typing_forms.proofs.Within.{all_left, all_from}
+use Rattle.law_typing_forms.proofs.Within.{all_from}
 use Rattle.law_typing_forms.proofs.Modules.{of_all}
 use Rattle.law_typing_env.specs.Ordered.{bare}
 use Rattle.law_typing_env.specs.Near.{core, IsNear, AreUsed, UsersStand}
 use Rattle.law_typing_env.proofs.Keeping.{core_bare, Says, record_kind, structure_kind, open_kind, kind_forward, kind_held, structure_type}
 use Rattle.law_typing_env.proofs.Ordered.{types_named}
 use Rattle.law_typing_env.proofs.Views.{type_found}
+use Rattle.law_lists.proofs.Lists.{all_front}
 
 open_type : (d : Desc) → is_open d ≡ true → is_type d ≡ true
 open_type (desc.Const v) e = absurd cc
@@ -68,7 +69,7 @@ near_named P (desc.Array m n t) ty h = h
 near_named P (desc.OpenArray m t) ty h = h
 near_named P (desc.Pointer m t) ty h = h
 near_named P (desc.ProcType m s) ty h = h
-near_named P (desc.Record r) ty h = all_left P (listed r.base) (each (λ f. f.of) r.fields) (all_left P (listed r.base ++ each (λ f. f.of) r.fields) (flat_map (λ m. signature_types m.signature) r.methods) h)
+near_named P (desc.Record r) ty h = all_front P (listed r.base) (each (λ f. f.of) r.fields) (all_front P (listed r.base ++ each (λ f. f.of) r.fields) (flat_map (λ m. signature_types m.signature) r.methods) h)
 
 stands_named : (P : TypeRef → Type 0) (d : Desc) → is_type d ≡ true → AllByRecursion P (named_by d) → AllByRecursion P (stands_on d)
 stands_named P (desc.Const v) ty h = absurd cc
@@ -79,7 +80,7 @@ stands_named P (desc.Array m n t) ty h = h
 stands_named P (desc.OpenArray m t) ty h = h
 stands_named P (desc.Pointer m t) ty h = tt
 stands_named P (desc.ProcType m s) ty h = h
-stands_named P (desc.Record r) ty h = all_left P (listed r.base ++ each (λ f. f.of) r.fields) (flat_map (λ m. signature_types m.signature) r.methods) h
+stands_named P (desc.Record r) ty h = all_front P (listed r.base ++ each (λ f. f.of) r.fields) (flat_map (λ m. signature_types m.signature) r.methods) h
 
 -- ---- one description beside another
 
@@ -237,8 +238,8 @@ module _ (before : Program) (m : Module) (types : QName → Option Desc) (near :
           pointwise [] a b = tt
           pointwise (t ∷ ts) a b = (r t a.0 b.0, pointwise ts a.1 b.1)
       on d e ty (inr k) a b r =
-          let vs : AllByRecursion (λ t. IsWithin V n t) (listed k.r.base) = all_left (λ t. IsWithin V n t) (listed k.r.base) (each (λ f. f.of) k.r.fields) (subst (λ x. AllByRecursion (λ t. IsWithin V n t) (stands_on x)) k.of b) in
-          let ws : AllByRecursion (λ t. IsHeld W t) (listed k.s.base) = all_left (λ t. IsHeld W t) (listed k.s.base) (each (λ f. f.of) k.s.fields) (subst (λ x. AllByRecursion (λ t. IsHeld W t) (stands_on x)) k.is a) in
+          let vs : AllByRecursion (λ t. IsWithin V n t) (listed k.r.base) = all_front (λ t. IsWithin V n t) (listed k.r.base) (each (λ f. f.of) k.r.fields) (subst (λ x. AllByRecursion (λ t. IsWithin V n t) (stands_on x)) k.of b) in
+          let ws : AllByRecursion (λ t. IsHeld W t) (listed k.s.base) = all_front (λ t. IsHeld W t) (listed k.s.base) (each (λ f. f.of) k.s.fields) (subst (λ x. AllByRecursion (λ t. IsHeld W t) (stands_on x)) k.is a) in
           subst (λ x. AllByRecursion (λ t. IsWithin W n t) (stands_on x)) (sym k.is) (subst (λ fs. AllByRecursion (λ t. IsWithin W n t) (listed k.s.base ++ each (λ f. f.of) fs)) (sym k.fields) (base_only k.s.base ws (subst (λ o. AllByRecursion (λ t. IsWithin V n t) (listed o)) (sym k.base) vs)))
         where
           base_only : (o : Option TypeRef) → AllByRecursion (λ t. IsHeld W t) (listed o) → AllByRecursion (λ t. IsWithin V n t) (listed o) → AllByRecursion (λ t. IsWithin W n t) (listed o ++ [])

@@ -14,13 +14,10 @@ use Rattle.ob_layout.specs.LaidOut.{kept, placed}
 use Rattle.law_typing_forms.specs.Said.{IsOneOf, HaveNames}
 use Rattle.law_typing_forms.proofs.Built.{OwnerIn}
 use Rattle.law_typing_env.proofs.Laid.{fresh_other, placed_fresh}
+use Rattle.law_lists.proofs.Lists.{and_left}
 
 kept_few : (n : ℕ) → n ≤ most_words → kept n ≡ n
 kept_few n le = omega (arith, le)
-
-and_left : (x y : Bool) → (x && y) ≡ true → x ≡ true
-and_left true y e = refl
-and_left false y e = absurd cc
 
 -- their places are the sums of what stands before
 pub places_sum : (form : TypeRef → Form) (q : QName) (w : TypeRef → ℕ) (n : ℕ) (fs : List Field) (g : Field) → HaveNames fs → AllByRecursion (λ f. w f.of ≡ words (form f.of)) fs → n + sum_of (λ f. w f.of) fs ≤ most_words → IsOneOf (placed w n fs) g → g.place ≡ n + field_offset (own_fields form q (placed w n fs)) q g.name

@@ -32,6 +32,7 @@ use Rattle.law_typing_forms.specs.Said.{IsOneOf, IsAmong, IsBoundAmong, IsPartOf
 use Rattle.law_typing_forms.specs.Whole.{IsPassed, HeadingOk, IsWhole}
 use Rattle.law_typing_forms.proofs.Modules.{of_all, own, type_there, procedure_there, variable_there}
 use Rattle.law_typing_env.specs.Ages.{IsShownBy, AreShown}
+use Rattle.law_lists.proofs.Lists.{all_both}
 
 -- ---- members of lists
 
@@ -156,10 +157,6 @@ parameters_are program (x ∷ xs) h =
     let k : mode_of x.passing ≡ h.0.mode = ap mode_of h.0.passing ∙ mode_passed h.0.mode (form_in program x.of) in
     (refl, (h.0.passing ∙ ap (λ m. passing_for m (form_in program x.of)) (sym k), parameters_are program xs h.1))
 
-all_joined : {A : Type 0} (P : A → Type 0) (xs ys : List A) → AllByRecursion P xs → AllByRecursion P ys → AllByRecursion P (xs ++ ys)
-all_joined P [] ys h k = k
-all_joined P (x ∷ xs) ys h k = (h.0, all_joined P xs ys h.1 k)
-
 parameters_declared : (program : Program) (xs : List TypedParameter) → AllByRecursion (λ x. IsPassed program x) xs → AllByRecursion IsDeclared (each (λ p. p.1) (each formal_of xs))
 parameters_declared program [] h = tt
 parameters_declared program (x ∷ xs) h = (h.0.declared, parameters_declared program xs h.1)
@@ -188,7 +185,7 @@ module _ (program : Program) (sound : IsSound program) where
     procedure_said m p i j =
         let h : HeadingOk program p = of_all (HeadingOk program) m.procedures p (own program whole m i).headings j in
         let is : IsProcedureOf program (at m p.name) (signature_of p) = record { p = p; found = procedure_there program whole m p i j; result = refl; parameters = parameters_are program p.parameters h.0 } in
-        (is, all_joined IsDeclared (each (λ p. p.1) (each formal_of p.parameters)) (listed p.result) (parameters_declared program p.parameters h.0) h.1)
+        (is, all_both IsDeclared (each (λ p. p.1) (each formal_of p.parameters)) (listed p.result) (parameters_declared program p.parameters h.0) h.1)
 
     object_said : (m : Module) (o : List ℕ × Desc) → IsOneOf program m → IsOneOf (objects_of m) o → IsSaid program (at m o.0) o.1
     object_said m o i j =

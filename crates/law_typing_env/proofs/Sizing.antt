@@ -20,7 +20,7 @@ use Rattle.ob_layout.specs.Words.{most_words}
 use Rattle.ob_layout.specs.LaidOut.{type_named as own_named, is_own, viewed, base_of, words_in, procedures_in, placed, laid_record, laid_desc}
 use Rattle.law_typing_forms.specs.Said.{IsOneOf, HaveNames, IsSound}
 use Rattle.law_typing_forms.specs.Whole.{IsWhole}
-use Rattle.law_typing_forms.proofs.Within.{form_described, parts_within, all_left, all_right, all_from}
+use Rattle.law_typing_forms.proofs.Within.{form_described, parts_within, all_from}
 use Rattle.law_typing_forms.proofs.Built.{base_apart}
 use Rattle.law_typing_forms.proofs.Modules.{of_all}
 use Rattle.law_typing_forms.proofs.Staying.{HasMore}
@@ -32,6 +32,7 @@ use Rattle.law_typing_env.proofs.Ordered.{either_there, types_named}
 use Rattle.law_typing_env.proofs.Words.{HaveWords, based_words, base_records, record_sum, summed_words}
 use Rattle.law_typing_env.proofs.Summed.{laid_found, has_more, words_more}
 use Rattle.law_typing_env.proofs.Places.{places_sum, offset_behind}
+use Rattle.law_lists.proofs.Lists.{all_back, all_front}
 
 -- a record that is laid out was one before
 pub laid_of : (w p : TypeRef → ℕ) (q : QName) (d : Desc) (s : RecordDesc) → laid_desc w p q d ≡ desc.Record s → (r : RecordDesc) × ((d ≡ desc.Record r) × (laid_record w p q r ≡ s))
@@ -57,8 +58,8 @@ module _ (program : Program) (sound : IsSound program) (whole : IsWhole program)
   laid_places : (q : QName) (r : RecordDesc) (w p : TypeRef → ℕ) → HaveNames r.fields → description program q ≡ Some (desc.Record (laid_record w p q r)) → AllByRecursion (λ t. w t ≡ words (form t)) (listed r.base ++ each (λ f. f.of) r.fields) → words (record_in program q) ≤ most_words → (g : Field) → IsOneOf (placed w (base_of w r.base) r.fields) g → g.place ≡ field_offset (fields_of (record_in program q)) q g.name
   laid_places q r w p names e parts few g i =
       let n = base_of w r.base in
-      let b = all_left (λ t. w t ≡ words (form t)) (listed r.base) (each (λ f. f.of) r.fields) parts in
-      let o = each_field (λ t. w t ≡ words (form t)) r.fields (all_right (λ t. w t ≡ words (form t)) (listed r.base) (each (λ f. f.of) r.fields) parts) in
+      let b = all_front (λ t. w t ≡ words (form t)) (listed r.base) (each (λ f. f.of) r.fields) parts in
+      let o = each_field (λ t. w t ≡ words (form t)) r.fields (all_back (λ t. w t ≡ words (form t)) (listed r.base) (each (λ f. f.of) r.fields) parts) in
       let base : n ≡ fields_words (base_fields form r.base) = based_words program sound whole w r.base b (base_records program sound whole r.base (sound.keeps q (desc.Record (laid_record w p q r)) e).0) in
       let sum : n + sum_of (λ f. w f.of) r.fields ≡ words (record_in program q) = record_sum program sound whole w w p q r e parts in
       let le : n + sum_of (λ f. w f.of) r.fields ≤ most_words = subst (λ k. k ≤ most_words) (sym sum) few in

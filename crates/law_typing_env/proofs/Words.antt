@@ -21,7 +21,7 @@ use Rattle.ob_layout.specs.Words.{described_words}
 use Rattle.ob_layout.specs.LaidOut.{type_named as own_named, is_own, viewed, base_of, declared_words, summed, words_in, procedures_in, placed, laid_record, laid_desc, laid_type}
 use Rattle.law_typing_forms.specs.Said.{IsOneOf, IsSound}
 use Rattle.law_typing_forms.specs.Whole.{IsWhole}
-use Rattle.law_typing_forms.proofs.Within.{form_described, all_left, all_right}
+use Rattle.law_typing_forms.proofs.Within.{form_described}
 use Rattle.law_typing_forms.proofs.Built.{record_base}
 use Rattle.law_typing_forms.proofs.Shapes.{basic_is}
 use Rattle.law_typing_forms.proofs.Modules.{type_there}
@@ -29,6 +29,7 @@ use Rattle.law_typing_forms.proofs.Staying.{HasMore}
 use Rattle.law_typing_env.specs.Ordered.{bare}
 use Rattle.law_typing_env.specs.Words.{IsLaidOver}
 use Rattle.law_typing_env.proofs.Views.{type_found, one_each}
+use Rattle.law_lists.proofs.Lists.{all_back, all_front}
 
 -- ---- sums do not ask for places
 
@@ -105,8 +106,8 @@ module _ (program : Program) (sound : IsSound program) (whole : IsWhole program)
   pub record_sum : (f w p : TypeRef → ℕ) (q : QName) (r : RecordDesc) → description program q ≡ Some (desc.Record (laid_record w p q r)) → AllByRecursion (λ t. f t ≡ words (form t)) (listed r.base ++ each (λ x. x.of) r.fields) → base_of f r.base + sum_of (λ x. f x.of) r.fields ≡ words (record_in program q)
   record_sum f w p q r e h =
       let laid = placed w (base_of w r.base) r.fields in
-      let b = all_left (λ t. f t ≡ words (form t)) (listed r.base) (each (λ x. x.of) r.fields) h in
-      let o = all_right (λ t. f t ≡ words (form t)) (listed r.base) (each (λ x. x.of) r.fields) h in
+      let b = all_front (λ t. f t ≡ words (form t)) (listed r.base) (each (λ x. x.of) r.fields) h in
+      let o = all_back (λ t. f t ≡ words (form t)) (listed r.base) (each (λ x. x.of) r.fields) h in
       let base = based_words f r.base b (base_records r.base (sound.keeps q (desc.Record (laid_record w p q r)) e).0) in
       let own : sum_of (λ x. f x.of) r.fields ≡ fields_words (own_fields form q laid) = fields_sum f (λ t. words (form t)) r.fields o ∙ sym (sum_placed w (λ t. words (form t)) (base_of w r.base) r.fields) ∙ sym (own_words form q laid) in
       ap (λ n. n + sum_of (λ x. f x.of) r.fields) base

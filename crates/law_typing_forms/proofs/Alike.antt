@@ -1,6 +1,6 @@
 -- Types that the rules take for equal are of one form, and so are procedure types whose signatures match.
-use Rattle.std.proofs.Common.{◌≡◌, ℕ, zero, suc, Bool, true, false, List, [], ◌∷◌, map as each, Option, Some, None, refl, sym, ap, ◌∙◌, ⊎_elim, inl, inr}
-use Rattle.std.specs.Prelude.{◌&&◌, ◌||◌, ◌⊎◌}
+use Rattle.std.proofs.Common.{◌≡◌, ℕ, zero, suc, Bool, true, false, List, [], ◌∷◌, map as each, Option, Some, None, refl, sym, ap, ◌∙◌, ⊎_elim}
+use Rattle.std.specs.Prelude.{◌&&◌, ◌⊎◌}
 use Rattle.std.specs.List.{AllByRecursion}
 use Rattle.std.proofs.lemmas.Bool.{false≢true}
 use Rattle.ob_tree.specs.declared.names.QName.{QName}
@@ -18,15 +18,11 @@ use Rattle.ob_rules.specs.Shapes.{shape, open_element, signature_at}
 use Rattle.law_typing_forms.specs.Formed.{IsDeclared, Formed}
 use Rattle.law_typing_forms.proofs.Finds as finds
 use Rattle.law_typing_forms.proofs.Shapes.{same_form, shaped, open_form, procedure_form}
-use Rattle.law_typing_forms.proofs.Within.{all_left}
+use Rattle.law_lists.proofs.Lists.{all_front, either_true}
 
 both_true : (a b : Bool) → (a && b) ≡ true → (a ≡ true) × (b ≡ true)
 both_true true b e = (refl, e)
 both_true false b e = absurd (false≢true e)
-
-either : (a b : Bool) → (a || b) ≡ true → (a ≡ true) ⊎ (b ≡ true)
-either true b e = inl refl
-either false b e = inr e
 
 mode_is : (a b : Mode) → modes_alike a b ≡ true → a ≡ b
 mode_is mode.Value mode.Value e = refl
@@ -87,7 +83,7 @@ module _ (map : QName → Option Desc) (program : Program) (formed : Formed map 
   params_declared t g e =
       let k = finds.is_procedure (shape map t) g e in
       let s = shaped map program formed t (desc.ProcType k.0 g) k.1 in
-      all_left IsDeclared (each (λ k. k.1) g.params) (listed g.result) (formed.declared s.q (desc.ProcType k.0 g) s.has)
+      all_front IsDeclared (each (λ k. k.1) g.params) (listed g.result) (formed.declared s.q (desc.ProcType k.0 g) s.has)
 
   by_parts : (n : ℕ) → Equal n → (a b : TypeRef) → IsDeclared a → IsDeclared b → (x y : Option TypeRef) → open_element map a ≡ x → open_element map b ≡ y → (s r : Option Signature) → signature_at map a ≡ s → signature_at map b ≡ r → parts_alike (λ u v. equal_at map n u v) (match_at n) x y s r ≡ true → form a ≡ form b
   by_parts n each a b da db (Some u) (Some v) i j s r k l e = open_form map program formed a u da i ∙ ap (λ f. OpenForm f) (each u v (element_declared a u i) (element_declared b v j) e) ∙ sym (open_form map program formed b v db j)
@@ -103,7 +99,7 @@ module _ (map : QName → Option Desc) (program : Program) (formed : Formed map 
   equal_form (suc n) a b da db e =
       ⊎_elim (λ h. same_form map program formed a b h)
       (λ h. by_parts n (equal_form n) a b da db (open_element map a) (open_element map b) refl refl (signature_at map a) (signature_at map b) refl refl h)
-      (either (same_at map a b) (shapes_alike (λ u v. equal_at map n u v) (match_at n) (shape map a) (shape map b)) e)
+      (either_true (same_at map a b) (shapes_alike (λ u v. equal_at map n u v) (match_at n) (shape map a) (shape map b)) e)
 
   -- SIGNATURES THAT MATCH
   pub alike_formals : (s r : Signature) → AreDeclared s.params → AreDeclared r.params → alike_to map s (Some r) ≡ true → formals_in program s ≡ formals_in program r

@@ -19,8 +19,9 @@ use Rattle.law_simulation_relation.specs.Typed.{IsRecordForm}
 use Rattle.law_simulation_relation.proofs.Names.{bytes_true, name_true}
 use Rattle.law_typing_forms.proofs.Chains.{chains}
 use Rattle.law_typing_forms.specs.Said.{IsSound, IsFreshName, HaveNames}
-use Rattle.law_typing_forms.proofs.Within.{form_described, parts_within, nowhere, none_within, all_left, all_right}
+use Rattle.law_typing_forms.proofs.Within.{form_described, parts_within, nowhere, none_within}
 use Rattle.law_typing_forms.proofs.Shapes.{basic_is}
+use Rattle.law_lists.proofs.Lists.{all_back, all_front, and_left, and_right, false_if_not}
 
 -- OWNERS
 
@@ -38,18 +39,6 @@ own_owner form o q [] h = absurd h
 own_owner form o q (f ∷ fs) h = ⊎_elim (λ e. e) (λ k. own_owner form o q fs k) h
 
 -- FRESH FIELDS
-
-false_if_not : (b : Bool) → (b ≡ true → ⊥) → b ≡ false
-false_if_not true h = absurd (h refl)
-false_if_not false h = refl
-
-and_right : (x y : Bool) → (x && y) ≡ true → y ≡ true
-and_right true y e = e
-and_right false y e = absurd cc
-
-and_left : (x y : Bool) → (x && y) ≡ true → x ≡ true
-and_left true y e = refl
-and_left false y e = absurd cc
 
 fresh_joined : (o : QName) (x : List ℕ) (fs gs : Fields) → FreshField o x fs → FreshField o x gs → FreshField o x (joined fs gs)
 fresh_joined o x NoField gs h k = k
@@ -171,14 +160,14 @@ module _ (program : Program) (sound : IsSound program) where
       by (Some (desc.Pointer m t)) e r = absurd (at (desc.Pointer m t) e)
       by (Some (desc.ProcType m s)) e r = absurd (at (desc.ProcType m s) e)
       by (Some (desc.Record s)) e r =
-          ⊎_elim (λ i. more types n (ref.Named o) (base s.base (all_left (λ t. IsWithin types n t) (listed s.base) (each (λ f. f.of) s.fields) (parts_within types n q (desc.Record s) e h)) i r))
+          ⊎_elim (λ i. more types n (ref.Named o) (base s.base (all_front (λ t. IsWithin types n t) (listed s.base) (each (λ f. f.of) s.fields) (parts_within types n q (desc.Record s) e h)) i r))
           (λ i. subst (λ x. IsWithin types (suc n) (ref.Named x)) (sym (own_owner form o q s.fields i)) h)
           (owner_either o (base_fields form s.base) (own_fields form q s.fields) (at (desc.Record s) e))
 
   -- no record type is a base of itself
   no_cycle : (n : ℕ) (q : QName) (r : RecordDesc) → types q ≡ Some (desc.Record r) → IsWithin types n (ref.Named q) → OwnerIn q (base_fields form r.base) → ⊥
   no_cycle zero q r e h i = nowhere types q h
-  no_cycle (suc n) q r e h i = by r.base (all_left (λ t. IsWithin types n t) (listed r.base) (each (λ f. f.of) r.fields) (parts_within types n q (desc.Record r) e h)) i (λ h. no_cycle n q r e h i)
+  no_cycle (suc n) q r e h i = by r.base (all_front (λ t. IsWithin types n t) (listed r.base) (each (λ f. f.of) r.fields) (parts_within types n q (desc.Record r) e h)) i (λ h. no_cycle n q r e h i)
     where
       by : (b : Option TypeRef) → AllByRecursion (λ t. IsWithin types n t) (listed b) → OwnerIn q (base_fields form b) → (IsWithin types n (ref.Named q) → ⊥) → ⊥
       by None w i k = absurd i
@@ -226,6 +215,6 @@ module _ (program : Program) (sound : IsSound program) where
       by (Some (desc.Record s)) e r =
           let parts = parts_within types n q (desc.Record s) e h in
           let keeps = sound.keeps q (desc.Record s) e in
-          let bases = base_ok n s.base (all_left (λ t. IsWithin types n t) (listed s.base) (each (λ f. f.of) s.fields) parts) keeps.0 r in
-          let own = own_ok program q s.fields (sound.fields q s e) (fields_each n s.fields (all_right (λ t. IsWithin types n t) (listed s.base) (each (λ f. f.of) s.fields) parts) keeps.1.0 r) in
+          let bases = base_ok n s.base (all_front (λ t. IsWithin types n t) (listed s.base) (each (λ f. f.of) s.fields) parts) keeps.0 r in
+          let own = own_ok program q s.fields (sound.fields q s e) (fields_each n s.fields (all_back (λ t. IsWithin types n t) (listed s.base) (each (λ f. f.of) s.fields) parts) keeps.1.0 r) in
           so (desc.Record s) e (form_described program sound q (desc.Record s) e, joined_ok program q (base_fields form s.base) s.fields bases own (base_apart q s e))

@@ -13,6 +13,7 @@ use Rattle.ob_types.proofs.Targets.{more}
 use Rattle.ob_meaning.specs.Values.{same_name, Program, type_named, description, number_of_types}
 use Rattle.law_simulation_relation.proofs.Names.{bytes_true, name_true, name_same}
 use Rattle.law_typing_forms.specs.Said.{IsOneOf, ChainsEnd, IsSound}
+use Rattle.law_lists.proofs.Lists.{length_each}
 
 -- ---- a list without one of its items
 
@@ -137,10 +138,6 @@ one_left (y ∷ xs) ys x h = ⊎_elim (λ e. inl e) (λ k. inr (one_left xs ys x
 one_right : {A : Type 0} (xs ys : List A) (x : A) → IsOneOf ys x → IsOneOf (xs ++ ys) x
 one_right [] ys x h = h
 one_right (y ∷ xs) ys x h = inr (one_right xs ys x h)
-
-length_each : {A B : Type 0} (f : A → B) (xs : List A) → length (each f xs) ≡ length xs
-length_each f [] = refl
-length_each f (x ∷ xs) = ap suc (length_each f xs)
 
 as_many : (program : Program) → length (names_of program) ≡ number_of_types program
 unfolding names_of

@@ -1,6 +1,6 @@
 -- What extends a type can stand for it.
 use Rattle.std.proofs.Common.{◌≡◌, ℕ, zero, suc, List, [], ◌∷◌, Option, Some, None, refl, sym, ap, subst, ◌∙◌}
-use Rattle.std.specs.Prelude.{Bool, true, false, ◌||◌, IfSome}
+use Rattle.std.specs.Prelude.{Bool, true, IfSome}
 use Rattle.ob_tree.specs.declared.names.QName.{QName}
 use Rattle.ob_types.specs.declared.types.TypeRef.{TypeRef}
 use Rattle.ob_types.specs.declared.types.TypeRef.TheVariants as ref
@@ -17,10 +17,7 @@ use Rattle.ob_rules.specs.Shapes.{shape, record_at, record_of, pointed, extends_
 use Rattle.law_typing_forms.specs.Formed.{IsRecordOf, Formed}
 use Rattle.law_typing_forms.proofs.Finds as finds
 use Rattle.law_typing_forms.proofs.Shapes as shapes
-
-or_either : (x y : Bool) → (x || y) ≡ true → (C : Type 0) → (x ≡ true → C) → (y ≡ true → C) → C
-or_either true y e C one two = one refl
-or_either false y e C one two = two e
+use Rattle.law_lists.proofs.Lists.{or_either}
 
 -- one type can stand for another, also behind a pointer
 pub record Above (t u : Form) : Type 0 where

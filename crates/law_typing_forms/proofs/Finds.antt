@@ -11,16 +11,14 @@ use Rattle.ob_types.specs.declared.desc.Desc.TheVariants as desc
 use Rattle.ob_types.specs.declared.desc.RecordDesc.{RecordDesc}
 use Rattle.ob_types.specs.Tests.{target_of, base_of, pointer_of, element_of, signature_of}
 use Rattle.ob_rules.specs.Shapes.{record_at, array_at, open_at, as_basic}
-
-inner : {A : Type 0} (x y : A) → Some x ≡ Some y → x ≡ y
-inner x y e = cc
+use Rattle.law_lists.proofs.Lists.{some_is}
 
 pub is_alias : (o : Option Desc) (u : TypeRef) → target_of o ≡ Some u → (m : Mark) × (o ≡ Some (desc.Alias m u))
 is_alias None u e = absurd cc
 is_alias (Some (desc.Const v)) u e = absurd cc
 is_alias (Some (desc.Var m t)) u e = absurd cc
 is_alias (Some (desc.Proc s)) u e = absurd cc
-is_alias (Some (desc.Alias m t)) u e = (m, ap (λ x. Some (desc.Alias m x)) (inner t u e))
+is_alias (Some (desc.Alias m t)) u e = (m, ap (λ x. Some (desc.Alias m x)) (some_is t u e))
 is_alias (Some (desc.Array m n t)) u e = absurd cc
 is_alias (Some (desc.OpenArray m t)) u e = absurd cc
 is_alias (Some (desc.Pointer m t)) u e = absurd cc
@@ -35,7 +33,7 @@ is_pointer (Some (desc.Proc s)) u e = absurd cc
 is_pointer (Some (desc.Alias m t)) u e = absurd cc
 is_pointer (Some (desc.Array m n t)) u e = absurd cc
 is_pointer (Some (desc.OpenArray m t)) u e = absurd cc
-is_pointer (Some (desc.Pointer m t)) u e = (m, ap (λ x. Some (desc.Pointer m x)) (inner t u e))
+is_pointer (Some (desc.Pointer m t)) u e = (m, ap (λ x. Some (desc.Pointer m x)) (some_is t u e))
 is_pointer (Some (desc.ProcType m s)) u e = absurd cc
 is_pointer (Some (desc.Record r)) u e = absurd cc
 
@@ -46,7 +44,7 @@ is_open (Some (desc.Var m t)) u e = absurd cc
 is_open (Some (desc.Proc s)) u e = absurd cc
 is_open (Some (desc.Alias m t)) u e = absurd cc
 is_open (Some (desc.Array m n t)) u e = absurd cc
-is_open (Some (desc.OpenArray m t)) u e = (m, ap (λ x. Some (desc.OpenArray m x)) (inner t u e))
+is_open (Some (desc.OpenArray m t)) u e = (m, ap (λ x. Some (desc.OpenArray m x)) (some_is t u e))
 is_open (Some (desc.Pointer m t)) u e = absurd cc
 is_open (Some (desc.ProcType m s)) u e = absurd cc
 is_open (Some (desc.Record r)) u e = absurd cc
@@ -58,7 +56,7 @@ has_elements (Some (desc.Var m t)) u e = absurd cc
 has_elements (Some (desc.Proc s)) u e = absurd cc
 has_elements (Some (desc.Alias m t)) u e = absurd cc
 has_elements (Some (desc.Array m n t)) u e = absurd cc
-has_elements (Some (desc.OpenArray m t)) u e = (m, ap (λ x. Some (desc.OpenArray m x)) (inner t u e))
+has_elements (Some (desc.OpenArray m t)) u e = (m, ap (λ x. Some (desc.OpenArray m x)) (some_is t u e))
 has_elements (Some (desc.Pointer m t)) u e = absurd cc
 has_elements (Some (desc.ProcType m s)) u e = absurd cc
 has_elements (Some (desc.Record r)) u e = absurd cc
@@ -72,7 +70,7 @@ is_procedure (Some (desc.Alias m t)) u e = absurd cc
 is_procedure (Some (desc.Array m n t)) u e = absurd cc
 is_procedure (Some (desc.OpenArray m t)) u e = absurd cc
 is_procedure (Some (desc.Pointer m t)) u e = absurd cc
-is_procedure (Some (desc.ProcType m s)) u e = (m, ap (λ x. Some (desc.ProcType m x)) (inner s u e))
+is_procedure (Some (desc.ProcType m s)) u e = (m, ap (λ x. Some (desc.ProcType m x)) (some_is s u e))
 is_procedure (Some (desc.Record r)) u e = absurd cc
 
 pub has_base : (o : Option Desc) (u : TypeRef) → base_of o ≡ Some u → (r : RecordDesc) × (o ≡ Some (desc.Record r)) × (r.base ≡ Some u)
@@ -94,12 +92,12 @@ is_array (Some (desc.Var m t)) k u e = absurd cc
 is_array (Some (desc.Proc s)) k u e = absurd cc
 is_array (Some (desc.Alias m t)) k u e = absurd cc
 is_array (Some (desc.Array m n t)) k u e =
-    let p : (Some n, t) ≡ (Some k, u) = inner (Some n, t) (Some k, u) e in
-    let h : n ≡ k = inner n k (ap (λ (x : Option ℕ × TypeRef). x.0) p) in
+    let p : (Some n, t) ≡ (Some k, u) = some_is (Some n, t) (Some k, u) e in
+    let h : n ≡ k = some_is n k (ap (λ (x : Option ℕ × TypeRef). x.0) p) in
     let g : t ≡ u = ap (λ (x : Option ℕ × TypeRef). x.1) p in
     (m, ap (λ x. Some (desc.Array m x t)) h ∙ ap (λ x. Some (desc.Array m k x)) g)
 is_array (Some (desc.OpenArray m t)) k u e =
-    let p : None ≡ Some k = ap (λ (x : Option ℕ × TypeRef). x.0) (inner (None, t) (Some k, u) e) in
+    let p : None ≡ Some k = ap (λ (x : Option ℕ × TypeRef). x.0) (some_is (None, t) (Some k, u) e) in
     absurd cc
 is_array (Some (desc.Pointer m t)) k u e = absurd cc
 is_array (Some (desc.ProcType m s)) k u e = absurd cc
@@ -112,10 +110,10 @@ is_open_array (Some (desc.Var m t)) u e = absurd cc
 is_open_array (Some (desc.Proc s)) u e = absurd cc
 is_open_array (Some (desc.Alias m t)) u e = absurd cc
 is_open_array (Some (desc.Array m n t)) u e =
-    let p : Some n ≡ None = ap (λ (x : Option ℕ × TypeRef). x.0) (inner (Some n, t) (None, u) e) in
+    let p : Some n ≡ None = ap (λ (x : Option ℕ × TypeRef). x.0) (some_is (Some n, t) (None, u) e) in
     absurd cc
 is_open_array (Some (desc.OpenArray m t)) u e =
-    let g : t ≡ u = ap (λ (x : Option ℕ × TypeRef). x.1) (inner (None, t) (None, u) e) in
+    let g : t ≡ u = ap (λ (x : Option ℕ × TypeRef). x.1) (some_is (None, t) (None, u) e) in
     (m, ap (λ x. Some (desc.OpenArray m x)) g)
 is_open_array (Some (desc.Pointer m t)) u e = absurd cc
 is_open_array (Some (desc.ProcType m s)) u e = absurd cc
@@ -132,8 +130,8 @@ is_record (ref.Named p) (Some (desc.Array m n t)) q e = absurd cc
 is_record (ref.Named p) (Some (desc.OpenArray m t)) q e = absurd cc
 is_record (ref.Named p) (Some (desc.Pointer m t)) q e = absurd cc
 is_record (ref.Named p) (Some (desc.ProcType m s)) q e = absurd cc
-is_record (ref.Named p) (Some (desc.Record r)) q e = (ap (λ x. ref.Named x) (inner p q e), (r, refl))
+is_record (ref.Named p) (Some (desc.Record r)) q e = (ap (λ x. ref.Named x) (some_is p q e), (r, refl))
 
 pub is_basic : (t : TypeRef) (b : Basic) → as_basic t ≡ Some b → t ≡ ref.Basic b
-is_basic (ref.Basic a) b e = ap (λ x. ref.Basic x) (inner a b e)
+is_basic (ref.Basic a) b e = ap (λ x. ref.Basic x) (some_is a b e)
 is_basic (ref.Named q) b e = absurd cc

@@ -22,6 +22,7 @@ use Rattle.ob_rules.specs.Shapes.{Member, AField, AMethod, field_or, own_member,
 use Rattle.law_typing_forms.specs.Formed.{IsDeclared, IsFieldOf, IsMethodOf, introduced, Formed}
 use Rattle.law_typing_forms.proofs.Shapes as shapes
 use Rattle.law_typing_forms.proofs.Extending.{Above, above_same, above_on, base_above}
+use Rattle.law_lists.proofs.Lists.{all_back, all_front, all_pairs}
 
 -- what is found in a list holds what all hold, and passes the test
 pub found : {A : Type 0} (P : A → Type 0) (test : A → Bool) (xs : List A) (y : A) → AllByRecursion P xs → find test xs ≡ Some y → P y × (test y ≡ true)
@@ -32,25 +33,13 @@ found P test (x ∷ xs) y all e = by (test x) refl e (λ e. found P test xs y al
     by true t e r = let h : x ≡ y = cc in (subst P h all.0, sym (ap test h) ∙ t)
     by false t e r = r e
 
-all_behind : {A : Type 0} (P : A → Type 0) (xs ys : List A) → AllByRecursion P (xs ++ ys) → AllByRecursion P ys
-all_behind P [] ys h = h
-all_behind P (x ∷ xs) ys h = all_behind P xs ys h.1
-
-all_before : {A : Type 0} (P : A → Type 0) (xs ys : List A) → AllByRecursion P (xs ++ ys) → AllByRecursion P xs
-all_before P [] ys h = tt
-all_before P (x ∷ xs) ys h = (h.0, all_before P xs ys h.1)
-
 fields_all : (P : TypeRef → Type 0) (fs : List Field) → AllByRecursion P (each (λ f. f.of) fs) → AllByRecursion (λ f. P f.of) fs
 fields_all P [] h = tt
 fields_all P (f ∷ fs) h = (h.0, fields_all P fs h.1)
 
 methods_all : (P : TypeRef → Type 0) (ms : List Method) → AllByRecursion P (flat_map (λ m. signature_types m.signature) ms) → AllByRecursion (λ m. AllByRecursion P (signature_types m.signature)) ms
 methods_all P [] h = tt
-methods_all P (m ∷ ms) h = (all_before P (signature_types m.signature) (flat_map (λ m. signature_types m.signature) ms) h, methods_all P ms (all_behind P (signature_types m.signature) (flat_map (λ m. signature_types m.signature) ms) h))
-
-both_all : {A : Type 0} (P Q : A → Type 0) (xs : List A) → AllByRecursion P xs → AllByRecursion Q xs → AllByRecursion (λ x. P x × Q x) xs
-both_all P Q [] h k = tt
-both_all P Q (x ∷ xs) h k = ((h.0, k.0), both_all P Q xs h.1 k.1)
+methods_all P (m ∷ ms) h = (all_front P (signature_types m.signature) (flat_map (λ m. signature_types m.signature) ms) h, methods_all P ms (all_back P (signature_types m.signature) (flat_map (λ m. signature_types m.signature) ms) h))
 
 -- what has a field is a record
 is_record : (t : Form) (o : QName) (x : List ℕ) → FieldIn (fields_of t) o x → t ≡ RecordForm (line_of t) (fields_of t)
@@ -93,10 +82,10 @@ module _ (map : QName → Option Desc) (program : Program) (formed : Formed map 
     named = formed.declared q (desc.Record r) is
 
     fields : AllByRecursion (λ f. IsFieldOf program q f × IsDeclared f.of) r.fields
-    fields = both_all (λ f. IsFieldOf program q f) (λ f. IsDeclared f.of) r.fields (formed.records q r is).fields (fields_all IsDeclared r.fields (all_behind IsDeclared (listed r.base) (each (λ f. f.of) r.fields) (all_before IsDeclared (listed r.base ++ each (λ f. f.of) r.fields) (flat_map (λ m. signature_types m.signature) r.methods) named)))
+    fields = all_pairs (λ f. IsFieldOf program q f) (λ f. IsDeclared f.of) r.fields (formed.records q r is).fields (fields_all IsDeclared r.fields (all_back IsDeclared (listed r.base) (each (λ f. f.of) r.fields) (all_front IsDeclared (listed r.base ++ each (λ f. f.of) r.fields) (flat_map (λ m. signature_types m.signature) r.methods) named)))
 
     methods : AllByRecursion (λ m. IsMethodOf program q m × AreDeclared m.signature) r.methods
-    methods = both_all (λ m. IsMethodOf program q m) (λ m. AreDeclared m.signature) r.methods (formed.records q r is).methods (methods_all IsDeclared r.methods (all_behind IsDeclared (listed r.base ++ each (λ f. f.of) r.fields) (flat_map (λ m. signature_types m.signature) r.methods) named))
+    methods = all_pairs (λ m. IsMethodOf program q m) (λ m. AreDeclared m.signature) r.methods (formed.records q r is).methods (methods_all IsDeclared r.methods (all_back IsDeclared (listed r.base ++ each (λ f. f.of) r.fields) (flat_map (λ m. signature_types m.signature) r.methods) named))
 
     in_it : (x : List ℕ) (m : Member) (a : Option Field) (b : Option Method) → find (λ f. bytes_eq f.name x) r.fields ≡ a → find (λ m. bytes_eq m.name x) r.methods ≡ b → field_or q a b ≡ Some m → MemberIs q x m
     in_it x m None None ea eb e = absurd cc

@@ -26,20 +26,9 @@ use Rattle.ob_rules.specs.Names.{out_string}
 use Rattle.law_typing_forms.specs.Formed.{IsDeclared, IsRecordOf, IsFieldOf, IsMethodOf, introduced, AreParameters, behind, Formed}
 use Rattle.law_typing_forms.proofs.Chains.{chains}
 use Rattle.law_typing_forms.specs.Said.{IsOneOf, IsAmong, IsBoundAmong, IsPartOf, IsSaid, IsFreshName, HaveNames, IsSound}
-use Rattle.law_typing_forms.proofs.Within.{form_described, all_left, all_right}
+use Rattle.law_typing_forms.proofs.Within.{form_described}
 use Rattle.law_typing_forms.proofs.Built.{OwnerIn, base_apart, Found, found, record_base, built}
-
-false_if_not : (b : Bool) → (b ≡ true → ⊥) → b ≡ false
-false_if_not true h = absurd (h refl)
-false_if_not false h = refl
-
-and_right : (x y : Bool) → (x && y) ≡ true → y ≡ true
-and_right true y e = e
-and_right false y e = absurd cc
-
-and_left : (x y : Bool) → (x && y) ≡ true → x ≡ true
-and_left true y e = refl
-and_left false y e = absurd cc
+use Rattle.law_lists.proofs.Lists.{all_back, all_both, all_front, and_left, and_right, false_if_not}
 
 -- the rules compare the module first
 pub same_is : (p q : QName) → rules.same_name p q ≡ true → p ≡ q
@@ -84,10 +73,6 @@ all_of : {A : Type 0} (P Q : A → Type 0) (xs : List A) → ((x : A) → P x �
 all_of P Q [] f h = tt
 all_of P Q (x ∷ xs) f h = (f x h.0, all_of P Q xs f h.1)
 
-all_joined : {A : Type 0} (P : A → Type 0) (xs ys : List A) → AllByRecursion P xs → AllByRecursion P ys → AllByRecursion P (xs ++ ys)
-all_joined P [] ys h k = k
-all_joined P (x ∷ xs) ys h k = (h.0, all_joined P xs ys h.1 k)
-
 all_each : {A B : Type 0} (P : B → Type 0) (f : A → B) (xs : List A) → AllByRecursion (λ x. P (f x)) xs → AllByRecursion P (each f xs)
 all_each P f [] h = tt
 all_each P f (x ∷ xs) h = (h.0, all_each P f xs h.1)
@@ -98,11 +83,11 @@ each_all P f (x ∷ xs) h = (h.0, each_all P f xs h.1)
 
 all_flat : {A B : Type 0} (P : B → Type 0) (f : A → List B) (xs : List A) → AllByRecursion (λ x. AllByRecursion P (f x)) xs → AllByRecursion P (flat_map f xs)
 all_flat P f [] h = tt
-all_flat P f (x ∷ xs) h = all_joined P (f x) (flat_map f xs) h.0 (all_flat P f xs h.1)
+all_flat P f (x ∷ xs) h = all_both P (f x) (flat_map f xs) h.0 (all_flat P f xs h.1)
 
 flat_all : {A B : Type 0} (P : B → Type 0) (f : A → List B) (xs : List A) → AllByRecursion P (flat_map f xs) → AllByRecursion (λ x. AllByRecursion P (f x)) xs
 flat_all P f [] h = tt
-flat_all P f (x ∷ xs) h = (all_left P (f x) (flat_map f xs) h, flat_all P f xs (all_right P (f x) (flat_map f xs) h))
+flat_all P f (x ∷ xs) h = (all_front P (f x) (flat_map f xs) h, flat_all P f xs (all_back P (f x) (flat_map f xs) h))
 
 module _ (program : Program) (sound : IsSound program) where
   abbrev form : TypeRef → Form
@@ -182,12 +167,12 @@ module _ (program : Program) (sound : IsSound program) where
   record_declared : (q : QName) (r s : RecordDesc) → types q ≡ Some (desc.Record s) → IsPartOf r s → AllByRecursion IsDeclared (named_by (desc.Record r))
   record_declared q r s e h =
       let all = held q (desc.Record s) e in
-      let front = all_left IsDeclared (listed s.base ++ each (λ f. f.of) s.fields) (flat_map (λ m. signature_types m.signature) s.methods) all in
-      let bound = flat_all IsDeclared (λ m. signature_types m.signature) s.methods (all_right IsDeclared (listed s.base ++ each (λ f. f.of) s.fields) (flat_map (λ m. signature_types m.signature) s.methods) all) in
-      let base = all_left IsDeclared (listed s.base) (each (λ f. f.of) s.fields) front in
-      let fields = each_all IsDeclared (λ f. f.of) s.fields (all_right IsDeclared (listed s.base) (each (λ f. f.of) s.fields) front) in
-      all_joined IsDeclared (listed r.base ++ each (λ f. f.of) r.fields) (flat_map (λ m. signature_types m.signature) r.methods)
-      (all_joined IsDeclared (listed r.base) (each (λ f. f.of) r.fields)
+      let front = all_front IsDeclared (listed s.base ++ each (λ f. f.of) s.fields) (flat_map (λ m. signature_types m.signature) s.methods) all in
+      let bound = flat_all IsDeclared (λ m. signature_types m.signature) s.methods (all_back IsDeclared (listed s.base ++ each (λ f. f.of) s.fields) (flat_map (λ m. signature_types m.signature) s.methods) all) in
+      let base = all_front IsDeclared (listed s.base) (each (λ f. f.of) s.fields) front in
+      let fields = each_all IsDeclared (λ f. f.of) s.fields (all_back IsDeclared (listed s.base) (each (λ f. f.of) s.fields) front) in
+      all_both IsDeclared (listed r.base ++ each (λ f. f.of) r.fields) (flat_map (λ m. signature_types m.signature) r.methods)
+      (all_both IsDeclared (listed r.base) (each (λ f. f.of) r.fields)
       (subst (λ b. AllByRecursion IsDeclared (listed b)) (sym h.base) base)
       (all_each IsDeclared (λ f. f.of) r.fields (all_of (λ f. IsAmong s.fields f) (λ f. IsDeclared f.of) r.fields (λ f k. subst IsDeclared k.of (one_of (λ g. IsDeclared g.of) s.fields k.g fields k.there)) h.fields)))
       (all_flat IsDeclared (λ m. signature_types m.signature) r.methods (all_of (λ m. IsBoundAmong s.methods m) (λ m. AllByRecursion IsDeclared (signature_types m.signature)) r.methods (λ m k. subst (λ g. AllByRecursion IsDeclared (signature_types g)) k.signature (one_of (λ g. AllByRecursion IsDeclared (signature_types g.signature)) s.methods k.k bound k.there)) h.methods))

@@ -1,7 +1,7 @@
 -- What a variable takes, by the forms of types.
 use Rattle.std.proofs.Common.{◌≡◌, ◌⊎◌, inl, inr, ℕ, ◌<◌, List, ◌∷◌, Option, Some, None, refl, sym, ap, subst, ◌∙◌, arith}
 use Rattle.std.proofs.lemmas.Bool.Decides.{nat_tests}
-use Rattle.std.specs.Prelude.{Bool, true, false, not, ◌&&◌, ◌||◌, nat_lt}
+use Rattle.std.specs.Prelude.{true, not, ◌&&◌, ◌||◌, nat_lt}
 use Rattle.ob_tree.specs.declared.names.QName.{QName}
 use Rattle.ob_types.specs.declared.types.Basic.{Basic}
 use Rattle.ob_types.specs.declared.types.Basic.TheVariants as basic
@@ -27,14 +27,7 @@ use Rattle.law_typing_forms.proofs.Finds as finds
 use Rattle.law_typing_forms.proofs.Shapes as shapes
 use Rattle.law_typing_forms.proofs.Extending as extending
 use Rattle.law_typing_forms.proofs.Extending.{Above}
-
-and_true : (x y : Bool) → (x && y) ≡ true → (x ≡ true) × (y ≡ true)
-and_true true y e = (refl, e)
-and_true false y e = absurd cc
-
-or_either : (x y : Bool) → (x || y) ≡ true → (C : Type 0) → (x ≡ true → C) → (y ≡ true → C) → C
-or_either true y e C one two = one refl
-or_either false y e C one two = two e
+use Rattle.law_lists.proofs.Lists.{and_parts, or_either}
 
 basic_same : (a b : Basic) → same_basic a b ≡ true → a ≡ b
 basic_same a b e =
@@ -100,7 +93,7 @@ module _ (map : QName → Option Desc) (program : Program) (formed : Formed map 
       by (Some (desc.Proc s)) is e = absurd cc
       by (Some (desc.Alias m t)) is e = absurd cc
       by (Some (desc.Array m n t)) is e =
-          let h = and_true (nat_lt k n) (same_at map t (ref.Basic basic.Char)) e in
+          let h = and_parts (nat_lt k n) (same_at map t (ref.Basic basic.Char)) e in
           let s = shapes.shaped map program formed v (desc.Array m n t) is in
           let lt : nat_lt k n ≡ true = h.0 in
           (n, s.form ∙ formed.arrays s.q m n t s.has ∙ ap (λ x. ArrayForm n x) (shapes.same_form map program formed t (ref.Basic basic.Char) h.1 ∙ char_form), grind (arith, nat_tests))
@@ -183,10 +176,10 @@ module _ (map : QName → Option Desc) (program : Program) (formed : Formed map 
     unfolding takes_type
     scalar_takes v t e h =
         or_either (same_at map t v && not (is_at map relations.is_open v)) (widens (target map 201 v) (target map 201 t) || (is_at map is_extensible v && extends_at map t v)) e (Scalar (form t) × W (form t) (form v))
-        (λ e. let k = shapes.same_form map program formed t v (and_true (same_at map t v) (not (is_at map relations.is_open v)) e).0 in both (subst (λ x. W x (form v)) (sym k) typed.itself))
+        (λ e. let k = shapes.same_form map program formed t v (and_parts (same_at map t v) (not (is_at map relations.is_open v)) e).0 in both (subst (λ x. W x (form v)) (sym k) typed.itself))
         (λ e. or_either (widens (target map 201 v) (target map 201 t)) (is_at map is_extensible v && extends_at map t v) e (Scalar (form t) × W (form t) (form v))
         (λ e. both (widened v t e).1)
-        (λ e. both (extending.extends_widens map program formed Has unit held result t v h (and_true (is_at map is_extensible v) (extends_at map t v) e).1)))
+        (λ e. both (extending.extends_widens map program formed Has unit held result t v h (and_parts (is_at map is_extensible v) (extends_at map t v) e).1)))
       where
         both : W (form t) (form v) → Scalar (form t) × W (form t) (form v)
         both w = (widens_scalar (form t) (form v) w h, w)
@@ -196,10 +189,10 @@ module _ (map : QName → Option Desc) (program : Program) (formed : Formed map 
     unfolding takes_type
     takes_sub v t e =
         or_either (same_at map t v && not (is_at map relations.is_open v)) (widens (target map 201 v) (target map 201 t) || (is_at map is_extensible v && extends_at map t v)) e (Sub (form t) (form v) ⊎ Scalar (form v))
-        (λ e. let k = shapes.same_form map program formed t v (and_true (same_at map t v) (not (is_at map relations.is_open v)) e).0 in inl (subst (λ x. Sub x (form v)) (sym k) itself))
+        (λ e. let k = shapes.same_form map program formed t v (and_parts (same_at map t v) (not (is_at map relations.is_open v)) e).0 in inl (subst (λ x. Sub x (form v)) (sym k) itself))
         (λ e. or_either (widens (target map 201 v) (target map 201 t)) (is_at map is_extensible v && extends_at map t v) e (Sub (form t) (form v) ⊎ Scalar (form v))
         (λ e. inr (widened v t e).0)
-        (λ e. by (extending.extends_form map program formed t v (and_true (is_at map is_extensible v) (extends_at map t v) e).1)))
+        (λ e. by (extending.extends_form map program formed t v (and_parts (is_at map is_extensible v) (extends_at map t v) e).1)))
       where
         by : extending.Extended map program formed t v → Sub (form t) (form v) ⊎ Scalar (form v)
         by (extending.above k) = inl k.sub

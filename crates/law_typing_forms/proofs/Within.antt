@@ -1,5 +1,5 @@
 -- The form of a type that a program declares is what its declaration says.
-use Rattle.std.proofs.Common.{◌≡◌, ℕ, zero, suc, List, [], ◌∷◌, ◌++◌, map as each, Option, Some, None, refl, ap, subst, ◌∙◌}
+use Rattle.std.proofs.Common.{◌≡◌, ℕ, zero, suc, List, [], ◌∷◌, map as each, Option, Some, None, refl, ap, subst, ◌∙◌}
 use Rattle.std.specs.Prelude.{MatchOption, IsTrue}
 use Rattle.std.specs.List.{AllByRecursion}
 use Rattle.ob_tree.specs.declared.names.QName.{QName}
@@ -14,14 +14,7 @@ use Rattle.ob_types.specs.Maps.{is_type, stands_on, listed, signature_types, IsW
 use Rattle.ob_meaning.specs.Values.{Program, Form, ProcedureForm, ArrayForm, OpenForm, RecordForm, AField, Formals, AResult, AFormal, result_formals, formals_before, formals_of, joined, own_fields, base_line, base_fields, line_of, fields_of, described, form_within, form_in, record_in, description, number_of_types}
 use Rattle.law_typing_forms.proofs.Chains.{chains_end}
 use Rattle.law_typing_forms.specs.Said.{ChainsEnd, IsSound}
-
-pub all_right : {A : Type 0} (P : A → Type 0) (xs ys : List A) → AllByRecursion P (xs ++ ys) → AllByRecursion P ys
-all_right P [] ys h = h
-all_right P (x ∷ xs) ys h = all_right P xs ys h.1
-
-pub all_left : {A : Type 0} (P : A → Type 0) (xs ys : List A) → AllByRecursion P (xs ++ ys) → AllByRecursion P xs
-all_left P [] ys h = tt
-all_left P (x ∷ xs) ys h = (h.0, all_left P xs ys h.1)
+use Rattle.law_lists.proofs.Lists.{all_back, all_front}
 
 -- where two ways to know types agree on what a description stands on, they agree on what it says
 module _ (f g : TypeRef → Form) where
@@ -47,8 +40,8 @@ module _ (f g : TypeRef → Form) where
 
   formals_agree : (s : Signature) → AllByRecursion (λ t. f t ≡ g t) (signature_types s) → formals_of f s ≡ formals_of g s
   formals_agree s h =
-      before_agree s.params (result_formals f s.result) (result_formals g s.result) (all_left (λ t. f t ≡ g t) (each (λ k. k.1) s.params) (listed s.result) h)
-      (result_agree s.result (all_right (λ t. f t ≡ g t) (each (λ k. k.1) s.params) (listed s.result) h))
+      before_agree s.params (result_formals f s.result) (result_formals g s.result) (all_front (λ t. f t ≡ g t) (each (λ k. k.1) s.params) (listed s.result) h)
+      (result_agree s.result (all_back (λ t. f t ≡ g t) (each (λ k. k.1) s.params) (listed s.result) h))
 
   pub agree : (q : QName) (d : Desc) → AllByRecursion (λ t. f t ≡ g t) (stands_on d) → described f q (Some d) ≡ described g q (Some d)
   agree q (desc.Const v) h = refl
@@ -60,8 +53,8 @@ module _ (f g : TypeRef → Form) where
   agree q (desc.Pointer m t) h = refl
   agree q (desc.ProcType m s) h = ap (λ x. ProcedureForm x) (formals_agree s h)
   agree q (desc.Record r) h =
-      let b = all_left (λ t. f t ≡ g t) (listed r.base) (each (λ x. x.of) r.fields) h in
-      let o = all_right (λ t. f t ≡ g t) (listed r.base) (each (λ x. x.of) r.fields) h in
+      let b = all_front (λ t. f t ≡ g t) (listed r.base) (each (λ x. x.of) r.fields) h in
+      let o = all_back (λ t. f t ≡ g t) (listed r.base) (each (λ x. x.of) r.fields) h in
       ap (λ l. RecordForm (q ∷ l) (joined (base_fields f r.base) (own_fields f q r.fields))) (line_agree r.base b)
       ∙ ap (λ k. RecordForm (q ∷ base_line g r.base) (joined k (own_fields f q r.fields))) (fields_agree r.base b)
       ∙ ap (λ k. RecordForm (q ∷ base_line g r.base) (joined (base_fields g r.base) k)) (own_agree q r.fields o)

@@ -13,8 +13,9 @@ use Rattle.ob_types.specs.declared.typed.Passing.TheVariants as passing
 use Rattle.ob_types.specs.Tests.{basic_number, type_eq, modes_alike}
 use Rattle.ob_types.proofs.Sameness.{type_eq_decides}
 use Rattle.ob_meaning.specs.Values.{Form, BasicForm, PointerForm, ProcedureForm, ArrayForm, OpenForm, RecordForm, Fields, NoField, AField, Formals, NoResult, AResult, AFormal, same_name}
-use Rattle.law_simulation_relation.proofs.Names.{nat_same, and_both, bytes_true, bytes_same, name_true, name_same}
+use Rattle.law_simulation_relation.proofs.Names.{nat_same, bytes_true, bytes_same, name_true, name_same}
 use Rattle.law_typing_values.specs.Same.{same_line, same_form, same_fields, same_formals, same_passing}
+use Rattle.law_lists.proofs.Lists.{and_parts}
 
 -- ---- types and modes
 
@@ -49,7 +50,7 @@ line_is [] [] e = refl
 line_is [] (r ∷ rs) e = absurd (false≢true e)
 line_is (q ∷ qs) [] e = absurd (false≢true e)
 line_is (q ∷ qs) (r ∷ rs) e =
-    let h = and_both (same_name q r) (same_line qs rs) e in
+    let h = and_parts (same_name q r) (same_line qs rs) e in
     ap (λ x. x ∷ qs) (name_true q r h.0) ∙ ap (λ xs. r ∷ xs) (line_is qs rs h.1)
 
 line_same : (qs : List QName) → same_line qs qs ≡ true
@@ -62,11 +63,11 @@ mutual
   form_is (PointerForm t) (PointerForm u) e = ap (λ x. PointerForm x) (type_is t u e)
   form_is (ProcedureForm fs) (ProcedureForm gs) e = ap (λ x. ProcedureForm x) (formals_are fs gs e)
   form_is (ArrayForm n a) (ArrayForm k b) e =
-      let h = and_both (nat_eq n k) (same_form a b) e in
+      let h = and_parts (nat_eq n k) (same_form a b) e in
       ap (λ x. ArrayForm x a) (eqb-true n k h.0) ∙ ap (λ x. ArrayForm k x) (form_is a b h.1)
   form_is (OpenForm a) (OpenForm b) e = ap (λ x. OpenForm x) (form_is a b e)
   form_is (RecordForm line fs) (RecordForm other gs) e =
-      let h = and_both (same_line line other) (same_fields fs gs) e in
+      let h = and_parts (same_line line other) (same_fields fs gs) e in
       ap (λ x. RecordForm x fs) (line_is line other h.0) ∙ ap (λ x. RecordForm other x) (fields_are fs gs h.1)
   form_is a b e = absurd (false≢true e)
 
@@ -75,9 +76,9 @@ mutual
   fields_are NoField (AField p y u gs) e = absurd (false≢true e)
   fields_are (AField o x t fs) NoField e = absurd (false≢true e)
   fields_are (AField o x t fs) (AField p y u gs) e =
-      let h = and_both (same_name o p) (bytes_eq x y && (same_form t u && same_fields fs gs)) e in
-      let k = and_both (bytes_eq x y) (same_form t u && same_fields fs gs) h.1 in
-      let l = and_both (same_form t u) (same_fields fs gs) k.1 in
+      let h = and_parts (same_name o p) (bytes_eq x y && (same_form t u && same_fields fs gs)) e in
+      let k = and_parts (bytes_eq x y) (same_form t u && same_fields fs gs) h.1 in
+      let l = and_parts (same_form t u) (same_fields fs gs) k.1 in
       ap (λ z. AField z x t fs) (name_true o p h.0)
       ∙ ap (λ z. AField p z t fs) (bytes_true x y k.0)
       ∙ ap (λ z. AField p y z fs) (form_is t u l.0)
@@ -87,8 +88,8 @@ mutual
   formals_are NoResult NoResult e = refl
   formals_are (AResult t) (AResult u) e = ap (λ x. AResult x) (form_is t u e)
   formals_are (AFormal m t fs) (AFormal k u gs) e =
-      let h = and_both (modes_alike m k) (same_form t u && same_formals fs gs) e in
-      let l = and_both (same_form t u) (same_formals fs gs) h.1 in
+      let h = and_parts (modes_alike m k) (same_form t u && same_formals fs gs) e in
+      let l = and_parts (same_form t u) (same_formals fs gs) h.1 in
       ap (λ z. AFormal z t fs) (mode_is m k h.0) ∙ ap (λ z. AFormal k z fs) (form_is t u l.0) ∙ ap (λ z. AFormal k u z) (formals_are fs gs l.1)
   formals_are fs gs e = absurd (false≢true e)
 

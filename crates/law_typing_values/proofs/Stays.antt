@@ -12,11 +12,11 @@ use Rattle.ob_types.specs.AssigningTests.{is_value}
 use Rattle.ob_types.specs.TypedSyntax.{Procedure, Module}
 use Rattle.ob_meaning.specs.Values.{Program, Form, BasicForm, Formals, NoResult, AResult, AFormal, description, number_of_types, type_named, procedure_named, procedure_of, form_within, form_in}
 use Rattle.law_simulation_relation.specs.Typed.{passing_for}
-use Rattle.law_simulation_relation.proofs.Names.{and_both}
 use Rattle.ob_rules.specs.Shapes.{is_held}
 use Rattle.law_typing_values.specs.Same.{same_form, same_passing}
 use Rattle.law_typing_values.specs.Valued.{is_of, takes, gives, takes_all, fits}
 use Rattle.law_typing_values.specs.Laws.{TypesStay, ValuesStay}
+use Rattle.law_lists.proofs.Lists.{and_parts}
 
 -- ---- what is found stays
 
@@ -55,7 +55,7 @@ module _ (program : Program) (m : Module) (stay : TypesStay program m) where
 
   of_more : (t : TypeRef) (f : Form) → is_of program t f ≡ true → is_of more t f ≡ true
   of_more t f e =
-      let h = and_both (is_held (description program) t) (same_form (form_in program t) f) e in
+      let h = and_parts (is_held (description program) t) (same_form (form_in program t) f) e in
       let a = held_more t h.0 in
       and_from (is_held (description more) t) (same_form (form_in more t) f) a.0 (ap (λ g. same_form g f) a.1 ∙ h.1)
 
@@ -72,8 +72,8 @@ module _ (program : Program) (m : Module) (stay : TypesStay program m) where
   all_more (p ∷ ps) r NoResult e = absurd (false≢true e)
   all_more (p ∷ ps) r (AResult f) e = absurd (false≢true e)
   all_more (p ∷ ps) r (AFormal m f fs) e =
-      let h = and_both (takes program p m f) (takes_all program ps r fs) e in
-      let l = and_both (is_of program p.of f) (same_passing p.passing (passing_for m f)) h.0 in
+      let h = and_parts (takes program p m f) (takes_all program ps r fs) e in
+      let l = and_parts (is_of program p.of f) (same_passing p.passing (passing_for m f)) h.0 in
       and_from (takes more p m f) (takes_all more ps r fs) (and_from (is_of more p.of f) (same_passing p.passing (passing_for m f)) (of_more p.of f l.0) l.1) (all_more ps r fs h.1)
 
   fits_more : (fs : Formals) (q : QName) (o : Option Procedure) → procedure_of program q ≡ o → fits program fs o ≡ true → fits more fs (procedure_of more q) ≡ true
@@ -83,5 +83,5 @@ module _ (program : Program) (m : Module) (stay : TypesStay program m) where
 -- THE LAW
 pub values_stay : ValuesStay
 values_stay program m stay fs q e =
-    let h = and_both (is_value q) (fits program fs (procedure_of program q)) e in
+    let h = and_parts (is_value q) (fits program fs (procedure_of program q)) e in
     and_from (is_value q) (fits (program ++ m ∷ []) fs (procedure_of (program ++ m ∷ []) q)) h.0 (fits_more program m stay fs q (procedure_of program q) refl h.1)

@@ -12,7 +12,6 @@ use Rattle.ob_types.specs.TypedSyntax.{Procedure}
 use Rattle.ob_meaning.specs.Values.{Program, Form, Formals, result_formals, formals_before, description, procedure_of, form_in, formals_in}
 use Rattle.law_simulation_relation.specs.Typed.{passing_for, result_form}
 use Rattle.law_simulation_relation.specs.Setting.{has_of}
-use Rattle.law_simulation_relation.proofs.Names.{and_both}
 use Rattle.law_simulation_calls.specs.Signatures.{ParametersMatch}
 use Rattle.ob_rules.specs.Shapes.{is_held}
 use Rattle.law_typing_forms.specs.Formed.{AreParameters}
@@ -20,6 +19,7 @@ use Rattle.law_typing_values.specs.Same.{same_form, same_passing}
 use Rattle.law_typing_values.specs.Valued.{is_of, takes, gives, takes_all, fits, values}
 use Rattle.law_typing_values.specs.Laws.{ValuesFit, AreTypesOf, ValuesAreMade}
 use Rattle.law_typing_values.proofs.Same.{form_is, form_same, passing_is, passing_same}
+use Rattle.law_lists.proofs.Lists.{and_parts}
 
 module _ (program : Program) where
   abbrev held : TypeRef → Bool
@@ -28,7 +28,7 @@ module _ (program : Program) where
   -- ---- what a value is
 
   form_of : (t : TypeRef) (f : Form) → is_of program t f ≡ true → form_in program t ≡ f
-  form_of t f e = form_is (form_in program t) f (and_both (held t) (same_form (form_in program t) f) e).1
+  form_of t f e = form_is (form_in program t) f (and_parts (held t) (same_form (form_in program t) f) e).1
 
   result_matches : (r s : Option TypeRef) → gives program r (result_formals (form_in program) s) ≡ true → result_form program r ≡ result_form program s
   result_matches None None e = refl
@@ -43,8 +43,8 @@ module _ (program : Program) where
   all_match (p ∷ ps) [] r None e = absurd (false≢true e)
   all_match (p ∷ ps) [] r (Some u) e = absurd (false≢true e)
   all_match (p ∷ ps) (k ∷ ks) r s e =
-      let h = and_both (takes program p k.0 (form_in program k.1)) (takes_all program ps r (formals_before (form_in program) ks (result_formals (form_in program) s))) e in
-      let l = and_both (is_of program p.of (form_in program k.1)) (same_passing p.passing (passing_for k.0 (form_in program k.1))) h.0 in
+      let h = and_parts (takes program p k.0 (form_in program k.1)) (takes_all program ps r (formals_before (form_in program) ks (result_formals (form_in program) s))) e in
+      let l = and_parts (is_of program p.of (form_in program k.1)) (same_passing p.passing (passing_for k.0 (form_in program k.1))) h.0 in
       let rest = all_match ps ks r s h.1 in
       (rest.0, ((passing_is p.passing (passing_for k.0 (form_in program k.1)) l.1, form_of p.of (form_in program k.1) l.0), rest.1))
 
@@ -83,7 +83,7 @@ module _ (program : Program) where
 pub values_fit : ValuesFit
 values_fit c e =
     let so : (fs : Formals) (q : QName) → has_of c fs q → values c.program fs q ≡ true = λ fs q h. subst (λ f. f fs q ≡ true) e h in
-    let fit : (fs : Formals) (q : QName) → has_of c fs q → fits c.program fs (procedure_of c.program q) ≡ true = λ fs q h. (and_both (is_value q) (fits c.program fs (procedure_of c.program q)) (so fs q h)).1 in
+    let fit : (fs : Formals) (q : QName) → has_of c fs q → fits c.program fs (procedure_of c.program q) ≡ true = λ fs q h. (and_parts (is_value q) (fits c.program fs (procedure_of c.program q)) (so fs q h)).1 in
     record {
       procedures = λ fs q h. found_by c.program fs (procedure_of c.program q) (fit fs q h);
       match = λ s q p h is. all_match c.program p.parameters s.params p.result s.result (subst (λ o. fits c.program (formals_in c.program s) o ≡ true) is (fit (formals_in c.program s) q h));

@@ -26,8 +26,6 @@ use Rattle.ob_rules.specs.Types.{Typing, Written, WrittenSection, Parameters, wr
 use Rattle.ob_rules.specs.Statements.{judging, in_turn}
 use Rattle.ob_rules.specs.Headings.{heading_of, Head, Heads, reversed, add_heading}
 use Rattle.ob_rules.specs.Declarations.{Contents, Declared, no_nil, constant_contents, constant_declared, type_declared, variable_contents, paired_typing, variable_marked, variables_with, first_name, made_in, variables_typed, variables_declared, Written_procedure, Declaration, Plain, Procedure, plain_of, procedure_of, type_name_of, in_order, headings_in_order, around_body, self_parameters, typed_procedure, procedure_judged, procedures_judged, stmts_in, with_bound, binding_at, block_headed, block, decl_rule, declaration, target_of, import_declared}
-use Rattle.law_simulation_relation.proofs.Names.{and_both}
-use Rattle.law_methods_described.proofs.Nodes.{IfThere, all_both}
 use Rattle.law_names_distinct.proofs.Blocks.{headed_none}
 use Rattle.law_typing.specs.Spelled.{all_true}
 use Rattle.law_spelling_read.specs.Placed as rising
@@ -36,6 +34,7 @@ use Rattle.law_builds_bodies.specs.built_laws.Lettered.{is_lettered, receiver_le
 use Rattle.law_builds_bodies.specs.built_laws.Procedures.{IsPlaced, IsGiven}
 use Rattle.law_builds_bodies.proofs.built_laws.Heads.{Lettered, AreLettered, GoodHeading, GoodHead, added_good, self_good}
 use Rattle.law_builds_bodies.proofs.built_laws.Places.{places_are_those}
+use Rattle.law_lists.proofs.Lists.{IfThere, all_both, and_parts, both_empty}
 
 -- ---- bodies
 
@@ -127,9 +126,6 @@ reversed_all P (x ∷ xs) h = all_both P (reversed xs) (x ∷ []) (reversed_all 
 abbrev GoodPlain : (Around → Declared) → Type 0
 GoodPlain f = (u : Around) → PlainIs (f u).part.contents
 
-no_more : {A : Type 0} (xs ys : List A) → xs ≡ [] → ys ≡ [] → xs ++ ys ≡ []
-no_more xs ys e f = ap (λ l. l ++ ys) e ∙ f
-
 pub order_good : (fs : List (Around → Declared)) → AllByRecursion GoodPlain fs → GoodPlain (in_order fs)
 order_good [] h u = record { variables = tt; procedures = refl; body = refl }
 order_good (f ∷ fs) h u =
@@ -139,8 +135,8 @@ order_good (f ∷ fs) h u =
     let b = order_good fs h.1 (f u).around in
     record {
       variables = all_both (λ (v : TypedVariable). Lettered v.name) c.variables d.variables a.variables b.variables;
-      procedures = no_more c.procedures d.procedures a.procedures b.procedures;
-      body = no_more c.body d.body a.body b.body;
+      procedures = both_empty c.procedures d.procedures a.procedures b.procedures;
+      body = both_empty c.body d.body a.body b.body;
     }
 
 constant_is : (b : Bool) (x : Ident) (p : Option (Mark × Value)) → PlainIs (constant_contents b x p)
@@ -169,8 +165,8 @@ variables_good (d ∷ ds) h t u =
     let k = (variables_with ds t v).part.contents in
     record {
       variables = all_both (λ (v : TypedVariable). Lettered v.name) c.variables k.variables a.variables b.variables;
-      procedures = no_more c.procedures k.procedures a.procedures b.procedures;
-      body = no_more c.body k.body a.body b.body;
+      procedures = both_empty c.procedures k.procedures a.procedures b.procedures;
+      body = both_empty c.body k.body a.body b.body;
     }
 
 variables_typed_good : (ds : List IdentDef) → AllByRecursion (λ (d : IdentDef). Lettered d.ident.name) ds → (u : Around) (t : Judged Typing) → PlainIs (variables_typed ds u t).part.contents
@@ -228,11 +224,11 @@ block_given ds g xs r u =
 
 list_names : {A : Type 0} (f : A → Bool) (xs : List A) → list_all f xs ≡ true → AllByRecursion (λ x. f x ≡ true) xs
 list_names f [] e = tt
-list_names f (x ∷ xs) e = let p = and_both (f x) (list_all f xs) e in (p.0, list_names f xs p.1)
+list_names f (x ∷ xs) e = let p = and_parts (f x) (list_all f xs) e in (p.0, list_names f xs p.1)
 
 sections_good : (ss : List WrittenSection) → list_all section_lettered ss ≡ true → AllByRecursion (λ (s : WrittenSection). AllByRecursion (λ (x : Ident). Lettered x.name) s.names) ss
 sections_good [] e = tt
-sections_good (s ∷ ss) e = let p = and_both (section_lettered s) (list_all section_lettered ss) e in (list_names (λ (x : Ident). is_lettered x.name) s.names p.0, sections_good ss p.1)
+sections_good (s ∷ ss) e = let p = and_parts (section_lettered s) (list_all section_lettered ss) e in (list_names (λ (x : Ident). is_lettered x.name) s.names p.0, sections_good ss p.1)
 
 receiver_good : (o : Option RawReceiver) → receiver_lettered o ≡ true → IfThere (λ (r : RawReceiver). Lettered r.ident.name) o
 receiver_good None e = tt
@@ -241,8 +237,8 @@ receiver_good (Some r) e = e
 heading_good : (h : Heading) → heading_lettered h ≡ true → GoodHeading (heading_of h)
 heading_good h e =
     let w = heading_of h in
-    let p = and_both (is_lettered h.name.ident.name) (receiver_lettered h.receiver && list_all section_lettered w.parameters.sections) e in
-    let q = and_both (receiver_lettered h.receiver) (list_all section_lettered w.parameters.sections) p.1 in
+    let p = and_parts (is_lettered h.name.ident.name) (receiver_lettered h.receiver && list_all section_lettered w.parameters.sections) e in
+    let q = and_parts (receiver_lettered h.receiver) (list_all section_lettered w.parameters.sections) p.1 in
     record { name = p.0; receiver = receiver_good h.receiver q.0; sections = sections_good w.parameters.sections q.1 }
 
 abbrev PD : Decl → Type 0
@@ -257,8 +253,8 @@ decls_in xs = map (λ (x : SD). x.0) xs
 all_in : (xs : List SD) → all_true (map decl_lettered (decls_in xs)) ≡ true → all_true (map decl_placed (decls_in xs)) ≡ true → AreGood (map declaration (decls_in xs))
 all_in [] e f = tt
 all_in (x ∷ xs) e f =
-    let p = and_both (decl_lettered x.0) (all_true (map decl_lettered (decls_in xs))) e in
-    let q = and_both (decl_placed x.0) (all_true (map decl_placed (decls_in xs))) f in
+    let p = and_parts (decl_lettered x.0) (all_true (map decl_lettered (decls_in xs))) e in
+    let q = and_parts (decl_placed x.0) (all_true (map decl_placed (decls_in xs))) f in
     (x.1 p.0 q.0, all_in xs p.1 q.1)
 
 layer : (x : Decl-F Decl) → (decl_layer (map-Decl Decl Bool decl_lettered x) ≡ true → rising.decl_layer (map-Decl Decl Bool decl_placed x) ≡ true → GoodDeclaration (decl_rule (map-Decl Decl Declaration declaration x))) → PD (roll-Decl x)
@@ -269,8 +265,8 @@ decl_cases (Decl-F.Constant d x) = layer (Decl-F.Constant d x) (λ e f. constant
 decl_cases (Decl-F.NamedType d n) = layer (Decl-F.NamedType d n) (λ e f. type_good d (written n))
 decl_cases (Decl-F.Variables ds n) = layer (Decl-F.Variables ds n) (λ e f. variables_declared_good ds (list_names (λ (d : IdentDef). is_lettered d.ident.name) ds e) (written n))
 decl_cases (Decl-F.Procedure h ds body closing) = layer (Decl-F.Procedure h (decls_in ds) body closing) (λ e f.
-    let p = and_both (heading_lettered h) (all_true (map decl_lettered (decls_in ds))) e in
-    let q = and_both (all_true (map decl_placed (decls_in ds))) (are_rising (places_of body)) f in
+    let p = and_parts (heading_lettered h) (all_true (map decl_lettered (decls_in ds))) e in
+    let q = and_parts (all_true (map decl_placed (decls_in ds))) (are_rising (places_of body)) f in
     record { heading = heading_good h p.0; inside = block_given (map declaration (decls_in ds)) (all_in ds p.1 q.0) body q.1 })
 decl_cases (Decl-F.Forward h) = layer (Decl-F.Forward h) (λ e f. record { heading = heading_good h e; inside = λ u. record { variables = tt; procedures = tt; body = refl } })
 
@@ -280,6 +276,6 @@ decl_good = ind-Decl PD (λ x y is. subst (λ z. PD (roll-Decl z)) is (decl_case
 pub decls_good : (xs : List Decl) → all_true (map decl_lettered xs) ≡ true → all_true (map decl_placed xs) ≡ true → AreGood (map declaration xs)
 decls_good [] e f = tt
 decls_good (x ∷ xs) e f =
-    let p = and_both (decl_lettered x) (all_true (map decl_lettered xs)) e in
-    let q = and_both (decl_placed x) (all_true (map decl_placed xs)) f in
+    let p = and_parts (decl_lettered x) (all_true (map decl_lettered xs)) e in
+    let q = and_parts (decl_placed x) (all_true (map decl_placed xs)) f in
     (decl_good x p.0 q.0, decls_good xs p.1 q.1)

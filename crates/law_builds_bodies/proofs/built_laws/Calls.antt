@@ -29,8 +29,9 @@ use Rattle.ob_rules.specs.Calls.{call_procedure, call_variable, call_out, call_b
 use Rattle.ob_rules.specs.Phrases.{Phrase, Behind, Dot, Index, Up, Round}
 use Rattle.ob_rules.specs.Designators.{same_variable, is_read_only, variable_named, guard_of, guarded_by, guard, dereference, implicitly, index, chosen, with_receiver, comes, not_there, member_found, member_of, select_of, select, super_of, super_in, super_if, super, nothing_behind, type_in_round, as_call, place_round, call_meant, takes_type, is_callable, is_guardable, other_round, step_dot, step_index, step_up, step_round, step, where_of, go_on_with, through, of_variable, exported_meant, out_meant, in_module, dot_of, module_front, front_of, is_module, behind, front, from_front_with}
 use Rattle.ob_rules.specs.Expressions.{Named, meant_by}
-use Rattle.law_methods_described.proofs.Nodes.{IfThere, Has, any_then, then_has}
+use Rattle.law_methods_described.proofs.Nodes.{Has, any_then, then_has}
 use Rattle.law_builds_bodies.proofs.built_laws.Predeclared.{IsQuiet, predeclared_quiet}
+use Rattle.law_lists.proofs.Lists.{IfThere}
 
 -- ---- calls and selectors
 

@@ -3,7 +3,6 @@ use Rattle.std.proofs.Common.{◌≡◌, ◌≢◌, inl, inr, refl, sym, ap, ◌
 use Rattle.std.specs.Prelude.{◌&&◌, ◌||◌, nat_lt, nat_eq}
 use Rattle.std.specs.List.{AllByRecursion}
 use Rattle.std.proofs.lemmas.Bool.{eqb-true}
-use Rattle.std.proofs.lemmas.Bool.Decides.{nat_tests}
 use Rattle.ob_tree.specs.declared.pos.Pos.{Pos}
 use Rattle.ob_types.specs.declared.types.TypeRef.{TypeRef}
 use Rattle.ob_types.specs.declared.typed.Passing.{Passing}
@@ -16,21 +15,18 @@ use Rattle.ob_meaning.specs.Meaning.{hidden}
 use Rattle.ob_meaning.specs.Calls.{hidden_of_all, hidden_held, held_variable}
 use Rattle.law_simulation_relation.specs.Layout.{held_name, static_parameter, static_held}
 use Rattle.law_simulation_relation.specs.Relation.{Fresh, AreDifferent}
-use Rattle.law_simulation_relation.proofs.Names.{and_both}
 use Rattle.law_typing_forms.proofs.Modules.{other_name}
 use Rattle.law_names_distinct.specs.Distinct.{AreDistinct}
-use Rattle.law_names_distinct.proofs.Fresh.{all_from, distinct_both}
+use Rattle.law_names_distinct.proofs.Fresh.{distinct_both}
 use Rattle.law_spelling_read.specs.Placed.{is_before, rise_behind, are_rising}
 use Rattle.law_spelling_read.proofs.Order.{Before, before_then}
 use Rattle.law_builds_bodies.specs.built_laws.Lettered.{is_lettered}
+use Rattle.law_lists.proofs.Lists.{all_from, and_parts, less}
 
 abbrev AreApart : List (List ℕ) → Type 0
 AreApart xs = AreDistinct (λ (x : List ℕ). x) xs
 
 -- ---- places that rise
-
-less : (a b : ℕ) → nat_lt a b ≡ true → a < b
-less a b h = grind (arith, nat_tests)
 
 later_line : (p q : Pos) (a b c : Bool) → nat_lt p.line q.line ≡ a → nat_eq p.line q.line ≡ b → nat_lt p.col q.col ≡ c → (a || (b && c)) ≡ true → Before p q
 later_line p q true b c i j k e = inl (less p.line q.line i)
@@ -44,7 +40,7 @@ before_is p q e = later_line p q (nat_lt p.line q.line) (nat_eq p.line q.line) (
 rising_all : (p : Pos) (qs : List Pos) → rise_behind p qs ≡ true → AllByRecursion (λ q. Before p q) qs
 rising_all p [] e = tt
 rising_all p (q ∷ qs) e =
-    let k = and_both (is_before p q) (rise_behind q qs) e in
+    let k = and_parts (is_before p q) (rise_behind q qs) e in
     let b = before_is p q k.0 in
     (b, all_from (λ r. Before q r) (λ r. Before p r) (λ r h. before_then p q r b h) qs (rising_all q qs k.1))
 
@@ -61,7 +57,7 @@ hidden_differ p (q ∷ qs) h = (differ p q h.0, hidden_differ p qs h.1)
 
 behind_rising : (p : Pos) (qs : List Pos) → rise_behind p qs ≡ true → are_rising qs ≡ true
 behind_rising p [] e = refl
-behind_rising p (q ∷ qs) e = (and_both (is_before p q) (rise_behind q qs) e).1
+behind_rising p (q ∷ qs) e = (and_parts (is_before p q) (rise_behind q qs) e).1
 
 hidden_apart : (ps : List Pos) → are_rising ps ≡ true → AreApart (map hidden ps)
 hidden_apart [] e = tt

@@ -16,9 +16,10 @@ use Rattle.ob_rules.specs.Names.{Around}
 use Rattle.ob_rules.specs.Types.{Typing, section_name, Parameters, WrittenSection, WrittenParameters, mode_of, declare_all, parameters_of, parameters_joined, with_made, with_result, sections, result_of, parameters_in, inner, marked, with_types}
 use Rattle.ob_rules.specs.Headings.{WrittenHeading, Head, Heads, BoundAs, as_parameters, owner_if, path_by, forward_name, self_by, knows_receiver, heading_parameters, head_of, name_twice, declared_head, known_behind, types_of, add_heading}
 use Rattle.ob_rules.specs.Declarations.{self_parameters}
-use Rattle.law_methods_described.proofs.Nodes.{IfThere, Has, any_then, then_has, both_have, first_has, second_has, all_both}
+use Rattle.law_methods_described.proofs.Nodes.{Has, any_then, then_has, both_have, first_has, second_has}
 use Rattle.law_image_code.specs.Fits.{IsNamed}
 use Rattle.law_builds_bodies.specs.built_laws.Lettered.{is_lettered}
+use Rattle.law_lists.proofs.Lists.{IfThere, all_both}
 
 abbrev pub Lettered : List ℕ → Type 0
 Lettered x = is_lettered x ≡ true

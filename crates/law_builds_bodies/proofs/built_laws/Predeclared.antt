@@ -33,7 +33,8 @@ use Rattle.ob_rules.specs.Calls.{misplaced}
 use Rattle.ob_rules.specs.Phrases.{Phrase}
 use Rattle.ob_rules.specs.Predeclared as predeclared
 use Rattle.ob_rules.specs.Predeclared.{values, parameters, is_function, value, does, if_is, longer, shorter, dimension, length_of, len_at, len_of, number_in, element_step, is_text, new_array, new_fixed, new_elements, if_held, new_one, new_many, fit_one, fit_two, fit, if_fit, call_fit, type_parameter, extreme_of, basic_if, extreme_call, call_predeclared}
-use Rattle.law_methods_described.proofs.Nodes.{IfThere, Has, any_then, also_has}
+use Rattle.law_methods_described.proofs.Nodes.{Has, any_then, also_has}
+use Rattle.law_lists.proofs.Lists.{IfThere}
 
 abbrev pub IsQuiet : Meant → Type 0
 IsQuiet (means.Statement s) = hidden_of (stmt_view s.inner) ≡ []

@@ -8,14 +8,13 @@ use Rattle.ob_types.specs.declared.typed.TypedModule.{TypedModule}
 use Rattle.ob_rules.specs.Names.{Around}
 use Rattle.ob_rules.specs.Statements.{judging}
 use Rattle.ob_rules.specs.Declarations.{Part, Declared, declaration, imports_declared, import_declared, target_of, around_module, block, module_of, typed_module}
-use Rattle.law_simulation_relation.proofs.Names.{and_both}
-use Rattle.law_methods_described.proofs.Nodes.{all_both}
 use Rattle.law_names_distinct.proofs.Blocks.{unbroken_is}
 use Rattle.law_typing.specs.Spelled.{all_true}
 use Rattle.law_spelling_read.specs.Placed.{are_rising, places_of, decl_placed, tree_placed}
 use Rattle.law_builds_bodies.specs.built_laws.Lettered.{tree_lettered}
 use Rattle.law_builds_bodies.specs.built_laws.Procedures.{IsPlaced, IsGiven, AreGiven, ProceduresAreGiven}
 use Rattle.law_builds_bodies.proofs.built_laws.Blocks.{order_good, imports_good, block_given, decls_good}
+use Rattle.law_lists.proofs.Lists.{all_both, and_parts}
 
 module _ (shown : QName → Option Desc) (tree : Tree) (lettered : tree_lettered tree ≡ true) (placed : tree_placed tree ≡ true) where
   abbrev parts : Part
@@ -35,7 +34,7 @@ module _ (shown : QName → Option Desc) (tree : Tree) (lettered : tree_lettered
 
   given : AreGiven made
   given =
-      let p = and_both (all_true (map decl_placed tree.decls)) (are_rising (places_of tree.body)) placed in
+      let p = and_parts (all_true (map decl_placed tree.decls)) (are_rising (places_of tree.body)) placed in
       let i = order_good (map (λ i. import_declared i (target_of i)) tree.imports) (imports_good tree.imports) start in
       let k = block_given (map declaration tree.decls) (decls_good tree.decls lettered p.0) tree.body p.1 imports.around in
       record {

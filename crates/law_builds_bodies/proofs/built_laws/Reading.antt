@@ -42,10 +42,7 @@ use Rattle.law_typing.specs.Spelled.{all_true}
 use Rattle.law_spelling.proofs.Tokens.{is_name, IsNamedToken, tokens_named}
 use Rattle.law_names_read.proofs.Phrases.{Holds, holds}
 use Rattle.law_builds_bodies.specs.built_laws.Lettered.{is_lettered, receiver_lettered, section_lettered, heading_lettered, decl_layer, decl_lettered, tree_lettered, ReadingsAreLettered}
-
-both_true : (a b : Bool) → a ≡ true → b ≡ true → a && b ≡ true
-both_true true b e f = f
-both_true false b e f = e
+use Rattle.law_lists.proofs.Lists.{all_both, all_from, at_most, both_true}
 
 -- ---- identifiers
 
@@ -103,17 +100,9 @@ mapped_true : (xs : List Section) → AllByRecursion (λ x. section_lettered (wr
 mapped_true [] h = refl
 mapped_true (x ∷ xs) h = both_true (section_lettered (written_section x)) (list_all section_lettered (map written_section xs)) h.0 (mapped_true xs h.1)
 
-all_join : {A : Type 0} (P : A → Type 0) (xs ys : List A) → AllByRecursion P xs → AllByRecursion P ys → AllByRecursion P (xs ++ ys)
-all_join P [] ys h k = k
-all_join P (x ∷ xs) ys h k = (h.0, all_join P xs ys h.1 k)
-
 all_joined : {A : Type 0} (P : A → Type 0) (xss : List (List A)) → AllByRecursion (λ xs. AllByRecursion P xs) xss → AllByRecursion P (joined xss)
 all_joined P [] h = tt
-all_joined P (xs ∷ xss) h = all_join P xs (joined xss) h.0 (all_joined P xss h.1)
-
-mapped : {A : Type 0} (P Q : A → Type 0) → ((x : A) → P x → Q x) → (xs : List A) → AllByRecursion P xs → AllByRecursion Q xs
-mapped P Q f [] h = tt
-mapped P Q f (x ∷ xs) h = (f x h.0, mapped P Q f xs h.1)
+all_joined P (xs ∷ xss) h = all_both P xs (joined xss) h.0 (all_joined P xss h.1)
 
 -- ---- phrases
 
@@ -216,9 +205,9 @@ module _ (most : ℕ) where
   AllDecls ds = AllByRecursion IsLettered ds
 
   block_lettered : (ds : List Decl) → H block ds → AllDecls ds
-  block_lettered ds (inl h) = subst AllDecls h.1 (mapped (λ x. H constant x) IsLettered constant_lettered h.0.1 h.2.1)
-  block_lettered ds (inr (inl h)) = subst AllDecls h.1 (mapped (λ x. H named_type x) IsLettered type_lettered h.0.1 h.2.1)
-  block_lettered ds (inr (inr h)) = subst AllDecls h.1 (mapped (λ x. H variables x) IsLettered variables_lettered h.0.1 h.2.1)
+  block_lettered ds (inl h) = subst AllDecls h.1 (all_from (λ x. H constant x) IsLettered constant_lettered h.0.1 h.2.1)
+  block_lettered ds (inr (inl h)) = subst AllDecls h.1 (all_from (λ x. H named_type x) IsLettered type_lettered h.0.1 h.2.1)
+  block_lettered ds (inr (inr h)) = subst AllDecls h.1 (all_from (λ x. H variables x) IsLettered variables_lettered h.0.1 h.2.1)
 
   item_lettered : (x : Decl) → H procedure_item x → IsLettered x
   item_lettered x h = subst IsLettered h.1 (go h.0.0 h.2.0)
@@ -231,8 +220,8 @@ module _ (most : ℕ) where
   declarations_lettered ds h =
       let y = h.0 in
       let b = h.2.0 in
-      let first : AllDecls y.0 = subst AllDecls b.1 (all_joined IsLettered b.0 (mapped (λ ds. H block ds) AllDecls block_lettered b.0 b.2)) in
-      subst AllDecls h.1 (all_join IsLettered y.0 y.1 first (mapped (λ x. H procedure_item x) IsLettered item_lettered y.1 h.2.1))
+      let first : AllDecls y.0 = subst AllDecls b.1 (all_joined IsLettered b.0 (all_from (λ ds. H block ds) AllDecls block_lettered b.0 b.2)) in
+      subst AllDecls h.1 (all_both IsLettered y.0 y.1 first (all_from (λ x. H procedure_item x) IsLettered item_lettered y.1 h.2.1))
 
   procedure_lettered : (x : Decl) → H procedure x → IsLettered x
   procedure_lettered x h =
@@ -282,9 +271,6 @@ module _ (most : ℕ) where
       module_lettered m (holds IsNamedToken PN most (spells k) (λ n x ts a i. nested k n x ts a i) «module» m v.0 (left_part v.0 rest ts v.1 all) v.2)
   parsed_lettered k ts (Fails Wrong rest) all e = tt
   parsed_lettered k ts (Fails Deep rest) all e = tt
-
-at_most : (n : ℕ) → n ≤ n
-at_most n = omega arith
 
 fault_lettered : (o : Option ScanFault) (i : Input) → LetteredBy (by_fault o i)
 fault_lettered (Some f) i = tt

@@ -19,6 +19,7 @@ use Rattle.ob_builds.specs.Written.{BuildsAreWritten}
 use Rattle.law_builds.proofs.Gathered.{afresh_so}
 use Rattle.law_program_runs.specs.Builds.{AreLoaded}
 use Rattle.law_program_runs.proofs.Settings.{loaded_front}
+use Rattle.law_lists.proofs.Lists.{each_last}
 
 -- ---- sources taken together, in two parts
 
@@ -33,10 +34,6 @@ taken_both (x ∷ xs) ys s = by (of_source s x) (λ z. taken_both xs ys z)
 and_none : (o : Option Together) → and_all o (λ z. taken_afresh z []) ≡ o
 and_none None = refl
 and_none (Some z) = refl
-
-map_last : {A B : Type 0} (f : A → B) (xs : List A) (x : A) → map f (xs ++ x ∷ []) ≡ map f xs ++ f x ∷ []
-map_last f [] x = refl
-map_last f (y ∷ ys) x = ap (λ r. f y ∷ r) (map_last f ys x)
 
 last_same : {A : Type 0} (xs : List A) (x y : A) → xs ++ x ∷ [] ≡ xs ++ y ∷ [] → x ≡ y
 last_same [] x y e = cc
@@ -74,7 +71,7 @@ source_checked before b e = read (reading b.source) refl e
     ruled : (m : Tree) → reading b.source ≡ Ok m → (x : Result (Compiled Text) (Refusal Text)) → by_rules texts faces m ≡ x → and_one (faces, map tree_of before) x ≡ End → IsChecked before b
     ruled m r (Err f) i e = absurd cc
     ruled m r (Ok c) i e =
-        let trees : map tree_of before ++ c.tree ∷ [] ≡ map tree_of before ++ tree_of b ∷ [] = ap second e ∙ map_last tree_of before b in
+        let trees : map tree_of before ++ c.tree ∷ [] ≡ map tree_of before ++ tree_of b ∷ [] = ap second e ∙ each_last tree_of before b in
         rules m r c (last_same (map tree_of before) c.tree (tree_of b) trees) (first_break (shown faces) m) (checked (shown faces) m) refl i
 
     read : (r : Result Tree NoModule) → reading b.source ≡ r → on_reading (faces, map tree_of before) r ≡ End → IsChecked before b
@@ -89,5 +86,5 @@ checked_at written locality before b after l =
     (sym (and_none (of_source (map shows_of before, map tree_of before) b.source))
     ∙ sym (ap (λ o. and_all o (λ z. taken_afresh z (b.source ∷ []))) one)
     ∙ sym (taken_both (map (λ (x : Build). x.source) before) (b.source ∷ []) ([], []))
-    ∙ sym (ap (taken_afresh ([], [])) (map_last (λ (x : Build). x.source) before b))
+    ∙ sym (ap (taken_afresh ([], [])) (each_last (λ (x : Build). x.source) before b))
     ∙ both)

@@ -13,25 +13,14 @@ use Rattle.ob_types.specs.Maps.{is_type, listed, signature_types, stands_on, nam
 use Rattle.std.specs.List.{flat_map}
 use Rattle.ob_types.specs.TypedSyntax.{Module}
 use Rattle.ob_layout.specs.LaidOut.{type_named, is_own, viewed, base_of, words_in, procedures_in, placed, laid_desc, laid_type}
-
-front : {A : Type 0} (P : A → Type 0) (xs ys : List A) → AllByRecursion P (xs ++ ys) → AllByRecursion P xs
-front P [] ys h = tt
-front P (x ∷ xs) ys h = (h.0, front P xs ys h.1)
-
-back : {A : Type 0} (P : A → Type 0) (xs ys : List A) → AllByRecursion P (xs ++ ys) → AllByRecursion P ys
-back P [] ys h = h
-back P (x ∷ xs) ys h = back P xs ys h.1
-
-join : {A : Type 0} (P : A → Type 0) (xs ys : List A) → AllByRecursion P xs → AllByRecursion P ys → AllByRecursion P (xs ++ ys)
-join P [] ys h k = k
-join P (x ∷ xs) ys h k = (h.0, join P xs ys h.1 k)
+use Rattle.law_lists.proofs.Lists.{all_back, all_both, all_front}
 
 unplaced : (P : TypeRef → Type 0) (w : TypeRef → ℕ) (n : ℕ) (fs : List Field) → AllByRecursion P (each (λ f. f.of) (placed w n fs)) → AllByRecursion P (each (λ f. f.of) fs)
 unplaced P w n [] h = tt
 unplaced P w n (f ∷ fs) h = (h.0, unplaced P w (n + w f.of) fs h.1)
 
 stands_laid : (P : TypeRef → Type 0) (w p : TypeRef → ℕ) (q : QName) (d : Desc) → AllByRecursion P (stands_on (laid_desc w p q d)) → AllByRecursion P (stands_on d)
-stands_laid P w p q (desc.Record r) h = join P (listed r.base) (each (λ f. f.of) r.fields) (front P (listed r.base) (each (λ f. f.of) (placed w (base_of w r.base) r.fields)) h) (unplaced P w (base_of w r.base) r.fields (back P (listed r.base) (each (λ f. f.of) (placed w (base_of w r.base) r.fields)) h))
+stands_laid P w p q (desc.Record r) h = all_both P (listed r.base) (each (λ f. f.of) r.fields) (all_front P (listed r.base) (each (λ f. f.of) (placed w (base_of w r.base) r.fields)) h) (unplaced P w (base_of w r.base) r.fields (all_back P (listed r.base) (each (λ f. f.of) (placed w (base_of w r.base) r.fields)) h))
 stands_laid P w p q (desc.Const v) h = h
 stands_laid P w p q (desc.Var m t) h = h
 stands_laid P w p q (desc.Proc s) h = h
@@ -42,7 +31,7 @@ stands_laid P w p q (desc.Pointer m t) h = h
 stands_laid P w p q (desc.ProcType m s) h = h
 
 named_stands : (P : TypeRef → Type 0) (d : Desc) → AllByRecursion P (named_by d) → AllByRecursion P (stands_on d)
-named_stands P (desc.Record r) h = front P (listed r.base ++ each (λ f. f.of) r.fields) (flat_map (λ m. signature_types m.signature) r.methods) h
+named_stands P (desc.Record r) h = all_front P (listed r.base ++ each (λ f. f.of) r.fields) (flat_map (λ m. signature_types m.signature) r.methods) h
 named_stands P (desc.Const v) h = tt
 named_stands P (desc.Var m t) h = tt
 named_stands P (desc.Proc s) h = tt

@@ -38,10 +38,11 @@ use Rattle.law_typing_env.specs.Near.{IsNear}
 use Rattle.law_typing_env.specs.Words.{IsSmall, IsLaidOver, AreLaidInOrder}
 use Rattle.law_program_names.proofs.Different.{build_comes}
 use Rattle.law_builds_ruled.specs.ruled_laws.Ruled.{BuildsAreRuled}
-use Rattle.law_builds_loaded.proofs.Loaded.{Before, none, map_last, have_no_out, valid_of, before_more, uses}
+use Rattle.law_builds_loaded.proofs.Loaded.{Before, none, have_no_out, valid_of, before_more, uses}
 use Rattle.law_builds_loaded.specs.laying_laws.Laying.{LoadedLaid}
 use Rattle.law_builds_loaded.proofs.laying_laws.Sums.{Both, laid_types}
 use Rattle.law_builds_loaded.proofs.laying_laws.Chains.{all_stand, chains_end}
+use Rattle.law_lists.proofs.Lists.{each_last}
 
 -- ---- names of fields
 
@@ -166,7 +167,7 @@ module _ (written : BuildsAreWritten) (ruled : BuildsAreRuled) (locality : Local
 
   lay_all : (before bs : List Build) → Before before → AreTogether before bs → AreLaidInOrder (program_of before) (program_of bs)
   lay_all before [] k h = tt
-  lay_all before (b ∷ bs) k h = (one_laid before b k h.0, subst (λ p. AreLaidInOrder p (program_of bs)) (map_last tree_of before b) (lay_all (before ++ b ∷ []) bs (before_more written ruled before b k h.0) h.1))
+  lay_all before (b ∷ bs) k h = (one_laid before b k h.0, subst (λ p. AreLaidInOrder p (program_of bs)) (each_last tree_of before b) (lay_all (before ++ b ∷ []) bs (before_more written ruled before b k h.0) h.1))
 
 pub loaded_laid : LoadedLaid
 loaded_laid written ruled locality bs l = lay_all written ruled locality [] bs (none written ruled) l.together

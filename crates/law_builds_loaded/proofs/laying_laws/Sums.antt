@@ -1,5 +1,5 @@
 -- A module is laid out the same by maps that say the same of what it uses, but for the members of records.
-use Rattle.std.proofs.Common.{◌≡◌, refl, sym, ap, ◌∙◌, subst, ℕ, zero, suc, ◌+◌, ◌*◌, Bool, true, false, List, [], ◌∷◌, ◌++◌, map as each, length, Option, Some, None, cond}
+use Rattle.std.proofs.Common.{◌≡◌, refl, sym, ap, ◌∙◌, subst, ℕ, zero, suc, ◌+◌, ◌*◌, Bool, true, false, List, [], ◌∷◌, map as each, length, Option, Some, None, cond}
 use Rattle.std.specs.Prelude.{◌||◌, bytes_eq}
 use Rattle.std.specs.List.{AllByRecursion}
 use Rattle.ob_tree.specs.declared.names.QName.{QName}
@@ -17,16 +17,9 @@ use Rattle.law_simulation_relation.proofs.Names.{bytes_same}
 use Rattle.law_typing_env.specs.Ordered.{bare}
 use Rattle.law_typing_env.specs.Shallow.{passes_to}
 use Rattle.law_typing_env.specs.Near.{IsNear}
+use Rattle.law_lists.proofs.Lists.{all_back, all_front}
 
 -- ---- parts that say the same
-
-front : {A : Type 0} (P : A → Type 0) (xs ys : List A) → AllByRecursion P (xs ++ ys) → AllByRecursion P xs
-front P [] ys h = tt
-front P (x ∷ xs) ys h = (h.0, front P xs ys h.1)
-
-back : {A : Type 0} (P : A → Type 0) (xs ys : List A) → AllByRecursion P (xs ++ ys) → AllByRecursion P ys
-back P [] ys h = h
-back P (x ∷ xs) ys h = back P xs ys h.1
 
 all_from : (P Q : TypeRef → Type 0) → ((t : TypeRef) → P t → Q t) → (ts : List TypeRef) → AllByRecursion P ts → AllByRecursion Q ts
 all_from P Q f [] h = tt
@@ -51,7 +44,7 @@ module _ (f g : TypeRef → ℕ) where
       ∙ ap (λ l. record x { place = kept b } ∷ l) (placed_same (a + f x.of) (b + g x.of) (ap (λ k. k + f x.of) e ∙ ap (λ k. b + k) h.0) fs h.1)
 
   own_words : (d : Desc) → AllByRecursion Same (stands_on d) → declared_words f true (Some d) ≡ declared_words g true (Some d)
-  own_words (desc.Record r) h = ap (λ n. n + sum_of (λ x. f x.of) r.fields) (base_same r.base (front Same (listed r.base) (each (λ x. x.of) r.fields) h)) ∙ ap (λ n. base_of g r.base + n) (sum_same r.fields (back Same (listed r.base) (each (λ x. x.of) r.fields) h))
+  own_words (desc.Record r) h = ap (λ n. n + sum_of (λ x. f x.of) r.fields) (base_same r.base (all_front Same (listed r.base) (each (λ x. x.of) r.fields) h)) ∙ ap (λ n. base_of g r.base + n) (sum_same r.fields (all_back Same (listed r.base) (each (λ x. x.of) r.fields) h))
   own_words (desc.Alias m t) h = h.0
   own_words (desc.Array m n t) h = ap (λ k. n * k) h.0
   own_words (desc.OpenArray m t) h = refl
@@ -73,7 +66,7 @@ module _ (f g : TypeRef → ℕ) where
   other_words (desc.ProcType m s) h = refl
 
   own_count : (d : Desc) → AllByRecursion Same (stands_on d) → declared_procedures f true (Some d) ≡ declared_procedures g true (Some d)
-  own_count (desc.Record r) h = ap (λ n. n + length r.methods) (base_same r.base (front Same (listed r.base) (each (λ x. x.of) r.fields) h))
+  own_count (desc.Record r) h = ap (λ n. n + length r.methods) (base_same r.base (all_front Same (listed r.base) (each (λ x. x.of) r.fields) h))
   own_count (desc.Alias m t) h = h.0
   own_count (desc.Array m n t) h = refl
   own_count (desc.OpenArray m t) h = refl
@@ -119,9 +112,9 @@ count_bare f (desc.ProcType m s) = refl
 
 laid_same : (w v p k : TypeRef → ℕ) (q : QName) (d : Desc) → AllByRecursion (λ t. w t ≡ v t) (stands_on d) → AllByRecursion (λ t. p t ≡ k t) (stands_on d) → w (ref.Named q) ≡ v (ref.Named q) → p (ref.Named q) ≡ k (ref.Named q) → laid_desc w p q d ≡ laid_desc v k q d
 laid_same w v p k q (desc.Record r) a b c e =
-    let base = base_same w v r.base (front (λ t. w t ≡ v t) (listed r.base) (each (λ x. x.of) r.fields) a) in
-    let fields = placed_same w v (base_of w r.base) (base_of v r.base) base r.fields (back (λ t. w t ≡ v t) (listed r.base) (each (λ x. x.of) r.fields) a) in
-    let count = base_same p k r.base (front (λ t. p t ≡ k t) (listed r.base) (each (λ x. x.of) r.fields) b) in
+    let base = base_same w v r.base (all_front (λ t. w t ≡ v t) (listed r.base) (each (λ x. x.of) r.fields) a) in
+    let fields = placed_same w v (base_of w r.base) (base_of v r.base) base r.fields (all_back (λ t. w t ≡ v t) (listed r.base) (each (λ x. x.of) r.fields) a) in
+    let count = base_same p k r.base (all_front (λ t. p t ≡ k t) (listed r.base) (each (λ x. x.of) r.fields) b) in
     ap (λ fs. desc.Record (record r { fields = fs; methods = numbered (base_of p r.base) r.methods; words = kept (w (ref.Named q)); procedures = p (ref.Named q) })) fields
     ∙ ap (λ n. desc.Record (record r { fields = placed v (base_of v r.base) r.fields; methods = numbered n r.methods; words = kept (w (ref.Named q)); procedures = p (ref.Named q) })) count
     ∙ ap (λ n. desc.Record (record r { fields = placed v (base_of v r.base) r.fields; methods = numbered (base_of k r.base) r.methods; words = kept n; procedures = p (ref.Named q) })) c

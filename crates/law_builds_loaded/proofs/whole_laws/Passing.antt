@@ -53,12 +53,13 @@ use Rattle.law_builds_ruled.proofs.ruled_laws.Closed as standing
 use Rattle.law_typing_env.proofs.Ordered.{program_sound}
 use Rattle.law_builds_loaded.proofs.Closed as closed
 use Rattle.law_builds_loaded.proofs.Used.{IsInside}
-use Rattle.law_builds_loaded.proofs.Loaded.{Before, none, map_last, valid_of, before_more, more_all, uses, in_order}
+use Rattle.law_builds_loaded.proofs.Loaded.{Before, none, valid_of, before_more, more_all, uses, in_order}
 use Rattle.law_builds_ruled.specs.passed_laws.Passed.{IsPassedWell, IsPlainWell, ProcedureIsWell}
 use Rattle.law_builds_ruled.proofs.passed_laws.Modules.{parameters_passed}
 use Rattle.law_builds_loaded.specs.whole_laws.Whole.{LoadedPassed, IsPlain, LoadedPlain}
 use Rattle.law_builds_loaded.proofs.whole_laws.Plain.{never_open, scalar_is}
 use Rattle.law_builds_loaded.proofs.whole_laws.Alike.{SaidBy, passed_alike}
+use Rattle.law_lists.proofs.Lists.{each_last}
 
 core_type : (d : Desc) → is_type (core d) ≡ is_type d
 core_type (desc.Const v) = refl
@@ -100,7 +101,7 @@ module _ (written : BuildsAreWritten) (ruled : BuildsAreRuled) where
     stays : (q : QName) (d : Desc) → description (program_of before ++ tree_of b ∷ []) q ≡ Some d → description program q ≡ Some d
     stays q d e =
         subst (λ p. description p q ≡ Some d) is
-        (more_all written ruled (before ++ b ∷ []) rest (before_more written ruled before b k h) together q d (subst (λ p. description p q ≡ Some d) (sym (map_last tree_of before b)) e))
+        (more_all written ruled (before ++ b ∷ []) rest (before_more written ruled before b k h) together q d (subst (λ p. description p q ≡ Some d) (sym (each_last tree_of before b)) e))
 
     module _ (m : TypedModule) (tree_is : (of b).tree ≡ laid_out (described (of b).against) (module_view m)) (types : AllByRecursion (λ t. is_type t.desc ≡ true) m.types) (differ : AreDistinct (λ t. t.name) m.types) (others : AllByRecursion (λ f. bytes_eq f.«module» m.name ≡ false) (of b).against) (no_out : HaveNoOut (of b).against) where
       same_view : (q : QName) → V q ≡ viewed (described (of b).against) (laid_out (described (of b).against) (module_view m)) q

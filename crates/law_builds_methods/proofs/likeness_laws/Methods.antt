@@ -30,11 +30,11 @@ use Rattle.law_body_context.proofs.Receivers.{received_as}
 use Rattle.law_typing_forms.specs.Formed.{IsDeclared, AreParameters, behind, introduced, IsMethodOf, Formed}
 use Rattle.law_typing_forms.specs.Said.{IsOneOf}
 use Rattle.law_typing_forms.specs.Whole.{IsPassed}
-use Rattle.law_typing_forms.proofs.Within.{all_left}
 use Rattle.law_typing_forms.proofs.Members.{member_is}
 use Rattle.law_typing_forms.proofs.Shapes as shapes
 use Rattle.law_typing_values.specs.Laws.{AreDeclared}
 use Rattle.law_typing_values.proofs.Matching.{redefinitions_are_alike}
+use Rattle.law_lists.proofs.Lists.{all_front}
 
 -- ---- methods by their names
 
@@ -90,7 +90,7 @@ declared_each [] h = tt
 declared_each (k ∷ ks) h = (h.0, declared_each ks h.1)
 
 declared_first : (s : Signature) → AllByRecursion IsDeclared (signature_types s) → AreDeclared s.params
-declared_first s h = declared_each s.params (all_left IsDeclared (each (λ k. k.1) s.params) (listed s.result) h)
+declared_first s h = declared_each s.params (all_front IsDeclared (each (λ k. k.1) s.params) (listed s.result) h)
 
 -- ---- one procedure
 

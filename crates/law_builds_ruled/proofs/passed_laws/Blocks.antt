@@ -30,15 +30,13 @@ use Rattle.ob_rules.specs.Headings.{Head, Heads, BoundAs, self_by, self_paramete
 use Rattle.ob_rules.specs.Declarations.{Contents, Part, Written_procedure, Declaration, Plain, Procedure, plain_of, procedure_of, type_name_of, in_order, headings_in_order, heads_later, pointers_judged, closing_judged, around_body, self_parameters, typed_procedure, types_of_head, procedure_judged, procedures_judged, with_bound, binding_at, block_headed, block, decl_rule, declaration}
 use Rattle.law_typing_forms.specs.Said.{IsOneOf}
 use Rattle.law_typing_forms.specs.Formed.{IsDeclared}
-use Rattle.law_simulation_relation.proofs.Names.{and_both}
-use Rattle.law_methods_described.proofs.Nodes.{IfThere}
 use Rattle.law_names_distinct.proofs.Blocks.{headed_none}
 use Rattle.law_typing.specs.Spelled.{all_true}
 use Rattle.law_typing.specs.Bodies.{stmt_spelled}
 use Rattle.law_body_context.specs.Spelled.{parameters_spelled, decl_layer, decl_spelled}
 use Rattle.law_body_context.specs.Knows.{Grows, EntityStands}
 use Rattle.law_body_context.specs.Judged.{with_methods}
-use Rattle.law_body_context.proofs.Lists.{one_left, one_right, one_joined, one_all, all_one, all_of, all_both, first_empty, second_empty}
+use Rattle.law_body_context.proofs.Lists.{one_left, one_right, one_joined, one_all, all_one, all_of}
 use Rattle.law_body_context.proofs.More.{more_same, more_then}
 use Rattle.law_body_context.proofs.Standing.{Lies, lies_same, all_grown}
 use Rattle.law_body_context.proofs.Binding.{IsFrom, binding_changes}
@@ -53,6 +51,7 @@ use Rattle.law_builds_ruled.proofs.ruled_laws.Written.{written_parameters_good a
 use Rattle.law_builds_ruled.proofs.ruled_laws.Plain.{Any, Fine, VariableIn, IsPlain, constants, alias_grown, constant_plain, type_plain, variables_plain, order_plain, later_fine}
 use Rattle.law_builds_ruled.proofs.passed_laws.Sections.{S, Fair, GoodSections, node_good, Passed, PlainAt}
 use Rattle.law_builds_ruled.proofs.passed_laws.Heads.{HeadIn, GoodHeadings, heads_fair}
+use Rattle.law_lists.proofs.Lists.{IfThere, all_both, and_parts, back_empty, front_empty}
 
 -- a module of that name
 abbrev only_name : List ℕ → TypedModule
@@ -175,7 +174,7 @@ module _ (unit : List ℕ) (shown : QName → Option Desc) (out : is_out unit �
     judged_in p g h k true n l = tt
     judged_in p g h k false n l =
         let c = (p.inside (around_body u h)).contents in
-        let quiet = second_empty (closing_judged h.name p.closing).broken _ (second_empty h.notes.broken _ n) in
+        let quiet = back_empty (closing_judged h.name p.closing).broken _ (back_empty h.notes.broken _ n) in
         let r = g.inside (around_body u h) (body_fine h k) quiet (λ t i. l t (one_right (types_of_head h.parameters) c.types t i)) in
         all_both ProcedureIn (typed_procedure (map_of u) h h.parameters c) c.procedures (typed_in own within (map_of u) h k h.parameters k.parameters c r.variables) r.procedures
 
@@ -186,8 +185,8 @@ module _ (unit : List ℕ) (shown : QName → Option Desc) (out : is_out unit �
         let one = procedure_judged u p h p.forward in
         let rest = procedures_judged u ps hs in
         all_both ProcedureIn one.contents.procedures rest.contents.procedures
-        (judged_in p g.0 h k.0 p.forward (first_empty one.notes.broken rest.notes.broken n) (λ t i. l t (one_left one.contents.types rest.contents.types t i)))
-        (procedures_in ps g.1 hs k.1 (second_empty one.notes.broken rest.notes.broken n) (λ t i. l t (one_right one.contents.types rest.contents.types t i)))
+        (judged_in p g.0 h k.0 p.forward (front_empty one.notes.broken rest.notes.broken n) (λ t i. l t (one_left one.contents.types rest.contents.types t i)))
+        (procedures_in ps g.1 hs k.1 (back_empty one.notes.broken rest.notes.broken n) (λ t i. l t (one_right one.contents.types rest.contents.types t i)))
 
   -- ---- sequences
 
@@ -229,8 +228,8 @@ module _ (unit : List ℕ) (shown : QName → Option Desc) (out : is_out unit �
       let r = order_plain unit shown out all Among raw fs (plains ds g) base (later_fine unit shown out all Among raw u (filter_map type_name_of ds) f) plain_lie in
       let k = heads_fair unit shown out ps (headings ps (procedures ds g)) start (record { around = fair plain.around r.around; before = tt }) in
       let aligned : Aligned ps heads = (let a = aligned_in_order ps start in subst (Aligned ps) (sym a.is) a.aligned) in
-      let headed = second_empty (plain.part.notes.broken ++ (pointers_judged hs.around (plain.part.notes.later ++ heads_later hs.before)).broken) _ n in
-      let quiet : judged.notes.broken ≡ [] = first_empty judged.notes.broken _ (second_empty _ (judged.notes.broken ++ _) headed) in
+      let headed = back_empty (plain.part.notes.broken ++ (pointers_judged hs.around (plain.part.notes.later ++ heads_later hs.before)).broken) _ n in
+      let quiet : judged.notes.broken ≡ [] = front_empty judged.notes.broken _ (back_empty _ (judged.notes.broken ++ _) headed) in
       let unbroken : (x : Head) → IsOneOf hs.before x → IsUnbroken x = λ x i. heads_unbroken Any shown (only_name unit) (record { constants = []; types = []; variables = []; procedures = []; body = []; bound = [] }) out w ps heads aligned quiet x (one_reversed hs.before x i) in
       let makes : Lies (types_of_all hs.before) judged.contents.types = types_lie hs.before judged.contents.types (λ x i. types_there Any shown (only_name unit) (record { constants = []; types = []; variables = []; procedures = []; body = []; bound = [] }) out w ps heads aligned x (one_reversed hs.before x i)) in
       let behind = lies_in_order plain.around.own ps start unbroken (lies_same plain.around.own) in
@@ -273,7 +272,7 @@ module _ (unit : List ℕ) (shown : QName → Option Desc) (out : is_out unit �
 
   all_in : (xs : List SD) → all_true (map decl_spelled (decls_in xs)) ≡ true → AreGood (map declaration (decls_in xs))
   all_in [] e = tt
-  all_in (x ∷ xs) e = let p = and_both (decl_spelled x.0) (all_true (map decl_spelled (decls_in xs))) e in (x.1 p.0, all_in xs p.1)
+  all_in (x ∷ xs) e = let p = and_parts (decl_spelled x.0) (all_true (map decl_spelled (decls_in xs))) e in (x.1 p.0, all_in xs p.1)
 
   layer : (x : Decl-F Decl) → (decl_layer (map-Decl Decl Bool decl_spelled x) ≡ true → GoodDeclaration (decl_rule (map-Decl Decl Declaration declaration x))) → PD (roll-Decl x)
   layer x h e = subst GoodDeclaration (sym (fold-roll-Decl Declaration decl_rule x)) (h (sym (fold-roll-Decl Bool decl_layer x) ∙ e))
@@ -283,8 +282,8 @@ module _ (unit : List ℕ) (shown : QName → Option Desc) (out : is_out unit �
   decl_cases (Decl-F.NamedType d n) = layer (Decl-F.NamedType d n) (λ e. type_plain unit shown out all Among raw d n e)
   decl_cases (Decl-F.Variables ds n) = layer (Decl-F.Variables ds n) (λ e. variables_plain unit shown out all Among raw ds n e)
   decl_cases (Decl-F.Procedure h ds body closing) = layer (Decl-F.Procedure h (decls_in ds) body closing) (λ e.
-      let p = and_both (parameters_spelled h.parameters) (all_true (map decl_spelled (decls_in ds)) && all_true (map stmt_spelled body)) e in
-      let q = and_both (all_true (map decl_spelled (decls_in ds))) (all_true (map stmt_spelled body)) p.1 in
+      let p = and_parts (parameters_spelled h.parameters) (all_true (map decl_spelled (decls_in ds)) && all_true (map stmt_spelled body)) e in
+      let q = and_parts (all_true (map decl_spelled (decls_in ds))) (all_true (map stmt_spelled body)) p.1 in
       record { heading = sections_good h.parameters p.0; inside = block_in (map declaration (decls_in ds)) (all_in ds q.0) (decls_bound (decls_in ds)) (map judging body) })
   decl_cases (Decl-F.Forward h) = layer (Decl-F.Forward h) (λ e. record { heading = sections_good h.parameters e; inside = λ u f n l. record { procedures = tt; variables = tt } })
 
@@ -293,4 +292,4 @@ module _ (unit : List ℕ) (shown : QName → Option Desc) (out : is_out unit �
 
   pub decls_good : (xs : List Decl) → all_true (map decl_spelled xs) ≡ true → AreGood (map declaration xs)
   decls_good [] e = tt
-  decls_good (x ∷ xs) e = let p = and_both (decl_spelled x) (all_true (map decl_spelled xs)) e in (decl_good x p.0, decls_good xs p.1)
+  decls_good (x ∷ xs) e = let p = and_parts (decl_spelled x) (all_true (map decl_spelled xs)) e in (decl_good x p.0, decls_good xs p.1)

@@ -16,12 +16,13 @@ use Rattle.ob_rules.specs.Names.{Around, in_unit, is_out}
 use Rattle.ob_rules.specs.Types.{Parameters, with_types, marked, inner}
 use Rattle.ob_rules.specs.Headings.{WrittenHeading, Head, BoundAs, Heads, path_by, forward_name, bound_in, of_scope, as_parameters, owner_if, self_by, heading_parameters, knows_receiver, head_of, entity_as, head_entity, declared_head, knows_procedure, known_behind, name_twice, types_of, add_heading}
 use Rattle.ob_rules.specs.Declarations.{Written_procedure, headings_in_order}
-use Rattle.law_methods_described.proofs.Nodes.{IfThere, Has, second_has}
+use Rattle.law_methods_described.proofs.Nodes.{Has, second_has}
 use Rattle.law_body_context.specs.Knows.{EntityStands}
 use Rattle.law_body_context.proofs.Lists.{all_of}
 use Rattle.law_body_context.proofs.Standing.{Lies, lies_front, grows_as, all_grown}
 use Rattle.law_builds_ruled.proofs.ruled_laws.Plain.{Any}
 use Rattle.law_builds_ruled.proofs.passed_laws.Sections.{KnownIn, PlainAt, plain_more, Fair, more_types, more_known, GoodSections, Passed, all_more, passed_more, ArePassed, sections_known, parameters_passed, IsReceiver, owner_stands, self_passed, receiver_fair}
+use Rattle.law_lists.proofs.Lists.{IfThere}
 
 module _ (unit : List ℕ) (shown : QName → Option Desc) (out : is_out unit ≡ false) where
   abbrev F : Around → Type 0

@@ -13,7 +13,6 @@ use Rattle.ob_types.specs.Maps.{listed}
 use Rattle.ob_rules.specs.Names.{Around, is_out}
 use Rattle.ob_rules.specs.Statements.{judging}
 use Rattle.ob_rules.specs.Declarations.{Part, Declared, declaration, imports_declared, import_declared, target_of, around_module, name_judged, block}
-use Rattle.law_simulation_relation.proofs.Names.{and_both}
 use Rattle.law_typing_forms.specs.Formed.{IsDeclared}
 use Rattle.law_names_distinct.specs.Distinct.{AreDistinct}
 use Rattle.law_names_distinct.proofs.Blocks.{not_out}
@@ -21,7 +20,7 @@ use Rattle.law_typing.specs.Spelled.{all_true}
 use Rattle.law_typing.specs.Bodies.{stmt_spelled}
 use Rattle.law_body_context.specs.Spelled.{decl_spelled}
 use Rattle.law_body_context.specs.Laws.{AreOthers}
-use Rattle.law_body_context.proofs.Lists.{one_left, one_right, all_of, all_both, second_empty}
+use Rattle.law_body_context.proofs.Lists.{one_left, one_right, all_of}
 use Rattle.law_body_context.proofs.Modules.{unbroken_is}
 use Rattle.law_methods_bound.proofs.Blocks.{order_good as order_bound, imports_good as imports_bound, decls_good as decls_bound}
 use Rattle.law_builds_ruled.proofs.ruled_laws.Plain.{VariableIn, DeclaredFine, order_plain, imports_plain, start_fine}
@@ -29,6 +28,7 @@ use Rattle.law_builds_ruled.proofs.ruled_laws.Modules as ruled
 use Rattle.law_builds_ruled.specs.ruled_laws.Variables.{IsSameType, IsDeclaredWell}
 use Rattle.law_builds_ruled.specs.passed_laws.Passed.{IsPassedWell, IsPlainWell, ProcedureIsWell, ProceduresAreWell}
 use Rattle.law_builds_ruled.proofs.passed_laws.Blocks.{Among, raw, declared, PassedIn, PlainIn, ProcedureIn, AreIn, block_in, decls_good}
+use Rattle.law_lists.proofs.Lists.{all_both, and_parts, back_empty}
 
 module _ (shown : QName → Option Desc) (tree : Tree) (out : is_out (ruled.module_is shown tree).name ≡ false) (quiet : (ruled.parts shown tree).notes.broken ≡ []) (spelled : all_true (map decl_spelled tree.decls) ≡ true) (others : AreOthers tree.name.name tree.imports) (differ : AreDistinct (λ (t : TypedType). t.name) (ruled.module_is shown tree).types) where
   abbrev whole : Part
@@ -57,7 +57,7 @@ module _ (shown : QName → Option Desc) (tree : Tree) (out : is_out (ruled.modu
 
   procedures_in : AreIn tree.name.name shown out all made.procedures
   procedures_in =
-      let n : behind.notes.broken ≡ [] = second_empty imports.part.notes.broken _ (second_empty (name_judged tree.name tree.closing).broken _ quiet) in
+      let n : behind.notes.broken ≡ [] = back_empty imports.part.notes.broken _ (back_empty (name_judged tree.name tree.closing).broken _ quiet) in
       let p = block_in tree.name.name shown out all (map declaration tree.decls) (decls_good tree.name.name shown out all tree.decls spelled) (decls_bound tree.decls) (map judging tree.body) imports.around imports_are.around n (λ t i. one_right imports.part.contents.types behind.contents.types t i) in
       all_both (ProcedureIn tree.name.name shown out all) imports.part.contents.procedures behind.contents.procedures
       (subst (AreIn tree.name.name shown out all) (sym (order_bound (map (λ i. import_declared i (target_of i)) tree.imports) (imports_bound tree.imports) start).procedures) tt) p.procedures
@@ -99,6 +99,6 @@ pub parameters_passed : ProceduresAreWell
 parameters_passed shown tree m e spelled others differ =
     let k = unbroken_is (ruled.parts shown tree).notes.broken (ruled.module_is shown tree) m e in
     let out : is_out (ruled.module_is shown tree).name ≡ false = ap (λ (x : TypedModule). is_out x.name) k.1 ∙ not_out shown tree m e in
-    let s = and_both (all_true (map decl_spelled tree.decls)) (all_true (map stmt_spelled tree.body)) spelled in
+    let s = and_parts (all_true (map decl_spelled tree.decls)) (all_true (map stmt_spelled tree.body)) spelled in
     subst (λ (x : TypedModule). AllByRecursion (ProcedureIsWell x.name shown x.types) x.procedures) k.1
     (heads_well shown tree out k.0 s.0 others (subst (λ (x : TypedModule). AreDistinct (λ t. t.name) x.types) (sym k.1) differ))

@@ -26,15 +26,16 @@ use Rattle.ob_rules.specs.Shapes.{Map, shape, record_at, record_of, record_if, p
 use Rattle.ob_rules.specs.Names.{Around, map_of, type_named, is_out}
 use Rattle.ob_rules.specs.Types.{Typing, Written, with_types, section_name, Parameters, WrittenSection, WrittenParameters, mode_of, parameter_as, knows, declare_all, parameters_of, parameters_joined, with_made, with_result, sections, result_fits, result_of, first_of, parameters_in, inner, is_module_level}
 use Rattle.ob_rules.specs.Headings.{BoundAs, is_own, kind_of, received_record, if_own, own_record, silent_base, bound_to, owner_of, owner_if, self_by, knows_receiver}
-use Rattle.law_methods_described.proofs.Nodes.{IfThere, Has, then_has, both_have}
+use Rattle.law_methods_described.proofs.Nodes.{Has, then_has, both_have}
 use Rattle.law_body_context.specs.Knows.{Stands, IsDescribed, EntityStands}
-use Rattle.law_body_context.proofs.Lists.{one_left, one_right, one_joined, all_of, all_both}
+use Rattle.law_body_context.proofs.Lists.{one_left, one_right, one_joined, all_of}
 use Rattle.law_body_context.proofs.Standing.{Lies, lies_same, lies_then, grows_as}
 use Rattle.law_body_context.proofs.Named.{type_named_stands}
 use Rattle.law_body_context.proofs.Typings.{IsGood, TypingIs}
 use Rattle.law_builds_ruled.specs.ruled_laws.Variables.{AliasStands}
 use Rattle.law_builds_ruled.proofs.ruled_laws.Shut.{IsShut, TypingShut}
 use Rattle.law_builds_ruled.proofs.ruled_laws.Plain.{Any, AliasesStand, Fine, TypingFine, pairs, no_aliases, aliases_grown, types_fine}
+use Rattle.law_lists.proofs.Lists.{IfThere, all_both}
 
 abbrev Anything : TypedType → Type 0
 Anything s = Unit {0}

@@ -13,7 +13,7 @@ use Rattle.ob_rules.specs.Types.{is_module_level}
 use Rattle.ob_rules.specs.Statements.{judging}
 use Rattle.ob_rules.specs.Headings.{Head, Heads, Binding, reversed}
 use Rattle.ob_rules.specs.Declarations.{no_contents, Part, Declared, Written_procedure, declaration, plain_of, procedure_of, type_name_of, in_order, headings_in_order, heads_later, pointers_judged, name_judged, binding_at, with_bound, procedure_judged, procedures_judged, imports_declared, import_declared, target_of, around_module, module_of, typed_module, described, all_described}
-use Rattle.law_simulation_relation.proofs.Names.{and_both, bytes_true}
+use Rattle.law_simulation_relation.proofs.Names.{bytes_true}
 use Rattle.law_typing_forms.specs.Said.{IsOneOf}
 use Rattle.law_names_distinct.specs.Distinct.{AreDistinct}
 use Rattle.law_names_distinct.proofs.Blocks.{not_out}
@@ -22,7 +22,7 @@ use Rattle.law_typing.specs.Bodies.{stmt_spelled}
 use Rattle.law_body_context.specs.Spelled.{decl_spelled}
 use Rattle.law_body_context.specs.Judged.{HasMore, IsTold}
 use Rattle.law_body_context.specs.Laws.{AreOthers}
-use Rattle.law_body_context.proofs.Lists.{one_left, one_right, one_joined, one_all, all_of, all_both, first_empty, second_empty}
+use Rattle.law_body_context.proofs.Lists.{one_left, one_right, one_joined, one_all, all_of}
 use Rattle.law_body_context.proofs.More.{more_same}
 use Rattle.law_body_context.proofs.Held.{one_mapped}
 use Rattle.law_body_context.proofs.Standing.{Lies, lies_same}
@@ -33,6 +33,7 @@ use Rattle.law_body_context.proofs.Modules.{unbroken_is}
 use Rattle.law_methods_bound.proofs.Blocks.{order_good, imports_good as imports_bound, plains_good, decls_good}
 use Rattle.law_builds_ruled.specs.ruled_laws.Variables.{IsDeclaredWell, VariablesAreDeclared}
 use Rattle.law_builds_ruled.proofs.ruled_laws.Plain.{Any, VariableIn, DeclaredFine, order_plain, imports_plain, decls_plain, start_fine, later_fine}
+use Rattle.law_lists.proofs.Lists.{all_both, and_parts, back_empty, front_empty}
 
 -- ---- types of one name are one
 
@@ -130,9 +131,9 @@ module _ (shown : QName → Option Desc) (tree : Tree) (out : is_out (module_is 
 
   judged_quiet : judged.notes.broken ≡ []
   judged_quiet =
-      let block_quiet = second_empty imports.part.notes.broken _ (second_empty (name_judged tree.name tree.closing).broken _ quiet) in
-      let headed = second_empty (plain.part.notes.broken ++ (pointers_judged hs.around (plain.part.notes.later ++ heads_later hs.before)).broken) _ block_quiet in
-      first_empty judged.notes.broken _ (second_empty _ (judged.notes.broken ++ _) headed)
+      let block_quiet = back_empty imports.part.notes.broken _ (back_empty (name_judged tree.name tree.closing).broken _ quiet) in
+      let headed = back_empty (plain.part.notes.broken ++ (pointers_judged hs.around (plain.part.notes.later ++ heads_later hs.before)).broken) _ block_quiet in
+      front_empty judged.notes.broken _ (back_empty _ (judged.notes.broken ++ _) headed)
 
   plain_lie : Lies plain.part.contents.types all
   plain_lie t i = one_right imports.part.contents.types _ t (one_left plain.part.contents.types _ t i)
@@ -199,6 +200,6 @@ pub variables_declared_well : VariablesAreDeclared
 variables_declared_well shown tree m e spelled others differ =
     let k = unbroken_is (parts shown tree).notes.broken (module_is shown tree) m e in
     let out : is_out (module_is shown tree).name ≡ false = ap (λ (x : TypedModule). is_out x.name) k.1 ∙ not_out shown tree m e in
-    let s = and_both (all_true (map decl_spelled tree.decls)) (all_true (map stmt_spelled tree.body)) spelled in
+    let s = and_parts (all_true (map decl_spelled tree.decls)) (all_true (map stmt_spelled tree.body)) spelled in
     subst (λ (x : TypedModule). AllByRecursion (IsDeclaredWell x.name shown x.types) x.variables) k.1
     (variables_well shown tree out k.0 s.0 others (subst (λ (x : TypedModule). AreDistinct (λ t. t.name) x.types) (sym k.1) differ))

@@ -26,18 +26,7 @@ use Rattle.law_typing_forms.specs.Said.{IsOneOf}
 use Rattle.law_body_context.specs.Judged.{AreOf}
 use Rattle.law_methods_bound.specs.Bound.{methods_of, IsThere}
 use Rattle.law_builds_ruled.specs.ruled_laws.Ruled.{bound_types}
-
-all_both : {A : Type 0} (P : A → Type 0) (xs ys : List A) → AllByRecursion P xs → AllByRecursion P ys → AllByRecursion P (xs ++ ys)
-all_both P [] ys h k = k
-all_both P (x ∷ xs) ys h k = (h.0, all_both P xs ys h.1 k)
-
-front : {A : Type 0} (P : A → Type 0) (xs ys : List A) → AllByRecursion P (xs ++ ys) → AllByRecursion P xs
-front P [] ys h = tt
-front P (x ∷ xs) ys h = (h.0, front P xs ys h.1)
-
-back : {A : Type 0} (P : A → Type 0) (xs ys : List A) → AllByRecursion P (xs ++ ys) → AllByRecursion P ys
-back P [] ys h = h
-back P (x ∷ xs) ys h = back P xs ys h.1
+use Rattle.law_lists.proofs.Lists.{all_back, all_both, all_front}
 
 module _ (P : QName → Type 0) where
   abbrev Starts : List Count → Type 0
@@ -90,7 +79,7 @@ module _ (P : QName → Type 0) where
         let ab = starts_front (a ++ b) c (starts_front (a ++ b ++ c) d (starts_front (a ++ b ++ c ++ d) (counts_of_all (stmts_view r.p.body)) all)) in
         let xs = subst (AllByRecursion (λ x. On P x.of)) r.parameters (parameters_on r.p.parameters (starts_front a b ab)) in
         let res = subst (λ (o : Option TypeRef). AllByRecursion (On P) (listed o)) r.result (shapes_on (listed r.p.result) (starts_back a b ab)) in
-        all_both (On P) (each (λ k. k.1) k.signature.params) (listed k.signature.result) (params_on r.rest k.signature.params r.are (back (λ x. On P x.of) r.self r.rest xs)) res
+        all_both (On P) (each (λ k. k.1) k.signature.params) (listed k.signature.result) (params_on r.rest k.signature.params r.are (all_back (λ x. On P x.of) r.self r.rest xs)) res
 
     methods_on : (ps : List TypedProcedure) → Starts (flat_map (counts_of_procedure types) (each procedure_view ps)) → (t : TypedType) (ks : List Method) → AllByRecursion (IsThere ps t) ks → AllByRecursion (On P) (flat_map (λ k. signature_types k.signature) ks)
     methods_on ps h t [] g = tt
@@ -100,7 +89,7 @@ module _ (P : QName → Type 0) where
 
   numbered_on : (n : ℕ) (ks : List Method) → AllByRecursion (On P) (flat_map (λ k. signature_types k.signature) ks) → AllByRecursion (On P) (flat_map (λ k. signature_types k.signature) (numbered n ks))
   numbered_on n [] h = tt
-  numbered_on n (k ∷ ks) h = all_both (On P) (signature_types k.signature) (flat_map (λ k. signature_types k.signature) (numbered (suc n) ks)) (front (On P) (signature_types k.signature) (flat_map (λ k. signature_types k.signature) ks) h) (numbered_on (suc n) ks (back (On P) (signature_types k.signature) (flat_map (λ k. signature_types k.signature) ks) h))
+  numbered_on n (k ∷ ks) h = all_both (On P) (signature_types k.signature) (flat_map (λ k. signature_types k.signature) (numbered (suc n) ks)) (all_front (On P) (signature_types k.signature) (flat_map (λ k. signature_types k.signature) ks) h) (numbered_on (suc n) ks (all_back (On P) (signature_types k.signature) (flat_map (λ k. signature_types k.signature) ks) h))
 
   laid_on : (w p : TypeRef → ℕ) (q : QName) (d : Desc) → AllByRecursion (On P) (flat_map (λ k. signature_types k.signature) (methods_of d)) → AllByRecursion (On P) (bound_types (laid_desc w p q d))
   laid_on w p q (desc.Record r) h = numbered_on (base_of p r.base) r.methods h

@@ -32,18 +32,18 @@ use Rattle.ob_rules.specs.Types.{Typing, written, with_types, is_module_level, m
 use Rattle.ob_rules.specs.Headings.{mark_or_hidden}
 use Rattle.ob_rules.specs.Declarations.{no_contents, together, Declared, declare_if, declare, no_nil, constant_entity, constant_contents, constant_declared, equated, typing_as, type_entity, types_made, type_declared, variable_entity, variable_contents, paired_typing, variables_with, first_name, made_in, variables_typed, variables_declared, Declaration, Plain, Procedure, plain_of, in_order, decl_rule, declaration, is_system, import_entity, import_declared, target_of, around_module}
 use Rattle.law_typing_forms.specs.Said.{IsOneOf}
-use Rattle.law_simulation_relation.proofs.Names.{and_both}
-use Rattle.law_methods_described.proofs.Nodes.{IfThere, Has, then_has, second_has}
+use Rattle.law_methods_described.proofs.Nodes.{Has, then_has, second_has}
 use Rattle.law_typing.specs.Spelled.{all_true, is_spelled}
 use Rattle.law_body_context.specs.Spelled.{type_spelled, decl_layer, decl_spelled}
 use Rattle.law_body_context.specs.Knows.{Grows, Stands, IsDescribed, EntityStands, Knows}
-use Rattle.law_body_context.proofs.Lists.{one_left, one_right, one_joined, all_of, all_both}
+use Rattle.law_body_context.proofs.Lists.{one_left, one_right, one_joined, all_of}
 use Rattle.law_body_context.proofs.Standing.{Lies, grows_front, stands_grown, with_types_known}
 use Rattle.law_body_context.proofs.Typings.{TypingIs, typed_is, ConstantPhrase}
 use Rattle.law_body_context.proofs.Written.{written_good as written_stands}
 use Rattle.law_builds_ruled.specs.ruled_laws.Variables.{AliasStands}
 use Rattle.law_builds_ruled.proofs.ruled_laws.Shut.{NoAliases, TypingShut}
 use Rattle.law_builds_ruled.proofs.ruled_laws.Written.{written_good as written_shut}
+use Rattle.law_lists.proofs.Lists.{IfThere, all_both, and_parts}
 
 -- whatever values are
 abbrev pub Any : Value → Type 0
@@ -280,7 +280,7 @@ module _ (unit : List ℕ) (shown : QName → Option Desc) (out : is_out unit �
 
   pub decls_plain : (xs : List Decl) → all_true (map decl_spelled xs) ≡ true → AllByRecursion IsPlain (filter_map plain_of (map declaration xs))
   decls_plain [] e = tt
-  decls_plain (x ∷ xs) e = let p = and_both (decl_spelled x) (all_true (map decl_spelled xs)) e in kept (declaration x) (filter_map plain_of (map declaration xs)) (decl_good x p.0) (decls_plain xs p.1)
+  decls_plain (x ∷ xs) e = let p = and_parts (decl_spelled x) (all_true (map decl_spelled xs)) e in kept (declaration x) (filter_map plain_of (map declaration xs)) (decl_good x p.0) (decls_plain xs p.1)
 
   -- ---- at the start
 

@@ -23,7 +23,8 @@ use Rattle.ob_rules.specs.Names.{Around, in_unit, own_desc, out_string, type_des
 use Rattle.ob_rules.specs.Phrases.{Phrase}
 use Rattle.ob_rules.specs.Types.{Typing, Written, typed_as, with_types, base_name, element_name, field_name, section_name, named_typing, array_length, fixed_array, array, first_of, names_behind, WrittenFields, first_name, Fields, fields_of, with_fields, fields_joined, field_lists, record_with, record_desc, pointer_to, base_judged, pointer_base, pointer_by, Parameters, WrittenSection, WrittenParameters, mode_of, declare_all, parameters_of, parameters_joined, with_made, with_result, sections, result_of, parameters_in, inner, procedure_type}
 use Rattle.law_simulation_relation.proofs.Names.{bytes_same}
-use Rattle.law_methods_described.proofs.Nodes.{IfThere, Has, all_both, then_has, any_then, both_have, first_has, second_has}
+use Rattle.law_methods_described.proofs.Nodes.{Has, then_has, any_then, both_have, first_has, second_has}
+use Rattle.law_lists.proofs.Lists.{IfThere, all_both}
 
 abbrev pub NoAliases : List TypedType → Type 0
 NoAliases ts = AllByRecursion (λ t. is_alias t.desc ≡ false) ts

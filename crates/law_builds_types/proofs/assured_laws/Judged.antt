@@ -25,10 +25,7 @@ use Rattle.law_builds_loaded.proofs.inherited_laws.Checked.{checked_at}
 use Rattle.law_builds_loaded.proofs.inherited_laws.Loaded.{IsSome, in_front, in_middle, all_shown}
 use Rattle.law_builds_types.specs.pointed_laws.Pointed.{LoadedShowBases}
 use Rattle.law_builds_types.specs.assured_laws.Judged.{LoadedAreJudged}
-
-pub map_both : {A B : Type 0} (f : A → B) (xs ys : List A) → map f (xs ++ ys) ≡ map f xs ++ map f ys
-map_both f [] ys = refl
-map_both f (x ∷ xs) ys = ap (λ r. f x ∷ r) (map_both f xs ys)
+use Rattle.law_lists.proofs.Lists.{each_both}
 
 pub all_spelled : BuildsAreWritten → (xs : List Build) → ((b : Build) → In xs b → IsSome b) → AllByRecursion IsSpelled (map shows_of xs)
 all_spelled written [] v = tt
@@ -53,7 +50,7 @@ module _ (written : BuildsAreWritten) (locality : Locality) (bases : LoadedShowB
       record {
         before = program_of before;
         rest = program_of after;
-        order = map_both tree_of before (b ∷ after);
+        order = each_both tree_of before (b ∷ after);
         checked = k.t;
         types = described faces;
         faces = faces;

@@ -28,7 +28,6 @@ use Rattle.ob_compile_model.specs.Compiling.{Compiled}
 use Rattle.law_names_distinct.specs.Distinct.{AreDistinct}
 use Rattle.law_methods_described.proofs.Blocks.{types_described}
 use Rattle.law_spelling_read.proofs.Trees.{readings_spelled}
-use Rattle.law_spelling.proofs.Lists.{all_each, all_joined}
 use Rattle.law_local_files.specs.Laws.{HaveNoOut}
 use Rattle.law_typing_forms.specs.Said.{IsOneOf}
 use Rattle.law_body_context.specs.Knows.{Stands}
@@ -46,6 +45,7 @@ use Rattle.law_builds_ruled.specs.passed_laws.Passed.{IsPassedWell, IsPlainWell,
 use Rattle.law_builds_ruled.proofs.passed_laws.Modules.{parameters_passed}
 use Rattle.law_builds_types.specs.closed_laws.Closed.{IsHeadRuled, HeadsRuled}
 use Rattle.law_builds_types.proofs.closed_laws.Kept.{structure_own}
+use Rattle.law_lists.proofs.Lists.{all_both, all_each}
 
 structured : (q : QName) (d : Desc) → is_structure d ≡ true → (is_some (array_at (Some d)) || is_some (record_at (ref.Named q) (Some d))) ≡ true
 structured q (desc.Array m n t) h = refl
@@ -120,7 +120,7 @@ module _ (faces : List (Face Text)) (m : TypedModule) (types_are : AllByRecursio
 
     head : (p : TypedProcedure) → ProcedureIsWell m.name (shown faces) m.types p → IsHeadRuled V (procedure_view p)
     head p h = record {
-      held = all_joined (λ t. IsHeld V t) (each (λ k. k.1) (each formal_of p.parameters)) (listed p.result) (all_each (λ k. k.1) (λ t. IsHeld V t) (each formal_of p.parameters) (all_each formal_of (λ k. IsHeld V k.1) p.parameters (takes p.parameters h.parameters))) (gives (listed p.result) h.plain);
+      held = all_both (λ t. IsHeld V t) (each (λ k. k.1) (each formal_of p.parameters)) (listed p.result) (all_each (λ k. k.1) (λ t. IsHeld V t) (each formal_of p.parameters) (all_each formal_of (λ k. IsHeld V k.1) p.parameters (takes p.parameters h.parameters))) (gives (listed p.result) h.plain);
       plain = result_plain p.result h.plain;
     }
 

@@ -19,7 +19,6 @@ use Rattle.ob_uses_roots.specs.Counts.{own_name}
 use Rattle.ob_uses.specs.Closed.{is_among}
 use Rattle.ob_uses.specs.Objects.{formal_of, signature_of, is_exported, in_places, reached_types, shown_types, objects_of}
 use Rattle.ob_uses.proofs.Objecting.{full_name}
-use Rattle.law_spelling.proofs.Lists.{all_map, all_each, all_joined}
 use Rattle.law_typing_forms.specs.Said.{IsOneOf}
 use Rattle.law_typing_forms.proofs.Modules.{of_all}
 use Rattle.law_typing_env.specs.Near.{core}
@@ -39,6 +38,7 @@ use Rattle.law_builds_types.proofs.closed_laws.Found.{more_shown, last_shown, sh
 use Rattle.law_builds_types.proofs.closed_laws.Reached.{IsIn, type_in, variable_in, head_in}
 use Rattle.law_builds_types.proofs.closed_laws.Objects.{IsTypeIn, type_at, objects_have}
 use Rattle.law_builds_types.proofs.closed_laws.Seen.{shown_less, seen_named}
+use Rattle.law_lists.proofs.Lists.{all_both, all_each, all_from}
 
 core_type : (d : Desc) → is_type (core d) ≡ is_type d
 core_type (desc.Const v) = refl
@@ -132,7 +132,7 @@ module _ (written : BuildsAreWritten) (ruled : BuildsAreRuled) (heads : HeadsAre
       let gives : AllByRecursion N (listed p.result) = (of_all (IsInside (λ t. IsHeld V t → Near t)) (tree_of b).procedures p (uses written ruled before b k h).inside i).1 in
       let head : IsHeadRuled V p = of_all (IsHeadRuled V) (tree_of b).procedures p (heads b (of b) (valid_of written ruled b h.valid.0 h.valid.1)) i in
       all_there (signature_types (signature_of p))
-      (all_joined N (each (λ k. k.1) (each formal_of p.parameters)) (listed p.result) (all_each (λ k. k.1) N (each formal_of p.parameters) (all_each formal_of (λ k. N k.1) p.parameters takes)) gives)
+      (all_both N (each (λ k. k.1) (each formal_of p.parameters)) (listed p.result) (all_each (λ k. k.1) N (each formal_of p.parameters) (all_each formal_of (λ k. N k.1) p.parameters takes)) gives)
       head.held
       (head_in (tree_of b) p i shown)
 
@@ -144,11 +144,11 @@ module _ (written : BuildsAreWritten) (ruled : BuildsAreRuled) (heads : HeadsAre
       let held = shown_less (λ t. IsHeld V t) t.desc ty (rules.grounded.held (own_name (tree_of b) t) t.desc at) in
       let near = shown_less Near t.desc ty (of_all (λ t. AllByRecursion Near (named_by t.desc)) (tree_of b).types t (uses written ruled before b k h).used.own i) in
       seen_named Now t.desc ty
-      (all_there (shown_types t.desc) (all_map Near (λ t. IsHeld V t → Near t) (λ t n v. n) (shown_types t.desc) near) held (type_in (tree_of b) (own_name (tree_of b) t) t.desc found reached))
+      (all_there (shown_types t.desc) (all_from Near (λ t. IsHeld V t → Near t) (λ t n v. n) (shown_types t.desc) near) held (type_in (tree_of b) (own_name (tree_of b) t) t.desc found reached))
 
   -- so with one more build
   pub held_next : AreHeld before → AreHeld (before ++ b ∷ [])
   held_next all q d e = ⊎_elim
-      (λ i. all_map (λ t. IsHeld (described (each shows_of before)) t) Now (held_more before b) (named_by d) (all q d i))
+      (λ i. all_from (λ t. IsHeld (described (each shows_of before)) t) Now (held_more before b) (named_by d) (all q d i))
       (λ i. objects_have (tree_of b) (λ d. AllByRecursion Now (named_by d)) (λ c. tt) (all_by _ (tree_of b).variables variable_there) (all_by _ (tree_of b).procedures head_there) (all_by _ (tree_of b).types type_there) q.object d (ap (λ os. object_named os q.object) (sym showing.objects) ∙ i))
       (shown_either before b q d e)

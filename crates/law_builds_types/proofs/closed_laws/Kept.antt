@@ -20,7 +20,6 @@ use Rattle.ob_uses.specs.Closed.{is_among}
 use Rattle.ob_uses.specs.Objects.{formal_of, signature_of, is_exported, in_places, reached_types}
 use Rattle.law_typing_forms.specs.Said.{IsOneOf}
 use Rattle.law_typing_forms.proofs.Modules.{of_all}
-use Rattle.law_typing_forms.proofs.Within.{all_right}
 use Rattle.law_typing_env.specs.Near.{core}
 use Rattle.law_typing_env.specs.Near as declares
 use Rattle.law_typing_env.proofs.Keeping.{structure_kind}
@@ -32,10 +31,11 @@ use Rattle.law_builds_ruled.specs.ruled_laws.Ruled.{types_of, BuildsAreRuled}
 use Rattle.law_builds_loaded.proofs.Closed as closed
 use Rattle.law_builds_loaded.proofs.Shown.{Showing}
 use Rattle.law_builds_loaded.proofs.Used.{IsInside}
-use Rattle.law_builds_loaded.proofs.Loaded.{Before, map_last, valid_of, before_more, more_all, uses}
+use Rattle.law_builds_loaded.proofs.Loaded.{Before, valid_of, before_more, more_all, uses}
 use Rattle.law_builds_types.specs.closed_laws.Closed.{IsHeadRuled, HeadsAreRuled}
 use Rattle.law_builds_types.proofs.closed_laws.Lists.{all_by, one_back}
 use Rattle.law_builds_types.proofs.closed_laws.Objects.{seen_type, objects_have}
+use Rattle.law_lists.proofs.Lists.{all_back, each_last}
 
 pub structure_own : (d : Desc) → is_structure d ≡ true → is_alias d ≡ false
 structure_own (desc.Const v) e = refl
@@ -67,7 +67,7 @@ module _ (written : BuildsAreWritten) (ruled : BuildsAreRuled) (heads : HeadsAre
     stays : (q : QName) (d : Desc) → description (program_of before ++ tree_of b ∷ []) q ≡ Some d → description program q ≡ Some d
     stays q d e =
         subst (λ p. description p q ≡ Some d) is
-        (more_all written ruled (before ++ b ∷ []) rest (before_more written ruled before b k h) together q d (subst (λ p. description p q ≡ Some d) (sym (map_last tree_of before b)) e))
+        (more_all written ruled (before ++ b ∷ []) rest (before_more written ruled before b k h) together q d (subst (λ p. description p q ≡ Some d) (sym (each_last tree_of before b)) e))
 
     look : (q : QName) → Near (ref.Named q) → IsHeld V (ref.Named q) → closed.Look (of b) (program_of before) (uses written ruled before b k h).over (uses written ruled before b k h).near (uses written ruled before b k h).used (ruled b (of b) (valid_of written ruled b h.valid.0 h.valid.1)).grounded (uses written ruled before b k h).types q
     look q n v = closed.look (of b) (program_of before) (uses written ruled before b k h).over (uses written ruled before b k h).near (uses written ruled before b k h).used (ruled b (of b) (valid_of written ruled b h.valid.0 h.valid.1)).grounded (uses written ruled before b k h).types q n v
@@ -103,7 +103,7 @@ module _ (written : BuildsAreWritten) (ruled : BuildsAreRuled) (heads : HeadsAre
     head_keeps p i =
         let gives = (of_all (IsInside (λ t. IsHeld V t → Near t)) (tree_of b).procedures p (uses written ruled before b k h).inside i).1 in
         let head : IsHeadRuled V p = of_all (IsHeadRuled V) (tree_of b).procedures p (heads b (of b) (valid_of written ruled b h.valid.0 h.valid.1)) i in
-        result_there p.result gives (all_right (λ t. IsHeld V t) (each (λ k. k.1) (each formal_of p.parameters)) (listed p.result) head.held) head.plain
+        result_there p.result gives (all_back (λ t. IsHeld V t) (each (λ k. k.1) (each formal_of p.parameters)) (listed p.result) head.held) head.plain
 
     -- the objects of the build
     objects_keep : AllByRecursion (λ v. Is (description program) is_open v.of → ⊥) (tree_of b).variables → (x : List ℕ) (d : Desc) → object_named (shows_of b).objects x ≡ Some d → TypeOrKept program d

@@ -42,11 +42,6 @@ sifted test P (x ∷ xs) h = by (test x) refl h (sifted test P xs)
     by true e h f = (λ i. h.0, f h.1)
     by false e h f = (λ i. let bad : false ≡ true = sym e ∙ i in absurd cc, f h)
 
--- of what is made of them
-pub all_made : {A B : Type 0} (f : A → B) (P : B → Type 0) (xs : List A) → AllByRecursion P (each f xs) → AllByRecursion (λ x. P (f x)) xs
-all_made f P [] h = tt
-all_made f P (x ∷ xs) h = (h.0, all_made f P xs h.1)
-
 pub all_parts : {A B : Type 0} (f : A → List B) (P : B → Type 0) (xs : List A) → ((ys zs : List B) → AllByRecursion P (ys ++ zs) → AllByRecursion P ys × AllByRecursion P zs) → AllByRecursion P (flat_map f xs) → AllByRecursion (λ x. AllByRecursion P (f x)) xs
 all_parts f P [] cut h = tt
 all_parts f P (x ∷ xs) cut h = let k = cut (f x) (flat_map f xs) h in (k.0, all_parts f P xs cut k.1)

@@ -11,7 +11,6 @@ use Rattle.ob_types.specs.Relations.{Keeps}
 use Rattle.ob_meaning.specs.Values.{description}
 use Rattle.ob_env.specs.Faces.{described}
 use Rattle.ob_env.specs.Shown.{blank, shown}
-use Rattle.law_spelling.proofs.Lists.{all_map}
 use Rattle.law_acyclic.specs.Steady.{IsClosed}
 use Rattle.law_typing_env.specs.Near.{core}
 use Rattle.law_typing_env.proofs.Keeping.{Says, core_bare}
@@ -30,6 +29,7 @@ use Rattle.law_builds_types.proofs.closed_laws.Objects.{IsTypeIn}
 use Rattle.law_builds_types.proofs.closed_laws.Seen.{blank_type, blank_core, blank_named, keeps_blank, keeps_seen, keeps_smaller}
 use Rattle.law_builds_types.proofs.closed_laws.Held.{AreHeld, held_next}
 use Rattle.law_builds_types.proofs.closed_laws.Kept.{all_keep}
+use Rattle.law_lists.proofs.Lists.{all_from}
 
 pub append_none : (xs : List Build) → xs ++ [] ≡ xs
 append_none [] = refl
@@ -82,7 +82,7 @@ module _ (written : BuildsAreWritten) (ruled : BuildsAreRuled) (heads : HeadsAre
     held q d e =
         let t = told bs q d e in
         subst (λ x. AllByRecursion (λ t. IsHeld S t) (named_by x)) t.is
-        (subst (AllByRecursion (λ t. IsHeld S t)) (sym (blank_named t.e)) (all_map (λ t. IsHeld (described (each shows_of bs)) t) (λ t. IsHeld S t) held_shown (named_by t.e) ((walked bs l.together).held q t.e t.of)))
+        (subst (AllByRecursion (λ t. IsHeld S t)) (sym (blank_named t.e)) (all_from (λ t. IsHeld (described (each shows_of bs)) t) (λ t. IsHeld S t) held_shown (named_by t.e) ((walked bs l.together).held q t.e t.of)))
 
     says : (q : QName) (d : Desc) → S q ≡ Some d → is_type d ≡ true → (e : Desc) × ((P q ≡ Some e) × Says e d)
     says q d h ty =

@@ -20,13 +20,14 @@ use Rattle.ob_uses_roots.specs.Counts.{own_name}
 use Rattle.ob_uses.specs.Closed.{is_among}
 use Rattle.ob_uses.specs.Objects.{signature_of, is_exported, constant_object, variable_object, procedure_object, in_places, type_object, types_among, reached_types, by_name, objects_of}
 use Rattle.law_simulation_relation.proofs.Names.{bytes_same, bytes_true}
-use Rattle.law_spelling.proofs.Lists.{all_map, all_each, all_joined, all_sure, all_filtered, all_in_order}
+use Rattle.law_spelling.proofs.Lists.{all_sure, all_filtered, all_in_order}
 use Rattle.law_spelling.proofs.Objects.{objects_rise}
 use Rattle.law_typing_forms.specs.Said.{IsOneOf}
 use Rattle.law_typing_forms.proofs.Modules.{of_all}
 use Rattle.law_typing_env.proofs.Shown.{object_found}
 use Rattle.law_typing_env.proofs.Views.{one_each}
 use Rattle.law_builds_types.proofs.closed_laws.Lists.{one_kept}
+use Rattle.law_lists.proofs.Lists.{all_both, all_each, all_from}
 
 abbrev Object : Type 0
 Object = List ℕ × Desc
@@ -122,7 +123,7 @@ module _ (m : Module) where
   types_are h =
       all_each type_object (λ p. is_type p.1 ≡ true) kept
       (all_filtered (λ t. is_among (reached_types m) (own_name m t)) (λ t. is_type (type_object t).1 ≡ true) m.types
-      (all_map (λ t. is_type t.desc ≡ true) (λ t. is_among (reached_types m) (own_name m t) ≡ true → is_type (type_object t).1 ≡ true) (λ t k i. seen_type t.desc ∙ k) m.types h))
+      (all_from (λ t. is_type t.desc ≡ true) (λ t. is_among (reached_types m) (own_name m t) ≡ true → is_type (type_object t).1 ≡ true) (λ t k i. seen_type t.desc ∙ k) m.types h))
 
   -- a type that is reached is an object, and a type
   pub type_at : AllByRecursion (λ t. is_type t.desc ≡ true) m.types → (t : TypedType) → IsOneOf m.types t → is_among (reached_types m) (own_name m t) ≡ true → IsTypeIn (object_named (objects_of m) t.name)
@@ -141,9 +142,9 @@ module _ (m : Module) where
     objects_have cs vs ps ts x d e =
         of_all Has (objects_of m) (x, d)
         (all_in_order by_name Has (constants ++ variables ++ procedures ++ each type_object kept)
-        (all_joined Has (constants ++ variables ++ procedures) (each type_object kept)
-        (all_joined Has (constants ++ variables) procedures
-        (all_joined Has constants variables
+        (all_both Has (constants ++ variables ++ procedures) (each type_object kept)
+        (all_both Has (constants ++ variables) procedures
+        (all_both Has constants variables
         (all_each constant_object Has (filter (λ c. is_shown c.mark) m.constants) (all_sure (λ c. Has (constant_object c)) cs (filter (λ c. is_shown c.mark) m.constants)))
         (all_each variable_object Has (filter (λ v. is_shown v.mark) m.variables) (all_filtered (λ v. is_shown v.mark) (λ v. Has (variable_object v)) m.variables vs)))
         (all_each procedure_object Has (filter is_exported m.procedures) (all_filtered is_exported (λ p. Has (procedure_object p)) m.procedures ps)))

@@ -14,11 +14,11 @@ use Rattle.ob_desc.specs.Grammar.{is_shown, by_place, seen}
 use Rattle.ob_layout.specs.Lists.{in_order}
 use Rattle.ob_env.specs.Shown.{unplaced, unnumbered, blank}
 use Rattle.ob_uses.specs.Objects.{in_places, shown_types}
-use Rattle.law_spelling.proofs.Lists.{all_map, all_each, all_joined, all_filtered, all_flat, all_in_order}
-use Rattle.law_typing_forms.proofs.Within.{all_left, all_right}
+use Rattle.law_spelling.proofs.Lists.{all_filtered, all_flat, all_in_order}
 use Rattle.law_typing_env.specs.Near.{core}
 use Rattle.law_typing_env.proofs.Keeping.{record_kind, structure_kind, open_kind, Says, kind_forward, kind_held, structure_type}
-use Rattle.law_builds_types.proofs.closed_laws.Lists.{sifted, all_made, all_parts}
+use Rattle.law_builds_types.proofs.closed_laws.Lists.{sifted, all_parts}
+use Rattle.law_lists.proofs.Lists.{all_back, all_both, all_each, all_from, all_front, all_made}
 
 abbrev Map : Type 0
 Map = QName → Option Desc
@@ -102,8 +102,8 @@ keeps_seen map (desc.Record r) h =
     let fs = in_order by_place r.fields in (
       h.0,
       (
-        all_filtered (λ f. is_shown f.mark) F fs (all_map F (λ f. is_shown f.mark ≡ true → F f) (λ f k i. k) fs (all_in_order by_place F r.fields h.1.0)),
-        all_filtered (λ m. is_shown m.mark) M r.methods (all_map M (λ m. is_shown m.mark ≡ true → M m) (λ m k i. k) r.methods h.1.1),
+        all_filtered (λ f. is_shown f.mark) F fs (all_from F (λ f. is_shown f.mark ≡ true → F f) (λ f k i. k) fs (all_in_order by_place F r.fields h.1.0)),
+        all_filtered (λ m. is_shown m.mark) M r.methods (all_from M (λ m. is_shown m.mark ≡ true → M m) (λ m k i. k) r.methods h.1.1),
       ),
     )
 
@@ -120,16 +120,16 @@ shown_less P (desc.ProcType m s) ty h = h
 shown_less P (desc.Record r) ty h =
     let F : Field → Type 0 = λ f. P f.of in
     let M : Method → Type 0 = λ m. AllByRecursion P (signature_types m.signature) in
-    let front = all_left P (listed r.base ++ each (λ f. f.of) r.fields) (flat_map (λ m. signature_types m.signature) r.methods) h in
-    let bound = all_right P (listed r.base ++ each (λ f. f.of) r.fields) (flat_map (λ m. signature_types m.signature) r.methods) h in
-    let fields : AllByRecursion F r.fields = all_made (λ (f : Field). f.of) P r.fields (all_right P (listed r.base) (each (λ f. f.of) r.fields) front) in
-    let methods : AllByRecursion M r.methods = all_parts (λ (m : Method). signature_types m.signature) P r.methods (λ ys zs k. (all_left P ys zs k, all_right P ys zs k)) bound in
+    let front = all_front P (listed r.base ++ each (λ f. f.of) r.fields) (flat_map (λ m. signature_types m.signature) r.methods) h in
+    let bound = all_back P (listed r.base ++ each (λ f. f.of) r.fields) (flat_map (λ m. signature_types m.signature) r.methods) h in
+    let fields : AllByRecursion F r.fields = all_made (λ (f : Field). f.of) P r.fields (all_back P (listed r.base) (each (λ f. f.of) r.fields) front) in
+    let methods : AllByRecursion M r.methods = all_parts (λ (m : Method). signature_types m.signature) P r.methods (λ ys zs k. (all_front P ys zs k, all_back P ys zs k)) bound in
     let fs = filter (λ f. is_shown f.mark) r.fields in
     let ms = filter (λ m. is_shown m.mark) r.methods in
-    all_joined P (listed r.base ++ each (λ f. f.of) fs) (flat_map (λ m. signature_types m.signature) ms)
-    (all_joined P (listed r.base) (each (λ f. f.of) fs) (all_left P (listed r.base) (each (λ f. f.of) r.fields) front)
-    (all_each (λ (f : Field). f.of) P fs (all_filtered (λ f. is_shown f.mark) F r.fields (all_map F (λ f. is_shown f.mark ≡ true → F f) (λ f k i. k) r.fields fields))))
-    (all_flat (λ (m : Method). signature_types m.signature) P ms (all_filtered (λ m. is_shown m.mark) M r.methods (all_map M (λ m. is_shown m.mark ≡ true → M m) (λ m k i. k) r.methods methods)))
+    all_both P (listed r.base ++ each (λ f. f.of) fs) (flat_map (λ m. signature_types m.signature) ms)
+    (all_both P (listed r.base) (each (λ f. f.of) fs) (all_front P (listed r.base) (each (λ f. f.of) r.fields) front)
+    (all_each (λ (f : Field). f.of) P fs (all_filtered (λ f. is_shown f.mark) F r.fields (all_from F (λ f. is_shown f.mark ≡ true → F f) (λ f k i. k) r.fields fields))))
+    (all_flat (λ (m : Method). signature_types m.signature) P ms (all_filtered (λ m. is_shown m.mark) M r.methods (all_from M (λ m. is_shown m.mark ≡ true → M m) (λ m k i. k) r.methods methods)))
 
 -- what is seen of a type names what the type shows
 pub seen_named : (P : TypeRef → Type 0) (d : Desc) → is_type d ≡ true → AllByRecursion P (shown_types d) → AllByRecursion P (named_by (seen (in_places d)))
@@ -146,12 +146,12 @@ seen_named P (desc.Record r) ty h =
     let fs = filter (λ f. is_shown f.mark) r.fields in
     let ms = filter (λ m. is_shown m.mark) r.methods in
     let ordered = filter (λ f. is_shown f.mark) (in_order by_place r.fields) in
-    let front = all_left P (listed r.base ++ each (λ f. f.of) fs) (flat_map (λ m. signature_types m.signature) ms) h in
-    let fields : AllByRecursion F fs = all_made (λ (f : Field). f.of) P fs (all_right P (listed r.base) (each (λ f. f.of) fs) front) in
-    all_joined P (listed r.base ++ each (λ f. f.of) ordered) (flat_map (λ m. signature_types m.signature) ms)
-    (all_joined P (listed r.base) (each (λ f. f.of) ordered) (all_left P (listed r.base) (each (λ f. f.of) fs) front)
+    let front = all_front P (listed r.base ++ each (λ f. f.of) fs) (flat_map (λ m. signature_types m.signature) ms) h in
+    let fields : AllByRecursion F fs = all_made (λ (f : Field). f.of) P fs (all_back P (listed r.base) (each (λ f. f.of) fs) front) in
+    all_both P (listed r.base ++ each (λ f. f.of) ordered) (flat_map (λ m. signature_types m.signature) ms)
+    (all_both P (listed r.base) (each (λ f. f.of) ordered) (all_front P (listed r.base) (each (λ f. f.of) fs) front)
     (all_each (λ (f : Field). f.of) P ordered (all_filtered (λ f. is_shown f.mark) F (in_order by_place r.fields) (all_in_order by_place (λ f. is_shown f.mark ≡ true → F f) r.fields (sifted (λ f. is_shown f.mark) F r.fields fields)))))
-    (all_right P (listed r.base ++ each (λ f. f.of) fs) (flat_map (λ m. signature_types m.signature) ms) h)
+    (all_back P (listed r.base ++ each (λ f. f.of) fs) (flat_map (λ m. signature_types m.signature) ms) h)
 
 -- ---- a map that says of each type what a larger one does, perhaps without members of records
 
@@ -189,10 +189,10 @@ module _ (small large : Map) (says : (q : QName) (d : Desc) → small q ≡ Some
   keeps_smaller (desc.Pointer m t) h k = kind_held small large says held is_structure structure_kind t h.0 k
   keeps_smaller (desc.ProcType m s) h k = plain s.result k
   keeps_smaller (desc.Record r) h k =
-      let front = all_left (λ t. IsHeld small t) (listed r.base ++ each (λ f. f.of) r.fields) (flat_map (λ m. signature_types m.signature) r.methods) h in (
-        base r.base (all_left (λ t. IsHeld small t) (listed r.base) (each (λ f. f.of) r.fields) front) k.0,
+      let front = all_front (λ t. IsHeld small t) (listed r.base ++ each (λ f. f.of) r.fields) (flat_map (λ m. signature_types m.signature) r.methods) h in (
+        base r.base (all_front (λ t. IsHeld small t) (listed r.base) (each (λ f. f.of) r.fields) front) k.0,
         (
-          all_map (λ f. Is large is_open f.of → ⊥) (λ f. Is small is_open f.of → ⊥) (λ f n. closed f.of n) r.fields k.1.0,
-          all_map (λ m. IsPlainResult large m.signature) (λ m. IsPlainResult small m.signature) (λ m n. plain m.signature.result n) r.methods k.1.1,
+          all_from (λ f. Is large is_open f.of → ⊥) (λ f. Is small is_open f.of → ⊥) (λ f n. closed f.of n) r.fields k.1.0,
+          all_from (λ m. IsPlainResult large m.signature) (λ m. IsPlainResult small m.signature) (λ m n. plain m.signature.result n) r.methods k.1.1,
         ),
       )

@@ -45,9 +45,10 @@ use Rattle.law_builds_types.proofs.lined_laws.Loaded.{loaded_are_lined}
 use Rattle.law_builds_types.proofs.closed_laws.Loaded.{loaded_closed}
 use Rattle.law_builds_loaded.proofs.inherited_laws.Loaded.{IsSome, tree_in, in_front, in_middle, all_shown}
 use Rattle.law_builds_types.specs.encircled_laws.Encircled.{LoadedAreSteady}
-use Rattle.law_builds_types.proofs.assured_laws.Judged.{map_both, all_spelled, shows_name}
+use Rattle.law_builds_types.proofs.assured_laws.Judged.{all_spelled, shows_name}
 use Rattle.law_builds_types.proofs.encircled_laws.Apart.{shown_apart, all_named}
 use Rattle.law_builds_types.proofs.encircled_laws.Types.{types_said}
+use Rattle.law_lists.proofs.Lists.{each_both}
 
 each_steady : (shown : QName → Option Desc) (m : TypedModule) (content : Contents) (ps : List TypedProcedure) (h : AllByRecursion (ProcedureIsJudged ConstantIs shown m content) ps) → IsAroundEach HasSteadyMap ConstantIs shown m content ps h → AreSteady shown m content ps h
 each_steady shown m content [] h k = tt
@@ -87,7 +88,7 @@ module _ (written : BuildsAreWritten) (ruled : BuildsAreRuled) (locality : Local
         judged = record {
           before = program_of before;
           rest = program_of after;
-          order = map_both tree_of before (b ∷ after);
+          order = each_both tree_of before (b ∷ after);
           checked = k.t;
           types = described faces;
           faces = faces;

@@ -17,10 +17,9 @@ use Rattle.ob_rules.specs.Declarations.{Part, Written_procedure, Declaration, Pl
 use Rattle.law_typing.specs.Makes.{IfThere}
 use Rattle.law_body_context.specs.Knows.{Grows, Stands, EntityStands}
 use Rattle.law_body_context.specs.Order.{IsOver}
-use Rattle.law_body_context.proofs.Lists.{all_both, all_of}
+use Rattle.law_body_context.proofs.Lists.{all_of}
 use Rattle.law_body_context.proofs.Standing.{grows_front, grows_same, all_grown}
 use Rattle.law_body_context.proofs.InOrder.{over_all}
-use Rattle.law_body_context.proofs.More.{append_none}
 use Rattle.law_body_context.proofs.Blocks.{all_reversed}
 use Rattle.law_body_context.proofs.Over.{AreSectionsOver, written_over, written_parameters_over}
 use Rattle.law_acyclic.proofs.Firm.{AnyValue}
@@ -28,6 +27,7 @@ use Rattle.law_builds_written.proofs.based_laws.Order.{AreInText, text_made, tex
 use Rattle.law_builds_written.proofs.based_laws.Written.{written_itself}
 use Rattle.law_builds_written.proofs.based_laws.Plain.{IsGoing, constant_goes, type_goes, variables_go, order_goes}
 use Rattle.law_builds_written.proofs.based_laws.Headings.{HeadIs, headings_are}
+use Rattle.law_lists.proofs.Lists.{all_both, append_none}
 
 one_kept : {B : Type 0} (Q : B → Type 0) (o : Option B) (ys : List B) → IfThere Q o → AllByRecursion Q ys → AllByRecursion Q (cons_option o ys)
 one_kept Q None ys h k = k

@@ -1,0 +1,2 @@
+//! Lemmas on lists, options, truth values and names that many laws use.
+#![tactic(auto)]
