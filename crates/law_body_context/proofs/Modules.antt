@@ -20,6 +20,8 @@ use Rattle.ob_types.specs.declared.typed.TypedProcedure.{TypedProcedure}
 use Rattle.ob_types.specs.declared.typed.TypedModule.{TypedModule}
 use Rattle.ob_rules.specs.declared.broken.Broken.{Broken}
 use Rattle.ob_rules.specs.declared.entity.Known.{Known}
+use Rattle.ob_rules.specs.declared.broken.Rule.TheVariants as rule
+use Rattle.ob_rules.specs.declared.broken.Rule.{Rule}
 use Rattle.ob_rules.specs.Judged.{notes_if}
 use Rattle.ob_rules.specs.Names.{Around, predeclared, is_out}
 use Rattle.ob_rules.specs.Expressions.{phrase_of}
@@ -73,9 +75,9 @@ pub unbroken_is : {A : Type 0} (bs : List Broken) (x m : A) → if_unbroken bs x
 unbroken_is [] x m e = (refl, cc)
 unbroken_is (b ∷ bs) x m e = absurd cc
 
-not_noted : (b : Bool) (n : ℕ) (at : Pos) → (notes_if b n at).broken ≡ [] → b ≡ false
-not_noted true n at e = absurd cc
-not_noted false n at e = refl
+not_noted : (b : Bool) (which : Rule) (at : Pos) → (notes_if b which at).broken ≡ [] → b ≡ false
+not_noted true which at e = absurd cc
+not_noted false which at e = refl
 
 first_false : (a b : Bool) → (a || b) ≡ false → a ≡ false
 first_false true b e = absurd cc
@@ -360,9 +362,9 @@ module _ (IsConstant : Value → Type 0) (truths : (b : Bool) → IsConstant (li
   pub not_out : parts.notes.broken ≡ [] → is_out whole.name ≡ false
   not_out e =
       let b = is_out tree.name.name || is_system tree.name.name in
-      let n = notes_if b 5 tree.name.pos in
+      let n = notes_if b rule.ReservedModule tree.name.pos in
       let f = first_empty n.broken _ (first_empty (n.broken ++ (Rattle.ob_rules.specs.Declarations.closing_judged tree.name.name (Some tree.closing)).broken) _ e) in
-      first_false (is_out tree.name.name) (is_system tree.name.name) (not_noted b 5 tree.name.pos f)
+      first_false (is_out tree.name.name) (is_system tree.name.name) (not_noted b rule.ReservedModule tree.name.pos f)
 
   names_kept : (bound : List TypedType) (ts : List TypedType) → Grows ts (all_described bound ts)
   names_kept bound [] x h = absurd h.1.0

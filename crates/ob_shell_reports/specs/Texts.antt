@@ -11,6 +11,7 @@ use Rattle.ob_scan.specs.declared.fault.ScanFault.TheVariants as scanning
 use Rattle.ob_parse_grammar.specs.declared.fault.ParseFault.TheVariants as parsing
 use Rattle.ob_parse_grammar.specs.TextReading.{NoModule, Scan, Parse}
 use Rattle.ob_rules.specs.declared.broken.Broken.{Broken}
+use Rattle.ob_rules.specs.Judged.{number_of}
 use Rattle.ob_env.specs.Stale.{Found, StaleUse, AsWanted, IsAbsent, IsChanged}
 use Rattle.ob_env_walk.specs.Walk.{Walked, Left, NoInterface, Damaged, Cycle, TooMany}
 use Rattle.ob_compile_model.specs.Compiling as compile
@@ -71,7 +72,7 @@ unmet_text u IsAbsent = of_object u.wanted.object (codes " absent for " ++ (u.cl
 unmet_text u (IsChanged k) = of_object u.wanted.object (codes " changed for " ++ (u.client ++ codes "\n"))
 
 abbrev pub rule_text : Broken → List ℕ
-rule_text b = codes "rule " ++ (decimal b.rule ++ (codes " at " ++ place b.pos))
+rule_text b = codes "rule " ++ (decimal (number_of b.rule) ++ (codes " at " ++ place b.pos))
 
 abbrev pub compile_reason : {K : Type 0} → compile.Refusal K → List ℕ
 compile_reason compile.NoSource = codes "no source\n"
