@@ -1,7 +1,6 @@
 -- Judged parts, by what holds of their nodes.
 use Rattle.std.proofs.Common.{◌≡◌, refl, List, [], ◌∷◌, Option, Some, None, Bool, true, false}
 use Rattle.ob_tree.specs.declared.pos.Pos.{Pos}
-use Rattle.std.specs.Prelude.{ℕ}
 use Rattle.ob_rules.specs.declared.broken.Rule.{Rule}
 use Rattle.ob_rules.specs.Judged.{Judged, Notes, sound, silent, breaks, noted, if_sound, paired, both, made, wants, also, unless, found_or, each_sound, ◌▷◌}
 use Rattle.law_typing.specs.Makes.{IfThere, Makes}
