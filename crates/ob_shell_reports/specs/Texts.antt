@@ -1,6 +1,8 @@
 -- What the lines print beside the texts of compare, check and show.
 use Rattle.std.specs.Prelude.{ℕ, List, ◌++◌, Bool, true, false, ◌||◌, ◌==◌, if◌then◌else◌, ℤ, codes, decimal, []}
 use Rattle.std.specs.Fmt.{signed_decimal}
+use Rattle.ob_trap.specs.declared.trap.Trap.{Trap}
+use Rattle.ob_trap.specs.Numbers.{trap_number, tells_number}
 use Rattle.ob_tree.specs.declared.pos.Pos.{Pos}
 use Rattle.ob_tree.specs.declared.names.QName.{QName}
 use Rattle.ob_machine.specs.declared.outcome.Outcome.{Outcome}
@@ -142,13 +144,13 @@ load_answered name (refusal.NoCommand m command) = refused name (codes "no comma
 abbrev pub at_place : List ℕ → Pos → List ℕ
 at_place name at = codes " at " ++ (name ++ (codes " " ++ (decimal at.line ++ (codes ":" ++ (decimal at.col ++ codes "\n")))))
 
--- the number of an ASSERT or a HALT, and what follows
-abbrev pub with_number : ℕ → ℤ → List ℕ → List ℕ
-with_number kind number more = if (kind == 10) || (kind == 11) then codes " " ++ (signed_decimal number ++ more) else more
+-- the number that an ASSERT or a HALT tells, and what follows
+abbrev pub with_number : Trap → ℤ → List ℕ → List ℕ
+with_number kind number more = if tells_number kind then codes " " ++ (signed_decimal number ++ more) else more
 
 abbrev pub report : Outcome → List ℕ
 report outcome.Done = []
-report (outcome.Trap kind number name at) = codes "\ntrap " ++ (decimal kind ++ with_number kind number (at_place name at))
+report (outcome.Trap kind number name at) = codes "\ntrap " ++ (decimal (trap_number kind) ++ with_number kind number (at_place name at))
 report (outcome.TurnsSpent name at) = codes "\nturns spent" ++ at_place name at
 report (outcome.Illegal name at) = codes "\nillegal at " ++ (name ++ (codes " " ++ (decimal at ++ codes "\n")))
 report outcome.SinkFault = []
