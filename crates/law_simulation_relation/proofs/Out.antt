@@ -93,7 +93,7 @@ module _ (c : Setting) (a : Activation c) (n : ℕ) (call : Caller) (b : ℕ) wh
       load : word_at m.words (pos (address c.program c.img s.made (K c a) p)) ≡ Some z
       load = x.load ∙ ap (λ v. Some (word_of c.program (has_of c) c.img s.made v)) is
 
-      by : (t : Bool) → is_in w (z +ℤ d) ≡ t → Follows c (go c a pc (d ∷ pos (address c.program c.img s.made (K c a) p) ∷ ops) m) (λ u s m. go c a (suc pc) ops m) (λ u s m. Kp os s m) (bind (computed (unless t 8 (Integer (z +ℤ d))) (here_in c a n call b) at s) (λ v s. assign p v s))
+      by : (t : Bool) → is_in w (z +ℤ d) ≡ t → Follows c (go c a pc (d ∷ pos (address c.program c.img s.made (K c a) p) ∷ ops) m) (λ u s m. go c a (suc pc) ops m) (λ u s m. Kp os s m) (bind (computed (unless t trap.Overflow (Integer (z +ℤ d))) (here_in c a n call b) at s) (λ v s. assign p v s))
       by true f =
           let new = x.store (Integer (z +ℤ d)) (subst (λ u. Fine c.program (has_of c) s.made u (Integer (z +ℤ d))) (sym e) (is_integer c s.made w (Integer (z +ℤ d)) (z +ℤ d, f, refl))) in
           follows_value c (with_memory m new.0)
@@ -132,7 +132,7 @@ module _ (c : Setting) (a : Activation c) (n : ℕ) (call : Caller) (b : ℕ) wh
       load : word_at m.words (pos (address c.program c.img s.made (K c a) p)) ≡ Some z
       load = x.load ∙ ap (λ v. Some (word_of c.program (has_of c) c.img s.made v)) is
 
-      by : (t : Bool) → is_in w (z -ℤ d) ≡ t → Follows c (go c a pc (d ∷ pos (address c.program c.img s.made (K c a) p) ∷ ops) m) (λ u s m. go c a (suc pc) ops m) (λ u s m. Kp os s m) (bind (computed (unless t 8 (Integer (z -ℤ d))) (here_in c a n call b) at s) (λ v s. assign p v s))
+      by : (t : Bool) → is_in w (z -ℤ d) ≡ t → Follows c (go c a pc (d ∷ pos (address c.program c.img s.made (K c a) p) ∷ ops) m) (λ u s m. go c a (suc pc) ops m) (λ u s m. Kp os s m) (bind (computed (unless t trap.Overflow (Integer (z -ℤ d))) (here_in c a n call b) at s) (λ v s. assign p v s))
       by true f =
           let new = x.store (Integer (z -ℤ d)) (subst (λ u. Fine c.program (has_of c) s.made u (Integer (z -ℤ d))) (sym e) (is_integer c s.made w (Integer (z -ℤ d)) (z -ℤ d, f, refl))) in
           follows_value c (with_memory m new.0)
